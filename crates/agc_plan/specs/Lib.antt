@@ -1,0 +1,9 @@
+pub mod Jobs
+pub mod Places
+pub mod Tasks
+pub mod Base
+pub mod Begins
+pub mod Plans
+pub mod Eras
+pub mod Steps
+pub mod Seats

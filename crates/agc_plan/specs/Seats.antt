@@ -1,0 +1,96 @@
+-- Placement over a run of requests: which core set holds which job. It reads the plain states, and nothing in them reads it.
+use Rattle.std.specs.Prelude.{ℕ, ◌+◌, Bool, if◌then◌else◌, List, [], ◌∷◌, Option, Some, None, replicate}
+use Rattle.std.specs.List.{fold}
+use Rattle.agc_plan.specs.declared.request.Action.{Action}
+use Rattle.agc_plan.specs.declared.request.Action.TheVariants as action
+use Rattle.agc_plan.specs.declared.request.JobStart.{JobStart}
+use Rattle.agc_plan.specs.declared.request.Request.{Request}
+use Rattle.agc_plan.specs.declared.request.Request.TheVariants as request
+use Rattle.agc_plan.specs.declared.request.Task.{Task}
+use Rattle.agc_plan.specs.Jobs.{Jobs, Outcome, novac, findvac, end_of_job, sleep, rouse, prio, change, established}
+use Rattle.agc_plan.specs.Places.{placed_new, placed_end, fronted}
+use Rattle.agc_plan.specs.Base.{Base}
+use Rattle.agc_plan.specs.Begins.{Begins}
+use Rattle.agc_plan.specs.Plans.{Planned, action_in}
+use Rattle.agc_plan.specs.Eras.{started, jobs_begun, active, no_work}
+use Rattle.agc_plan.specs.Steps.{Plain, Stepped, era, acted, step, begins, tick_fires}
+
+-- no job in any of the seven core sets
+abbrev pub no_places : List ℕ
+no_places = replicate 7 0
+
+-- the jobs, and the core sets that hold them
+pub record Seated : Type 0 where
+  pub jobs : Jobs
+  pub places : List ℕ
+
+-- a new job, if one was established, came to the first free set
+abbrev pub seated_new : Outcome → List ℕ → Seated
+seated_new outcome places = record { jobs = outcome.jobs; places = placed_new (established outcome.reply) outcome.jobs.running places }
+
+-- nobody came and nobody left, and the running job has core set 0
+abbrev pub seated_front : Outcome → List ℕ → Seated
+seated_front outcome places = record { jobs = outcome.jobs; places = fronted outcome.jobs.running places }
+
+-- an action of the plan is done
+abbrev pub seated_action : Action → Seated → Seated
+seated_action (action.Novac priority entry) seated = seated_new (novac priority entry seated.jobs) seated.places
+seated_action (action.Findvac priority entry) seated = seated_new (findvac priority entry seated.jobs) seated.places
+seated_action (action.Rouse at) seated = seated_front (rouse at seated.jobs) seated.places
+seated_action other seated = seated
+
+-- the actions of these fired tasks are done, in order
+abbrev pub seated_fired : List (Task × Action) → Seated → List Task → Seated
+seated_fired rows seated fired = fold (λ s task. seated_action (action_in rows task) s) seated fired
+
+-- the core sets after a request, before an era begins with it
+abbrev pub places_acted : Planned → Request → Plain → List ℕ → List ℕ
+places_acted plan (request.Novac priority entry) plain places = (seated_new (novac priority entry plain.work.jobs) places).places
+places_acted plan (request.Findvac priority entry) plain places = (seated_new (findvac priority entry plain.work.jobs) places).places
+places_acted plan request.EndOfJob plain places = placed_end plain.work.jobs.running (end_of_job plain.work.jobs).jobs.running places
+places_acted plan (request.Sleep at) plain places = fronted (sleep at plain.work.jobs).jobs.running places
+places_acted plan (request.Rouse at) plain places = fronted (rouse at plain.work.jobs).jobs.running places
+places_acted plan (request.Prio priority) plain places = fronted (prio priority plain.work.jobs).jobs.running places
+places_acted plan request.Change plain places = fronted (change plain.work.jobs).jobs.running places
+places_acted plan request.Tick plain places =
+    (seated_fired plan.rows (record { jobs = plain.work.jobs; places = places }) (tick_fires plan.rows plain.work).fired).places
+places_acted plan other plain places = places
+
+-- a phase's job, if it has one, came to the first free set
+abbrev pub places_begun : Option JobStart → Jobs → List ℕ → List ℕ
+places_begun None jobs places = places
+places_begun (Some job) jobs places = (seated_new (started job jobs) places).places
+
+-- the job of a group's entry, if there is an entry
+abbrev pub job_of_entry : Option Begins → Option JobStart
+job_of_entry None = None
+job_of_entry (Some e) = e.job
+
+-- the groups from this one on begin, in order, with these phases
+abbrev pub places_from : List Begins → ℕ → List ℕ → Jobs → List ℕ → List ℕ
+places_from entries group [] jobs places = places
+places_from entries group (phase ∷ phases) jobs places =
+    let job = job_of_entry (active entries group phase) in
+    places_from entries (group + 1) phases (jobs_begun job jobs) (places_begun job jobs places)
+
+-- the core sets with which an era begins
+abbrev pub era_places : Planned → Base → List ℕ
+era_places plan base = places_from plan.entries 1 base.phases no_work.jobs no_places
+
+-- the core sets after one request
+abbrev pub places_after : Planned → Request → Plain → List ℕ → List ℕ
+places_after plan asked plain places =
+    let now = step plan asked plain in
+    if begins now.reply then era_places plan now.plain.base else places_acted plan asked plain places
+
+-- a plain state, and the core sets
+pub record Placed : Type 0 where
+  pub plain : Plain
+  pub places : List ℕ
+
+abbrev pub placed_step : Planned → Request → Placed → Placed
+placed_step plan asked placed = record { plain = (step plan asked placed.plain).plain; places = places_after plan asked placed.plain placed.places }
+
+-- what the log reaches from the beginning of an era, and the core sets then
+abbrev pub placed : Planned → Base → List Request → Placed
+placed plan base log = fold (λ p asked. placed_step plan asked p) (record { plain = era plan base; places = era_places plan base }) log

@@ -1,0 +1,88 @@
+ghost use Rattle.std.specs.Prelude.{◌≡◌, ◌<◌, [], ◌∷◌, ◌++◌, length, slice_get};
+
+use crate::number::Address;
+use crate::request::Task;
+use agc_word::Word;
+use arrayvec::ArrayVec;
+use std::marker::Model;
+
+/// A place for a fired task: `ArrayVec` wants a default, which a task has not.
+#[derive(Clone, Copy)]
+struct Place {
+    task: Task,
+}
+
+impl Model for Place {
+    ghost use Rattle.agc_plan.specs.declared.request.Task.{Task};
+
+    ghost Value = { Task };
+
+    ghost view = { λ p. p.task };
+
+    ghost inverse = { λ t. record { task = t } };
+}
+
+impl Default for Place {
+    fn default() -> Place {
+        match Address::new(1) {
+            Some(at) => Place {
+                task: Task {
+                    at,
+                    bank: Word::zero(),
+                },
+            },
+            None => unreachable!(),
+        }
+    }
+}
+
+/// The tasks that a tick fired, in order: at most nine. Contracts see them as a list. Source: profile.
+#[derive(Drop)]
+pub struct Fired {
+    places: ArrayVec<Place, 9>,
+}
+
+impl Model for Fired {
+    ghost use Rattle.std.specs.Prelude.{List};
+    ghost use Rattle.agc_plan.specs.declared.request.Task.{Task};
+
+    ghost Value = { List Task };
+
+    ghost view = { λ f. f.places.items };
+}
+
+impl Fired {
+    /// No task fired.
+    pub fn new() -> Fired
+        ensures { result ≡ [] }
+    {
+        Fired {
+            places: ArrayVec::new(),
+        }
+    }
+
+    /// One more task fired, after the others. There is room for nine.
+    pub fn push(&mut self, task: Task)
+        requires { length self.old < 9 }
+        ensures { self.new ≡ self.old ++ task ∷ [] }
+    {
+        self.places.push(Place { task });
+    }
+
+    /// How many tasks fired, 0 to 9.
+    pub fn len(&self) -> usize
+        ensures { result ≡ length self.now }
+    {
+        self.places.len()
+    }
+
+    /// The task that fired at this place, counted from 0. None from `len` on.
+    pub fn get(&self, index: usize) -> Option<Task>
+        ensures { result ≡ slice_get self.now index }
+    {
+        match self.places.as_slice().get(index) {
+            Some(place) => Some(place.task),
+            None => None,
+        }
+    }
+}

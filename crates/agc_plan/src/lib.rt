@@ -1,0 +1,15 @@
+//! Numbers with range, requests and replies, plans, and in `specs/` the whole model: what each request does to the
+//! plain lists of jobs, tasks, phases and alarm codes.
+#![tactic(auto)]
+
+mod fired;
+mod number;
+mod plan;
+mod reply;
+mod request;
+
+pub use fired::Fired;
+pub use number::{Address, Delay, Group, JobNo, Limit, Phase, Place, Priority};
+pub use plan::{Plan, PlanFault};
+pub use reply::{Alarm, Code, Reply};
+pub use request::{Action, Entry, JobStart, PhaseEntry, Request, Task};

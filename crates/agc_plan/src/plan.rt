@@ -1,0 +1,242 @@
+ghost use Rattle.std.specs.Prelude.{◌≡◌, ◌⊎◌, Some, None, IfOk, IfErr, OnOk};
+ghost use Rattle.agc_plan.specs.Plans.{Planned, same_task, has_task, task_twice, has_entry, phase_twice, wants_area, group_wants, all_want, fault_of, action_in, entry_at, is_for};
+ghost use Rattle.std.specs.Option.{option_copied};
+ghost use Rattle.agc_plan.specs.Eras.{BeginsQuietly};
+
+use crate::number::{Group, Phase};
+use crate::request::{Action, JobStart, PhaseEntry, Task};
+use std::alloc::Global;
+use std::marker::Model;
+use thiserror::Error;
+
+/// Why rows and entries make no plan. Of several faults the first in this order is answered. Source: profile.
+#[derive(Clone, Copy, PartialEq, Eq, Debug, Error)]
+pub enum PlanFault {
+    #[error("no memory")]
+    NoMemory,
+    /// One task has two rows.
+    #[error("task twice")]
+    TaskTwice,
+    /// One group and phase has two entries.
+    #[error("phase twice")]
+    PhaseTwice,
+    /// Each of the six groups has an entry whose job wants a VAC area, and there are five areas.
+    #[error("too many areas")]
+    TooManyAreas,
+}
+
+/// What is done when a task fires, when an era begins, and for a key or radar pulse. Contracts see its rows, its entries
+/// and its two actions. Source: profile.
+#[derive(Drop)]
+pub struct Plan {
+    rows: Vec<(Task, Action)>,
+    entries: Vec<PhaseEntry>,
+    key: Action,
+    radar: Action,
+}
+
+impl Model for Plan {
+    ghost use Rattle.std.specs.Prelude.{◌≡◌, None};
+    ghost use Rattle.agc_plan.specs.Plans.{Planned, fault_of};
+
+    ghost Value = { Planned };
+
+    ghost view = { λ p. record { rows = p.rows.items; entries = p.entries.items; key = p.key; radar = p.radar } };
+
+    ghost invariant = { λ p. fault_of p.rows.items p.entries.items ≡ None };
+}
+
+/// Whether a task has a row.
+fn has_task(rows: &[(Task, Action)], task: Task) -> bool
+    ensures { result ≡ has_task rows.now task }
+{
+    for row in rows {
+        if row.0 == task {
+            return true;
+        }
+    }
+    false
+}
+
+/// Whether a task has two rows.
+fn task_twice(rows: &[(Task, Action)]) -> bool
+    ensures { result ≡ task_twice rows.now }
+{
+    for (k, row) in rows.iter().enumerate() {
+        if has_task(&rows[k + 1..], row.0) {
+            return true;
+        }
+    }
+    false
+}
+
+/// Whether a group's phase has an entry.
+fn has_entry(entries: &[PhaseEntry], group: Group, phase: Phase) -> bool
+    ensures { result ≡ has_entry entries.now group phase }
+{
+    for entry in entries {
+        if entry.group() == group && entry.phase() == phase {
+            return true;
+        }
+    }
+    false
+}
+
+/// Whether a group's phase has two entries.
+fn phase_twice(entries: &[PhaseEntry]) -> bool
+    ensures { result ≡ phase_twice entries.now }
+{
+    for (k, entry) in entries.iter().enumerate() {
+        if has_entry(&entries[k + 1..], entry.group(), entry.phase()) {
+            return true;
+        }
+    }
+    false
+}
+
+/// Whether a job wants a VAC area.
+fn wants_area(job: Option<JobStart>) -> bool
+    ensures { result ≡ wants_area job }
+{
+    match job {
+        None => false,
+        Some(JobStart::Novac(_, _)) => false,
+        Some(JobStart::Findvac(_, _)) => true,
+    }
+}
+
+/// Whether an entry of the group names a job with an area.
+fn group_wants(entries: &[PhaseEntry], group: u8) -> bool
+    ensures { result ≡ group_wants entries.now group }
+{
+    for entry in entries {
+        if entry.group().get() == group && wants_area(entry.job()) {
+            return true;
+        }
+    }
+    false
+}
+
+/// Whether each of the six groups has such an entry.
+fn all_want(entries: &[PhaseEntry]) -> bool
+    ensures { result ≡ all_want entries.now }
+{
+    group_wants(entries, 1)
+        && group_wants(entries, 2)
+        && group_wants(entries, 3)
+        && group_wants(entries, 4)
+        && group_wants(entries, 5)
+        && group_wants(entries, 6)
+}
+
+/// What is wrong with rows and entries, memory aside.
+fn fault_of(rows: &[(Task, Action)], entries: &[PhaseEntry]) -> Option<PlanFault>
+    ensures { result ≡ fault_of rows.now entries.now }
+{
+    if task_twice(rows) {
+        Some(PlanFault::TaskTwice)
+    } else if phase_twice(entries) {
+        Some(PlanFault::PhaseTwice)
+    } else if all_want(entries) {
+        Some(PlanFault::TooManyAreas)
+    } else {
+        None
+    }
+}
+
+impl Plan {
+    /// A plan of these rows, entries and actions, each row the action of one task.
+    ///
+    /// # Errors
+    ///
+    /// `NoMemory`, or else the first fault of the rows and entries.
+    pub fn new(
+        alloc: Global,
+        rows: &[(Task, Action)],
+        entries: &[PhaseEntry],
+        key: Action,
+        radar: Action,
+    ) -> Result<Plan, PlanFault>
+        ensures plan { IfOk result (λ p. p ≡ record { rows = rows.now; entries = entries.now; key = key; radar = radar }) }
+        ensures accepted { OnOk result (fault_of rows.now entries.now ≡ None) }
+        ensures refused { IfErr result (λ fault. (fault ≡ PlanFault.NoMemory) ⊎ (fault_of rows.now entries.now ≡ Some fault)) }
+        ensures quiet { IfOk result BeginsQuietly }
+    {
+        let mut own_rows = Vec::new(alloc);
+        if own_rows.extend_from_slice(rows).is_err() {
+            return Err(PlanFault::NoMemory);
+        }
+        let mut own_entries = Vec::new(alloc);
+        if own_entries.extend_from_slice(entries).is_err() {
+            return Err(PlanFault::NoMemory);
+        }
+        match fault_of(rows, entries) {
+            Some(fault) => Err(fault),
+            None => Ok(Plan {
+                rows: own_rows,
+                entries: own_entries,
+                key,
+                radar,
+            }),
+        }
+    }
+
+    /// A law: an era of this plan begins with no alarm, whatever the six phases.
+    pub fn begins_quietly(&self)
+        ensures { BeginsQuietly self.now }
+    {
+        let _ = &self.rows;
+    }
+
+    /// What is done when this task fires: `Nothing` for a task that has no row.
+    pub fn action(&self, task: &Task) -> Action
+        ensures { result ≡ action_in self.now.rows task.now }
+    {
+        action_in(&self.rows, *task)
+    }
+
+    /// What begins again while a group stands in a phase. None where the plan has no entry for them.
+    pub fn entry(&self, group: Group, phase: Phase) -> Option<&PhaseEntry>
+        ensures { option_copied result ≡ entry_at self.now.entries group phase }
+    {
+        entry_at(&self.entries, group, phase)
+    }
+
+    /// What is done for a key pulse.
+    pub fn key(&self) -> Action
+        ensures { result ≡ self.now.key }
+    {
+        self.key
+    }
+
+    /// What is done for a radar pulse.
+    pub fn radar(&self) -> Action
+        ensures { result ≡ self.now.radar }
+    {
+        self.radar
+    }
+}
+
+/// The action of a task's row, `Nothing` where it has none.
+fn action_in(rows: &[(Task, Action)], task: Task) -> Action
+    ensures { result ≡ action_in rows.now task }
+{
+    for row in rows {
+        if row.0 == task {
+            return row.1;
+        }
+    }
+    Action::Nothing
+}
+
+/// The entry of a group's phase.
+fn entry_at(entries: &[PhaseEntry], group: Group, phase: Phase) -> Option<&PhaseEntry>
+    ensures { option_copied result ≡ entry_at entries.now group phase }
+{
+    for entry in entries {
+        if entry.group() == group && entry.phase() == phase {
+            return Some(entry);
+        }
+    }
+    None
+}

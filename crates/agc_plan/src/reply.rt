@@ -1,0 +1,55 @@
+use crate::fired::Fired;
+use crate::number::JobNo;
+
+/// An alarm, by which a request is answered whose table is full. Source: the listings' EXECUTIVE and WAITLIST sections.
+#[derive(Clone, Copy, PartialEq, Eq, Debug)]
+pub enum Alarm {
+    /// No VAC area is free.
+    A1201,
+    /// No core set is free.
+    A1202,
+    /// The Waitlist is full.
+    A1203,
+}
+
+/// An alarm code as FAILREG holds it. Source: the listings' FRESH START AND RESTART section.
+#[derive(Clone, Copy, PartialEq, Eq, Debug)]
+pub enum Code {
+    /// The phase words that were found at power-up don't agree.
+    C1107,
+    /// No VAC area was free.
+    C1201,
+    /// No core set was free.
+    C1202,
+    /// The Waitlist was full.
+    C1203,
+}
+
+/// What a request is answered.
+#[derive(Drop)]
+pub enum Reply {
+    /// A job with this number was established.
+    Established(JobNo),
+    /// The running job ended or sleeps; this one runs now, if any.
+    Left(Option<JobNo>),
+    /// The job with this number was awakened.
+    Roused(JobNo),
+    /// No job sleeps at that address.
+    NoSleeper,
+    /// Nobody runs, so there is no job to act on.
+    NoJob,
+    /// The job that runs now.
+    Runs(JobNo),
+    /// A work word was set.
+    Stored,
+    /// A task was listed.
+    Listed,
+    /// A centisecond passed: the tasks that fired, in order, and the alarm that one's action raised, if one did.
+    Ticked(Fired, Option<Alarm>),
+    /// A phase was set.
+    Phased,
+    /// An era began, by restart or fresh start.
+    Restarted,
+    /// The table was full, and an era began.
+    Alarmed(Alarm),
+}

@@ -1,0 +1,147 @@
+ghost use Rattle.std.specs.Prelude.{◌≡◌, ◌<◌, ◌↔◌, IsSome, IfSome};
+
+use crate::number::{Address, Delay, Group, Phase, Place, Priority};
+use agc_word::Word;
+use std::marker::Model;
+
+/// Where a job begins: its address, and the word for its bank. Source: the listings' EXECUTIVE section.
+#[derive(Clone, Copy, PartialEq, Eq, Debug)]
+pub struct Entry {
+    pub at: Address,
+    pub bank: Word,
+}
+
+/// A task of the Waitlist: its address, and the word for its bank. Source: the listings' WAITLIST section.
+#[derive(Clone, Copy, PartialEq, Eq, Debug)]
+pub struct Task {
+    pub at: Address,
+    pub bank: Word,
+}
+
+/// What a plan has done when a task fires, or for a key or radar pulse. Source: profile.
+#[derive(Clone, Copy, PartialEq, Eq, Debug)]
+pub enum Action {
+    /// Nothing is done.
+    Nothing,
+    /// A job without a VAC area is established.
+    Novac(Priority, Entry),
+    /// A job with a VAC area is established.
+    Findvac(Priority, Entry),
+    /// The least-numbered sleeper of this address is awakened.
+    Rouse(Address),
+    /// A task is listed, due this long from now.
+    List(Delay, Task),
+}
+
+/// How the job of a phase is established: without a VAC area, or with one. Source: profile.
+#[derive(Clone, Copy, PartialEq, Eq, Debug)]
+pub enum JobStart {
+    Novac(Priority, Entry),
+    Findvac(Priority, Entry),
+}
+
+/// What may be asked of the machine.
+#[derive(Clone, Copy, PartialEq, Eq, Debug)]
+pub enum Request {
+    /// Establish a job without a VAC area. Source: the listings' EXECUTIVE section, as for all up to `Change`.
+    Novac(Priority, Entry),
+    /// Establish a job with a VAC area.
+    Findvac(Priority, Entry),
+    /// End the running job.
+    EndOfJob,
+    /// Put the running job to sleep, to be awakened at this address.
+    Sleep(Address),
+    /// Awaken the least-numbered sleeper of this address.
+    Rouse(Address),
+    /// Set the running job's priority.
+    Prio(Priority),
+    /// Change to a strictly more urgent job, if one is awake.
+    Change,
+    /// Set one work word of the running job. Source: profile.
+    Store(Place, Word),
+    /// List a task, due this long from now. Source: the listings' WAITLIST section.
+    List(Delay, Task),
+    /// A centisecond passes: TIME3 counts up. Source: the listings' WAITLIST section.
+    Tick,
+    /// Set the phase of a restart group. Source: the listings' PHASE TABLE MAINTENANCE section.
+    SetPhase(Group, Phase),
+    /// The software restart. Source: the listings' FRESH START AND RESTART section.
+    Restart,
+    /// The fresh start. Source: the listings' FRESH START AND RESTART section.
+    Fresh,
+}
+
+/// What begins again with a restart while a group stands in a phase: a job, a task, both or neither. Contracts see its
+/// four parts. Source: profile.
+#[derive(Clone, Copy, PartialEq, Eq, Debug)]
+pub struct PhaseEntry {
+    group: Group,
+    phase: Phase,
+    job: Option<JobStart>,
+    task: Option<(Delay, Task)>,
+}
+
+impl Model for PhaseEntry {
+    ghost use Rattle.std.specs.Prelude.{◌<◌};
+    ghost use Rattle.agc_plan.specs.Begins.{Begins};
+
+    ghost Value = { Begins };
+
+    ghost view = { λ e. record { group = e.group; phase = e.phase; job = e.job; task = e.task } };
+
+    ghost invariant = { λ e. 0 < e.phase };
+
+    ghost inverse = { λ b. record { group = b.group; phase = b.phase; job = b.job; task = b.task } };
+}
+
+impl PhaseEntry {
+    /// An entry of these parts. None for phase 0, in which a group is inactive.
+    pub fn new(
+        group: Group,
+        phase: Phase,
+        job: Option<JobStart>,
+        task: Option<(Delay, Task)>,
+    ) -> Option<PhaseEntry>
+        ensures valid { IsSome result ↔ (0 < phase) }
+        ensures value { IfSome result (λ e. e ≡ record { group = group; phase = phase; job = job; task = task }) }
+    {
+        if phase.get() == 0 {
+            None
+        } else {
+            Some(PhaseEntry {
+                group,
+                phase,
+                job,
+                task,
+            })
+        }
+    }
+
+    /// The restart group.
+    pub fn group(&self) -> Group
+        ensures { result ≡ self.now.group }
+    {
+        self.group
+    }
+
+    /// The phase, which isn't 0.
+    pub fn phase(&self) -> Phase
+        ensures { result ≡ self.now.phase }
+    {
+        self.phase
+    }
+
+    /// The job that begins again, if one does.
+    pub fn job(&self) -> Option<JobStart>
+        ensures { result ≡ self.now.job }
+    {
+        self.job
+    }
+
+    /// The task that is listed again, if one is, and its delay.
+    pub fn task(&self) -> Option<(Delay, Task)>
+        ensures { result ≡ self.now.task }
+    {
+        self.task
+    }
+}

@@ -1,0 +1,59 @@
+ghost use Rattle.std.specs.Prelude.{◌≡◌, ◌<◌, length, replicate, slice_index, slice_set};
+
+use crate::word::Word;
+use std::marker::Model;
+
+/// The 132 words of erasable memory. Contracts see them as a list.
+#[derive(Drop)]
+pub struct Erasable {
+    words: [Word; 132],
+}
+
+impl Model for Erasable {
+    ghost use Rattle.std.specs.Prelude.{◌≡◌, List, ℕ, length};
+
+    ghost Value = { List ℕ };
+
+    ghost view = { λ e. e.words };
+
+    ghost invariant = { λ e. length e.words ≡ 132 };
+}
+
+impl Erasable {
+    /// All 132 words 00000.
+    pub fn new() -> Erasable
+        ensures { result ≡ replicate 132 0 }
+    {
+        Erasable {
+            words: [Word::zero(); 132],
+        }
+    }
+
+    /// The word at a place, from 0.
+    pub fn get(&self, place: usize) -> Word
+        requires { place < 132 }
+        ensures value { result ≡ slice_index self.now place }
+        ensures range { result < 32768 }
+        ensures all { length self.now ≡ 132 }
+    {
+        let word = self.words[place];
+        let _ = word.bits();
+        word
+    }
+
+    /// Sets the word at a place, from 0. No other word changes.
+    pub fn set(&mut self, place: usize, word: Word)
+        requires { place < 132 }
+        ensures value { self.new ≡ slice_set self.old place word }
+        ensures all { length self.new ≡ 132 }
+    {
+        self.words[place] = word;
+    }
+
+    /// All words, by place.
+    pub fn words(&self) -> [Word; 132]
+        ensures { result ≡ self.now }
+    {
+        self.words
+    }
+}

@@ -1,0 +1,8 @@
+//! Words of fifteen bits in ones' complement, and the erasable memory that is made of them.
+#![tactic(auto)]
+
+mod erasable;
+mod word;
+
+pub use erasable::Erasable;
+pub use word::Word;
