@@ -12,7 +12,7 @@ use Rattle.agc_plan.specs.Places.{placed_new, placed_end, fronted}
 use Rattle.agc_plan.specs.Base.{Base}
 use Rattle.agc_plan.specs.Begins.{Begins}
 use Rattle.agc_plan.specs.Plans.{Planned, action_in}
-use Rattle.agc_plan.specs.Eras.{started, jobs_begun, active, no_work}
+use Rattle.agc_plan.specs.Eras.{Work, started, active, group_begun, no_work}
 use Rattle.agc_plan.specs.Steps.{Plain, Stepped, era, acted, step, begins, tick_fires}
 
 -- no job in any of the seven core sets
@@ -67,15 +67,15 @@ job_of_entry None = None
 job_of_entry (Some e) = e.job
 
 -- the groups from this one on begin, in order, with these phases
-abbrev pub places_from : List Begins → ℕ → List ℕ → Jobs → List ℕ → List ℕ
-places_from entries group [] jobs places = places
-places_from entries group (phase ∷ phases) jobs places =
-    let job = job_of_entry (active entries group phase) in
-    places_from entries (group + 1) phases (jobs_begun job jobs) (places_begun job jobs places)
+abbrev pub places_from : List Begins → ℕ → List ℕ → Work → List ℕ → List ℕ
+places_from entries group [] work places = places
+places_from entries group (phase ∷ phases) work places =
+    let entry = active entries group phase in
+    places_from entries (group + 1) phases (group_begun entry work) (places_begun (job_of_entry entry) work.jobs places)
 
 -- the core sets with which an era begins
 abbrev pub era_places : Planned → Base → List ℕ
-era_places plan base = places_from plan.entries 1 base.phases no_work.jobs no_places
+era_places plan base = places_from plan.entries 1 base.phases no_work no_places
 
 -- the core sets after one request
 abbrev pub places_after : Planned → Request → Plain → List ℕ → List ℕ
@@ -88,6 +88,7 @@ pub record Placed : Type 0 where
   pub plain : Plain
   pub places : List ℕ
 
+-- one request
 abbrev pub placed_step : Planned → Request → Placed → Placed
 placed_step plan asked placed = record { plain = (step plan asked placed.plain).plain; places = places_after plan asked placed.plain placed.places }
 

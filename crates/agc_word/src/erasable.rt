@@ -57,3 +57,12 @@ impl Erasable {
         self.words
     }
 }
+
+/// The default has all 132 words 00000.
+impl Default for Erasable {
+    ghost is_default = { λ e. e ≡ replicate 132 0 };
+
+    fn default() -> Erasable {
+        Erasable::new()
+    }
+}

@@ -2,6 +2,8 @@
 #![tactic(auto)]
 
 mod erasable;
+#[cfg(test)]
+mod tests;
 mod word;
 
 pub use erasable::Erasable;

@@ -1,0 +1,13 @@
+-- What was read of a reader.
+use Rattle.std.specs.Prelude.{◌≤◌, List, ℕ, Option, length}
+use Rattle.std.specs.Io.KnownBytes.{Consumes, IsAtEnd}
+
+-- how many bytes an input may have
+abbrev pub most_bytes : ℕ
+most_bytes = 1048576
+
+-- all that was left was read, and these bytes are all of it
+pub record ReadsAll (old new : Option (List ℕ)) (bytes : List ℕ) : Type 0 where
+  pub read : Consumes old new bytes
+  pub end : IsAtEnd new
+  pub fits : length bytes ≤ most_bytes

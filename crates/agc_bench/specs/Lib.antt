@@ -1,0 +1,11 @@
+pub mod Chain
+pub mod Numbers
+pub mod Lines
+pub mod Reading
+pub mod Script
+pub mod Input
+pub mod Faults
+pub mod Texts
+pub mod Keys
+pub mod Seen
+pub mod Gives

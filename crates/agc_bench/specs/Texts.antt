@@ -1,0 +1,42 @@
+-- The numbers and texts of a bench, before any text is read.
+use Rattle.std.specs.Prelude.{ℕ, List, Option}
+
+-- the texts of a task's row
+pub record RowTexts : Type 0 where
+  pub at : List ℕ
+  pub bank : List ℕ
+  pub action : List ℕ
+
+-- a phase entry: its numbers, and the texts of its job and its task
+pub record EntryTexts : Type 0 where
+  pub group : ℕ
+  pub phase : ℕ
+  pub job : Option (List ℕ)
+  pub task : Option (List ℕ)
+
+-- a device: the text of its line, and its pulses
+pub record DeviceTexts : Type 0 where
+  pub line : List ℕ
+  pub pulses : ℕ
+
+-- what a bench has once
+pub record Settings : Type 0 where
+  pub limit : ℕ
+  pub allowance : ℕ
+  pub attends : ℕ
+  pub key : List ℕ
+  pub radar : List ℕ
+  pub power : Option (List (List ℕ))
+
+-- what a bench has many of
+pub record Lists : Type 0 where
+  pub script : List (List ℕ)
+  pub rows : List RowTexts
+  pub entries : List EntryTexts
+  pub workers : List (List (List ℕ))
+  pub devices : List DeviceTexts
+
+-- all of a bench
+pub record Texts : Type 0 where
+  pub settings : Settings
+  pub lists : Lists

@@ -1,0 +1,129 @@
+ghost use Rattle.std.specs.Prelude.{◌≡◌, replicate};
+ghost use Rattle.agc_plan.specs.Jobs as plain;
+ghost use Rattle.agc_plan.specs.Jobs.{no_jobs, established};
+ghost use Rattle.agc_plan.specs.Places.{placed_new, placed_end, fronted};
+ghost use Rattle.agc_exec.specs.Sets.{jobs_of, entries_of, running_in};
+
+use crate::record::Record;
+use crate::search::{free_area, running};
+use crate::sets;
+use agc_plan::{Address, Alarm, Entry, JobNo, Place, Priority, Reply};
+use agc_word::Word;
+use std::marker::Model;
+
+/// The seven core sets, each free or a job's. Set 0 belongs to the running job. Contracts see the job that each set
+/// holds, if it holds one. Source: the listings' EXECUTIVE section.
+#[derive(Drop)]
+pub struct Cores {
+    sets: [Option<Record>; 7],
+}
+
+impl Model for Cores {
+    ghost use Rattle.std.specs.Prelude.{◌≡◌, List, Option, length};
+    ghost use Rattle.agc_exec.specs.Held.{Held};
+    ghost use Rattle.agc_exec.specs.Sets.{IsStanding};
+
+    ghost Value = { List (Option Held) };
+
+    ghost view = { λ c. c.sets };
+
+    ghost invariant = { λ c. IsStanding c.sets × (length c.sets ≡ 7) };
+}
+
+impl Cores {
+    /// All core sets and VAC areas free.
+    pub fn new() -> Cores
+        ensures jobs { jobs_of result ≡ no_jobs 7 }
+        ensures placed { entries_of result ≡ replicate 7 0 }
+    {
+        Cores { sets: [None; 7] }
+    }
+
+    /// Frees all core sets and VAC areas.
+    pub fn clear(&mut self)
+        ensures jobs { jobs_of self.new ≡ no_jobs 7 }
+        ensures placed { entries_of self.new ≡ replicate 7 0 }
+    {
+        *self = Cores::new();
+    }
+
+    /// The number of the running job, None where nobody runs.
+    pub fn running(&self) -> Option<JobNo>
+        ensures { result ≡ running_in self.now }
+    {
+        running(&self.sets)
+    }
+
+    /// NOVAC: establishes a job without a VAC area. `Established`, or `Alarmed` 1202 where seven jobs live, and then
+    /// nothing changes.
+    pub fn novac(&mut self, priority: Priority, entry: Entry) -> Reply
+        ensures outcome { record { jobs = jobs_of self.new; reply = result } ≡ plain.novac priority entry (jobs_of self.old) }
+        ensures placed { entries_of self.new ≡ placed_new (established result) (running_in self.new) (entries_of self.old) }
+    {
+        sets::establish(&mut self.sets, priority, entry, 0)
+    }
+
+    /// FINDVAC: establishes a job with a VAC area. `Established`, or `Alarmed` 1201 where all five areas are owned, else
+    /// 1202 where seven jobs live, and then nothing changes.
+    pub fn findvac(&mut self, priority: Priority, entry: Entry) -> Reply
+        ensures outcome { record { jobs = jobs_of self.new; reply = result } ≡ plain.findvac priority entry (jobs_of self.old) }
+        ensures placed { entries_of self.new ≡ placed_new (established result) (running_in self.new) (entries_of self.old) }
+    {
+        match free_area(&self.sets) {
+            None => Reply::Alarmed(Alarm::A1201),
+            Some(area) => sets::establish(&mut self.sets, priority, entry, area),
+        }
+    }
+
+    /// End of job: frees the running job's set and area; the best job takes set 0. `Left` with who runs then, or `NoJob`
+    /// where nobody ran.
+    pub fn end_of_job(&mut self) -> Reply
+        ensures outcome { record { jobs = jobs_of self.new; reply = result } ≡ plain.end_of_job (jobs_of self.old) }
+        ensures placed { entries_of self.new ≡ placed_end (running_in self.old) (running_in self.new) (entries_of self.old) }
+    {
+        sets::end_of_job(&mut self.sets)
+    }
+
+    /// JOBSLEEP: the running job sleeps until this address is called; the best job takes set 0. `Left` with who runs
+    /// then, or `NoJob` where nobody ran.
+    pub fn job_sleep(&mut self, at: Address) -> Reply
+        ensures outcome { record { jobs = jobs_of self.new; reply = result } ≡ plain.sleep at (jobs_of self.old) }
+        ensures placed { entries_of self.new ≡ fronted (running_in self.new) (entries_of self.old) }
+    {
+        sets::sleep(&mut self.sets, at)
+    }
+
+    /// JOBWAKE: awakens the least-numbered sleeper of this address, which runs if nobody did. `Roused`, or `NoSleeper`.
+    pub fn job_wake(&mut self, at: Address) -> Reply
+        ensures outcome { record { jobs = jobs_of self.new; reply = result } ≡ plain.rouse at (jobs_of self.old) }
+        ensures placed { entries_of self.new ≡ fronted (running_in self.new) (entries_of self.old) }
+    {
+        sets::rouse(&mut self.sets, at)
+    }
+
+    /// PRIOCHNG: sets the running job's priority; where an awake job is then strictly more urgent, the best takes set 0.
+    /// `Runs` with who runs then, or `NoJob` where nobody ran.
+    pub fn prio_change(&mut self, priority: Priority) -> Reply
+        ensures outcome { record { jobs = jobs_of self.new; reply = result } ≡ plain.prio priority (jobs_of self.old) }
+        ensures placed { entries_of self.new ≡ fronted (running_in self.new) (entries_of self.old) }
+    {
+        sets::prio(&mut self.sets, priority)
+    }
+
+    /// Change of job: where an awake job is strictly more urgent than the running one, the best takes set 0. `Runs` with
+    /// who runs then, or `NoJob` where nobody ran.
+    pub fn change_job(&mut self) -> Reply
+        ensures outcome { record { jobs = jobs_of self.new; reply = result } ≡ plain.change (jobs_of self.old) }
+        ensures placed { entries_of self.new ≡ fronted (running_in self.new) (entries_of self.old) }
+    {
+        sets::change(&mut self.sets)
+    }
+
+    /// Sets a work word of the running job. `Stored`, or `NoJob` where nobody runs. Source: profile.
+    pub fn store(&mut self, place: Place, word: Word) -> Reply
+        ensures outcome { record { jobs = jobs_of self.new; reply = result } ≡ plain.store place word (jobs_of self.old) }
+        ensures placed { entries_of self.new ≡ entries_of self.old }
+    {
+        sets::store(&mut self.sets, place, word)
+    }
+}

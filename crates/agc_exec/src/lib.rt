@@ -1,0 +1,10 @@
+//! The Executive's core sets: which job stands in which set, and what each request does to them. Source: the listings'
+//! EXECUTIVE section.
+#![tactic(auto)]
+
+mod cores;
+mod record;
+mod search;
+mod sets;
+
+pub use cores::Cores;

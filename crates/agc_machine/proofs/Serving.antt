@@ -1,0 +1,176 @@
+-- What a served request leaves is kept.
+use Rattle.std.proofs.Common.{◌≡◌, ◌≢◌, ℕ, zero, suc, ◌+◌, ◌<◌, ◌≤◌, ◌^◌, ◌==◌, ◌&&◌, not, if◌then◌else◌, Bool, true, false, ◌⊎◌, inl, inr, List, [], ◌∷◌, ◌++◌, Option, Some, None, length, refl, ap, sym, ◌∙◌, subst, arith}
+use Rattle.std.proofs.lemmas.Grind.{common_steps}
+use Rattle.std.proofs.lemmas.List.{length-append}
+use Rattle.std.specs.List.{fold}
+use Rattle.std.proofs.lemmas.List.Sums.{fold_push}
+use Rattle.agc_plan.specs.declared.reply.Alarm.{Alarm}
+use Rattle.agc_plan.specs.declared.reply.Alarm.TheVariants.{A1201, A1202, A1203}
+use Rattle.agc_plan.specs.declared.reply.Reply.{Reply}
+use Rattle.agc_plan.specs.declared.reply.Reply.TheVariants.{Alarmed, Ticked, Restarted}
+use Rattle.agc_plan.specs.declared.request.Request.{Request}
+use Rattle.agc_plan.specs.declared.request.Request.TheVariants.{Restart, Fresh}
+use Rattle.agc_plan.specs.Plans.{Planned}
+use Rattle.agc_plan.specs.Base.{Base}
+use Rattle.agc_plan.specs.Eras.{begun}
+use Rattle.agc_plan.specs.Seats.{Placed, placed, placed_step, places_after, era_places}
+use Rattle.agc_machine.specs.declared.totals.Totals.{Totals}
+use Rattle.agc_machine.specs.declared.answer.Refusal.TheVariants.{Spent, LogFull}
+use Rattle.agc_plan.specs.Steps.{Plain, Stepped, acted, step, reached, begins, ended, era}
+use Rattle.agc_plan.specs.Tasks.{Waiting}
+use Rattle.agc_exec.specs.Held.{Held}
+use Rattle.agc_wait.specs.Waits.{due_now}
+use Rattle.agc_machine.specs.Told.{add, nothing, reply_told, alarm_told}
+use Rattle.agc_machine.specs.Machines.{Machined, IsLawful, IsKept, plain_of, places_of, stepped, served, refusal_of, starts_over}
+use Rattle.agc_machine.specs.Stands.{Stands, StandsFor, Steps}
+use Rattle.agc_machine.proofs.Stepping.{places_began}
+
+bool_cases : (b : Bool) → (b ≡ true) ⊎ (b ≡ false)
+bool_cases true = inl refl
+bool_cases false = inr refl
+
+-- what the log and one more request reach is one step on
+pub reached_more : (plan : Planned) (base : Base) (log : List Request) (asked : Request) → reached plan base (log ++ asked ∷ []) ≡ (step plan asked (reached plan base log)).plain
+reached_more plan base log asked = fold_push (λ (plain : Plain) (r : Request). (step plan r plain).plain) (era plan base) log asked
+
+-- the plain states of a run with core sets are those of the run without
+placed_plain-from : (plan : Planned) (start : Placed) (log : List Request) → (fold (λ (p : Placed) (asked : Request). placed_step plan asked p) start log).plain ≡ fold (λ (plain : Plain) (asked : Request). (step plan asked plain).plain) start.plain log
+placed_plain-from plan start [] = refl
+placed_plain-from plan start (asked ∷ log) = placed_plain-from plan (placed_step plan asked start) log
+
+pub placed_plain : (plan : Planned) (base : Base) (log : List Request) → (placed plan base log).plain ≡ reached plan base log
+placed_plain plan base log = placed_plain-from plan (record { plain = era plan base; places = era_places plan base }) log
+
+-- the core sets after the log and one more request
+places_more : (plan : Planned) (base : Base) (log : List Request) (asked : Request) → (placed plan base (log ++ asked ∷ [])).places ≡ places_after plan asked (reached plan base log) (placed plan base log).places
+places_more plan base log asked =
+    ap (λ (p : Placed). p.places) (fold_push (λ (p : Placed) (r : Request). placed_step plan r p) (record { plain = era plan base; places = era_places plan base }) log asked)
+    ∙ ap (λ (plain : Plain). places_after plan asked plain (placed plan base log).places) (placed_plain plan base log)
+
+-- where an era begins, the state is an era's
+era_began : (plan : Planned) (did : Stepped) → begins did.reply ≡ true → ended plan did ≡ era plan (ended plan did).base
+era_began plan did yes_began = rw yes_began refl
+
+-- what a reply tells is one served, at most one restart, and no more alarms than restarts
+pub record Tells (t : Totals) : Type 0 where
+  pub one : t.served ≡ 1
+  pub few : t.restarts ≤ 1
+  pub alarms : t.a1201 + t.a1202 + t.a1203 ≤ t.restarts
+
+alarm_tells : (alarm : Alarm) → Tells (alarm_told alarm)
+alarm_tells A1201 = record { one = refl; few = omega arith; alarms = omega arith }
+alarm_tells A1202 = record { one = refl; few = omega arith; alarms = omega arith }
+alarm_tells A1203 = record { one = refl; few = omega arith; alarms = omega arith }
+
+pub tells : (reply : Reply) → Tells (reply_told reply)
+tells (Alarmed alarm) = alarm_tells alarm
+tells (Ticked fired (Some alarm)) = alarm_tells alarm
+tells (Ticked fired None) = record { one = refl; few = omega arith; alarms = omega arith }
+tells Restarted = record { one = refl; few = omega arith; alarms = omega arith }
+tells reply = record { one = refl; few = omega arith; alarms = omega arith }
+
+-- a request that is always served begins an era
+over_begins : (plan : Planned) (asked : Request) (plain : Plain) → starts_over asked ≡ true → begins (step plan asked plain).reply ≡ true
+over_begins plan Restart plain e = refl
+over_begins plan Fresh plain e = refl
+over_begins plan asked plain e = absurd (cc)
+
+-- what is known where a request isn't refused
+pub record IsServed (m : Machined) (asked : Request) : Type 0 where
+  pub unspent : m.totals.served ≢ m.allowance
+  pub unfilled : starts_over asked ≡ false → length m.log ≢ m.limit
+
+pub served_if : (m : Machined) (asked : Request) → refusal_of m asked ≡ None → IsServed m asked
+served_if m asked e = elim (bool_cases (m.totals.served == m.allowance)) [
+  | inl spent ↦ let is : Some Spent ≡ None = rw spent at e in absurd (cc)
+  | inr left ↦ elim (bool_cases ((length m.log == m.limit) && not (starts_over asked))) [
+    | inl full ↦ let is : Some LogFull ≡ None = rw (left, full) at e in absurd (cc)
+    | inr fits ↦ record {
+        unspent = λ same. grind (arith, common_steps);
+        unfilled = λ goes same. grind (arith, common_steps);
+      }
+  ]
+]
+
+-- there is room in the log for a request that begins no era
+pub room_left : (m : Machined) (asked : Request) (plain : Plain) → length m.log ≤ m.limit → refusal_of m asked ≡ None → begins (step m.plan asked plain).reply ≡ false → length m.log < m.limit
+room_left m asked plain short e goes = elim (bool_cases (starts_over asked)) [
+  | inl over ↦ let is : true ≡ false = sym (over_begins m.plan asked plain over) ∙ goes in absurd (cc)
+  | inr goes_on ↦ let ne : length m.log ≢ m.limit = (served_if m asked e).unfilled goes_on in omega arith
+]
+
+abbrev served_by : Bool → Stepped → Request → Machined → Machined
+served_by over now asked m = record {
+  plan = m.plan;
+  limit = m.limit;
+  allowance = m.allowance;
+  base = if over then now.plain.base else m.base;
+  log = if over then [] else m.log ++ asked ∷ [];
+  totals = add m.totals (reply_told now.reply);
+}
+
+kept_by : (over : Bool) (m : Machined) (asked : Request) (now : Stepped) → IsLawful m → m.totals.served ≢ m.allowance → (over ≡ false → length m.log < m.limit) → (over ≡ true → now.plain ≡ era m.plan now.plain.base) → now.plain ≡ reached m.plan m.base (m.log ++ asked ∷ []) → IsLawful (served_by over now asked m) × (now.plain ≡ plain_of (served_by over now asked m))
+kept_by true m asked now l unspent short begun goes =
+    let t : Tells (reply_told now.reply) = tells now.reply in
+    let one : (reply_told now.reply).served ≡ 1 = t.one in
+    let few : (reply_told now.reply).restarts ≤ 1 = t.few in
+    let most : (reply_told now.reply).a1201 + (reply_told now.reply).a1202 + (reply_told now.reply).a1203 ≤ (reply_told now.reply).restarts = t.alarms in
+    (record { short = omega arith; most = l.most; allowed = omega arith; fits = l.fits; restarts = omega arith; alarms = omega arith }, begun refl)
+kept_by false m asked now l unspent short begun goes =
+    let t : Tells (reply_told now.reply) = tells now.reply in
+    let one : (reply_told now.reply).served ≡ 1 = t.one in
+    let few : (reply_told now.reply).restarts ≤ 1 = t.few in
+    let most : (reply_told now.reply).a1201 + (reply_told now.reply).a1202 + (reply_told now.reply).a1203 ≤ (reply_told now.reply).restarts = t.alarms in
+    let left : length m.log < m.limit = short refl in
+    (record { short = rw length-append (omega arith); most = l.most; allowed = omega arith; fits = l.fits; restarts = omega arith; alarms = omega arith }, goes)
+
+places_by : (over : Bool) (m : Machined) (asked : Request) (now : Stepped) (places : List ℕ) → (over ≡ true → places ≡ era_places m.plan now.plain.base) → places ≡ (placed m.plan m.base (m.log ++ asked ∷ [])).places → places ≡ places_of (served_by over now asked m)
+places_by true m asked now places begun goes = begun refl
+places_by false m asked now places begun goes = goes
+
+same_served : (m : Machined) (asked : Request) (now : Stepped) (over : Bool) (base : Base) (log : List Request) (totals : Totals) → over ≡ begins now.reply → base ≡ (if over then now.plain.base else m.base) → log ≡ (if over then [] else m.log ++ asked ∷ []) → totals ≡ add m.totals (reply_told now.reply) → ◌≡◌ {A = Machined} (record { plan = m.plan; limit = m.limit; allowance = m.allowance; base = base; log = log; totals = totals }) (served now asked m)
+same_served m asked now over base log totals over_is base_is log_is totals_is = rw (base_is, log_is, totals_is, over_is) refl
+
+-- what is kept after a request that is served
+kept_served : (m : Machined) (asked : Request) (sets : List (Option Held)) (waits : List Waiting) (table : Base) (reply : Reply) (room more : ℕ) → IsLawful m → m.limit ≤ room → refusal_of m asked ≡ None → Steps sets waits table reply (stepped m asked) (places_after m.plan asked (plain_of m) (places_of m)) → due_now waits ≡ 0 → room ≤ more → IsKept (served (stepped m asked) asked m) sets waits table more
+kept_served m asked sets waits table reply room more lawful holds e steps none_due le =
+    let both = kept_by (begins (stepped m asked).reply) m asked (stepped m asked) lawful (served_if m asked e).unspent
+      (room_left m asked (plain_of m) lawful.short e)
+      (era_began m.plan (acted m.plan asked (plain_of m)))
+      (sym (reached_more m.plan m.base m.log asked)) in
+    let seats = places_by (begins (stepped m asked).reply) m asked (stepped m asked) (places_after m.plan asked (plain_of m) (places_of m))
+      (places_began m.plan asked (plain_of m) (places_of m))
+      (sym (places_more m.plan m.base m.log asked)) in
+    record {
+      lawful = both.0;
+      stands = subst (λ (p : Plain). StandsFor sets waits table p (places_of (served (stepped m asked) asked m))) both.1 (subst (λ (l : List ℕ). StandsFor sets waits table (stepped m asked).plain l) seats steps.state);
+      none_due = none_due;
+      holds = omega arith;
+    }
+
+-- a request that begins no era has room in the log
+pub store_room : (m : Machined) (asked : Request) (reply : Reply) (room : ℕ) → IsLawful m → m.limit ≤ room → refusal_of m asked ≡ None → reply ≡ (stepped m asked).reply → begins reply ≡ false → length m.log < room
+store_room m asked reply room lawful holds e reply_is goes =
+    let off : begins (stepped m asked).reply ≡ false = ap begins (sym reply_is) ∙ goes in
+    let left : length m.log < m.limit = room_left m asked (plain_of m) lawful.short e off in
+    omega arith
+
+-- what is kept, with what was stored
+pub kept_stored : (m : Machined) (asked : Request) (sets : List (Option Held)) (waits : List Waiting) (table : Base) (reply : Reply) (room more : ℕ) (over : Bool) (base : Base) (log : List Request) (totals : Totals) → IsLawful m → m.limit ≤ room → refusal_of m asked ≡ None → Steps sets waits table reply (stepped m asked) (places_after m.plan asked (plain_of m) (places_of m)) → due_now waits ≡ 0 → room ≤ more → over ≡ begins reply → base ≡ (if over then table else m.base) → log ≡ (if over then [] else m.log ++ asked ∷ []) → totals ≡ add m.totals (reply_told reply) → IsKept (record { plan = m.plan; limit = m.limit; allowance = m.allowance; base = base; log = log; totals = totals }) sets waits table more × (◌≡◌ {A = Machined} (record { plan = m.plan; limit = m.limit; allowance = m.allowance; base = base; log = log; totals = totals }) (served (stepped m asked) asked m))
+kept_stored m asked sets waits table reply room more over base log totals lawful holds e steps none_due le over_is base_is log_is totals_is =
+    let reply_is : reply ≡ (stepped m asked).reply = steps.reply_is in
+    let base_now : (stepped m asked).plain.base ≡ table = steps.state.base_is in
+    let here : ◌≡◌ {A = Machined} (record { plan = m.plan; limit = m.limit; allowance = m.allowance; base = base; log = log; totals = totals }) (served (stepped m asked) asked m) =
+        same_served m asked (stepped m asked) over base log totals (over_is ∙ ap begins reply_is) (base_is ∙ ap (λ (b : Base). if over then b else m.base) (sym base_now)) log_is (totals_is ∙ ap (λ (r : Reply). add m.totals (reply_told r)) reply_is) in
+    (subst (λ (x : Machined). IsKept x sets waits table more) (sym here) (kept_served m asked sets waits table reply room more lawful holds e steps none_due le), here)
+
+-- what is kept where an era has just begun
+pub kept_begun : (plan : Planned) (limit allowance : ℕ) (base : Base) (log : List Request) (totals : Totals) (sets : List (Option Held)) (waits : List Waiting) (room : ℕ) → limit ≤ 1000000 → limit ≤ room → allowance < 2 ^ 64 → log ≡ [] → totals ≡ nothing → Stands sets waits (begun plan base.phases) (era_places plan base) → due_now waits ≡ 0 → IsKept (record { plan = plan; limit = limit; allowance = allowance; base = base; log = log; totals = totals }) sets waits base room
+kept_begun plan limit allowance base log totals sets waits room most le fits empty zero_is is none_due =
+    subst (λ (l : List Request). IsKept (record { plan = plan; limit = limit; allowance = allowance; base = base; log = l; totals = totals }) sets waits base room) (sym empty)
+      (subst (λ (t : Totals). IsKept (record { plan = plan; limit = limit; allowance = allowance; base = base; log = []; totals = t }) sets waits base room) (sym zero_is) (record {
+        lawful = record { short = omega arith; most = most; allowed = omega arith; fits = fits; restarts = omega arith; alarms = omega arith };
+        stands = record { work = is; base_is = refl };
+        none_due = none_due;
+        holds = le;
+      }))

@@ -1,0 +1,4 @@
+pub mod Said
+pub mod Told
+pub mod Stands
+pub mod Machines

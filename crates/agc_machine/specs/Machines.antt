@@ -1,0 +1,98 @@
+-- The machine's step over base, log and totals.
+use Rattle.std.specs.Prelude.{◌≡◌, ℕ, ◌+◌, ◌≤◌, ◌<◌, ◌^◌, ◌==◌, ◌&&◌, Bool, true, false, not, if◌then◌else◌, List, [], ◌∷◌, ◌++◌, length, Option, Some, None, Result, Ok, Err}
+use Rattle.agc_plan.specs.declared.request.Request.{Request}
+use Rattle.agc_plan.specs.declared.request.Request.TheVariants.{Restart, Fresh}
+use Rattle.agc_plan.specs.declared.reply.Reply.{Reply}
+use Rattle.agc_plan.specs.Base.{Base}
+use Rattle.agc_plan.specs.Plans.{Planned}
+use Rattle.agc_plan.specs.Seats.{placed}
+use Rattle.agc_plan.specs.Steps.{Plain, Stepped, step, reached, begins}
+use Rattle.agc_plan.specs.Tasks.{Waiting}
+use Rattle.agc_exec.specs.Held.{Held}
+use Rattle.agc_wait.specs.Waits.{due_now}
+use Rattle.agc_machine.specs.declared.answer.Refusal.{Refusal}
+use Rattle.agc_machine.specs.declared.answer.Refusal.TheVariants.{Spent, LogFull}
+use Rattle.agc_machine.specs.declared.totals.Totals.{Totals}
+use Rattle.agc_machine.specs.Stands.{StandsFor}
+use Rattle.agc_machine.specs.Told.{add, reply_told, nothing}
+
+-- a machine: its plan, limit and allowance, with what the last era began, the requests stored since, and the totals
+pub record Machined : Type 0 where
+  pub plan : Planned
+  pub limit : ℕ
+  pub allowance : ℕ
+  pub base : Base
+  pub log : List Request
+  pub totals : Totals
+
+-- the plain state that it stands for
+abbrev pub plain_of : Machined → Plain
+plain_of m = reached m.plan m.base m.log
+
+-- and the core sets of its jobs
+abbrev pub places_of : Machined → List ℕ
+places_of m = (placed m.plan m.base m.log).places
+
+-- what holds of every machine
+pub record IsLawful (m : Machined) : Type 0 where
+  pub short : length m.log ≤ m.limit
+  pub most : m.limit ≤ 1000000
+  pub allowed : m.totals.served ≤ m.allowance
+  pub fits : m.allowance < 2 ^ 64
+  pub restarts : m.totals.restarts ≤ m.totals.served
+  pub alarms : m.totals.a1201 + m.totals.a1202 + m.totals.a1203 ≤ m.totals.restarts
+
+-- a full log refuses neither restart nor fresh start
+abbrev pub starts_over : Request → Bool
+starts_over Restart = true
+starts_over Fresh = true
+starts_over asked = false
+
+-- the plain state after a request, and its reply
+abbrev pub stepped : Machined → Request → Stepped
+stepped m asked = step m.plan asked (plain_of m)
+
+-- why the request is refused, if it is
+abbrev pub refusal_of : Machined → Request → Option Refusal
+refusal_of m asked =
+    if m.totals.served == m.allowance then Some Spent
+    else if (length m.log == m.limit) && not (starts_over asked) then Some LogFull
+    else None
+
+abbrev pub result_of : Option Refusal → Reply → Result Reply Refusal
+result_of None reply = Ok reply
+result_of (Some refusal) reply = Err refusal
+
+-- what the request is answered
+abbrev pub answer_of : Machined → Request → Result Reply Refusal
+answer_of m asked = result_of (refusal_of m asked) (stepped m asked).reply
+
+-- the machine after a request that is served: an era began with what is now the base, or the request is stored
+abbrev pub served : Stepped → Request → Machined → Machined
+served now asked m = record {
+  plan = m.plan;
+  limit = m.limit;
+  allowance = m.allowance;
+  base = if begins now.reply then now.plain.base else m.base;
+  log = if begins now.reply then [] else m.log ++ asked ∷ [];
+  totals = add m.totals (reply_told now.reply);
+}
+
+abbrev pub after_unless : Option Refusal → Machined → Request → Machined
+after_unless (Some refusal) m asked = m
+after_unless None m asked = served (stepped m asked) asked m
+
+-- the machine after a request: a refused one changes nothing
+abbrev pub after : Machined → Request → Machined
+after m asked = after_unless (refusal_of m asked) m asked
+
+-- an era has just begun, and nothing was served
+abbrev pub begun_with : Planned → ℕ → ℕ → Base → Machined
+begun_with plan limit allowance base = record { plan = plan; limit = limit; allowance = allowance; base = base; log = []; totals = nothing }
+
+-- what a machine keeps: its tables stand for what the log reaches, nothing is due, and the whole log has room
+pub record IsKept (m : Machined) (sets : List (Option Held)) (waits : List Waiting) (table : Base) (room : ℕ) : Type 0 where
+  pub lawful : IsLawful m
+  pub stands : StandsFor sets waits table (plain_of m) (places_of m)
+  pub none_due : due_now waits ≡ 0
+  pub holds : m.limit ≤ room

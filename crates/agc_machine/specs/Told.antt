@@ -1,0 +1,35 @@
+-- What an answer tells of the totals.
+use Rattle.std.specs.Prelude.{ℕ, ◌+◌, Option, Some, None, Result, Ok, Err}
+use Rattle.agc_plan.specs.declared.reply.Alarm.{Alarm}
+use Rattle.agc_plan.specs.declared.reply.Alarm.TheVariants.{A1201, A1202, A1203}
+use Rattle.agc_plan.specs.declared.reply.Reply.{Reply}
+use Rattle.agc_plan.specs.declared.reply.Reply.TheVariants.{Alarmed, Ticked, Restarted}
+use Rattle.agc_machine.specs.declared.answer.Refusal.{Refusal}
+use Rattle.agc_machine.specs.declared.totals.Totals.{Totals}
+
+-- nothing was told
+abbrev pub nothing : Totals
+nothing = record { served = 0; a1201 = 0; a1202 = 0; a1203 = 0; restarts = 0 }
+
+-- both together
+abbrev pub add : Totals → Totals → Totals
+add s t =
+    record { served = s.served + t.served; a1201 = s.a1201 + t.a1201; a1202 = s.a1202 + t.a1202; a1203 = s.a1203 + t.a1203; restarts = s.restarts + t.restarts }
+
+-- an alarm tells one served, one alarm and one restart
+abbrev pub alarm_told : Alarm → Totals
+alarm_told A1201 = record { served = 1; a1201 = 1; a1202 = 0; a1203 = 0; restarts = 1 }
+alarm_told A1202 = record { served = 1; a1201 = 0; a1202 = 1; a1203 = 0; restarts = 1 }
+alarm_told A1203 = record { served = 1; a1201 = 0; a1202 = 0; a1203 = 1; restarts = 1 }
+
+-- what a reply tells: one served, and where an era began with it, one restart
+abbrev pub reply_told : Reply → Totals
+reply_told (Alarmed alarm) = alarm_told alarm
+reply_told (Ticked fired (Some alarm)) = alarm_told alarm
+reply_told Restarted = record { served = 1; a1201 = 0; a1202 = 0; a1203 = 0; restarts = 1 }
+reply_told reply = record { served = 1; a1201 = 0; a1202 = 0; a1203 = 0; restarts = 0 }
+
+-- what an answer tells: a refusal tells nothing
+abbrev pub told : Result Reply Refusal → Totals
+told (Ok reply) = reply_told reply
+told (Err refusal) = nothing

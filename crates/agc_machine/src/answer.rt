@@ -1,0 +1,69 @@
+ghost use Rattle.std.specs.Prelude.{◌≡◌, Ok, Err};
+
+use agc_plan::{Reply, Request};
+use std::marker::Model;
+use thiserror::Error;
+
+/// Why a request was not served. It then changed nothing. Source: profile.
+#[derive(Clone, Copy, PartialEq, Eq, Debug, Error)]
+pub enum Refusal {
+    /// As many requests were served as the allowance says.
+    #[error("refused spent")]
+    Spent,
+    /// The log holds as many requests as its limit says.
+    #[error("refused log full")]
+    LogFull,
+}
+
+/// What `Machine::apply` answers, which alone makes one. Contracts see it as its request and its result.
+#[derive(Drop)]
+pub struct Answer {
+    request: Request,
+    result: Result<Reply, Refusal>,
+}
+
+impl Model for Answer {
+    ghost use Rattle.agc_machine.specs.Said.{Said};
+
+    ghost Value = { Said };
+
+    ghost view = { λ a. record { request = a.request; outcome = a.result } };
+}
+
+impl Answer {
+    /// The answer to a request that was served.
+    pub(crate) fn served(request: Request, reply: Reply) -> Answer
+        ensures request { result.request ≡ request }
+        ensures outcome { result.outcome ≡ Ok reply }
+    {
+        Answer {
+            request,
+            result: Ok(reply),
+        }
+    }
+
+    /// The answer to a request that was refused.
+    pub(crate) fn refused(request: Request, refusal: Refusal) -> Answer
+        ensures request { result.request ≡ request }
+        ensures outcome { result.outcome ≡ Err refusal }
+    {
+        Answer {
+            request,
+            result: Err(refusal),
+        }
+    }
+
+    /// What was asked.
+    pub fn request(&self) -> Request
+        ensures { result ≡ self.now.request }
+    {
+        self.request
+    }
+
+    /// The reply, or why there is none.
+    pub fn result(self) -> Result<Reply, Refusal>
+        ensures { result ≡ self.outcome }
+    {
+        self.result
+    }
+}

@@ -1,0 +1,100 @@
+-- The words of the phases and of FAILREG: the pairs -PHASE1, PHASE1 to -PHASE6, PHASE6 at places 117 to 128, FAILREG at
+-- 129 to 131.
+use Rattle.std.specs.Prelude.{◌≡◌, ◌⊎◌, ℕ, ◌+◌, ◌*◌, ◌<◌, ◌≤◌, ◌==◌, if◌then◌else◌, List, [], ◌∷◌, length, take, drop, slice_index, slice_index_or, Option, Some, None, IsSome}
+use Rattle.agc_word.specs.Words.{complement}
+use Rattle.agc_plan.specs.declared.reply.Code.{Code}
+use Rattle.agc_plan.specs.declared.reply.Code.TheVariants.{C1107, C1201, C1202, C1203}
+use Rattle.agc_plan.specs.Base.{Base}
+
+-- the words -PHASE and PHASE of a group agree: they are complements, and the phase is at most 127
+abbrev pub IsPair : ℕ → ℕ → Type 0
+IsPair minus phase = (minus ≡ complement phase) × (phase ≤ 127)
+
+-- -PHASE of a group, counted from 0, in the twelve phase words
+abbrev pub minus_in : List ℕ → ℕ → ℕ
+minus_in words group = slice_index words (2 * group)
+
+-- PHASE of a group, counted from 0, in the twelve phase words
+abbrev pub phase_in : List ℕ → ℕ → ℕ
+phase_in words group = slice_index words (2 * group + 1)
+
+-- twelve phase words agree, pair by pair
+abbrev pub ArePairs : List ℕ → Type 0
+ArePairs words = (group : ℕ) → group < 6 → IsPair (minus_in words group) (phase_in words group)
+
+-- the phases in twelve phase words
+abbrev pub phases_in : List ℕ → List ℕ
+phases_in words =
+    phase_in words 0 ∷ phase_in words 1 ∷ phase_in words 2 ∷ phase_in words 3 ∷ phase_in words 4 ∷ phase_in words 5 ∷ []
+
+-- the word of a code: its digits in octal, or 00000 where there is none
+abbrev pub code_word : Option Code → ℕ
+code_word None = 0
+code_word (Some C1107) = 583
+code_word (Some C1201) = 641
+code_word (Some C1202) = 642
+code_word (Some C1203) = 643
+
+-- the code that a word is read as: none, where it is no code's word
+abbrev pub code_of_word : ℕ → Option Code
+code_of_word word =
+    if word == 583 then Some C1107
+    else if word == 641 then Some C1201
+    else if word == 642 then Some C1202
+    else if word == 643 then Some C1203
+    else None
+
+-- a word of FAILREG is 00000 or a code's word: it is the word of what it is read as
+abbrev pub IsCodeWord : ℕ → Type 0
+IsCodeWord word = word ≡ code_word (code_of_word word)
+
+-- the first, the second and the latest code: none at all, one that is both first and latest, or two and a latest
+abbrev pub AreFirstSecondLatest : Option Code → Option Code → Option Code → Type 0
+AreFirstSecondLatest None second latest = (second ≡ None) × (latest ≡ None)
+AreFirstSecondLatest (Some first) None latest = latest ≡ Some first
+AreFirstSecondLatest (Some first) (Some second) latest = IsSome latest
+
+-- three codes as FAILREG may hold them
+abbrev pub IsFailreg : List (Option Code) → Type 0
+IsFailreg codes = AreFirstSecondLatest (slice_index_or codes 0 None) (slice_index_or codes 1 None) (slice_index_or codes 2 None)
+
+-- the twelve phase words of the memory
+abbrev pub phase_words : List ℕ → List ℕ
+phase_words words = take 12 (drop 117 words)
+
+-- a word of FAILREG, counted from 0
+abbrev pub failreg_word : List ℕ → ℕ → ℕ
+failreg_word words k = slice_index words (129 + k)
+
+-- the codes in FAILREG
+abbrev pub codes_in : List ℕ → List (Option Code)
+codes_in words =
+    code_of_word (failreg_word words 0) ∷ code_of_word (failreg_word words 1) ∷ code_of_word (failreg_word words 2) ∷ []
+
+-- the phases and the codes that the words are read as
+abbrev pub base_of : List ℕ → Base
+base_of words = record { phases = phases_in (phase_words words); codes = codes_in words }
+
+-- the phase words agree, and FAILREG has code words, in the order in which alarms leave them
+pub record IsLawfulTable (words : List ℕ) : Type 0 where
+  pub pairs : ArePairs (phase_words words)
+  pub spelled : (k : ℕ) → k < 3 → IsCodeWord (failreg_word words k)
+  pub failreg : IsFailreg (codes_in words)
+
+-- outside the table, nothing changed
+abbrev pub SameOutside : List ℕ → List ℕ → Type 0
+SameOutside old new = (place : ℕ) → (place < 117) ⊎ (131 < place) → slice_index new place ≡ slice_index old place
+
+-- so many pairs were written with these phases, and nothing but phase words changed
+pub record PairsWritten (phases : List ℕ) (old : List ℕ) (n : ℕ) (new : List ℕ) : Type 0 where
+  pub minus : (k : ℕ) → k < n → slice_index new (117 + 2 * k) ≡ complement (slice_index phases k)
+  pub phase : (k : ℕ) → k < n → slice_index new (118 + 2 * k) ≡ slice_index phases k
+  pub range : (k : ℕ) → k < n → slice_index phases k ≤ 127
+  pub size : length new ≡ length old
+  pub same : (place : ℕ) → (place < 117) ⊎ (128 < place) → slice_index new place ≡ slice_index old place
+
+-- so many words of FAILREG were written with these codes, and nothing but FAILREG changed
+pub record CodesWritten (codes : List (Option Code)) (old : List ℕ) (n : ℕ) (new : List ℕ) : Type 0 where
+  pub word : (k : ℕ) → k < n → failreg_word new k ≡ code_word (slice_index_or codes k None)
+  pub size : length new ≡ length old
+  pub same : (place : ℕ) → (place < 129) ⊎ (131 < place) → slice_index new place ≡ slice_index old place

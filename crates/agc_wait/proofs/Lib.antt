@@ -1,0 +1,5 @@
+pub mod Orders
+pub mod Distances
+pub mod Dues
+pub mod Tables
+pub mod Encodes

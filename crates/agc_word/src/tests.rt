@@ -1,0 +1,73 @@
+use crate::{Erasable, Word};
+use std::test::Fail;
+
+fn word(bits: u16) -> Result<Word, Fail> {
+    Ok(Word::new(bits).ok_or("word")?)
+}
+
+#[test]
+fn sums_at_the_ends_of_the_range(rt: HostRuntime) -> Result<(), Fail> {
+    let cases = [
+        (0o37777, 0o00001, 0o00000, true),
+        (0o00001, 0o77776, 0o77777, false),
+        (0o40000, 0o77776, 0o77777, true),
+        (0o20000, 0o20000, 0o00000, true),
+        (0o77777, 0o00001, 0o00001, false),
+    ];
+    for (one, other, want, beyond) in cases {
+        assert_eq!(rt;
+            word(one)?.add(word(other)?),
+            (word(want)?, beyond),
+            "{one} and {other}"
+        );
+    }
+    assert_eq!(rt; word(0o37776)?.count_up(), (word(0o37777)?, false));
+    assert_eq!(rt; word(0o37777)?.count_up(), (Word::zero(), true));
+    Ok(())
+}
+
+#[test]
+fn words_of_values(rt: HostRuntime) -> Result<(), Fail> {
+    let cases = [
+        (0, 0o00000),
+        (1, 0o00001),
+        (16383, 0o37777),
+        (-1, 0o77776),
+        (-16383, 0o40000),
+    ];
+    for (value, bits) in cases {
+        assert_eq!(rt; Word::of_value(value), Word::new(bits), "{value}");
+        assert_eq!(rt; word(bits)?.value(), value, "{value}");
+    }
+    assert_eq!(rt; Word::of_value(16384), None);
+    assert_eq!(rt; Word::of_value(-16384), None);
+    assert_eq!(rt; word(0o77777)?.value(), 0);
+    Ok(())
+}
+
+#[test]
+fn signs_of_words(rt: HostRuntime) -> Result<(), Fail> {
+    assert_eq!(rt; Word::new(0o100000), None);
+    assert_eq!(rt; word(0o12345)?.neg().bits(), 0o65432);
+    assert_eq!(rt; word(0o12345)?.neg().neg(), word(0o12345)?);
+    assert!(rt; word(0o77777)?.is_minus_zero());
+    assert!(rt; !word(0o77776)?.is_minus_zero());
+    assert!(rt; word(0o40000)?.is_negative());
+    assert!(rt; !word(0o37777)?.is_negative());
+    assert_eq!(rt; Word::default(), Word::zero());
+    Ok(())
+}
+
+#[test]
+fn erasable_keeps_what_is_set(rt: HostRuntime) -> Result<(), Fail> {
+    let mut erasable = Erasable::new();
+    let seven = word(0o00007)?;
+    erasable.set(131, seven);
+    assert_eq!(rt; erasable.get(131), seven);
+    assert_eq!(rt; erasable.get(130), Word::zero());
+    let words = erasable.words();
+    let last = words[131];
+    assert_eq!(rt; last, seven);
+    assert_eq!(rt; Erasable::default().get(0), Word::zero());
+    Ok(())
+}
