@@ -1,3 +1,5 @@
 pub mod Held
 pub mod Sets
 pub mod Best
+pub mod Blocks
+pub mod Image

@@ -3,12 +3,14 @@ ghost use Rattle.agc_plan.specs.Jobs as plain;
 ghost use Rattle.agc_plan.specs.Jobs.{no_jobs, established};
 ghost use Rattle.agc_plan.specs.Places.{placed_new, placed_end, fronted};
 ghost use Rattle.agc_exec.specs.Sets.{jobs_of, entries_of, running_in};
+ghost use Rattle.agc_exec.specs.Image.{IsEncoded};
 
+use crate::image;
 use crate::record::Record;
 use crate::search::{free_area, running};
 use crate::sets;
 use agc_plan::{Address, Alarm, Entry, JobNo, Place, Priority, Reply};
-use agc_word::Word;
+use agc_word::{Erasable, Word};
 use std::marker::Model;
 
 /// The seven core sets, each free or a job's. Set 0 belongs to the running job. Contracts see the job that each set
@@ -125,5 +127,12 @@ impl Cores {
         ensures placed { entries_of self.new ≡ entries_of self.old }
     {
         sets::store(&mut self.sets, place, word)
+    }
+
+    /// Writes the core sets, use words and NEWJOB into places 0 to 89 of the erasable words, and no others.
+    pub fn encode(&self, e: &mut Erasable)
+        ensures { IsEncoded self.now e.old e.new }
+    {
+        image::write(e, &self.sets);
     }
 }

@@ -3,6 +3,7 @@
 #![tactic(auto)]
 
 mod cores;
+mod image;
 mod record;
 mod search;
 mod sets;

@@ -1,5 +1,5 @@
 // A job in a core set.
-ghost use Rattle.std.specs.Prelude.{◌≡◌, nat_lt};
+ghost use Rattle.std.specs.Prelude.{◌≡◌, ◌≤◌, nat_lt};
 ghost use Rattle.agc_plan.specs.Jobs.{new_job, is_sleeper, sleeping_at, woken, with_priority, with_word};
 ghost use Rattle.agc_exec.specs.Best.{precedes};
 ghost use Rattle.agc_exec.specs.Sets.{job_of};
@@ -22,11 +22,14 @@ pub struct Record {
 }
 
 impl Model for Record {
+    ghost use Rattle.std.specs.Prelude.{◌≡◌, ◌≤◌, length};
     ghost use Rattle.agc_exec.specs.Held.{Held};
 
     ghost Value = { Held };
 
     ghost view = { λ r. record { number = r.number; at = r.at; bank = r.bank; priority = r.priority; asleep = r.asleep; area = r.area; work = r.work } };
+
+    ghost invariant = { λ r. (r.area ≤ 5) × (length r.work ≡ 6) };
 
     ghost inverse = { λ h. record { number = h.number; at = h.at; bank = h.bank; priority = h.priority; asleep = h.asleep; area = h.area; work = h.work } };
 }
@@ -34,6 +37,7 @@ impl Model for Record {
 impl Record {
     /// A new job.
     pub fn new(number: JobNo, priority: Priority, entry: Entry, area: u8) -> Record
+        requires { area ≤ 5 }
         ensures number { result.number ≡ number }
         ensures job { job_of result ≡ new_job priority entry area }
     {

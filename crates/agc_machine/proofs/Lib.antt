@@ -1,3 +1,4 @@
 pub mod Fires
 pub mod Stepping
 pub mod Serving
+pub mod Frames

@@ -2,3 +2,4 @@ pub mod Said
 pub mod Told
 pub mod Stands
 pub mod Machines
+pub mod Image

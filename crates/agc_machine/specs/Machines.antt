@@ -1,15 +1,17 @@
 -- The machine's step over base, log and totals.
-use Rattle.std.specs.Prelude.{◌≡◌, ℕ, ◌+◌, ◌≤◌, ◌<◌, ◌^◌, ◌==◌, ◌&&◌, Bool, true, false, not, if◌then◌else◌, List, [], ◌∷◌, ◌++◌, length, Option, Some, None, Result, Ok, Err}
+use Rattle.std.specs.Prelude.{◌≡◌, ℕ, ◌+◌, ◌≤◌, ◌<◌, ◌^◌, ◌==◌, ◌&&◌, Bool, true, false, not, if◌then◌else◌, List, [], ◌∷◌, ◌++◌, length, replicate, Option, Some, None, Result, Ok, Err}
 use Rattle.agc_plan.specs.declared.request.Request.{Request}
 use Rattle.agc_plan.specs.declared.request.Request.TheVariants.{Restart, Fresh}
 use Rattle.agc_plan.specs.declared.reply.Reply.{Reply}
-use Rattle.agc_plan.specs.Base.{Base}
+use Rattle.agc_plan.specs.declared.reply.Code.TheVariants.{C1107}
+use Rattle.agc_plan.specs.Base.{Base, fresh_base, with_code}
 use Rattle.agc_plan.specs.Plans.{Planned}
 use Rattle.agc_plan.specs.Seats.{placed}
 use Rattle.agc_plan.specs.Steps.{Plain, Stepped, step, reached, begins}
 use Rattle.agc_plan.specs.Tasks.{Waiting}
 use Rattle.agc_exec.specs.Held.{Held}
 use Rattle.agc_wait.specs.Waits.{due_now}
+use Rattle.agc_phase.specs.Image.{phases_in}
 use Rattle.agc_machine.specs.declared.answer.Refusal.{Refusal}
 use Rattle.agc_machine.specs.declared.answer.Refusal.TheVariants.{Spent, LogFull}
 use Rattle.agc_machine.specs.declared.totals.Totals.{Totals}
@@ -89,6 +91,11 @@ after m asked = after_unless (refusal_of m asked) m asked
 -- an era has just begun, and nothing was served
 abbrev pub begun_with : Planned → ℕ → ℕ → Base → Machined
 begun_with plan limit allowance base = record { plan = plan; limit = limit; allowance = allowance; base = base; log = []; totals = nothing }
+
+-- the base after power came back: the phases in these words where they agree, else a fresh start's with code 01107
+abbrev pub power_base : Bool → List ℕ → Base
+power_base true words = record { phases = phases_in words; codes = replicate 3 None }
+power_base false words = with_code C1107 fresh_base
 
 -- what a machine keeps: its tables stand for what the log reaches, nothing is due, and the whole log has room
 pub record IsKept (m : Machined) (sets : List (Option Held)) (waits : List Waiting) (table : Base) (room : ℕ) : Type 0 where

@@ -9,5 +9,5 @@ mod tick;
 mod totals;
 
 pub use answer::{Answer, Refusal};
-pub use machine::Machine;
+pub use machine::{Machine, NoMemory};
 pub use totals::Totals;

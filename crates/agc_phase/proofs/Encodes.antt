@@ -1,11 +1,10 @@
 -- What the words are read as, once phases and codes were written.
-use Rattle.std.proofs.Common.{◌≡◌, ◌⊎◌, ℕ, ◌+◌, ◌*◌, ◌<◌, ◌≤◌, Option, Some, None, List, [], ◌∷◌, length, drop, slice_index, slice_index_or, refl, ap, sym, subst, ◌∙◌, inl, inr, arith}
-use Rattle.std.proofs.lemmas.List.{get_or-take, get_or-drop, same_lists}
-use Rattle.std.proofs.lemmas.Grind.{common_steps, same_number_lists}
+use Rattle.std.proofs.Common.{◌≡◌, ℕ, ◌+◌, ◌*◌, ◌<◌, Option, Some, None, List, [], ◌∷◌, length, drop, slice_index, slice_index_or, refl, ap, sym, subst, ◌∙◌, inl, arith}
+use Rattle.std.proofs.lemmas.List.{get_or-take, get_or-drop}
+use Rattle.std.proofs.lemmas.Grind.{common_steps}
 use Rattle.agc_plan.specs.declared.reply.Code.{Code}
 use Rattle.agc_plan.specs.declared.reply.Code.TheVariants.{C1107, C1201, C1202, C1203}
-use Rattle.agc_plan.specs.Base.{Base}
-use Rattle.agc_phase.specs.Image.{IsPair, ArePairs, minus_in, phase_in, phases_in, phase_words, code_word, code_of_word, IsCodeWord, IsFailreg, failreg_word, codes_in, base_of, IsLawfulTable, PairsWritten, CodesWritten}
+use Rattle.agc_phase.specs.Image.{minus_in, phase_in, phases_in, phase_words, code_word, code_of_word, IsFailreg, failreg_word, codes_in, base_of, IsLawfulTable, PairsWritten, CodesWritten}
 
 -- a word among the twelve phase words
 phase_words-at : (words : List ℕ) (i j : ℕ) → i < 12 → j ≡ 117 + i → slice_index (phase_words words) i ≡ slice_index words j

@@ -16,7 +16,9 @@ fn twelve(bits: [u16; 12]) -> Result<[Word; 12], Fail> {
 }
 
 // Group 4 in phase 5, all others inactive.
-const GROUP_4: [u16; 12] = [0o77777, 0, 0o77777, 0, 0o77777, 0, 0o77772, 5, 0o77777, 0, 0o77777, 0];
+const GROUP_4: [u16; 12] = [
+    0o77777, 0, 0o77777, 0, 0o77777, 0, 0o77772, 5, 0o77777, 0, 0o77777, 0,
+];
 
 #[test]
 fn power_up_recovers(rt: HostRuntime) -> Result<(), Fail> {
@@ -55,7 +57,10 @@ fn each_single_bit_breaks_its_pair(rt: HostRuntime) -> Result<(), Fail> {
         for bit in 0..15u32 {
             let mut bits = GROUP_4;
             bits[place] ^= 1 << bit;
-            assert!(rt; recover(&twelve(bits)?).is_none(), "word {place}, bit {bit}");
+            assert!(rt;
+                recover(&twelve(bits)?).is_none(),
+                "word {place}, bit {bit}"
+            );
         }
     }
     Ok(())
@@ -68,9 +73,15 @@ fn failreg_keeps_the_first_two(rt: HostRuntime) -> Result<(), Fail> {
     assert_eq!(rt; table.failreg(), [word(0o1201)?, word(0)?, word(0o1201)?]);
     table.record_alarm(Code::C1202);
     table.record_alarm(Code::C1203);
-    assert_eq!(rt; table.failreg(), [word(0o1201)?, word(0o1202)?, word(0o1203)?]);
+    assert_eq!(rt;
+        table.failreg(),
+        [word(0o1201)?, word(0o1202)?, word(0o1203)?]
+    );
     table.record_alarm(Code::C1201);
-    assert_eq!(rt; table.failreg(), [word(0o1201)?, word(0o1202)?, word(0o1201)?]);
+    assert_eq!(rt;
+        table.failreg(),
+        [word(0o1201)?, word(0o1202)?, word(0o1201)?]
+    );
     table.clear();
     assert_eq!(rt; table.failreg(), [word(0)?; 3]);
     table.record_alarm(Code::C1107);
@@ -101,12 +112,29 @@ fn a_set_phase_as_words(rt: HostRuntime) -> Result<(), Fail> {
     table.record_alarm(Code::C1203);
     let mut e = Erasable::new();
     table.encode(&mut e);
-    let want = [0o77777, 0, 0o77774, 3, 0o77777, 0, 0o77777, 0, 0o77777, 0, 0o77777, 0, 0o1203, 0, 0o1203];
+    let want = [
+        0o77777, 0, 0o77774, 3, 0o77777, 0, 0o77777, 0, 0o77777, 0, 0o77777, 0, 0o1203, 0, 0o1203,
+    ];
     for k in 0..15usize {
         assert_eq!(rt; e.get(117 + k).bits(), want[k]);
     }
     let kept = PhaseTable::with_phases(table.phases());
     assert_eq!(rt; kept.phases()[1].get(), 3);
     assert_eq!(rt; kept.failreg(), [word(0)?; 3]);
+    Ok(())
+}
+
+#[test]
+fn a_cleared_table_as_words(rt: HostRuntime) -> Result<(), Fail> {
+    let mut table = PhaseTable::new();
+    table.set_phase(Group::new(4).ok_or("group")?, Phase::new(127).ok_or("phase")?);
+    let mut e = Erasable::new();
+    table.encode(&mut e);
+    assert_eq!(rt; e.get(123).bits(), 0o77600);
+    assert_eq!(rt; e.get(124).bits(), 0o177);
+    table.clear();
+    table.encode(&mut e);
+    assert_eq!(rt; e.get(123).bits(), 0o77777);
+    assert_eq!(rt; e.get(124).bits(), 0);
     Ok(())
 }

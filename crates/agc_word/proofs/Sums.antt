@@ -8,9 +8,11 @@ use Rattle.agc_word.specs.Words.{value_of, complement, word_of, sum_of, carried_
 pub complement_twice : (bits : ℕ) → bits < 32768 → complement (complement bits) ≡ bits
 complement_twice bits h = omega arith
 
+-- a word whose first bit is clear has its bits as its value
 pub value_of-low : (bits : ℕ) → bits < 16384 → value_of bits ≡ pos bits
 value_of-low bits h = grind (arith, ints)
 
+-- a word whose first bit is set has its bits less 32767
 pub value_of-high : (bits : ℕ) → 16384 ≤ bits → value_of bits ≡ pos bits -ℤ pos 32767
 value_of-high bits h = grind (arith, ints)
 
@@ -31,6 +33,7 @@ sum_of-above a b r x y p q h e = grind (arith, ints)
 pub sum_of-below : (a b r : ℕ) (x y : ℤ) → x ≡ value_of a → y ≡ value_of b → (x +ℤ y) ≤ℤ neg_ℤ (pos 16384) → pos r ≡ neg_ℤ (x +ℤ y) -ℤ pos 16384 → (complement r, true) ≡ sum_of a b
 sum_of-below a b r x y p q h e = grind (arith, ints)
 
+-- a value is one or the other
 value_cases : (a : ℕ) (x : ℤ) → x ≡ value_of a → ((a < 16384) × (x ≡ pos a)) ⊎ ((16384 ≤ a) × (x ≡ pos a -ℤ pos 32767))
 value_cases a x e =
     elim (cases_lt a 16384) [
@@ -38,6 +41,7 @@ value_cases a x e =
       | inr h ↦ inr (h, e ∙ value_of-high a h)
     ]
 
+-- the carry brought round, by the first bits of both words
 carried-both_low : (a b : ℕ) (x y : ℤ) → x ≡ pos a → y ≡ pos b → (x +ℤ y) <ℤ pos 16384 → value_of (carried_round (a + b)) ≡ x +ℤ y
 carried-both_low a b x y p q high = grind (arith, ints)
 
@@ -72,6 +76,7 @@ value_of-below a b m r x y p q low e f =
     let small : value_of r ≡ pos r = value_of-low r (omega (arith, ints)) in
     ap value_of e ∙ value_of-complement r bound ∙ ap neg_ℤ small ∙ turned ∙ ap (λ z. z +ℤ y +ℤ pos 16384) p ∙ ap (λ z. value_of a +ℤ z +ℤ pos 16384) q
 
+-- where the exact sum is within the range, the value of the answer is that sum
 pub value_of-within : (a b m : ℕ) (x y : ℤ) → a < 32768 → b < 32768 → x ≡ value_of a → y ≡ value_of b → (x +ℤ y) <ℤ pos 16384 → neg_ℤ (pos 16384) <ℤ (x +ℤ y) → m ≡ carried_round (a + b) → value_of m ≡ value_of a +ℤ value_of b
 value_of-within a b m x y h k p q high low e =
     ap value_of e ∙ value_of-carried_round a b x y h k p q high low ∙ ap (λ z. z +ℤ y) p ∙ ap (λ z. value_of a +ℤ z) q

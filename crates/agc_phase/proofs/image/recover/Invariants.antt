@@ -6,5 +6,5 @@ abbrev pub invariant-loop-group : goal.invariant-loop-group
 invariant-loop-group l = record {
   six : length l.phases ≡ 6;
   pairs : (k : ℕ) → k < l.group → IsPair (minus_in l.words k) (phase_in l.words k);
-  phases : (k : ℕ) → k < l.group → slice_index l.phases k ≡ phase_in l.words k
+  phases : (k : ℕ) → k < l.group → slice_index l.phases k ≡ phase_in l.words k;
 }

@@ -1,0 +1,127 @@
+-- The core sets, use words and NEWJOB as words.
+use Rattle.std.specs.Prelude.{◌≡◌, ℕ, ◌+◌, ◌-◌, ◌*◌, ◌/◌, ◌%◌, ◌<◌, ◌≤◌, ◌==◌, nat_lt, Bool, true, false, if◌then◌else◌, List, [], ◌∷◌, Option, Some, None, map, length, slice_index, slice_index_or}
+use Rattle.agc_plan.specs.Jobs.{Jobs, Job, Ready, best_from, is_owned}
+use Rattle.agc_plan.specs.Places.{place_of}
+use Rattle.agc_exec.specs.Held.{Held}
+use Rattle.agc_exec.specs.Blocks.{IsSized, blocks_of}
+use Rattle.agc_exec.specs.Sets.{slots_of, entries_of, jobs_of, IsStanding}
+
+-- the address of an area, 0 for none
+abbrev pub address_of : ℕ → ℕ
+address_of area = if area == 0 then 0 else (148 + 44 * area)
+
+-- the area at an address
+abbrev pub area_of : ℕ → ℕ
+area_of address = if address == 0 then 0 else ((address - 148) / 44)
+
+-- the job of a set, of which the PRIORITY word, with its sign taken off, is this
+abbrev pub record_of : List ℕ → ℕ → Bool → Held
+record_of block priority asleep = record {
+  number = slice_index block 0;
+  at = slice_index block 8;
+  bank = slice_index block 9;
+  priority = priority / 512;
+  asleep = asleep;
+  area = area_of (priority % 512);
+  work = slice_index block 1 ∷ slice_index block 2 ∷ slice_index block 3 ∷ slice_index block 4 ∷ slice_index block 5 ∷ slice_index block 6 ∷ [];
+}
+
+-- a set with this PRIORITY word: free where it is minus zero, awake where it is positive, else asleep
+abbrev pub held_by : List ℕ → ℕ → Option Held
+held_by block priority =
+    if priority == 32767 then None
+    else if nat_lt priority 16384 then Some (record_of block priority false)
+    else Some (record_of block (32767 - priority) true)
+
+-- what the twelve words of a set hold
+unfoldable pub held_of : List ℕ → Option Held
+held_of block = held_by block (slice_index block 11)
+
+-- what the sets hold
+unfoldable pub sets_of : List ℕ → List (Option Held)
+sets_of words = map held_of (blocks_of words)
+
+-- priority in bits 14 to 10, the area's address in bits 9 to 1
+abbrev pub urgency_word : ℕ → ℕ → ℕ
+urgency_word priority area = 512 * priority + address_of area
+
+-- the PRIORITY word of a job: complemented where it sleeps
+abbrev pub priority_word : ℕ → ℕ → Bool → ℕ
+priority_word priority area asleep = if asleep then 32767 - urgency_word priority area else urgency_word priority area
+
+-- these twelve words are those of this job
+pub record IsCoded (block : List ℕ) (r : Held) : Type 0 where
+  pub twelve : length block ≡ 12
+  pub word : slice_index block 11 ≡ priority_word r.priority r.area r.asleep
+  pub low : 1 ≤ r.priority
+  pub high : r.priority ≤ 31
+  pub five : r.area ≤ 5
+  pub at_low : 1 ≤ r.at
+  pub at_high : r.at ≤ 16383
+
+-- twelve words of a free set, or of a job
+abbrev pub IsLawfulBlock : List ℕ → Type 0
+IsLawfulBlock block = (r : Held) → held_of block ≡ Some r → IsCoded block r
+
+-- MODE and PUSHLOC of a job are 00000
+abbrev pub IsTidyBlock : List ℕ → Type 0
+IsTidyBlock block = (r : Held) → held_of block ≡ Some r → (slice_index block 7 ≡ 0) × (slice_index block 10 ≡ 0)
+
+-- each of the blocks is so
+abbrev pub Each : (List ℕ → Type 0) → List (List ℕ) → Type 0
+Each P blocks = (k : ℕ) → k < length blocks → P (slice_index_or blocks k [])
+
+-- MODE and PUSHLOC of each job are 00000
+abbrev pub IsTidy : List ℕ → Type 0
+IsTidy words = Each IsTidyBlock (blocks_of words)
+
+-- lawful core sets: PRIORITY, numbers, addresses and areas, and set 0 awake where anybody is
+pub record IsSet (words : List ℕ) : Type 0 where
+  pub sized : IsSized words
+  pub coded : Each IsLawfulBlock (blocks_of words)
+  pub standing : IsStanding (sets_of words)
+
+-- the use word of an area: its address where nobody owns it, else 00000
+abbrev pub use_word : ℕ → List (Option Job) → ℕ
+use_word area slots = if is_owned area slots then 0 else address_of area
+
+-- each use word says whether its area is owned
+abbrev pub UsesAgree : List ℕ → List (Option Job) → Type 0
+UsesAgree words slots = (area : ℕ) → 1 ≤ area → area ≤ 5 → slice_index words (83 + area) ≡ use_word area slots
+
+-- the priority of the job in set 0
+abbrev pub front_priority : List (Option Held) → ℕ
+front_priority [] = 0
+front_priority (None ∷ sets) = 0
+front_priority (Some r ∷ sets) = r.priority
+
+-- NEWJOB with this best job: its set's name, where it is strictly more urgent than the job in set 0, else 00000
+abbrev pub newjob_for : Option Ready → List (Option Held) → ℕ
+newjob_for None sets = 32767
+newjob_for (Some first) sets = if nat_lt (front_priority sets) first.priority then 12 * place_of first.number (entries_of sets) else 0
+
+-- NEWJOB: 77777 where no job is awake
+abbrev pub newjob_of : List (Option Held) → ℕ
+newjob_of sets = newjob_for (best_from 1 (slots_of sets)) sets
+
+-- lawful words of the Executive
+pub record IsLawfulWords (words : List ℕ) : Type 0 where
+  pub sets : IsSet words
+  pub uses : UsesAgree words (slots_of (sets_of words))
+  pub newjob : slice_index words 89 ≡ newjob_of (sets_of words)
+
+-- the plain jobs for which the words stand
+abbrev pub jobs_in : List ℕ → Jobs
+jobs_in words = jobs_of (sets_of words)
+
+-- the placement for which the words stand
+abbrev pub entries_in : List ℕ → List ℕ
+entries_in words = entries_of (sets_of words)
+
+-- these sets were written into the words, and nothing else was
+pub record IsEncoded (sets : List (Option Held)) (old new : List ℕ) : Type 0 where
+  pub lawful : IsLawfulWords new
+  pub sets_is : sets_of new ≡ sets
+  pub tidy : IsTidy new
+  pub others : (i : ℕ) → 90 ≤ i → slice_index new i ≡ slice_index old i
+  pub same_length : length new ≡ length old

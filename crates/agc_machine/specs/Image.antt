@@ -1,0 +1,39 @@
+-- The words of a machine: lawful, tidy, placed, and standing for what base and log reach.
+use Rattle.std.specs.Prelude.{◌≡◌, ℕ, Bool, false, List, length}
+use Rattle.agc_plan.specs.Base.{Base}
+use Rattle.agc_plan.specs.Steps.{Plain}
+use Rattle.agc_plan.specs.Tasks.{StandsFor}
+use Rattle.agc_exec.specs.Image.{jobs_in, entries_in}
+use Rattle.agc_exec.specs.Image as cores
+use Rattle.agc_wait.specs.Table.{waits_of}
+use Rattle.agc_wait.specs.Table as table
+use Rattle.agc_wait.specs.Waits.{is_due}
+use Rattle.agc_phase.specs.Image.{base_of}
+use Rattle.agc_phase.specs.Image as phases
+use Rattle.agc_machine.specs.Machines.{Machined, plain_of, places_of}
+
+-- lawful words: each table's part is, and no task is due
+pub record IsLawfulImage (words : List ℕ) : Type 0 where
+  pub size : length words ≡ 132
+  pub cores : cores.IsLawfulWords words
+  pub waits : table.IsLawfulTable words
+  pub none_due : is_due (waits_of words) ≡ false
+  pub phases : phases.IsLawfulTable words
+
+-- MODE and PUSHLOC of each job are 00000, and no gap is written as minus zero
+pub record IsTidyImage (words : List ℕ) : Type 0 where
+  pub cores : cores.IsTidy words
+  pub waits : table.IsTidy words
+
+-- the words stand for these jobs, tasks, phases and codes
+pub record WordsStandFor (words : List ℕ) (plain : Plain) : Type 0 where
+  pub jobs : jobs_in words ≡ plain.work.jobs
+  pub tasks : StandsFor (waits_of words) plain.work.agenda
+  pub base : base_of words ≡ plain.base
+
+-- the words of this machine: they stand for what its base and log reach, with the jobs in the core sets of their placement
+pub record IsImage (m : Machined) (words : List ℕ) : Type 0 where
+  pub lawful : IsLawfulImage words
+  pub tidy : IsTidyImage words
+  pub placed : entries_in words ≡ places_of m
+  pub stands : WordsStandFor words (plain_of m)
