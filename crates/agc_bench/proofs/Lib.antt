@@ -9,3 +9,5 @@ pub mod Actions
 pub mod Each
 pub mod Names
 pub mod Beside
+pub mod Benches
+pub mod Refusals

@@ -1,11 +1,20 @@
 -- When each fault comes.
-use Rattle.std.specs.Prelude.{◌≤◌, ◌<◌, ℕ, List, Option, length}
+use Rattle.std.specs.Prelude.{◌≡◌, ◌≢◌, ◌≤◌, ◌<◌, ℕ, List, Option, Some, None, length}
 use Rattle.std.specs.Str.{IsUtf8}
 use Rattle.std.specs.Io.KnownBytes.{Consumes}
 use Rattle.agc_bench.specs.declared.fault.ScriptFault.{ScriptFault}
 use Rattle.agc_bench.specs.declared.fault.ScriptFault.TheVariants.{NoMemory, Line}
 use Rattle.agc_bench.specs.declared.fault.ReadFault.{ReadFault}
 use Rattle.agc_bench.specs.declared.fault.ReadFault.TheVariants.{NoMemory as NoMemoryToRead, Input, TooLong, NotText}
+use Rattle.toml.specs.Data.{Members}
+use Rattle.agc_plan.specs.Plans.{fault_of}
+use Rattle.agc_plan.specs.declared.plan.PlanFault.{PlanFault}
+use Rattle.agc_plan.specs.declared.plan.PlanFault.TheVariants.{NoMemory as NoMemoryToPlan, TaskTwice as TwiceTask, PhaseTwice as TwicePhase, TooManyAreas as ManyAreas}
+use Rattle.agc_bench.specs.declared.fault.BenchFault.{BenchFault}
+use Rattle.agc_bench.specs.declared.fault.BenchFault.TheVariants.{NoMemory as NoMemoryForBench, NotToml, Key, Line as NoLine, TaskTwice, PhaseTwice, TooManyAreas}
+use Rattle.agc_bench.specs.Texts.{Texts}
+use Rattle.agc_bench.specs.Keys.{texts_in}
+use Rattle.agc_bench.specs.Benches.{Benched, bench_texts, IsInRange}
 use Rattle.agc_bench.specs.Input.{ReadsAll, most_bytes}
 use Rattle.agc_bench.specs.Script.{IsFirstRefused}
 
@@ -20,3 +29,34 @@ RefusesInput old new NoMemoryToRead = (bytes : List ℕ) × Consumes old new byt
 RefusesInput old new Input = (bytes : List ℕ) × Consumes old new bytes × (length bytes ≤ most_bytes)
 RefusesInput old new TooLong = (bytes : List ℕ) × Consumes old new bytes × (most_bytes < length bytes)
 RefusesInput old new NotText = (bytes : List ℕ) × ReadsAll old new bytes × (IsUtf8 bytes → ⊥)
+
+-- the fault is Line for this reason, want of memory aside
+abbrev pub RefusedLine : Type 0 → BenchFault → Type 0
+RefusedLine why NoMemoryForBench = Unit {0}
+RefusedLine why NoLine = why
+RefusedLine why _ = ⊥
+
+-- the fault of a bench whose plan has this fault
+abbrev pub bench_fault : PlanFault → BenchFault
+bench_fault NoMemoryToPlan = NoMemoryForBench
+bench_fault TwiceTask = TaskTwice
+bench_fault TwicePhase = PhaseTwice
+bench_fault ManyAreas = TooManyAreas
+
+-- the document is there, and its keys and kinds give these texts
+abbrev pub HasTexts : Option Members → Texts → Type 0
+HasTexts document texts = (ms : Members) × (document ≡ Some ms) × (texts_in ms ≡ Some texts)
+
+-- the document gives the texts of a bench in its ranges, whose rows and entries have this fault
+abbrev pub HasPlanFault : Option Members → PlanFault → Type 0
+HasPlanFault document fault = (b : Benched) × IsInRange b × HasTexts document (bench_texts b) × (fault_of b.rows b.entries ≡ Some fault)
+
+-- why a document is no bench, by its first fault, want of memory aside
+abbrev pub RefusesBench : Option Members → BenchFault → Type 0
+RefusesBench document NoMemoryForBench = Unit {0}
+RefusesBench document NotToml = document ≡ None
+RefusesBench document Key = (ms : Members) × (document ≡ Some ms) × (texts_in ms ≡ None)
+RefusesBench document NoLine = (texts : Texts) × HasTexts document texts × ((b : Benched) → IsInRange b → texts ≢ bench_texts b)
+RefusesBench document TaskTwice = HasPlanFault document TwiceTask
+RefusesBench document PhaseTwice = HasPlanFault document TwicePhase
+RefusesBench document TooManyAreas = HasPlanFault document ManyAreas

@@ -4,8 +4,10 @@ pub mod Lines
 pub mod Reading
 pub mod Script
 pub mod Input
-pub mod Faults
 pub mod Texts
 pub mod Keys
 pub mod Seen
 pub mod Gives
+pub mod Benches
+pub mod Parts
+pub mod Faults

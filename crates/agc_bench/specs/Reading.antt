@@ -7,6 +7,8 @@ use Rattle.agc_plan.specs.declared.request.Request.{Request}
 use Rattle.agc_plan.specs.declared.request.Request.TheVariants.{Novac, Findvac, EndOfJob, Sleep, Rouse, Prio, Change, Store, List as ListTask, Tick, SetPhase, Restart, Fresh}
 use Rattle.agc_plan.specs.declared.request.Action.{Action}
 use Rattle.agc_plan.specs.declared.request.Action.TheVariants.{Novac as DoNovac, Findvac as DoFindvac, Rouse as DoRouse, List as DoList}
+use Rattle.agc_plan.specs.declared.request.JobStart.{JobStart}
+use Rattle.agc_plan.specs.declared.request.JobStart.TheVariants.{Novac as WithoutArea, Findvac as WithArea}
 use Rattle.agc_bench.specs.Chain.{◌>>=◌}
 use Rattle.agc_bench.specs.Numbers.{octal_five_of, priority_of, address_of, delay_of, group_of, phase_of, place_of}
 
@@ -93,3 +95,14 @@ action_of (Findvac priority entry) = Some (DoFindvac priority entry)
 action_of (Rouse at) = Some (DoRouse at)
 action_of (ListTask delay task) = Some (DoList delay task)
 action_of _ = None
+
+-- the job that a request establishes, if it does
+abbrev pub job_of : Request → Option JobStart
+job_of (Novac priority entry) = Some (WithoutArea priority entry)
+job_of (Findvac priority entry) = Some (WithArea priority entry)
+job_of _ = None
+
+-- the task that a request lists, and its delay, if it does
+abbrev pub timed_of : Request → Option (ℕ × Task)
+timed_of (ListTask delay task) = Some (delay, task)
+timed_of _ = None

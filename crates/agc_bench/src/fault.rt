@@ -3,6 +3,7 @@ ghost use Rattle.agc_bench.specs.declared.fault.ScriptFault.TheVariants.{NoMemor
 ghost use Rattle.agc_bench.specs.declared.fault.ReadFault.TheVariants.{NoMemory as NoMemoryToRead};
 ghost use Rattle.agc_bench.specs.declared.fault.BenchFault.TheVariants.{NoMemory as NoMemoryForBench};
 
+use agc_plan::PlanFault;
 use std::alloc::{AllocError, AllocFailed};
 use thiserror::Error;
 
@@ -95,5 +96,20 @@ impl<T: Drop> From<AllocFailed<T>> for BenchFault {
 
     fn from(_error: AllocFailed<T>) -> BenchFault {
         BenchFault::NoMemory
+    }
+}
+
+impl From<PlanFault> for BenchFault {
+    ghost use Rattle.agc_bench.specs.Faults.{bench_fault};
+
+    ghost from_gives = { λ f e. e ≡ bench_fault f };
+
+    fn from(fault: PlanFault) -> BenchFault {
+        match fault {
+            PlanFault::NoMemory => BenchFault::NoMemory,
+            PlanFault::TaskTwice => BenchFault::TaskTwice,
+            PlanFault::PhaseTwice => BenchFault::PhaseTwice,
+            PlanFault::TooManyAreas => BenchFault::TooManyAreas,
+        }
     }
 }

@@ -11,7 +11,6 @@ ghost use Rattle.agc_bench.specs.Keys.{is_among, has_only, number_in, number_at,
 
 use crate::fault::BenchFault;
 use crate::texts::{DeviceTexts, EntryTexts, Lists, RowTexts, Settings, Texts};
-use agc_plan::{Group, Limit, Phase};
 use std::alloc::Global;
 use toml::{Table, Value};
 
@@ -88,22 +87,22 @@ fn number_or(value: Option<&Value>, missing: u64, low: u64, high: u64) -> Option
     }
 }
 
-fn limit_of(value: Option<&Value>) -> Option<Limit>
+fn limit_of(value: Option<&Value>) -> Option<u32>
     ensures { result ≡ number_or 1000 1 1000000 (option_map (λ v. view v.now) value.entry) }
 {
-    Limit::new(number_or(value, 1000, 1, 1_000_000)? as u32)
+    Some(number_or(value, 1000, 1, 1_000_000)? as u32)
 }
 
-fn group_at(table: &Table) -> Option<Group>
+fn group_at(table: &Table) -> Option<u8>
     ensures { result ≡ number_at (codes "group") 1 6 (table_view table.now) }
 {
-    Group::new(number_at(table, "group", 1, 6)? as u8)
+    Some(number_at(table, "group", 1, 6)? as u8)
 }
 
-fn phase_at(table: &Table) -> Option<Phase>
+fn phase_at(table: &Table) -> Option<u8>
     ensures { result ≡ number_at (codes "phase") 1 127 (table_view table.now) }
 {
-    Phase::new(number_at(table, "phase", 1, 127)? as u8)
+    Some(number_at(table, "phase", 1, 127)? as u8)
 }
 
 fn text_at<'a>(table: &'a Table, key: &str) -> Option<&'a str>

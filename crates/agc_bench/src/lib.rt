@@ -1,6 +1,8 @@
 //! Scripts and benches: what a text asks of the machine, and why a text is refused.
 #![tactic(auto)]
 
+mod bench;
+mod device;
 mod fault;
 mod input;
 mod keys;
@@ -8,7 +10,10 @@ mod line;
 mod numbers;
 mod script;
 mod texts;
+mod values;
 
+pub use bench::{Bench, read_bench};
+pub use device::Line;
 pub use fault::{BenchFault, ReadFault, ScriptFault};
 pub use input::read_all;
 pub use line::{parse_action, parse_line};

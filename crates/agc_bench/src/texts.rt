@@ -1,8 +1,6 @@
 //! The numbers and texts of a bench, which borrow from its document.
 ghost use Rattle.std.specs.Prelude.{◌≤◌, length};
 
-use agc_plan::{Group, Limit, Phase};
-
 #[derive(Clone, Copy)]
 pub(crate) struct RowTexts<'a> {
     pub(crate) at: &'a str,
@@ -12,8 +10,8 @@ pub(crate) struct RowTexts<'a> {
 
 #[derive(Clone, Copy)]
 pub(crate) struct EntryTexts<'a> {
-    pub(crate) group: Group,
-    pub(crate) phase: Phase,
+    pub(crate) group: u8,
+    pub(crate) phase: u8,
     pub(crate) job: Option<&'a str>,
     pub(crate) task: Option<&'a str>,
 }
@@ -27,7 +25,7 @@ pub(crate) struct DeviceTexts<'a> {
 
 #[derive(Drop)]
 pub(crate) struct Settings<'a> {
-    pub(crate) limit: Limit,
+    pub(crate) limit: u32,
     pub(crate) allowance: u64,
     pub(crate) attends: u32,
     pub(crate) key: &'a str,

@@ -1,9 +1,9 @@
 -- Who owns which area.
-use Rattle.std.proofs.Common.{◌≡◌, ◌≢◌, ℕ, zero, suc, ◌+◌, ◌-◌, ◌<◌, ◌≤◌, Bool, true, false, List, [], ◌∷◌, Option, Some, None, slice_index_or, refl, ap, ◌∙◌, inl, inr, arith}
+use Rattle.std.proofs.Common.{◌≡◌, ◌≢◌, ℕ, zero, suc, ◌-◌, Bool, true, false, List, [], ◌∷◌, Option, Some, None, slice_index_or, refl, ap, ◌∙◌, inl, inr, arith}
 use Rattle.std.proofs.lemmas.Bool.{cases_eq}
 use Rattle.std.proofs.lemmas.Option.{same_Some}
 use Rattle.std.proofs.lemmas.Grind.{common_steps}
-use Rattle.agc_plan.specs.Jobs.{Job, is_owned, least_unowned}
+use Rattle.agc_plan.specs.Jobs.{Job, is_owned}
 use Rattle.agc_exec.specs.Held.{Held}
 use Rattle.agc_exec.specs.Sets.{job_of, slots_of, owned_in, Holds, IsLawful, IsUnowned}
 use Rattle.agc_exec.proofs.Bests.{slot_found, slot_of}
@@ -39,23 +39,8 @@ is_owned-true area (Some first ∷ slots) zero job at e = let same : first ≡ j
 is_owned-true area (Some first ∷ slots) (suc j) job at e = let rest : is_owned area slots ≡ true = is_owned-true area slots j job at e in grind (arith, common_steps)
 
 -- the slots and the sets agree on who owns what
-pub is_owned-slots : (area : ℕ) (sets : List (Option Held)) → IsLawful sets → is_owned area (slots_of sets) ≡ owned_in area sets
-is_owned-slots area sets lawful = go (owned_in area sets) refl where
+pub is_owned_slots : (area : ℕ) (sets : List (Option Held)) → IsLawful sets → is_owned area (slots_of sets) ≡ owned_in area sets
+is_owned_slots area sets lawful = go (owned_in area sets) refl where
   go : (b : Bool) → owned_in area sets ≡ b → is_owned area (slots_of sets) ≡ b
   go false e = is_owned-false area (slots_of sets) (λ j job at same. let (i, s, here, number, is) = slot_found sets j job at in owned_in-false area sets e i s here (ap (λ x. x.area) is ∙ same))
   go true e = let (j, s, at, is) = owned_in-true area sets e in is_owned-true area (slots_of sets) (s.number - 1) (job_of s) (slot_of sets j s lawful at) is
-
-pub least_unowned-at : (more area : ℕ) (slots : List (Option Job)) (free : ℕ) → area ≤ free → free < area + more → is_owned free slots ≡ false → ((m : ℕ) → area ≤ m → m < free → is_owned m slots ≡ true) → least_unowned more area slots ≡ Some free
-least_unowned-at zero area slots free low high unowned before = absurd (omega arith)
-least_unowned-at (suc more) area slots free low high unowned before = elim (cases_eq area free) [
-  | inl same ↦ rw (same, unowned)
-  | inr ne ↦
-      let owned : is_owned area slots ≡ true = before area (omega arith) (omega arith) in
-      rw owned (least_unowned-at more (area + 1) slots free (omega arith) (omega arith) unowned (λ m le. before m (omega arith)))
-]
-
-pub least_unowned-none : (more area : ℕ) (slots : List (Option Job)) → ((m : ℕ) → area ≤ m → m < area + more → is_owned m slots ≡ true) → least_unowned more area slots ≡ None
-least_unowned-none zero area slots all = refl
-least_unowned-none (suc more) area slots all =
-    let owned : is_owned area slots ≡ true = all area (omega arith) (omega arith) in
-    rw owned (least_unowned-none more (area + 1) slots (λ m le lt. all m (omega arith) (omega arith)))

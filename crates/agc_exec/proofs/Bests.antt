@@ -8,9 +8,10 @@ use Rattle.agc_plan.specs.Jobs.{Job, best, best_from}
 use Rattle.agc_plan.specs.Places.{place_of}
 use Rattle.agc_exec.specs.Held.{Held}
 use Rattle.agc_exec.specs.Sets.{job_of, job_numbered, slots_of, number_in, running_in, entries_of, Holds, IsLawful, IsBestBelow, BestBelow, BringsBest}
-use Rattle.agc_exec.proofs.Slots.{job_numbered-at, job_numbered-found, get_or-slots_from, length-slots_from, best_from-is, best_from-none}
+use Rattle.agc_exec.proofs.Slots.{job_numbered-at, job_numbered-found, get_or-slots_from, length-slots_from}
 use Rattle.agc_exec.proofs.Entries.{place_of-at}
 use Rattle.agc_exec.proofs.Swaps.{Holds-within, get_or-swap, IsLawful-swap, slots_of-swap, map-swap}
+use Rattle.agc_exec.proofs.Searches.{best_from-none, best_from-is}
 
 -- a job in a slot stands in a set
 pub slot_found : (sets : List (Option Held)) (j : ℕ) (job : Job) → slice_index_or (slots_of sets) j None ≡ Some job → (i : ℕ) × (r : Held) × Holds sets i r × (r.number ≡ j + 1) × (job_of r ≡ job)

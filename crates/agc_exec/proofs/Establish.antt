@@ -6,7 +6,7 @@ use Rattle.agc_plan.specs.Places.{place_of, with_new, placed_new}
 use Rattle.agc_plan.specs.declared.request.Entry.{Entry}
 use Rattle.agc_plan.specs.declared.reply.Reply.TheVariants.{Established}
 use Rattle.agc_exec.specs.Held.{Held}
-use Rattle.agc_exec.specs.Sets.{job_of, job_numbered, slots_of, number_in, running_in, entries_of, jobs_of, Holds, IsLawful, IsFreeAt, IsStanding, IsUnowned, Gives, BringsBest}
+use Rattle.agc_exec.specs.Sets.{job_of, job_numbered, slots_of, number_in, running_in, entries_of, jobs_of, Holds, IsLawful, IsFreeAt, IsStanding, IsUnowned, Gives, BringsBest, TakesOver}
 use Rattle.std.proofs.lemmas.Option.{same_Some}
 use Rattle.agc_exec.proofs.Slots.{None-job_numbered, get_or-slots_from, length-slots_from}
 use Rattle.agc_exec.proofs.Swaps.{Fits, IsLawful-set, slots_of-written}
@@ -86,7 +86,7 @@ pub arrived-lawful : (sets : List (Option Held)) (k : ℕ) (r : Held) (job : Job
 arrived-lawful sets k r job a = written-lawful sets k r a.standing.lawful (sym a.number) a.five a.own
 
 -- somebody runs: the new job stays where it came
-pub Gives-busy : (sets : List (Option Held)) (k n : ℕ) (r : Held) (job : Job) → Arrives sets k r job → running_in sets ≡ Some n → let new = slice_set sets k (Some r) in let number = least_unused 1 (slots_of sets) in Gives (establish_at number job (jobs_of sets)) (placed_new (Some r.number) (running_in new) (entries_of sets)) new (Established r.number)
+Gives-busy : (sets : List (Option Held)) (k n : ℕ) (r : Held) (job : Job) → Arrives sets k r job → running_in sets ≡ Some n → let new = slice_set sets k (Some r) in let number = least_unused 1 (slots_of sets) in Gives (establish_at number job (jobs_of sets)) (placed_new (Some r.number) (running_in new) (entries_of sets)) new (Established r.number)
 Gives-busy sets k n r job a runs =
     let (s, at, awake, number) = running_in-found sets n runs in
     let apart : 0 ≢ k = λ e. let none : slice_index_or sets 0 None ≡ None = ap (λ i. slice_index_or sets i None) e ∙ a.free in let no : None ≡ Some s = sym none ∙ at in absurd (cc) in
@@ -103,7 +103,7 @@ Gives-busy sets k n r job a runs =
     }
 
 -- nobody runs: the best comes to set 0
-pub Gives-idle : (sets new : List (Option Held)) (k : ℕ) (r : Held) (job : Job) → Arrives sets k r job → running_in sets ≡ None → BringsBest (slice_set sets k (Some r)) new → let number = least_unused 1 (slots_of sets) in Gives (establish_at number job (jobs_of sets)) (placed_new (Some r.number) (running_in new) (entries_of sets)) new (Established r.number)
+Gives-idle : (sets new : List (Option Held)) (k : ℕ) (r : Held) (job : Job) → Arrives sets k r job → running_in sets ≡ None → BringsBest (slice_set sets k (Some r)) new → let number = least_unused 1 (slots_of sets) in Gives (establish_at number job (jobs_of sets)) (placed_new (Some r.number) (running_in new) (entries_of sets)) new (Established r.number)
 Gives-idle sets new k r job a idle brings =
     let written : slots_of (slice_set sets k (Some r)) ≡ with_job (slots_of sets) r.number (Some (job_of r)) = written-slots sets k r a.within a.free (sym a.number) in
     let slots : slots_of new ≡ with_job (slots_of sets) r.number (Some (job_of r)) = brings.slots ∙ written in
@@ -113,3 +113,8 @@ Gives-idle sets new k r job a idle brings =
       outcome_is = rw (← a.number, slots, runs, idle, ← a.same);
       entries_is = brings.entries ∙ rw (← brings.running, written-entries sets k r a.first);
     }
+
+-- taking over after the new job came
+pub Gives-arrived : (sets new : List (Option Held)) (k : ℕ) (r : Held) (job : Job) → Arrives sets k r job → (runner : Option ℕ) → runner ≡ running_in sets → TakesOver runner (slice_set sets k (Some r)) new → let number = least_unused 1 (slots_of sets) in Gives (establish_at number job (jobs_of sets)) (placed_new (Some r.number) (running_in new) (entries_of sets)) new (Established r.number)
+Gives-arrived sets new k r job a None is over = Gives-idle sets new k r job a (sym is) over
+Gives-arrived sets new k r job a (Some n) is over = rw over (Gives-busy sets k n r job a (sym is))

@@ -11,7 +11,8 @@ use Rattle.agc_exec.specs.Held.{Held}
 use Rattle.agc_exec.specs.Sets.{job_numbered, slots_of, number_in, entries_of, Holds, IsLawful}
 use Rattle.agc_plan.specs.Places.{place_of}
 use Rattle.agc_exec.proofs.Entries.{place_of-at}
-use Rattle.agc_exec.proofs.Slots.{None-job_numbered, get_or-slots_from, length-slots_from, least_unused-none}
+use Rattle.agc_exec.proofs.Slots.{None-job_numbered, get_or-slots_from, length-slots_from}
+use Rattle.agc_exec.proofs.Searches.{least_unused-none}
 
 any_bound : (sets : List (Option Held)) (b q : ℕ) → ((i : ℕ) (r : Held) → Holds sets i r → r.number ≤ b) → list_any (eqb q) (entries_of sets) ≡ true → q ≤ b
 any_bound [] b q h e = absurd (cc)

@@ -1,5 +1,5 @@
 -- What waking a sleeper does to the plain list of jobs.
-use Rattle.std.proofs.Common.{◌≡◌, ◌≢◌, ℕ, zero, suc, ◌+◌, ◌-◌, ◌<◌, ◌≤◌, Bool, true, false, List, [], ◌∷◌, Option, Some, None, length, slice_index_or, slice_set, refl, ap, sym, ◌∙◌, arith}
+use Rattle.std.proofs.Common.{◌≡◌, ◌≢◌, ℕ, ◌+◌, ◌-◌, ◌<◌, ◌≤◌, Bool, true, false, List, Option, Some, None, length, slice_index_or, slice_set, refl, ap, sym, ◌∙◌, arith}
 use Rattle.std.proofs.lemmas.List.{get_or-set_other}
 use Rattle.std.proofs.lemmas.Option.{same_Some}
 use Rattle.std.proofs.lemmas.Grind.{common_steps}
@@ -7,34 +7,12 @@ use Rattle.agc_plan.specs.Jobs.{Job, job_in, with_job, best, is_sleeper, sleeper
 use Rattle.agc_plan.specs.Places.{place_of, fronted}
 use Rattle.agc_plan.specs.declared.reply.Reply.TheVariants.{Roused, NoSleeper}
 use Rattle.agc_exec.specs.Held.{Held}
-use Rattle.agc_exec.specs.Sets.{job_of, slots_of, running_in, entries_of, jobs_of, Holds, IsLawful, IsStanding, Gives, BringsBest, IsFirstBelow, FirstBelow}
+use Rattle.agc_exec.specs.Sets.{job_of, slots_of, running_in, entries_of, jobs_of, Holds, IsLawful, IsStanding, Gives, BringsBest, IsFirstBelow, FirstBelow, TakesOver}
 use Rattle.agc_exec.proofs.Swaps.{Holds-within, slots_of-changed}
 use Rattle.agc_exec.proofs.Bests.{slot_found, slot_of, place_of_number, running_in-awake}
 use Rattle.agc_exec.proofs.Establish.{swap-none, running_in-found}
 use Rattle.agc_exec.proofs.Leaving.{changed-lawful, changed-entries}
-
-sleeper_from-is : (number at : ℕ) (slots : List (Option Job)) (i : ℕ) (job : Job) → slice_index_or slots i None ≡ Some job → is_sleeper at job ≡ true → ((j : ℕ) (other : Job) → j < i → slice_index_or slots j None ≡ Some other → is_sleeper at other ≡ false) → sleeper_from number at slots ≡ Some (number + i)
-sleeper_from-is number at [] i job here sleeps first = absurd (cc)
-sleeper_from-is number at (None ∷ slots) zero job here sleeps first = absurd (cc)
-sleeper_from-is number at (None ∷ slots) (suc i) job here sleeps first =
-    let z : number + suc i ≡ number + 1 + i = omega arith in
-    rw z (sleeper_from-is (number + 1) at slots i job here sleeps (λ j other lt. first (suc j) other (omega arith)))
-sleeper_from-is number at (Some s ∷ slots) zero job here sleeps first =
-    let z : number + 0 ≡ number = omega arith in
-    let same : s ≡ job = same_Some s job here in
-    let is : is_sleeper at s ≡ true = rw same sleeps in
-    rw (z, is)
-sleeper_from-is number at (Some s ∷ slots) (suc i) job here sleeps first =
-    let z : number + suc i ≡ number + 1 + i = omega arith in
-    let is : is_sleeper at s ≡ false = first 0 s (omega arith) refl in
-    rw (z, is) (sleeper_from-is (number + 1) at slots i job here sleeps (λ j other lt. first (suc j) other (omega arith)))
-
-sleeper_from-none : (number at : ℕ) (slots : List (Option Job)) → ((j : ℕ) (other : Job) → slice_index_or slots j None ≡ Some other → is_sleeper at other ≡ false) → sleeper_from number at slots ≡ None
-sleeper_from-none number at [] h = refl
-sleeper_from-none number at (None ∷ slots) h = sleeper_from-none (number + 1) at slots (λ j. h (suc j))
-sleeper_from-none number at (Some s ∷ slots) h =
-    let is : is_sleeper at s ≡ false = h 0 s refl in
-    rw is (sleeper_from-none (number + 1) at slots (λ j. h (suc j)))
+use Rattle.agc_exec.proofs.Searches.{sleeper_from-is, sleeper_from-none}
 
 sleeper-is : (sets : List (Option Held)) (at k : ℕ) (r : Held) → IsLawful sets → IsFirstBelow sets at (length sets) k r → sleeper_from 1 at (slots_of sets) ≡ Some r.number
 sleeper-is sets at k r lawful is =
@@ -79,7 +57,7 @@ woken-lawful sets at k r changed w = changed-lawful sets k r changed w.standing.
 woken-slots : (sets : List (Option Held)) (at k : ℕ) (r changed : Held) → Wakes sets at k r changed → slots_of (slice_set sets k (Some changed)) ≡ with_job (slots_of sets) r.number (Some (woken (job_of r)))
 woken-slots sets at k r changed w = slots_of-changed sets k r changed w.standing.lawful w.is.here w.number ∙ ap (λ j. with_job (slots_of sets) r.number (Some j)) w.job
 
-pub Gives-rouse-idle : (sets new : List (Option Held)) (at k : ℕ) (r changed : Held) → Wakes sets at k r changed → running_in sets ≡ None → BringsBest (slice_set sets k (Some changed)) new → Gives (rouse at (jobs_of sets)) (fronted (running_in new) (entries_of sets)) new (Roused r.number)
+Gives-rouse-idle : (sets new : List (Option Held)) (at k : ℕ) (r changed : Held) → Wakes sets at k r changed → running_in sets ≡ None → BringsBest (slice_set sets k (Some changed)) new → Gives (rouse at (jobs_of sets)) (fronted (running_in new) (entries_of sets)) new (Roused r.number)
 Gives-rouse-idle sets new at k r changed w idle brings =
     let slot : job_in (slots_of sets) r.number ≡ Some (job_of r) = slot_of sets k r w.standing.lawful w.is.here in
     let sleeper : sleeper_from 1 at (slots_of sets) ≡ Some r.number = sleeper-is sets at k r w.standing.lawful w.is in
@@ -91,7 +69,7 @@ Gives-rouse-idle sets new at k r changed w idle brings =
       entries_is = brings.entries ∙ rw (← brings.running, changed-entries sets k r changed w.is.here w.number);
     }
 
-pub Gives-rouse-busy : (sets : List (Option Held)) (at k n : ℕ) (r changed : Held) → Wakes sets at k r changed → running_in sets ≡ Some n → let new = slice_set sets k (Some changed) in Gives (rouse at (jobs_of sets)) (fronted (running_in new) (entries_of sets)) new (Roused r.number)
+Gives-rouse-busy : (sets : List (Option Held)) (at k n : ℕ) (r changed : Held) → Wakes sets at k r changed → running_in sets ≡ Some n → let new = slice_set sets k (Some changed) in Gives (rouse at (jobs_of sets)) (fronted (running_in new) (entries_of sets)) new (Roused r.number)
 Gives-rouse-busy sets at k n r changed w runs =
     let (s, here, awake, number) = running_in-found sets n runs in
     let slot : job_in (slots_of sets) r.number ≡ Some (job_of r) = slot_of sets k r w.standing.lawful w.is.here in
@@ -109,3 +87,8 @@ Gives-rouse-busy sets at k n r changed w runs =
       outcome_is = rw (sleeper, slot, woken-slots sets at k r changed w, runner, runs);
       entries_is = changed-entries sets k r changed w.is.here w.number ∙ rw (runner, place) (sym (swap-none (entries_of sets)));
     }
+
+-- taking over after the sleeper woke
+pub Gives-roused : (sets new : List (Option Held)) (at k : ℕ) (r changed : Held) → Wakes sets at k r changed → (runner : Option ℕ) → runner ≡ running_in sets → TakesOver runner (slice_set sets k (Some changed)) new → Gives (rouse at (jobs_of sets)) (fronted (running_in new) (entries_of sets)) new (Roused r.number)
+Gives-roused sets new at k r changed w None is over = Gives-rouse-idle sets new at k r changed w (sym is) over
+Gives-roused sets new at k r changed w (Some n) is over = rw over (Gives-rouse-busy sets at k n r changed w (sym is))

@@ -89,6 +89,11 @@ pub record BringsBest (old new : List (Option Held)) : Type 0 where
   pub running : running_in new ≡ best (slots_of old)
   pub entries : entries_of new ≡ fronted (best (slots_of old)) (entries_of old)
 
+-- taking over: where nobody ran, the best job came to set 0; else nothing changed
+abbrev pub TakesOver : Option ℕ → List (Option Held) → List (Option Held) → Type 0
+TakesOver None old new = BringsBest old new
+TakesOver (Some number) old new = new ≡ old
+
 -- what holds of the sets between two requests
 pub record IsStanding (sets : List (Option Held)) : Type 0 where
   pub lawful : IsLawful sets
@@ -127,7 +132,3 @@ pub record IsFirstBelow (sets : List (Option Held)) (at n k : ℕ) (r : Held) : 
 abbrev pub FirstBelow : List (Option Held) → ℕ → ℕ → Option (ℕ × Held) → Type 0
 FirstBelow sets at n None = (j : ℕ) (s : Held) → j < n → Holds sets j s → is_sleeper at (job_of s) ≡ false
 FirstBelow sets at n (Some found) = IsFirstBelow sets at n found.0 found.1
-
--- set k holds a job
-abbrev pub IsHeldAt : List (Option Held) → ℕ → Type 0
-IsHeldAt sets k = (r : Held) × Holds sets k r

@@ -1,5 +1,5 @@
 // The core sets, use words and NEWJOB as words.
-ghost use Rattle.std.specs.Prelude.{◌≡◌, ◌+◌, ◌<◌, ◌≤◌, ℕ, length, slice_index, slice_set, []};
+ghost use Rattle.std.specs.Prelude.{◌≡◌, ◌*◌, ◌<◌, ◌≤◌, nat_lt, if◌then◌else◌, length, slice_set, Some};
 ghost use Rattle.agc_exec.specs.Blocks.{blocks_of, KeepsFrom};
 ghost use Rattle.agc_exec.specs.Image.{address_of, priority_word, held_of, sets_of, IsLawfulBlock, IsTidyBlock, IsTidy, Each, use_word, newjob_of, UsesAgree, IsEncoded};
 ghost use Rattle.agc_exec.specs.Sets.{slots_of, IsLawful, IsStanding};
@@ -114,6 +114,7 @@ fn write_sets(e: &mut Erasable, sets: &[Option<Record>])
 }
 
 /// The use word of an area: its address where nobody owns it, else 00000.
+#[tactic(auto, using(crate::proofs::Areas::is_owned_slots))]
 fn use_word(sets: &[Option<Record>], area: u8) -> Word
     requires lawful { IsLawful sets.now }
     requires five { area ≤ 5 }
@@ -139,6 +140,19 @@ fn write_uses(e: &mut Erasable, sets: &[Option<Record>])
     }
 }
 
+/// NEWJOB where the best job stands in set k: that set's name, where the job is strictly more urgent than the one in
+/// set 0.
+fn newjob_with(k: usize, best: &Record, front: &Record) -> Word
+    requires { k < 7 }
+    ensures { result ≡ (if nat_lt front.now.priority best.now.priority then 12 * k else 0) }
+{
+    if best.is_more_urgent(front) {
+        word(12 * k as u16)
+    } else {
+        Word::zero()
+    }
+}
+
 /// NEWJOB: 77777 where no job is awake, else 12 times the best job's set where that job is strictly more urgent than the
 /// one in set 0, else 00000.
 fn newjob(sets: &[Option<Record>]) -> Word
@@ -150,11 +164,7 @@ fn newjob(sets: &[Option<Record>]) -> Word
         None => word(32767),
         Some(first) => match current(sets) {
             None => unreachable!(),
-            Some(job) => if first.1.is_more_urgent(&job) {
-                word(12 * first.0 as u16)
-            } else {
-                Word::zero()
-            },
+            Some(front) => newjob_with(first.0, &first.1, &front),
         },
     }
 }

@@ -7,5 +7,7 @@ mod image;
 mod record;
 mod search;
 mod sets;
+#[cfg(test)]
+mod tests;
 
 pub use cores::Cores;

@@ -3,7 +3,7 @@ ghost use Rattle.std.specs.Prelude.{◌≡◌, false, ◌<◌, ◌≤◌, length
 ghost use Rattle.agc_plan.specs.Jobs as plain;
 ghost use Rattle.agc_plan.specs.Jobs.{least_unused, establish_at, new_job, established};
 ghost use Rattle.agc_plan.specs.Places.{placed_new, placed_end, fronted};
-ghost use Rattle.agc_exec.specs.Sets.{slots_of, entries_of, running_in, IsLawful, BringsBest, IsStanding, Gives, IsUnowned, jobs_of, Holds, GivesWay};
+ghost use Rattle.agc_exec.specs.Sets.{slots_of, entries_of, running_in, IsLawful, BringsBest, IsStanding, Gives, IsUnowned, jobs_of, Holds, GivesWay, TakesOver};
 
 use crate::record::Record;
 use crate::search::{best_set, current, free_number, free_set, running, sleeper};
@@ -21,6 +21,17 @@ pub fn bring_best(sets: &mut [Option<Record>])
     }
 }
 
+/// Taking over: where nobody ran, the best job takes set 0.
+fn take_over(sets: &mut [Option<Record>], runner: Option<JobNo>)
+    requires { IsLawful sets.old }
+    ensures { TakesOver runner sets.old sets.new }
+{
+    match runner {
+        None => bring_best(sets),
+        Some(_) => {}
+    }
+}
+
 /// One more job, if there is room.
 pub fn establish(sets: &mut [Option<Record>], priority: Priority, entry: Entry, area: u8) -> Reply
     requires standing { IsStanding sets.old }
@@ -35,10 +46,7 @@ pub fn establish(sets: &mut [Option<Record>], priority: Priority, entry: Entry, 
             let k = free_set(sets);
             let runner = running(sets);
             sets[k] = Some(Record::new(number, priority, entry, area));
-            match runner {
-                None => bring_best(sets),
-                Some(_) => {}
-            }
+            take_over(sets, runner);
             Reply::Established(number)
         }
     }
@@ -142,10 +150,7 @@ pub fn rouse(sets: &mut [Option<Record>], at: Address) -> Reply
         Some(found) => {
             let runner = running(sets);
             sets[found.0] = Some(found.1.woken());
-            match runner {
-                None => bring_best(sets),
-                Some(_) => {}
-            }
+            take_over(sets, runner);
             Reply::Roused(found.1.number())
         }
     }

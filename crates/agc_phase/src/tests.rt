@@ -127,7 +127,10 @@ fn a_set_phase_as_words(rt: HostRuntime) -> Result<(), Fail> {
 #[test]
 fn a_cleared_table_as_words(rt: HostRuntime) -> Result<(), Fail> {
     let mut table = PhaseTable::new();
-    table.set_phase(Group::new(4).ok_or("group")?, Phase::new(127).ok_or("phase")?);
+    table.set_phase(
+        Group::new(4).ok_or("group")?,
+        Phase::new(127).ok_or("phase")?,
+    );
     let mut e = Erasable::new();
     table.encode(&mut e);
     assert_eq!(rt; e.get(123).bits(), 0o77600);

@@ -80,7 +80,8 @@ pub StandsFor-none_before : (ws : List Waiting) (agenda : Agenda) → StandsFor 
 StandsFor-none_before ws agenda stands earlier lt =
     sym (stands.same_at earlier) ∙ due_at-earlier agenda.time earlier ws lt
 
-count_due-at : (time : ℕ) (tasks : List Pending) → NoneBefore time tasks → count_due time tasks ≡ length (due_at time tasks)
+-- where none is overdue, those that are due are due just now
+pub count_due-at : (time : ℕ) (tasks : List Pending) → NoneBefore time tasks → count_due time tasks ≡ length (due_at time tasks)
 count_due-at time [] before = refl
 count_due-at time (x ∷ xs) before =
     let ge : time ≤ x.due = NoneBefore-head time x xs before in

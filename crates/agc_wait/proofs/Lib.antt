@@ -3,3 +3,5 @@ pub mod Distances
 pub mod Dues
 pub mod Tables
 pub mod Encodes
+pub mod Firings
+pub mod Histories

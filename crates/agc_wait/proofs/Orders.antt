@@ -1,9 +1,10 @@
 -- A list in order, after a task arrives or is taken out.
-use Rattle.std.proofs.Common.{◌≡◌, ◌≢◌, ℕ, suc, ◌+◌, ◌<◌, ◌≤◌, ◌==◌, cond, List, [], ◌∷◌, ◌++◌, Option, Some, None, length, drop, refl, ap, sym, ◌∙◌, inl, inr, nat_lt, subst, arith}
+use Rattle.std.proofs.Common.{◌≡◌, ◌≢◌, ℕ, suc, ◌+◌, ◌<◌, ◌≤◌, ◌==◌, cond, List, [], ◌∷◌, ◌++◌, Some, None, length, drop, refl, ap, sym, ◌∙◌, inl, inr, nat_lt, subst, arith}
 use Rattle.std.proofs.lemmas.Bool.{cases_eq, cases_lt}
 use Rattle.std.proofs.lemmas.List.{append-nil}
 use Rattle.std.proofs.lemmas.Grind.{common_steps}
 use Rattle.agc_plan.specs.declared.request.Task.{Task}
+use Rattle.agc_wait.specs.Runs.{first_of}
 use Rattle.agc_plan.specs.Tasks.{Pending, due_at, RisesFrom, InOrder, first_due, without_first_due}
 
 pub due_at-append : (time : ℕ) (xs ys : List Pending) → due_at time (xs ++ ys) ≡ due_at time xs ++ due_at time ys
@@ -98,10 +99,6 @@ NoneBefore-head time x xs before = elim (cases_lt x.due time) [
       let is : due_at x.due (x ∷ xs) ≡ x ∷ due_at x.due xs = grind (arith, common_steps) in absurd (cc)
   | inr ge ↦ ge
 ]
-
-abbrev pub first_of : List Pending → Option Task
-first_of [] = None
-first_of (x ∷ xs) = Some x.task
 
 -- the earliest arrival that is due by now is the first of those due just now
 pub first_due-at : (time : ℕ) (tasks : List Pending) → NoneBefore time tasks → first_due time tasks ≡ first_of (due_at time tasks)

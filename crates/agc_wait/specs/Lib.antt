@@ -1,3 +1,4 @@
 pub mod Waits
 pub mod Table
 pub mod Writing
+pub mod Runs

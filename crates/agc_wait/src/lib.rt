@@ -2,9 +2,11 @@
 #![tactic(auto)]
 
 mod encode;
+mod laws;
 mod record;
 #[cfg(test)]
 mod tests;
 mod waits;
 
+pub use laws::{a_tick_leaves_none_due, earliest_arrival_is_first_in_order, tasks_fire_when_due};
 pub use waits::{Full, Waits};

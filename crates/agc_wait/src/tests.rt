@@ -1,3 +1,5 @@
+ghost use Rattle.std.specs.Prelude.{◌<◌, IfSome, length};
+
 use crate::{Full, Waits};
 use agc_plan::{Address, Delay, Task};
 use agc_word::{Erasable, Word};
@@ -15,8 +17,24 @@ struct Case {
 }
 
 const CASES: [Case; 11] = [
-    Case { name: "no task", listed: &[], ticks: 0, fired: &[], time3: 0, gaps: &[], places: &[] },
-    Case { name: "longest delay", listed: &[(16250, 0o2000)], ticks: 0, fired: &[], time3: 0o206, gaps: &[], places: &[0o2000] },
+    Case {
+        name: "no task",
+        listed: &[],
+        ticks: 0,
+        fired: &[],
+        time3: 0,
+        gaps: &[],
+        places: &[],
+    },
+    Case {
+        name: "longest delay",
+        listed: &[(16250, 0o2000)],
+        ticks: 0,
+        fired: &[],
+        time3: 0o206,
+        gaps: &[],
+        places: &[0o2000],
+    },
     Case {
         name: "insert before the first",
         listed: &[(16250, 0o2000), (1, 0o2010)],
@@ -35,7 +53,15 @@ const CASES: [Case; 11] = [
         gaps: &[],
         places: &[0o2000],
     },
-    Case { name: "last task leaves", listed: &[(1, 0o2000)], ticks: 1, fired: &[0o2000], time3: 0, gaps: &[], places: &[] },
+    Case {
+        name: "last task leaves",
+        listed: &[(1, 0o2000)],
+        ticks: 1,
+        fired: &[0o2000],
+        time3: 0,
+        gaps: &[],
+        places: &[],
+    },
     Case {
         name: "equal due times in order",
         listed: &[(5, 0o2000), (12, 0o2010), (5, 0o2020)],
@@ -149,7 +175,12 @@ fn listings_and_ticks_as_words(rt: HostRuntime) -> Result<(), Fail> {
             assert_eq!(rt; waits.dispatch().at.get(), *at, "{}", case.name);
         }
         assert!(rt; !waits.due(), "{}", case.name);
-        assert_eq!(rt; words_of(&waits), table(case.time3, case.gaps, case.places), "{}", case.name);
+        assert_eq!(rt;
+            words_of(&waits),
+            table(case.time3, case.gaps, case.places),
+            "{}",
+            case.name
+        );
     }
     Ok(())
 }
@@ -166,5 +197,52 @@ fn a_tenth_task_is_refused(rt: HostRuntime) -> Result<(), Fail> {
     assert_eq!(rt; words_of(&waits), nine);
     waits.clear();
     assert_eq!(rt; words_of(&waits), table(0, &[], &[]));
+    Ok(())
+}
+
+/// The next of a fixed sequence of pseudo-random numbers.
+fn after(seed: u32) -> u32 {
+    seed.wrapping_mul(1_664_525).wrapping_add(1_013_904_223)
+}
+
+/// The earliest arrival that is due by this time, of tasks in order of arrival, each with its due time.
+fn first_due(plain: &[(u32, u16)], time: u32) -> Option<usize>
+    ensures { IfSome result (λ i. i < length plain.now) }
+{
+    for (i, task) in plain.iter().enumerate() {
+        if task.0 <= time {
+            return Some(i);
+        }
+    }
+    None
+}
+
+#[test]
+fn as_a_plain_list_of_due_times(rt: HostRuntime) -> Result<(), Fail> {
+    let mut waits = Waits::new();
+    let mut plain: Vec<(u32, u16)> = Vec::new(rt.alloc());
+    let mut seed = 1u32;
+    for time in 1..=2000u32 {
+        for _ in 0..2 {
+            seed = after(seed);
+            let delay = 1 + ((seed >> 16) % 12) as u16;
+            let at = 1 + ((seed >> 8) % 16383) as u16;
+            let room = plain.len() < 9;
+            assert_eq!(rt; list(&mut waits, delay, at)?.is_ok(), room);
+            if room {
+                plain.push((time - 1 + u32::from(delay), at))?;
+            }
+        }
+        assert!(rt; !waits.due());
+        waits.count_time3();
+        for _ in 0..9 {
+            if waits.due() {
+                let fired = waits.dispatch().at.get();
+                let i = first_due(plain.as_slice(), time).ok_or("fired too early")?;
+                assert_eq!(rt; plain.remove(i).1, fired);
+            }
+        }
+        assert!(rt; first_due(plain.as_slice(), time).is_none());
+    }
     Ok(())
 }

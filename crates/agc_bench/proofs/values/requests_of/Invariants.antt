@@ -1,0 +1,10 @@
+use Rattle.std.proofs.Common.{◌≡◌, take, map}
+use Rattle.std.specs.List.{AllByRecursion}
+use Rattle.agc_bench.specs.Lines.{line_of, IsRequest}
+use Rattle.agc_bench.proofs.values.requests_of.Given as goal
+
+abbrev pub invariant-loop-text : goal.invariant-loop-text
+invariant-loop-text l = record {
+  lawful : AllByRecursion IsRequest l.requests.items;
+  texts : map (λ s. s.now) (take l.text-index l.texts) ≡ map line_of l.requests.items;
+}

@@ -1,0 +1,33 @@
+-- Ledgers, as the desk holds them.
+use Rattle.std.specs.Prelude.{ℕ, ◌≤◌, List, sum_by}
+use Rattle.agc_machine.specs.declared.totals.Totals.{Totals}
+
+-- a ledger: what was booked, how many of its parts were not given out, and what came back with the others
+pub record Account : Type 0 where
+  pub total : ℕ
+  pub left : ℕ
+  pub back : ℕ
+
+-- five ledgers, one for each number of the totals, with as many parts left of each
+pub record Accounts : Type 0 where
+  pub total : Totals
+  pub left : ℕ
+  pub back : Totals
+
+-- what the holders of all these shares were told together
+abbrev pub told_to : List Totals → Totals
+told_to shares = record {
+  served = sum_by (λ (t : Totals). t.served) shares;
+  a1201 = sum_by (λ (t : Totals). t.a1201) shares;
+  a1202 = sum_by (λ (t : Totals). t.a1202) shares;
+  a1203 = sum_by (λ (t : Totals). t.a1203) shares;
+  restarts = sum_by (λ (t : Totals). t.restarts) shares;
+}
+
+-- no number of the totals fell
+pub record NoneFell (old new : Totals) : Type 0 where
+  pub served : old.served ≤ new.served
+  pub a1201 : old.a1201 ≤ new.a1201
+  pub a1202 : old.a1202 ≤ new.a1202
+  pub a1203 : old.a1203 ≤ new.a1203
+  pub restarts : old.restarts ≤ new.restarts

@@ -1,0 +1,66 @@
+ghost use Rattle.std.specs.Prelude.{◌≡◌, ℕ};
+ghost use Rattle.agc_machine.specs.Told.{add, told};
+ghost use Rattle.agc_desk.specs.Runs.{Asks, IsAnswerTo, Worked};
+
+use crate::console::{Console, Gate, drive};
+use crate::desk::Desk;
+use crate::ledgers::Share;
+use crate::names::Names;
+use agc_machine::Answer;
+use agc_plan::Request;
+use std::sync::{Mutex, Wait};
+
+/// What lies under the lock.
+#[derive(Drop)]
+pub struct Held<N: Names> {
+    pub desk: Desk<N>,
+}
+
+/// A desk that several threads share.
+pub type Shared<N> = Mutex<Held<N>>;
+
+/// Asks the machine of the locked desk. It may wait for the lock.
+pub fn ask<N: Names, W: Wait>(
+    rt: &W,
+    shared: &Shared<N>,
+    share: &mut Share<N>,
+    request: Request,
+) -> Answer
+    ensures answer { IsAnswerTo request result }
+    ensures told { share.new ≡ add share.old (told result.outcome) }
+{
+    shared.lock(rt).desk.serve(share, request)
+}
+
+/// A shared desk with the share of one who asks.
+#[derive(Drop)]
+pub struct Caller<'a, N: Names> {
+    pub shared: &'a Shared<N>,
+    pub share: Share<N>,
+}
+
+impl<N: Names> Console for Caller<'_, N> {
+    ghost leads = { λ old asked said new. Asks old.share asked said new.share };
+
+    fn ask(&mut self, rt: &impl Wait, request: Request) -> Answer {
+        ask(rt, self.shared, &mut self.share, request)
+    }
+}
+
+/// Asks the requests in order at the shared desk, all or up to a call at which the gate may stop, and hands back the
+/// share. It may wait for the lock, and as its gate does.
+pub fn work<N: Names, G: Gate, W: Wait>(
+    rt: &W,
+    shared: &Shared<N>,
+    share: Share<N>,
+    worker: usize,
+    requests: &[Request],
+    gate: &G,
+) -> Share<N>
+    ensures { (n : ℕ) × Worked Asks (λ call. G.may_stop gate.now worker call) requests.now n share result }
+{
+    let mut caller = Caller { shared, share };
+    drive(rt, &mut caller, worker, requests, gate);
+    let Caller { shared: _, share } = caller;
+    share
+}

@@ -1,0 +1,127 @@
+ghost use Rattle.std.specs.Prelude.{◌≡◌, ◌+◌, ◌↔◌, IsOk, IsNone, IfOk, IfErr, IfSome, IfNone, vec_len};
+ghost use Rattle.agc_machine.specs.Machines.{IsLawful, after, answer_of};
+ghost use Rattle.agc_machine.specs.Told.{add, nothing, told};
+ghost use Rattle.agc_desk.specs.Accounts.{told_to};
+ghost use Rattle.agc_desk.specs.Opening.{names_of};
+
+use crate::ledgers::{Ledgers, Share, growth};
+use crate::names::{Blanks, Names};
+use agc_machine::{Answer, Machine, Totals};
+use agc_plan::Request;
+use std::marker::Model;
+
+/// How many shares a desk gives out.
+const SHARES: u64 = 64;
+
+/// A machine, with a book for each of its totals. Contracts see it as its machine, the machine's totals as the desk was
+/// made (`since`), the books, and how many shares were given out.
+///
+/// Of every desk it holds that each book is the machine's total less its value as the desk was made.
+#[derive(Drop)]
+pub struct Desk<N: Names> {
+    machine: Machine,
+    since: Totals,
+    given: u64,
+    ledgers: Ledgers<N>,
+}
+
+impl<N: Names> Model for Desk<N> {
+    ghost use Rattle.agc_desk.specs.Desks.{Desked, IsBooked};
+
+    ghost Value = { Desked };
+
+    ghost view = { λ d. record { machine = d.machine; since = d.since; booked = d.ledgers.total; given = d.given } };
+
+    ghost invariant = { λ d. IsBooked d.machine d.since d.given d.ledgers };
+}
+
+impl<N: Names> Desk<N> {
+    /// A desk that gave out no share, and booked nothing.
+    pub fn new(machine: Machine, blanks: Blanks) -> Desk<N>
+        requires { names_of blanks ≡ N.names }
+        ensures { result ≡ record { machine = machine; since = machine.totals; booked = nothing; given = 0 } }
+    {
+        let since = machine.totals();
+        let ledgers = Ledgers::open(blanks);
+        Desk {
+            machine,
+            since,
+            given: 0,
+            ledgers,
+        }
+    }
+
+    /// The machine.
+    pub fn machine(&self) -> &Machine
+        ensures machine { result.now ≡ self.now.machine }
+        ensures booked { add self.now.booked self.now.since ≡ result.now.totals }
+    {
+        &self.machine
+    }
+
+    /// A share whose holder was told nothing, unless 64 were given out.
+    pub fn share(&mut self) -> Option<Share<N>>
+        ensures none { IsNone result ↔ (self.old.given ≡ 64) }
+        ensures told { IfSome result (λ s. s ≡ nothing) }
+        ensures given { IfSome result (λ s. self.new ≡ record self.old { given = self.old.given + 1 }) }
+        ensures same { IfNone result (self.new ≡ self.old) }
+    {
+        if self.given == SHARES {
+            return None;
+        }
+        self.given += 1;
+        Some(self.ledgers.part())
+    }
+
+    /// Asks the machine, and books what its answer tells in the share and in the desk's books.
+    pub fn serve(&mut self, share: &mut Share<N>, request: Request) -> Answer
+        ensures request { result.request ≡ request }
+        ensures outcome { result.outcome ≡ answer_of self.old.machine request }
+        ensures lawful { IsLawful self.old.machine }
+        ensures told { share.new ≡ add share.old (told result.outcome) }
+        ensures desk { self.new ≡ record self.old { machine = after self.old.machine request; booked = add self.old.booked (told result.outcome) } }
+    {
+        let before = self.machine.totals();
+        let answer = self.machine.apply(request);
+        let told = growth(before, self.machine.totals());
+        self.ledgers.add(share, told);
+        answer
+    }
+}
+
+/// What [`gather`] hands back where it refuses.
+#[derive(Drop)]
+pub struct Ungathered<N: Names> {
+    pub desk: Desk<N>,
+    pub shares: Vec<Share<N>>,
+}
+
+/// The machine, and what the holders of all shares were told together. Refused exactly where not as many shares come as
+/// the desk gave out; desk and shares then come back as they were.
+pub fn gather<N: Names>(
+    desk: Desk<N>,
+    shares: Vec<Share<N>>,
+) -> Result<(Machine, Totals), Ungathered<N>>
+    ensures ok { IsOk result ↔ (vec_len shares ≡ desk.given) }
+    ensures machine { IfOk result (λ r. r.0 ≡ desk.machine) }
+    ensures told { IfOk result (λ r. r.1 ≡ told_to shares.items) }
+    ensures booked { IfOk result (λ r. r.1 ≡ desk.booked) }
+    ensures grown { IfOk result (λ r. add r.1 desk.since ≡ desk.machine.totals) }
+    ensures back { IfErr result (λ u. (u.desk ≡ desk) × (u.shares ≡ shares)) }
+{
+    if shares.len() as u64 != desk.given {
+        return Err(Ungathered { desk, shares });
+    }
+    let Desk {
+        machine,
+        since,
+        given: _,
+        mut ledgers,
+    } = desk;
+    for share in shares {
+        ledgers.merge(share);
+    }
+    ledgers.audit();
+    let totals = growth(since, machine.totals());
+    Ok((machine, totals))
+}

@@ -1,0 +1,105 @@
+ghost use Rattle.std.specs.Prelude.{◌≡◌};
+ghost use Rattle.agc_desk.specs.Naming.{FiveNames, no_names};
+
+use std::marker::{Brand, PhantomData};
+use std::sync::ledger::{Blank, Ledger};
+
+/// Into how many parts each ledger is cut: one for each of 64 shares, and one that stays with the desk.
+const PARTS: u64 = 65;
+
+/// Which five ledgers a desk has, one for each number of [`Totals`].
+///
+/// A function that is generic over it is called with `Brand`, and the call picks the names.
+pub trait Names {
+    /// The name of each of the five.
+    ghost names: { FiveNames };
+}
+
+impl Names for Brand {
+    ghost names = { no_names };
+}
+
+/// The ledger of `served`.
+pub(crate) struct Served<N: Names> {
+    of: PhantomData<N>,
+}
+
+impl<N: Names> Ledger for Served<N> {
+    ghost name = { N.names.served };
+
+    ghost parts = { 65 };
+}
+
+/// The ledger of `a1201`.
+pub(crate) struct A1201<N: Names> {
+    of: PhantomData<N>,
+}
+
+impl<N: Names> Ledger for A1201<N> {
+    ghost name = { N.names.a1201 };
+
+    ghost parts = { 65 };
+}
+
+/// The ledger of `a1202`.
+pub(crate) struct A1202<N: Names> {
+    of: PhantomData<N>,
+}
+
+impl<N: Names> Ledger for A1202<N> {
+    ghost name = { N.names.a1202 };
+
+    ghost parts = { 65 };
+}
+
+/// The ledger of `a1203`.
+pub(crate) struct A1203<N: Names> {
+    of: PhantomData<N>,
+}
+
+impl<N: Names> Ledger for A1203<N> {
+    ghost name = { N.names.a1203 };
+
+    ghost parts = { 65 };
+}
+
+/// The ledger of `restarts`.
+pub(crate) struct Restarts<N: Names> {
+    of: PhantomData<N>,
+}
+
+impl<N: Names> Ledger for Restarts<N> {
+    ghost name = { N.names.restarts };
+
+    ghost parts = { 65 };
+}
+
+/// Five ledgers that have no names in the types yet, of 65 parts each, in fields named as those of [`Totals`].
+///
+/// They are made before the function that is generic over the ledgers' names is called.
+#[derive(Drop)]
+pub struct Blanks {
+    pub served: Blank,
+    pub a1201: Blank,
+    pub a1202: Blank,
+    pub a1203: Blank,
+    pub restarts: Blank,
+    ghost served_parts: { served.parts ≡ 65 },
+    ghost a1201_parts: { a1201.parts ≡ 65 },
+    ghost a1202_parts: { a1202.parts ≡ 65 },
+    ghost a1203_parts: { a1203.parts ≡ 65 },
+    ghost restarts_parts: { restarts.parts ≡ 65 },
+}
+
+impl Blanks {
+    /// Five new ledgers.
+    pub fn new() -> Blanks {
+        Blanks {
+            served: Blank::new(PARTS),
+            a1201: Blank::new(PARTS),
+            a1202: Blank::new(PARTS),
+            a1203: Blank::new(PARTS),
+            restarts: Blank::new(PARTS),
+        }
+    }
+}

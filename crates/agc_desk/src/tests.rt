@@ -1,0 +1,323 @@
+ghost use Rattle.std.specs.Prelude.{◌≡◌};
+ghost use Rattle.agc_desk.specs.Opening.{names_of};
+
+use crate::{
+    Blanks, Caller, Console, Desk, Gate, Held, Names, Share, Shared, Ungathered, drive, gather,
+};
+use agc_machine::{Answer, Machine, Totals};
+use agc_plan::{
+    Action, Address, Delay, Entry, Limit, Place, Plan, Priority, Reply, Request, Task, Word,
+};
+use std::alloc::{AllocError, AllocFailed, Global};
+use std::marker::Brand;
+use std::sync::{Mutex, Wait};
+use std::test::Fail;
+
+/// Why a helper gave up.
+#[derive(Debug, Drop)]
+enum Fault {
+    NoMemory,
+    NoShare,
+    Ungathered,
+    Gathered,
+}
+
+impl From<AllocError> for Fault {
+    fn from(_: AllocError) -> Fault {
+        Fault::NoMemory
+    }
+}
+
+impl<T: Drop> From<AllocFailed<T>> for Fault {
+    fn from(_: AllocFailed<T>) -> Fault {
+        Fault::NoMemory
+    }
+}
+
+// A machine that has just begun, with an empty plan.
+fn new_machine(alloc: Global) -> Result<Machine, Fail> {
+    let plan = Plan::new(alloc, &[], &[], Action::Nothing, Action::Nothing)?;
+    let limit = Limit::new(1000).ok_or("a limit")?;
+    Ok(Machine::new(alloc, plan, limit, 1_000_000)?)
+}
+
+fn entry(at: u16) -> Result<Entry, Fail> {
+    Ok(Entry {
+        at: Address::new(at).ok_or("an address")?,
+        bank: Word::new(5).ok_or("a word")?,
+    })
+}
+
+fn novac(priority: u8, at: u16) -> Result<Request, Fail> {
+    Ok(Request::Novac(Priority::new(priority).ok_or("a priority")?, entry(at)?))
+}
+
+fn findvac(priority: u8, at: u16) -> Result<Request, Fail> {
+    Ok(Request::Findvac(Priority::new(priority).ok_or("a priority")?, entry(at)?))
+}
+
+fn list(delay: u16, at: u16) -> Result<Request, Fail> {
+    let Entry { at, bank } = entry(at)?;
+    Ok(Request::List(Delay::new(delay).ok_or("a delay")?, Task { at, bank }))
+}
+
+// What a caller was answered and told, and the machine after it.
+#[derive(Drop)]
+struct Outcome {
+    answers: Vec<Answer>,
+    told: Totals,
+    machine: Machine,
+}
+
+fn ask_all<N: Names, W: Wait>(
+    rt: &W,
+    alloc: Global,
+    shared: &Shared<N>,
+    share: Share<N>,
+    requests: &[Request],
+) -> Result<(Vec<Answer>, Share<N>), Fault> {
+    let mut caller = Caller { shared, share };
+    let mut answers = Vec::new(alloc);
+    for request in requests {
+        answers.push(caller.ask(rt, *request))?;
+    }
+    let Caller { shared: _, share } = caller;
+    Ok((answers, share))
+}
+
+fn ask_through<N: Names, W: Wait>(
+    rt: &W,
+    alloc: Global,
+    machine: Machine,
+    blanks: Blanks,
+    requests: &[Request],
+) -> Result<Outcome, Fault>
+    requires { names_of blanks ≡ N.names }
+{
+    let mut desk: Desk<N> = Desk::new(machine, blanks);
+    let share = desk.share().ok_or(Fault::NoShare)?;
+    let shared: Shared<N> = Mutex::new(Held { desk });
+    let (answers, share) = ask_all(rt, alloc, &shared, share, requests)?;
+    let told = share.told();
+    let Held { desk } = shared.into_inner();
+    let mut shares = Vec::new(alloc);
+    shares.push(share)?;
+    match gather(desk, shares) {
+        Ok((machine, _)) => Ok(Outcome {
+            answers,
+            told,
+            machine,
+        }),
+        Err(_left) => Err(Fault::Ungathered),
+    }
+}
+
+// Asks through a `Caller`.
+fn asked<W: Wait>(rt: &W, alloc: Global, requests: &[Request]) -> Result<Outcome, Fail> {
+    let machine = new_machine(alloc)?;
+    Ok(ask_through::<Brand, W>(rt, alloc, machine, Blanks::new(), requests)?)
+}
+
+#[test]
+fn a_caller_is_told_each_alarm(rt: HostRuntime) -> Result<(), Fail> {
+    let mut requests = Vec::new(rt.alloc());
+    for _ in 0..6 {
+        requests.push(findvac(8, 1024)?)?;
+    }
+    for _ in 0..8 {
+        requests.push(novac(8, 1024)?)?;
+    }
+    for _ in 0..10 {
+        requests.push(list(5, 1024)?)?;
+    }
+    for _ in 0..6 {
+        requests.push(findvac(8, 1024)?)?;
+    }
+    requests.push(Request::Fresh)?;
+    let outcome = asked(&rt, rt.alloc(), requests.as_slice())?;
+    assert_eq!(rt;
+        outcome.told,
+        Totals {
+            served: 31,
+            a1201: 2,
+            a1202: 1,
+            a1203: 1,
+            restarts: 5,
+        }
+    );
+    assert_eq!(rt; outcome.machine.totals(), outcome.told);
+    Ok(())
+}
+
+// The replies that the tests tell apart.
+#[derive(Clone, Copy, PartialEq, Eq, Debug)]
+enum Heard {
+    Job(u8),
+    Runs(u8),
+    Stored,
+    Other,
+}
+
+fn short(reply: &Reply) -> Heard {
+    match reply {
+        Reply::Established(job) => Heard::Job(job.get()),
+        Reply::Runs(job) => Heard::Runs(job.get()),
+        Reply::Stored => Heard::Stored,
+        _ => Heard::Other,
+    }
+}
+
+fn reply_of(answer: Answer) -> Heard {
+    match answer.result() {
+        Ok(reply) => short(&reply),
+        Err(_refusal) => Heard::Other,
+    }
+}
+
+#[test]
+fn a_caller_gets_the_machines_answers(rt: HostRuntime) -> Result<(), Fail> {
+    let place = Place::new(1).ok_or("a place")?;
+    let word = Word::new(0o123).ok_or("a word")?;
+    let requests = [
+        novac(16, 1024)?,
+        Request::Store(place, word),
+        novac(24, 1088)?,
+        Request::Change,
+    ];
+    let outcome = asked(&rt, rt.alloc(), &requests)?;
+    let mut replies = Vec::new(rt.alloc());
+    for answer in outcome.answers {
+        replies.push(reply_of(answer))?;
+    }
+    let wanted = [Heard::Job(1), Heard::Stored, Heard::Job(2), Heard::Runs(2)];
+    assert_eq!(rt; replies.as_slice(), wanted.as_slice());
+    assert_eq!(rt; outcome.machine.totals().served, 4);
+    Ok(())
+}
+
+// How many shares a desk gives out.
+fn shares_given<N: Names>(machine: Machine, blanks: Blanks) -> u64
+    requires { names_of blanks ≡ N.names }
+{
+    let mut desk: Desk<N> = Desk::new(machine, blanks);
+    for given in 0..100 {
+        if desk.share().is_none() {
+            return given;
+        }
+    }
+    100
+}
+
+#[test]
+fn the_65th_share_is_none(rt: HostRuntime) -> Result<(), Fail> {
+    let machine = new_machine(rt.alloc())?;
+    assert_eq!(rt; shares_given::<Brand>(machine, Blanks::new()), 64);
+    Ok(())
+}
+
+// Two shares are given out, and a tick is served with the first. `gather` refuses the second alone, and none; then it
+// takes both.
+fn gathered_late<N: Names>(
+    alloc: Global,
+    machine: Machine,
+    blanks: Blanks,
+) -> Result<(usize, usize, Totals), Fault>
+    requires { names_of blanks ≡ N.names }
+{
+    let mut desk: Desk<N> = Desk::new(machine, blanks);
+    let mut first = desk.share().ok_or(Fault::NoShare)?;
+    let second = desk.share().ok_or(Fault::NoShare)?;
+    desk.serve(&mut first, Request::Tick);
+    let mut shares = Vec::new(alloc);
+    shares.push(second)?;
+    let Ungathered { desk, mut shares } = refused(desk, shares)?;
+    let one = shares.len();
+    let Ungathered { desk, shares: none } = refused(desk, Vec::new(alloc))?;
+    shares.push(first)?;
+    match gather(desk, shares) {
+        Ok((_, totals)) => Ok((one, none.len(), totals)),
+        Err(_left) => Err(Fault::Ungathered),
+    }
+}
+
+fn refused<N: Names>(desk: Desk<N>, shares: Vec<Share<N>>) -> Result<Ungathered<N>, Fault> {
+    match gather(desk, shares) {
+        Ok(_all) => Err(Fault::Gathered),
+        Err(left) => Ok(left),
+    }
+}
+
+#[test]
+fn a_missing_share_is_handed_back(rt: HostRuntime) -> Result<(), Fail> {
+    let machine = new_machine(rt.alloc())?;
+    let (one, none, totals) = gathered_late::<Brand>(rt.alloc(), machine, Blanks::new())?;
+    assert_eq!(rt; one, 1);
+    assert_eq!(rt; none, 0);
+    assert_eq!(rt; totals.served, 1);
+    Ok(())
+}
+
+// A console with a machine of its own, which notes what it is asked.
+#[derive(Drop)]
+struct Fake {
+    machine: Machine,
+    seen: [Request; 10],
+    count: usize,
+}
+
+impl Console for Fake {
+    ghost leads = { λ _ _ _ _. Unit {0} };
+
+    fn ask(&mut self, _rt: &impl Wait, request: Request) -> Answer {
+        self.note(&request);
+        self.machine.apply(request)
+    }
+}
+
+impl Fake {
+    fn note(&mut self, request: &Request) {
+        if self.count < self.seen.len() {
+            self.seen[self.count] = *request;
+            self.count += 1;
+        }
+    }
+}
+
+// A gate that stops at the call of this number.
+#[derive(Drop)]
+struct StopAt(usize);
+
+impl Gate for StopAt {
+    ghost may_stop = { λ gate _ call. gate.0 ≡ call };
+
+    fn before(&self, _worker: usize, call: usize) -> bool {
+        call != self.0
+    }
+
+    fn after(&self, _worker: usize, _call: usize) {}
+}
+
+#[test]
+fn a_gate_stops_a_worker(rt: HostRuntime) -> Result<(), Fail> {
+    let mut fake = Fake {
+        machine: new_machine(rt.alloc())?,
+        seen: [Request::Fresh; 10],
+        count: 0,
+    };
+    let requests = [
+        novac(8, 1024)?,
+        Request::Tick,
+        findvac(8, 1025)?,
+        list(5, 1026)?,
+        Request::Change,
+        Request::EndOfJob,
+        Request::Restart,
+        Request::Tick,
+        novac(9, 1027)?,
+        Request::Change,
+    ];
+    assert_eq!(rt; drive(&rt, &mut fake, 0, &requests, &StopAt(4)), 4);
+    assert_eq!(rt; fake.count, 4);
+    assert_eq!(rt; fake.seen[..4], requests[..4]);
+    Ok(())
+}

@@ -1,0 +1,192 @@
+-- What firing leaves and what fires.
+use Rattle.std.proofs.Common.{◌≡◌, ◌≢◌, ℕ, zero, suc, ◌+◌, ◌<◌, ◌≤◌, ◌==◌, Bool, true, false, cond, List, [], ◌∷◌, ◌++◌, Option, Some, None, IsSome, drop, length, refl, ap, sym, ◌∙◌, inl, inr, arith, append_assoc, subst}
+use Rattle.std.specs.List.{All}
+use Rattle.std.proofs.lemmas.Bool.{cases_eq, cases_lt}
+use Rattle.std.proofs.lemmas.List.{append-nil}
+use Rattle.std.proofs.lemmas.Grind.{common_steps}
+use Rattle.agc_plan.specs.declared.reply.Alarm.{Alarm}
+use Rattle.agc_plan.specs.declared.request.Action.{Action}
+use Rattle.agc_plan.specs.declared.request.Action.TheVariants as action
+use Rattle.agc_plan.specs.declared.request.Task.{Task}
+use Rattle.agc_plan.specs.Eras.{Work}
+use Rattle.agc_plan.specs.Plans.{action_in, same_task}
+use Rattle.agc_plan.specs.Steps.{Fires, done, dispatched_work, later_work, fire, fire_first, unless_alarm, tick_fires}
+use Rattle.agc_plan.specs.Tasks.{Pending, Agenda, has_room, listed, due_at, first_due, without_first_due, count_due, InOrder, RisesFrom}
+use Rattle.agc_wait.specs.Runs.{ActsLater, first_of, FiresInOrder}
+use Rattle.agc_wait.proofs.Orders.{NoneBefore, first_due-at, due_at-without, InOrder-first, InOrder-rest, InOrder-nil, InOrder-none_due}
+use Rattle.agc_wait.proofs.Dues.{count_due-at}
+
+-- a task that is due later isn't counted
+count_due-later : (time : ℕ) (tasks : List Pending) (y : Pending) → time < y.due → count_due time (tasks ++ y ∷ []) ≡ count_due time tasks
+count_due-later time [] y lt = grind (arith, common_steps)
+count_due-later time (x ∷ xs) y lt =
+    let rest : count_due time (xs ++ y ∷ []) ≡ count_due time xs = count_due-later time xs y lt in
+    grind (arith, common_steps)
+
+count_due-skip : (time : ℕ) (x : Pending) (xs : List Pending) → time < x.due → count_due time (x ∷ xs) ≡ count_due time xs
+count_due-skip time x xs lt = grind (arith, common_steps)
+
+first_due-skip : (time : ℕ) (x : Pending) (xs : List Pending) → time < x.due → first_due time (x ∷ xs) ≡ first_due time xs
+first_due-skip time x xs lt = grind (arith, common_steps)
+
+without_first_due-skip : (time : ℕ) (x : Pending) (xs : List Pending) → time < x.due → without_first_due time (x ∷ xs) ≡ x ∷ without_first_due time xs
+without_first_due-skip time x xs lt = grind (arith, common_steps)
+
+without_first_due-here : (time : ℕ) (x : Pending) (xs : List Pending) → x.due ≤ time → without_first_due time (x ∷ xs) ≡ xs
+without_first_due-here time x xs le = grind (arith, common_steps)
+
+count_due-here : (time : ℕ) (x : Pending) (xs : List Pending) → x.due ≤ time → count_due time (x ∷ xs) ≡ suc (count_due time xs)
+count_due-here time x xs le = grind (arith, common_steps)
+
+-- nothing is due where none is counted
+first_due-uncounted : (time : ℕ) (tasks : List Pending) → count_due time tasks ≡ 0 → first_due time tasks ≡ None
+first_due-uncounted time [] e = refl
+first_due-uncounted time (x ∷ xs) e = elim (cases_lt time x.due) [
+  | inl lt ↦
+      first_due-skip time x xs lt ∙ first_due-uncounted time xs (sym (count_due-skip time x xs lt) ∙ e)
+  | inr le ↦
+      let some : count_due time (x ∷ xs) ≡ suc (count_due time xs) = count_due-here time x xs le in
+      absurd (omega arith)
+]
+
+-- one that is due taken out is one fewer
+count_due-without : (time : ℕ) (task : Task) (tasks : List Pending) → first_due time tasks ≡ Some task → count_due time tasks ≡ suc (count_due time (without_first_due time tasks))
+count_due-without time task [] e = absurd (cc)
+count_due-without time task (x ∷ xs) e = elim (cases_lt time x.due) [
+  | inl lt ↦
+      let rest : count_due time xs ≡ suc (count_due time (without_first_due time xs)) = count_due-without time task xs (sym (first_due-skip time x xs lt) ∙ e) in
+      count_due-skip time x xs lt ∙ rest ∙ ap suc (sym (count_due-skip time x (without_first_due time xs) lt) ∙ sym (ap (count_due time) (without_first_due-skip time x xs lt)))
+  | inr le ↦ count_due-here time x xs le ∙ ap suc (sym (ap (count_due time) (without_first_due-here time x xs le)))
+]
+
+abbrev due_in : Work → ℕ
+due_in work = count_due work.agenda.time work.agenda.tasks
+
+-- an action leaves alone what is due now
+due_in-done : (act : Action) (work : Work) → ActsLater act → due_in (done act work).work ≡ due_in work
+due_in-done action.Nothing work later = refl
+due_in-done (action.Novac priority entry) work later = refl
+due_in-done (action.Findvac priority entry) work later = refl
+due_in-done (action.Rouse at) work later = refl
+due_in-done (action.List delay task) work later = by_room (has_room work.agenda)
+  where
+    by_room : (b : Bool) → (let a : Agenda = cond b (listed delay task work.agenda) work.agenda in count_due a.time a.tasks) ≡ due_in work
+    by_room false = refl
+    by_room true = count_due-later work.agenda.time work.agenda.tasks (record { task = task; due = work.agenda.time + delay }) (omega arith)
+
+-- the action of a row lists for later, where each row does
+ActsLater-in : (rows : List (Task × Action)) (task : Task) → All (λ row. ActsLater row.1) rows → ActsLater (action_in rows task)
+ActsLater-in [] task all = tt
+ActsLater-in (row ∷ rows) task all = pick (same_task row.0 task) row.1 (action_in rows task) (all 0 row (omega arith)) (ActsLater-in rows task (λ k d lt. all (suc k) d (omega arith)))
+  where
+    pick : (b : Bool) (x y : Action) → ActsLater x → ActsLater y → ActsLater (cond b x y)
+    pick true x y one other = one
+    pick false x y one other = other
+
+-- when as many fired as were due, without an alarm, none is due
+abbrev IsQuiet : Fires → Type 0
+IsQuiet fires = fires.alarm ≡ None → first_due fires.work.agenda.time fires.work.agenda.tasks ≡ None
+
+fire-quiet_more : (n : ℕ) (rows : List (Task × Action)) (work : Work) (fired : List Task) → All (λ row. ActsLater row.1) rows → due_in work ≡ suc n → ((w : Work) (f : List Task) → due_in w ≡ n → IsQuiet (fire n rows w f)) → IsQuiet (fire (suc n) rows work fired)
+fire-quiet_more n rows work fired all is again = by_first (first_due work.agenda.time work.agenda.tasks) refl
+  where
+    by_alarm : (task : Task) → first_due work.agenda.time work.agenda.tasks ≡ Some task → (a : Option Alarm) → IsQuiet (unless_alarm a (done (action_in rows task) (dispatched_work work)).work (fired ++ task ∷ []) (fire n rows))
+    by_alarm task first None =
+        let one : due_in work ≡ suc (due_in (dispatched_work work)) = count_due-without work.agenda.time task work.agenda.tasks first in
+        let same : due_in (done (action_in rows task) (dispatched_work work)).work ≡ due_in (dispatched_work work) = due_in-done (action_in rows task) (dispatched_work work) (ActsLater-in rows task all) in
+        again (done (action_in rows task) (dispatched_work work)).work (fired ++ task ∷ []) (omega arith)
+    by_alarm task first (Some alarm) = λ quiet. absurd (cc)
+
+    by_first : (o : Option Task) → first_due work.agenda.time work.agenda.tasks ≡ o → IsQuiet (fire_first o rows work fired (fire n rows))
+    by_first None none = λ quiet. none
+    by_first (Some task) first = by_alarm task first (done (action_in rows task) (dispatched_work work)).alarm
+
+fire-quiet : (n : ℕ) (rows : List (Task × Action)) (work : Work) (fired : List Task) → All (λ row. ActsLater row.1) rows → due_in work ≡ n → IsQuiet (fire n rows work fired)
+fire-quiet zero rows work fired all is = λ quiet. first_due-uncounted work.agenda.time work.agenda.tasks is
+fire-quiet (suc n) rows work fired all is = fire-quiet_more n rows work fired all is (λ w f e. fire-quiet n rows w f all e)
+
+pub tick_fires-quiet : (rows : List (Task × Action)) (work : Work) → All (λ row. ActsLater row.1) rows → (tick_fires rows work).alarm ≡ None → first_due (tick_fires rows work).work.agenda.time (tick_fires rows work).work.agenda.tasks ≡ None
+tick_fires-quiet rows work all = fire-quiet (due_in (later_work work)) rows (later_work work) [] all refl
+
+unsome : {o : Option Task} → o ≡ None → IsSome o → ⊥
+unsome e some = let k : false ≡ true = rw e at some in absurd (cc)
+
+-- where nothing is overdue, firing by arrival is firing in order
+pub FiresInOrder-is : (time : ℕ) (tasks ordered : List Pending) → InOrder tasks ordered → RisesFrom time ordered → FiresInOrder time tasks ordered
+FiresInOrder-is time tasks [] in_order rises =
+    let none : tasks ≡ [] = InOrder-nil tasks in_order in
+    let e : first_due time tasks ≡ None = ap (first_due time) none in
+    record { first = λ s. e; rest = λ s. absurd (unsome e s) }
+FiresInOrder-is time tasks (x ∷ rest) in_order rises = elim (cases_eq x.due time) [
+  | inl e ↦ record {
+    first = λ s. ap (λ t. first_due t tasks) (sym e) ∙ InOrder-first tasks x rest in_order;
+    rest = λ s. (let P : ℕ → Type 0 = λ t. InOrder (without_first_due t tasks) rest in subst P e (InOrder-rest tasks x rest in_order));
+  }
+  | inr ne ↦
+      let ge : time ≤ x.due = rises.0 in
+      let none : first_due time tasks ≡ None = InOrder-none_due tasks x rest time in_order (omega arith) in
+      record { first = λ s. absurd (unsome none s); rest = λ s. absurd (unsome none s) }
+]
+
+-- the tasks of a list
+abbrev pub tasks_of : List Pending → List Task
+tasks_of [] = []
+tasks_of (x ∷ xs) = x.task ∷ tasks_of xs
+
+-- where no task has an action and none is overdue: those that are due fire, in order of arrival, and the others stay
+pub record FiresDue (work : Work) (fired : List Task) (fires : Fires) : Type 0 where
+  pub time_is : fires.work.agenda.time ≡ work.agenda.time
+  pub fired_is : fires.fired ≡ fired ++ tasks_of (due_at work.agenda.time work.agenda.tasks)
+  pub left : (t : ℕ) → due_at t fires.work.agenda.tasks ≡ cond (t == work.agenda.time) [] (due_at t work.agenda.tasks)
+
+nil_from : (l : List Pending) → length l ≡ 0 → l ≡ []
+nil_from [] e = refl
+nil_from (x ∷ xs) e = absurd (omega arith)
+
+pub at_time : (t i : ℕ) → t ≡ i → (k l : List Pending) → cond (t == i) k l ≡ k
+at_time t i e k l = grind (arith, common_steps)
+
+pub at_other : (t i : ℕ) → t ≢ i → (k l : List Pending) → cond (t == i) k l ≡ l
+at_other t i ne k l = grind (arith, common_steps)
+
+FiresDue-none : (work : Work) (fired : List Task) → NoneBefore work.agenda.time work.agenda.tasks → due_in work ≡ 0 → FiresDue work fired (record { work = work; fired = fired; alarm = None })
+FiresDue-none work fired before is =
+    let none : length (due_at work.agenda.time work.agenda.tasks) ≡ 0 = sym (count_due-at work.agenda.time work.agenda.tasks before) ∙ is in
+    let empty : due_at work.agenda.time work.agenda.tasks ≡ [] = nil_from (due_at work.agenda.time work.agenda.tasks) none in
+    record {
+      time_is = refl;
+      fired_is = sym (append-nil fired) ∙ ap (λ l. fired ++ tasks_of l) (sym empty);
+      left = λ t. elim (cases_eq t work.agenda.time) [
+        | inl e ↦ ap (λ i. due_at i work.agenda.tasks) e ∙ empty ∙ sym (at_time t work.agenda.time e [] (due_at t work.agenda.tasks))
+        | inr ne ↦ sym (at_other t work.agenda.time ne [] (due_at t work.agenda.tasks))
+      ];
+    }
+
+FiresDue-more : (n : ℕ) (work : Work) (fired : List Task) → NoneBefore work.agenda.time work.agenda.tasks → due_in work ≡ suc n → ((w : Work) (f : List Task) → NoneBefore w.agenda.time w.agenda.tasks → due_in w ≡ n → FiresDue w f (fire n [] w f)) → (l : List Pending) → due_at work.agenda.time work.agenda.tasks ≡ l → FiresDue work fired (fire (suc n) [] work fired)
+FiresDue-more n work fired before is again [] e =
+    let none : count_due work.agenda.time work.agenda.tasks ≡ 0 = count_due-at work.agenda.time work.agenda.tasks before ∙ ap length e in
+    absurd (omega arith)
+FiresDue-more n work fired before is again (x ∷ xs) e =
+    let first : first_due work.agenda.time work.agenda.tasks ≡ Some x.task = first_due-at work.agenda.time work.agenda.tasks before ∙ ap first_of e in
+    let goes : fire (suc n) [] work fired ≡ fire n [] (dispatched_work work) (fired ++ x.task ∷ []) = ap (λ (o : Option Task). fire_first o [] work fired (fire n [])) first in
+    let without : (t : ℕ) → due_at t (without_first_due work.agenda.time work.agenda.tasks) ≡ cond (t == work.agenda.time) (drop 1 (due_at t work.agenda.tasks)) (due_at t work.agenda.tasks) = (λ t. due_at-without work.agenda.time t work.agenda.tasks before) in
+    let now : due_at work.agenda.time (without_first_due work.agenda.time work.agenda.tasks) ≡ xs = without work.agenda.time ∙ at_time work.agenda.time work.agenda.time refl _ _ ∙ ap (drop 1) e in
+    let still : NoneBefore work.agenda.time (without_first_due work.agenda.time work.agenda.tasks) = (λ earlier lt. without earlier ∙ at_other earlier work.agenda.time (λ z. omega arith) _ _ ∙ before earlier lt) in
+    let one : due_in work ≡ suc (due_in (dispatched_work work)) = count_due-without work.agenda.time x.task work.agenda.tasks first in
+    let rest : FiresDue (dispatched_work work) (fired ++ x.task ∷ []) (fire n [] (dispatched_work work) (fired ++ x.task ∷ [])) = again (dispatched_work work) (fired ++ x.task ∷ []) still (omega arith) in
+    record {
+      time_is = ap (λ (f : Fires). f.work.agenda.time) goes ∙ rest.time_is;
+      fired_is = ap (λ (f : Fires). f.fired) goes ∙ rest.fired_is ∙ ap (λ l. (fired ++ x.task ∷ []) ++ tasks_of l) now ∙ append_assoc fired (x.task ∷ []) (tasks_of xs) ∙ ap (λ l. fired ++ tasks_of l) (sym e);
+      left = λ t. ap (λ (f : Fires). due_at t f.work.agenda.tasks) goes ∙ rest.left t ∙ elim (cases_eq t work.agenda.time) [
+        | inl at ↦ at_time t work.agenda.time at [] _ ∙ sym (at_time t work.agenda.time at [] _)
+        | inr ne ↦ at_other t work.agenda.time ne [] _ ∙ without t ∙ at_other t work.agenda.time ne _ _ ∙ sym (at_other t work.agenda.time ne [] _)
+      ];
+    }
+
+FiresDue-is : (n : ℕ) (work : Work) (fired : List Task) → NoneBefore work.agenda.time work.agenda.tasks → due_in work ≡ n → FiresDue work fired (fire n [] work fired)
+FiresDue-is zero work fired before is = FiresDue-none work fired before is
+FiresDue-is (suc n) work fired before is =
+    FiresDue-more n work fired before is (λ w f still e. FiresDue-is n w f still e) (due_at work.agenda.time work.agenda.tasks) refl
+
+pub tick_fires-due : (work : Work) → NoneBefore (work.agenda.time + 1) work.agenda.tasks → FiresDue (later_work work) [] (tick_fires [] work)
+tick_fires-due work before = FiresDue-is (due_in (later_work work)) (later_work work) [] before refl
