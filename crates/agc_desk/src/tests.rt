@@ -6,8 +6,9 @@ use crate::{
 };
 use agc_machine::{Answer, Machine, Totals};
 use agc_plan::{
-    Action, Address, Delay, Entry, Limit, Place, Plan, Priority, Reply, Request, Task, Word,
+    Action, Address, Delay, Entry, Limit, Place, Plan, Priority, Reply, Request, Task,
 };
+use agc_word::Word;
 use std::alloc::{AllocError, AllocFailed, Global};
 use std::marker::Brand;
 use std::sync::{Mutex, Wait};
