@@ -1,5 +1,5 @@
 -- Numbers of a range and their texts.
-use Rattle.std.proofs.Common.{◌≡◌, ℕ, ◌≤◌, ◌<◌, List, Some, refl, sym, ap, ◌∙◌, arith}
+use Rattle.std.proofs.Common.{◌≡◌, ℕ, ◌≤◌, List, Some, refl, ap, ◌∙◌, arith}
 use Rattle.std.proofs.lemmas.Bool.Decides.{nat_tests}
 use Rattle.std.specs.Fmt.{decimal}
 use Rattle.agc_bench.specs.Numbers.{octal, IsPriority, IsAddress, IsDelay, IsSix, octal_one_of, octal_pair_of, octal_five_of, within, decimal_of, delay_of, phase_of, priority_of, address_of, group_of, place_of}

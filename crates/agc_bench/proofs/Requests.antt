@@ -8,7 +8,7 @@ use Rattle.agc_plan.specs.declared.request.Task.{Task}
 use Rattle.agc_plan.specs.declared.request.Request.{Request}
 use Rattle.agc_plan.specs.declared.request.Request.TheVariants.{Novac, Findvac, EndOfJob, Sleep, Rouse, Prio, Change, Store, List as ListTask, Tick, SetPhase, Restart, Fresh}
 use Rattle.agc_bench.specs.Chain.{◌>>=◌}
-use Rattle.agc_bench.specs.Numbers.{octal, IsPriority, IsAddress, IsDelay, IsSix, octal_five_of, priority_of, address_of, delay_of, group_of, phase_of, place_of}
+use Rattle.agc_bench.specs.Numbers.{octal, IsPriority, IsDelay, IsSix, octal_five_of, priority_of, address_of, delay_of, group_of, phase_of, place_of}
 use Rattle.agc_bench.specs.Lines.{entry_text, task_text, line_of, IsEntry, IsTask, IsRequest}
 use Rattle.agc_bench.specs.Reading.{cut, established_of, listed_of, stored_of, phased_of, parted_request, bare_request, request_of}
 use Rattle.agc_bench.proofs.Cuts.{Lacks, cut_at, cut_found}
@@ -126,15 +126,15 @@ field_takes name rest o make text r takes line g =
 -- one test of a word, or the rest of the tests
 word_takes : (word name rest : List ℕ) (read others : Option Request) (r : Request) → (read ≡ Some r → IsRequest r × (name ++ 32 ∷ rest ≡ line_of r)) → (others ≡ Some r → IsRequest r × (word ++ 32 ∷ rest ≡ line_of r)) → cond (bytes_eq word name) read others ≡ Some r → IsRequest r × (word ++ 32 ∷ rest ≡ line_of r)
 word_takes word name rest read others r here there e = elim (chosen (bytes_eq word name) read others (Some r) e) [
-    | inl h ↦ let t = here h.1 in (t.0, ap (λ (w : List ℕ). w ++ 32 ∷ rest) (is_word word name h.0) ∙ t.1)
-    | inr h ↦ there h.1
-  ]
+  | inl h ↦ let t = here h.1 in (t.0, ap (λ (w : List ℕ). w ++ 32 ∷ rest) (is_word word name h.0) ∙ t.1)
+  | inr h ↦ there h.1
+]
 
 bare_word : (word name : List ℕ) (q : Request) (others : Option Request) (r : Request) → IsRequest q → line_of q ≡ name → (others ≡ Some r → IsRequest r × (word ≡ line_of r)) → cond (bytes_eq word name) (Some q) others ≡ Some r → IsRequest r × (word ≡ line_of r)
 bare_word word name q others r fits line there e = elim (chosen (bytes_eq word name) (Some q) others (Some r) e) [
-    | inl h ↦ let is : q ≡ r = cc in subst (λ (y : Request). IsRequest y × (word ≡ line_of y)) is (fits, is_word word name h.0 ∙ sym line)
-    | inr h ↦ there h.1
-  ]
+  | inl h ↦ let is : q ≡ r = cc in subst (λ (y : Request). IsRequest y × (word ≡ line_of y)) is (fits, is_word word name h.0 ∙ sym line)
+  | inr h ↦ there h.1
+]
 
 parted_takes : (word rest : List ℕ) (r : Request) → parted_request word rest ≡ Some r → IsRequest r × (word ++ 32 ∷ rest ≡ line_of r)
 unfolding parted_request

@@ -12,7 +12,7 @@ use Rattle.agc_plan.specs.Begins.{Begins}
 use Rattle.agc_plan.specs.Plans.{fault_of}
 use Rattle.agc_bench.specs.declared.device.Line.{Line}
 use Rattle.agc_bench.specs.declared.device.Line.TheVariants.{Timer, Key, Radar}
-use Rattle.agc_bench.specs.Numbers.{octal, IsBetween, IsDelay, IsSix}
+use Rattle.agc_bench.specs.Numbers.{octal, IsBetween, IsSix}
 use Rattle.agc_bench.specs.Lines.{line_of, action_line_of, IsRequest, IsAction, IsTask}
 use Rattle.agc_bench.specs.Texts.{RowTexts, EntryTexts, DeviceTexts, Settings, Lists, Texts}
 

@@ -56,55 +56,66 @@ each read (item d ds) = read d >>= λ x. each read ds >>= λ xs. Some (x ∷ xs)
 unfoldable pub texts_of : Items → Option (List (List ℕ))
 texts_of ds = each as_str ds
 
+-- a value that is an array of texts
 abbrev pub texts_data : Data → Option (List (List ℕ))
 texts_data d = as_array d >>= texts_of
 
+-- the texts of a key, none where it is missing
 abbrev pub texts_or_none : Option Data → Option (List (List ℕ))
 texts_or_none None = Some []
 texts_or_none (Some d) = texts_data d
 
--- the twelve texts of the phase words, if the key is there
+-- texts that are twelve
 abbrev pub twelve : List (List ℕ) → Option (Option (List (List ℕ)))
 twelve ts = if length ts == 12 then Some (Some ts) else None
 
+-- the texts of the phase words
 unfoldable pub power_or_none : Option Data → Option (Option (List (List ℕ)))
 power_or_none None = Some None
 power_or_none (Some d) = texts_data d >>= twelve
 
--- the rows of tasks
+-- the keys of a row
 abbrev pub row_keys : List (List ℕ)
 row_keys = codes "at" ∷ codes "bank" ∷ codes "action" ∷ []
 
+-- the texts of a row
 unfoldable pub row_in : Members → Option RowTexts
 row_in ms = if has_only row_keys ms then
     (text_at (codes "at") ms >>= λ at. text_at (codes "bank") ms >>= λ bank. text_at (codes "action") ms >>= λ action. Some (record { at = at; bank = bank; action = action }))
     else None
 
+-- a value that is a row
 unfoldable pub row_data : Data → Option RowTexts
 row_data d = as_table d >>= row_in
 
+-- an array of rows
 unfoldable pub rows_of : Items → Option (List RowTexts)
 rows_of ds = each row_data ds
 
+-- the rows of a key, none where it is missing
 abbrev pub rows_or_none : Option Data → Option (List RowTexts)
 rows_or_none None = Some []
 rows_or_none (Some d) = as_array d >>= rows_of
 
--- the phase entries
+-- the keys of a phase entry
 abbrev pub entry_keys : List (List ℕ)
 entry_keys = codes "group" ∷ codes "phase" ∷ codes "job" ∷ codes "task" ∷ []
 
+-- the numbers and texts of a phase entry
 unfoldable pub entry_in : Members → Option EntryTexts
 entry_in ms = if has_only entry_keys ms then
     (number_at (codes "group") 1 6 ms >>= λ group. number_at (codes "phase") 1 127 ms >>= λ phase. optional_text (get_member (codes "job") ms) >>= λ job. optional_text (get_member (codes "task") ms) >>= λ task. Some (record { group = group; phase = phase; job = job; task = task }))
     else None
 
+-- a value that is a phase entry
 unfoldable pub entry_data : Data → Option EntryTexts
 entry_data d = as_table d >>= entry_in
 
+-- an array of phase entries
 unfoldable pub entries_of : Items → Option (List EntryTexts)
 entries_of ds = each entry_data ds
 
+-- the phase entries of a key, none where it is missing
 abbrev pub entries_or_none : Option Data → Option (List EntryTexts)
 entries_or_none None = Some []
 entries_or_none (Some d) = as_array d >>= entries_of
@@ -113,46 +124,55 @@ entries_or_none (Some d) = as_array d >>= entries_of
 abbrev pub few : {X : Type 0} → List X → Option (List X)
 few xs = if nat_lt 32 (length xs) then None else Some xs
 
--- the scripts of the workers
+-- the keys of a worker
 abbrev pub worker_keys : List (List ℕ)
 worker_keys = codes "script" ∷ []
 
+-- the script of a worker
 unfoldable pub worker_in : Members → Option (List (List ℕ))
 worker_in ms = if has_only worker_keys ms then (get_member (codes "script") ms >>= texts_data) else None
 
+-- a value that is a worker
 unfoldable pub worker_data : Data → Option (List (List ℕ))
 worker_data d = as_table d >>= worker_in
 
+-- an array of workers
 unfoldable pub workers_of : Items → Option (List (List (List ℕ)))
 workers_of ds = each worker_data ds
 
+-- the workers of a key, none where it is missing
 unfoldable pub workers_or_none : Option Data → Option (List (List (List ℕ)))
 workers_or_none None = Some []
 workers_or_none (Some d) = as_array d >>= λ ds. workers_of ds >>= few
 
--- the devices
+-- the keys of a device
 abbrev pub device_keys : List (List ℕ)
 device_keys = codes "line" ∷ codes "pulses" ∷ []
 
+-- the text and number of a device
 unfoldable pub device_in : Members → Option DeviceTexts
 device_in ms = if has_only device_keys ms then
     (text_at (codes "line") ms >>= λ line. number_at (codes "pulses") 0 1000000 ms >>= λ pulses. Some (record { line = line; pulses = pulses }))
     else None
 
+-- a value that is a device
 unfoldable pub device_data : Data → Option DeviceTexts
 device_data d = as_table d >>= device_in
 
+-- an array of devices
 unfoldable pub devices_of : Items → Option (List DeviceTexts)
 devices_of ds = each device_data ds
 
+-- the devices of a key, none where it is missing
 unfoldable pub devices_or_none : Option Data → Option (List DeviceTexts)
 devices_or_none None = Some []
 devices_or_none (Some d) = as_array d >>= λ ds. devices_of ds >>= few
 
--- a bench
+-- the keys of a bench
 abbrev pub bench_keys : List (List ℕ)
 bench_keys = codes "limit" ∷ codes "allowance" ∷ codes "attends" ∷ codes "key" ∷ codes "radar" ∷ codes "power" ∷ codes "script" ∷ codes "task" ∷ codes "phase" ∷ codes "worker" ∷ codes "device" ∷ []
 
+-- what a bench has once
 unfoldable pub settings_in : Members → Option Settings
 settings_in ms = do
   limit ← number_or 1000 1 1000000 (get_member (codes "limit") ms)
@@ -163,6 +183,7 @@ settings_in ms = do
   power ← power_or_none (get_member (codes "power") ms)
   Some (record { limit = limit; allowance = allowance; attends = attends; key = key; radar = radar; power = power })
 
+-- what a bench has many of
 unfoldable pub lists_in : Members → Option Lists
 lists_in ms = do
   script ← texts_or_none (get_member (codes "script") ms)
@@ -172,6 +193,7 @@ lists_in ms = do
   devices ← devices_or_none (get_member (codes "device") ms)
   Some (record { script = script; rows = rows; entries = entries; workers = workers; devices = devices })
 
+-- the numbers and texts of a bench
 unfoldable pub texts_in : Members → Option Texts
 texts_in ms = if has_only bench_keys ms then
     (settings_in ms >>= λ settings. lists_in ms >>= λ lists. Some (record { settings = settings; lists = lists }))

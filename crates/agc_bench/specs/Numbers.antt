@@ -1,5 +1,5 @@
 -- Numbers, their ranges and their digits.
-use Rattle.std.specs.Prelude.{ℕ, zero, suc, ◌+◌, ◌-◌, ◌*◌, ◌/◌, ◌%◌, ◌^◌, ◌≤◌, ◌<◌, List, [], ◌∷◌, ◌++◌, Option, Some, None, nat_lt, ◌&&◌, if◌then◌else◌}
+use Rattle.std.specs.Prelude.{ℕ, zero, suc, ◌+◌, ◌-◌, ◌*◌, ◌/◌, ◌%◌, ◌^◌, ◌≤◌, List, [], ◌∷◌, ◌++◌, Option, Some, None, nat_lt, ◌&&◌, if◌then◌else◌}
 use Rattle.std.specs.Fmt.{decimal}
 use Rattle.std.specs.Str.{bytes_eq}
 use Rattle.std.specs.Str.Parse.{digits_value}
@@ -62,21 +62,26 @@ within low high n = if nat_lt n low then None else (if nat_lt high n then None e
 unfoldable pub decimal_of : List ℕ → Option ℕ
 decimal_of s = if bytes_eq s (decimal (digits_value 10 s)) && nat_lt (digits_value 10 s) (2 ^ 16) then Some (digits_value 10 s) else None
 
--- the delay, phase, priority, address, group or place that a text spells
+-- the delay that a text spells
 unfoldable pub delay_of : List ℕ → Option ℕ
 delay_of s = decimal_of s >>= within 1 16250
 
+-- the phase that a text spells
 unfoldable pub phase_of : List ℕ → Option ℕ
 phase_of s = decimal_of s >>= within 0 127
 
+-- the priority that a text spells
 unfoldable pub priority_of : List ℕ → Option ℕ
 priority_of s = octal_pair_of s >>= within 1 31
 
+-- the address that a text spells
 unfoldable pub address_of : List ℕ → Option ℕ
 address_of s = octal_five_of s >>= within 1 16383
 
+-- the group that a text spells
 unfoldable pub group_of : List ℕ → Option ℕ
 group_of s = octal_one_of s >>= within 1 6
 
+-- the place that a text spells
 unfoldable pub place_of : List ℕ → Option ℕ
 place_of s = octal_one_of s >>= within 1 6

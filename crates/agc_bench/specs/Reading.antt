@@ -53,13 +53,15 @@ phased_of s = do
   phase ← phase_of parts.1
   Some (SetPhase group phase)
 
--- the requests of these
+-- the request of a job without an area
 abbrev pub novac_of : List ℕ → Option Request
 novac_of s = established_of s >>= λ e. Some (Novac e.0 e.1)
 
+-- the request of a job with an area
 abbrev pub findvac_of : List ℕ → Option Request
 findvac_of s = established_of s >>= λ e. Some (Findvac e.0 e.1)
 
+-- the request of a listing
 abbrev pub listing_of : List ℕ → Option Request
 listing_of s = listed_of s >>= λ t. Some (ListTask t.0 t.1)
 

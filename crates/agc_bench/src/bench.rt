@@ -182,7 +182,13 @@ fn planned(alloc: Global, parts: Parts) -> Result<Bench, BenchFault>
     ensures found { IfOk result (λ b. IsBench b × (b ≡ benched parts)) }
     ensures refused { IfErr result (λ fault. (fault ≡ BenchFault.NoMemory) ⊎ ((f : PlanFault) × (fault ≡ bench_fault f) × (fault_of parts.rows.items parts.entries.items ≡ Some f))) }
 {
-    match Plan::new(alloc, parts.rows.as_slice(), parts.entries.as_slice(), parts.key, parts.radar) {
+    match Plan::new(
+        alloc,
+        parts.rows.as_slice(),
+        parts.entries.as_slice(),
+        parts.key,
+        parts.radar,
+    ) {
         Ok(_plan) => Ok(Bench { parts }),
         Err(fault) => Err(BenchFault::from(fault)),
     }

@@ -16,6 +16,7 @@ use toml::{Table, Value};
 
 const MOST_THREADS: usize = 32;
 
+/// Whether a key is one of these.
 fn is_among(names: &[&str], key: &str) -> bool
     ensures { result ≡ is_among (map (λ n. n.now) names.now) key.now }
 {
@@ -27,6 +28,7 @@ fn is_among(names: &[&str], key: &str) -> bool
     false
 }
 
+/// Whether every key of a table is one of these.
 fn all_among(table: &Table, names: &[&str]) -> bool
     ensures { result ≡ list_all (λ k. is_among (map (λ n. n.now) names.now) (string_bytes k)) (keys table.now) }
 {
@@ -65,6 +67,7 @@ fn number_in(value: &Value, low: u64, high: u64) -> Option<u64>
     }
 }
 
+/// The integer of a required key, from `low` to `high`.
 fn number_at(table: &Table, key: &str, low: u64, high: u64) -> Option<u64>
     ensures value { result ≡ number_at key.now low high (table_view table.now) }
     ensures range { IfSome result (λ n. (low ≤ n) × (n ≤ high)) }
@@ -75,6 +78,7 @@ fn number_at(table: &Table, key: &str, low: u64, high: u64) -> Option<u64>
     }
 }
 
+/// An integer from `low` to `high`, or `missing` where the key is missing.
 fn number_or(value: Option<&Value>, missing: u64, low: u64, high: u64) -> Option<u64>
     requires low { low ≤ missing }
     requires high { missing ≤ high }
@@ -114,6 +118,7 @@ fn text_at<'a>(table: &'a Table, key: &str) -> Option<&'a str>
     }
 }
 
+/// A text, or `missing` where the key is missing.
 fn text_or<'a>(value: Option<&'a Value>, missing: &'a str) -> Option<&'a str>
     ensures { option_map (λ s. s.now) result ≡ text_or missing.now (option_map (λ v. view v.now) value.entry) }
 {
@@ -123,6 +128,7 @@ fn text_or<'a>(value: Option<&'a Value>, missing: &'a str) -> Option<&'a str>
     }
 }
 
+/// A text, if its key is there. None where the value is no text.
 fn optional_text(value: Option<&Value>) -> Option<Option<&str>>
     ensures { option_map (λ o. option_map (λ s. s.now) o) result ≡ optional_text (option_map (λ v. view v.now) value.entry) }
 {
@@ -167,6 +173,7 @@ fn texts_at<'a>(alloc: Global, value: Option<&'a Value>) -> Result<Vec<&'a str>,
     }
 }
 
+/// The twelve texts of the phase words, if their key is there.
 #[tactic(auto, unfolding(crate::specs::Keys::power_or_none))]
 fn power_at<'a>(alloc: Global, value: Option<&'a Value>) -> Result<Option<Vec<&'a str>>, BenchFault>
     ensures { GivesOrKey (λ o. option_map (λ v. map (λ s. s.now) v.items) o) result (power_or_none (option_map (λ v. view v.now) value.entry)) }
@@ -264,7 +271,10 @@ fn entry_from(value: &Value) -> Option<EntryTexts<'_>>
 }
 
 #[tactic(auto, unfolding(crate::specs::Keys::entries_of))]
-fn entries_in_order<'a>(alloc: Global, values: &'a [Value]) -> Result<Vec<EntryTexts<'a>>, BenchFault>
+fn entries_in_order<'a>(
+    alloc: Global,
+    values: &'a [Value],
+) -> Result<Vec<EntryTexts<'a>>, BenchFault>
     ensures { GivesOrKey (λ v. map entry_seen v.items) result (entries_of (items_view values.now)) }
 {
     let mut entries = Vec::new(alloc);
@@ -277,7 +287,10 @@ fn entries_in_order<'a>(alloc: Global, values: &'a [Value]) -> Result<Vec<EntryT
     Ok(entries)
 }
 
-fn entries_at<'a>(alloc: Global, value: Option<&'a Value>) -> Result<Vec<EntryTexts<'a>>, BenchFault>
+fn entries_at<'a>(
+    alloc: Global,
+    value: Option<&'a Value>,
+) -> Result<Vec<EntryTexts<'a>>, BenchFault>
     ensures { GivesOrKey (λ v. map entry_seen v.items) result (entries_or_none (option_map (λ v. view v.now) value.entry)) }
 {
     match value {
@@ -367,7 +380,10 @@ fn device_from(value: &Value) -> Option<DeviceTexts<'_>>
 }
 
 #[tactic(auto, unfolding(crate::specs::Keys::devices_of))]
-fn devices_in_order<'a>(alloc: Global, values: &'a [Value]) -> Result<Vec<DeviceTexts<'a>>, BenchFault>
+fn devices_in_order<'a>(
+    alloc: Global,
+    values: &'a [Value],
+) -> Result<Vec<DeviceTexts<'a>>, BenchFault>
     ensures { GivesOrKey (λ v. map device_seen v.items) result (devices_of (items_view values.now)) }
 {
     let mut devices = Vec::new(alloc);
@@ -381,7 +397,10 @@ fn devices_in_order<'a>(alloc: Global, values: &'a [Value]) -> Result<Vec<Device
 }
 
 #[tactic(auto, unfolding(crate::specs::Keys::devices_or_none))]
-fn devices_at<'a>(alloc: Global, value: Option<&'a Value>) -> Result<Vec<DeviceTexts<'a>>, BenchFault>
+fn devices_at<'a>(
+    alloc: Global,
+    value: Option<&'a Value>,
+) -> Result<Vec<DeviceTexts<'a>>, BenchFault>
     ensures value { GivesOrKey (λ v. map device_seen v.items) result (devices_or_none (option_map (λ v. view v.now) value.entry)) }
     ensures few { IfOk result (λ v. length v.items ≤ 32) }
 {
@@ -414,7 +433,7 @@ fn attends_of(value: Option<&Value>) -> Option<u32>
     Some(number_or(value, 16, 0, 1000)? as u32)
 }
 
-/// What of an option that is there, and a fault Key for what is not.
+/// What an option holds, and a fault `Key` where there is nothing.
 fn or_key<T: Drop>(value: Option<T>) -> Result<T, BenchFault>
     ensures { GivesOrKey (λ v. v) result value }
 {
@@ -469,7 +488,17 @@ fn has_bench_keys(table: &Table) -> bool
     has_only(
         table,
         &[
-            "limit", "allowance", "attends", "key", "radar", "power", "script", "task", "phase", "worker", "device",
+            "limit",
+            "allowance",
+            "attends",
+            "key",
+            "radar",
+            "power",
+            "script",
+            "task",
+            "phase",
+            "worker",
+            "device",
         ],
     )
 }

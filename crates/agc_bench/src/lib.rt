@@ -18,3 +18,6 @@ pub use fault::{BenchFault, ReadFault, ScriptFault};
 pub use input::read_all;
 pub use line::{parse_action, parse_line};
 pub use script::read_script;
+
+#[cfg(test)]
+mod tests;

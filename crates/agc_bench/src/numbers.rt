@@ -41,7 +41,8 @@ fn octal_five(text: &str) -> Option<u16>
 {
     match text.as_bytes() {
         [a, b, c, d, e] => {
-            let front = 8 * (8 * octal_digit(*a)? as u16 + octal_digit(*b)? as u16) + octal_digit(*c)? as u16;
+            let front = 8 * (8 * octal_digit(*a)? as u16 + octal_digit(*b)? as u16)
+                + octal_digit(*c)? as u16;
             Some(8 * (8 * front + octal_digit(*d)? as u16) + octal_digit(*e)? as u16)
         }
         _ => None,

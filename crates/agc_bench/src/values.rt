@@ -73,7 +73,10 @@ fn row_of(texts: &RowTexts<'_>) -> Option<(Task, Action)>
 }
 
 /// The rows that their texts spell, in order.
-pub(crate) fn rows_of(alloc: Global, texts: &[RowTexts<'_>]) -> Result<Vec<(Task, Action)>, BenchFault>
+pub(crate) fn rows_of(
+    alloc: Global,
+    texts: &[RowTexts<'_>],
+) -> Result<Vec<(Task, Action)>, BenchFault>
     ensures found { IfOk result (λ v. AllByRecursion IsRow v.items × (map row_seen texts.now ≡ map row_texts v.items)) }
     ensures refused { IfErr result (RefusedLine ((rs : List (Task × Action)) → AllByRecursion IsRow rs → map row_seen texts.now ≢ map row_texts rs)) }
 {
@@ -163,7 +166,10 @@ fn entry_of(texts: &EntryTexts<'_>) -> Option<PhaseEntry>
 }
 
 /// The phase entries that their numbers and texts spell, in order.
-pub(crate) fn entries_of(alloc: Global, texts: &[EntryTexts<'_>]) -> Result<Vec<PhaseEntry>, BenchFault>
+pub(crate) fn entries_of(
+    alloc: Global,
+    texts: &[EntryTexts<'_>],
+) -> Result<Vec<PhaseEntry>, BenchFault>
     ensures found { IfOk result (λ v. AllByRecursion IsEntry v.items × (map entry_seen texts.now ≡ map entry_texts v.items)) }
     ensures refused { IfErr result (RefusedLine ((bs : List Begins) → AllByRecursion IsEntry bs → map entry_seen texts.now ≢ map entry_texts bs)) }
 {
@@ -178,7 +184,10 @@ pub(crate) fn entries_of(alloc: Global, texts: &[EntryTexts<'_>]) -> Result<Vec<
 }
 
 /// The workers' scripts that their texts spell, in order.
-pub(crate) fn workers_of(alloc: Global, texts: &[Vec<&str>]) -> Result<Vec<Vec<Request>>, BenchFault>
+pub(crate) fn workers_of(
+    alloc: Global,
+    texts: &[Vec<&str>],
+) -> Result<Vec<Vec<Request>>, BenchFault>
     ensures found { IfOk result (λ v. AllByRecursion AreRequests (map (λ w. w.items) v.items) × (map (λ w. map (λ s. s.now) w.items) texts.now ≡ map (map line_of) (map (λ w. w.items) v.items))) }
     ensures refused { IfErr result (RefusedLine ((ws : List (List Request)) → AllByRecursion AreRequests ws → map (λ w. map (λ s. s.now) w.items) texts.now ≢ map (map line_of) ws)) }
 {
@@ -215,7 +224,10 @@ fn device_of(texts: &DeviceTexts<'_>) -> Option<(Line, u32)>
 }
 
 /// The devices that their texts and numbers spell, in order.
-pub(crate) fn devices_of(alloc: Global, texts: &[DeviceTexts<'_>]) -> Result<Vec<(Line, u32)>, BenchFault>
+pub(crate) fn devices_of(
+    alloc: Global,
+    texts: &[DeviceTexts<'_>],
+) -> Result<Vec<(Line, u32)>, BenchFault>
     ensures found { IfOk result (λ v. AllByRecursion IsDevice v.items × (map device_seen texts.now ≡ map device_texts v.items)) }
     ensures refused { IfErr result (RefusedLine ((ds : List (Line × ℕ)) → AllByRecursion IsDevice ds → map device_seen texts.now ≢ map device_texts ds)) }
 {

@@ -75,10 +75,10 @@ blocks_of-kept words j w sized low high =
     let same_count : sets_in (slice_set words j w) ≡ sets_in words = ap (λ n. (n - 48) / 12) len in
     let most : sets_in words ≤ 8 = IsSized-most words sized in
     same_lists (blocks_of (slice_set words j w)) (blocks_of words) (len_new ∙ same_count ∙ sym len_old) (λ s d lt.
-        let lt_s : s < sets_in words = omega arith in
-        get-blocks_of (slice_set words j w) s d (omega arith)
-        ∙ block_in-same words (slice_set words j w) s (λ i lt_i. let apart : place s + i ≢ j = λ e. outside s i j (omega arith) lt_i low high e in get_or-set_other words j (place s + i) w 0 apart)
-        ∙ sym (get-blocks_of words s d lt_s))
+    let lt_s : s < sets_in words = omega arith in
+    get-blocks_of (slice_set words j w) s d (omega arith)
+    ∙ block_in-same words (slice_set words j w) s (λ i lt_i. let apart : place s + i ≢ j = λ e. outside s i j (omega arith) lt_i low high e in get_or-set_other words j (place s + i) w 0 apart)
+    ∙ sym (get-blocks_of words s d lt_s))
   where
     outside : (s i j : ℕ) → s < 8 → i < 12 → 84 ≤ j → j < 132 → place s + i ≡ j → ⊥
     outside s i j lt_s lt_i low high e = omega arith

@@ -1,4 +1,4 @@
--- The search for the best job, one set at a time.
+-- The searches for the best job and for a sleeper, one set at a time.
 use Rattle.std.specs.Prelude.{ℕ, nat_lt, ◌==◌, ◌&&◌, ◌||◌, Bool, if◌then◌else◌, Option, Some, None}
 use Rattle.agc_plan.specs.Jobs.{is_sleeper}
 use Rattle.agc_exec.specs.Sets.{job_of}
@@ -8,6 +8,7 @@ use Rattle.agc_exec.specs.Held.{Held}
 abbrev pub precedes : Held → Held → Bool
 precedes r s = nat_lt s.priority r.priority || ((r.priority == s.priority) && nat_lt r.number s.number)
 
+-- the better of the best so far and what set k holds
 abbrev pub better_of : Option (ℕ × Held) → ℕ → Option Held → Option (ℕ × Held)
 better_of best k None = best
 better_of None k (Some r) = if r.asleep then None else Some (k, r)

@@ -5,6 +5,7 @@ use Rattle.agc_plan.specs.declared.reply.Reply.{Reply}
 use Rattle.agc_plan.specs.Places.{fronted}
 use Rattle.agc_exec.specs.Held.{Held}
 
+-- the job that a set holds, without its number
 abbrev pub job_of : Held → Job
 job_of r = record { at = r.at; bank = r.bank; priority = r.priority; asleep = r.asleep; area = r.area; work = r.work }
 
@@ -19,9 +20,11 @@ abbrev pub slots_from : ℕ → ℕ → List (Option Held) → List (Option Job)
 slots_from zero number sets = []
 slots_from (suc more) number sets = job_numbered sets number ∷ slots_from more (number + 1) sets
 
+-- the jobs by number, with as many numbers as sets
 abbrev pub slots_of : List (Option Held) → List (Option Job)
 slots_of sets = slots_from (length sets) 1 sets
 
+-- the number of a set's job, 0 for none
 abbrev pub number_in : Option Held → ℕ
 number_in None = 0
 number_in (Some r) = r.number
@@ -30,7 +33,7 @@ number_in (Some r) = r.number
 abbrev pub entries_of : List (Option Held) → List ℕ
 entries_of sets = map number_in sets
 
--- the awake job's number
+-- the number of a set's job, if that is awake
 abbrev pub awake_in : Option Held → Option ℕ
 awake_in None = None
 awake_in (Some r) = if r.asleep then None else Some r.number
@@ -40,6 +43,7 @@ abbrev pub running_in : List (Option Held) → Option ℕ
 running_in [] = None
 running_in (set ∷ sets) = awake_in set
 
+-- the plain jobs for which the sets stand
 abbrev pub jobs_of : List (Option Held) → Jobs
 jobs_of sets = record { slots = slots_of sets; running = running_in sets }
 
@@ -47,6 +51,7 @@ jobs_of sets = record { slots = slots_of sets; running = running_in sets }
 abbrev pub Holds : List (Option Held) → ℕ → Held → Type 0
 Holds sets k r = slice_index_or sets k None ≡ Some r
 
+-- core set k is free
 abbrev pub IsFreeAt : List (Option Held) → ℕ → Type 0
 IsFreeAt sets k = slice_index_or sets k None ≡ None
 
@@ -61,9 +66,6 @@ pub record IsLawful (sets : List (Option Held)) : Type 0 where
 -- where anybody is awake, the job in set 0 is
 abbrev pub IsFronted : List (Option Held) → Type 0
 IsFronted sets = (i : ℕ) (r : Held) → Holds sets i r → r.asleep ≡ false → (s : Held) × Holds sets 0 s × (s.asleep ≡ false)
-
-abbrev pub NobodyAwake : List (Option Held) → Type 0
-NobodyAwake sets = (i : ℕ) (r : Held) → Holds sets i r → r.asleep ≡ true
 
 -- s isn't to run before r
 abbrev pub Yields : Held → Held → Type 0
@@ -80,7 +82,7 @@ abbrev pub BestBelow : List (Option Held) → ℕ → Option (ℕ × Held) → T
 BestBelow sets n None = (j : ℕ) (s : Held) → j < n → Holds sets j s → s.asleep ≡ true
 BestBelow sets n (Some best) = IsBestBelow sets n best.0 best.1
 
--- what is done in a set's place, if anything, to a lawful list of sets: the best job came to set 0
+-- the best job came to set 0, by an exchange
 pub record BringsBest (old new : List (Option Held)) : Type 0 where
   pub lawful : IsLawful new
   pub in_front : IsFronted new
@@ -99,7 +101,7 @@ pub record IsStanding (sets : List (Option Held)) : Type 0 where
   pub lawful : IsLawful sets
   pub in_front : IsFronted sets
 
--- the new sets are what the outcome says
+-- the new sets stand for this outcome, with the jobs in these places
 pub record Gives (outcome : Outcome) (entries : List ℕ) (new : List (Option Held)) (reply : Reply) : Type 0 where
   pub standing : IsStanding new
   pub outcome_is : ◌≡◌ {A = Outcome} (record { jobs = jobs_of new; reply = reply }) outcome
@@ -129,6 +131,7 @@ pub record IsFirstBelow (sets : List (Option Held)) (at n k : ℕ) (r : Held) : 
   pub sleeps : is_sleeper at (job_of r) ≡ true
   pub first : (j : ℕ) (s : Held) → j < n → Holds sets j s → is_sleeper at (job_of s) ≡ true → r.number ≤ s.number
 
+-- of the sets below set n: nobody sleeps at this address, or set k holds the least-numbered sleeper there
 abbrev pub FirstBelow : List (Option Held) → ℕ → ℕ → Option (ℕ × Held) → Type 0
 FirstBelow sets at n None = (j : ℕ) (s : Held) → j < n → Holds sets j s → is_sleeper at (job_of s) ≡ false
 FirstBelow sets at n (Some found) = IsFirstBelow sets at n found.0 found.1

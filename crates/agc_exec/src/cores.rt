@@ -5,10 +5,9 @@ ghost use Rattle.agc_plan.specs.Places.{placed_new, placed_end, fronted};
 ghost use Rattle.agc_exec.specs.Sets.{jobs_of, entries_of, running_in};
 ghost use Rattle.agc_exec.specs.Image.{IsEncoded};
 
-use crate::image;
 use crate::record::Record;
 use crate::search::{free_area, running};
-use crate::sets;
+use crate::{image, sets};
 use agc_plan::{Address, Alarm, Entry, JobNo, Place, Priority, Reply};
 use agc_word::{Erasable, Word};
 use std::marker::Model;

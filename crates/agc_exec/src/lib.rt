@@ -8,6 +8,8 @@ mod record;
 mod search;
 mod sets;
 #[cfg(test)]
+mod slow;
+#[cfg(test)]
 mod tests;
 
 pub use cores::Cores;

@@ -1,12 +1,13 @@
 use crate::Cores;
+use crate::slow::{Job, Random, Slow};
 use agc_plan::{Address, Alarm, Entry, Place, Priority, Reply};
 use agc_word::{Erasable, Word};
 use std::process::Abort;
 use std::test::Fail;
 
 /// A request, in plain numbers.
-#[derive(Clone, Copy)]
-enum Ask {
+#[derive(Clone, Copy, PartialEq, Eq, Debug)]
+pub enum Ask {
     Novac(u8, u16),
     Findvac(u8, u16),
     End,
@@ -19,7 +20,7 @@ enum Ask {
 
 /// A reply, in plain numbers.
 #[derive(Clone, Copy, PartialEq, Eq, Debug)]
-enum Told {
+pub enum Told {
     Job(u8),
     Idle,
     Left(u8),
@@ -88,7 +89,11 @@ fn in_numbers(reply: Reply) -> Told {
 fn asked(rt: &impl Abort, cases: &[(Ask, Told)]) -> Result<Cores, Fail> {
     let mut cores = Cores::new();
     for (i, case) in cases.iter().enumerate() {
-        assert_eq!(rt; in_numbers(answer(&mut cores, case.0)?), case.1, "request {i}");
+        assert_eq!(rt;
+            in_numbers(answer(&mut cores, case.0)?),
+            case.1,
+            "request {i}"
+        );
     }
     Ok(cores)
 }
@@ -140,7 +145,10 @@ fn one_job(rt: HostRuntime) -> Result<(), Fail> {
 
 #[test]
 fn one_job_ends(rt: HostRuntime) -> Result<(), Fail> {
-    let mut cores = asked(&rt, &[(Novac(0o20, 0o2000), Told::Job(1)), (End, Told::Idle)])?;
+    let mut cores = asked(
+        &rt,
+        &[(Novac(0o20, 0o2000), Told::Job(1)), (End, Told::Idle)],
+    )?;
     compare(&rt, &cores, &[], FREE, 0o77777)?;
     assert_eq!(rt; in_numbers(answer(&mut cores, End)?), Told::NoJob);
     assert_eq!(rt; in_numbers(answer(&mut cores, Store(1, 1))?), Told::NoJob);
@@ -149,11 +157,20 @@ fn one_job_ends(rt: HostRuntime) -> Result<(), Fail> {
 
 #[test]
 fn end_hands_over(rt: HostRuntime) -> Result<(), Fail> {
-    let mut cores = asked(&rt, &[
-        (Novac(0o20, 0o2000), Told::Job(1)),
-        (Novac(0o30, 0o2100), Told::Job(2)),
-    ])?;
-    compare(&rt, &cores, &[set(1, 0o2000, 0o20000), set(2, 0o2100, 0o30000)], FREE, 0o14)?;
+    let mut cores = asked(
+        &rt,
+        &[
+            (Novac(0o20, 0o2000), Told::Job(1)),
+            (Novac(0o30, 0o2100), Told::Job(2)),
+        ],
+    )?;
+    compare(
+        &rt,
+        &cores,
+        &[set(1, 0o2000, 0o20000), set(2, 0o2100, 0o30000)],
+        FREE,
+        0o14,
+    )?;
     assert_eq!(rt; in_numbers(answer(&mut cores, End)?), Told::Left(2));
     compare(&rt, &cores, &[set(2, 0o2100, 0o30000)], FREE, 0)
 }
@@ -162,10 +179,19 @@ fn end_hands_over(rt: HostRuntime) -> Result<(), Fail> {
 fn seven_jobs_and_alarm_1202(rt: HostRuntime) -> Result<(), Fail> {
     let mut cores = Cores::new();
     for number in 1..8u8 {
-        assert_eq!(rt; in_numbers(answer(&mut cores, Novac(0o10, 0o2000))?), Told::Job(number));
+        assert_eq!(rt;
+            in_numbers(answer(&mut cores, Novac(0o10, 0o2000))?),
+            Told::Job(number)
+        );
     }
-    assert_eq!(rt; in_numbers(answer(&mut cores, Novac(0o10, 0o2000))?), Told::Alarm(Alarm::A1202));
-    assert_eq!(rt; in_numbers(answer(&mut cores, Findvac(0o10, 0o2000))?), Told::Alarm(Alarm::A1202));
+    assert_eq!(rt;
+        in_numbers(answer(&mut cores, Novac(0o10, 0o2000))?),
+        Told::Alarm(Alarm::A1202)
+    );
+    assert_eq!(rt;
+        in_numbers(answer(&mut cores, Findvac(0o10, 0o2000))?),
+        Told::Alarm(Alarm::A1202)
+    );
     compare(
         &rt,
         &cores,
@@ -187,11 +213,14 @@ fn seven_jobs_and_alarm_1202(rt: HostRuntime) -> Result<(), Fail> {
 
 #[test]
 fn change_of_job(rt: HostRuntime) -> Result<(), Fail> {
-    let mut cores = asked(&rt, &[
-        (Novac(0o20, 0o2000), Told::Job(1)),
-        (Store(1, 0o123), Told::Stored),
-        (Novac(0o30, 0o2100), Told::Job(2)),
-    ])?;
+    let mut cores = asked(
+        &rt,
+        &[
+            (Novac(0o20, 0o2000), Told::Job(1)),
+            (Store(1, 0o123), Told::Stored),
+            (Novac(0o30, 0o2100), Told::Job(2)),
+        ],
+    )?;
     let stored = [1, 0o123, 0, 0, 0, 0, 0, 0, 0o2000, 5, 0, 0o20000];
     compare(&rt, &cores, &[stored, set(2, 0o2100, 0o30000)], FREE, 0o14)?;
     assert_eq!(rt; in_numbers(answer(&mut cores, Change)?), Told::Runs(2));
@@ -209,14 +238,17 @@ fn sleeper_keeps_set_0(rt: HostRuntime) -> Result<(), Fail> {
 
 #[test]
 fn equal_priorities(rt: HostRuntime) -> Result<(), Fail> {
-    let cores = asked(&rt, &[
-        (Novac(0o37, 0o2000), Told::Job(1)),
-        (Novac(0o20, 0o2010), Told::Job(2)),
-        (Novac(0o20, 0o2020), Told::Job(3)),
-        (End, Told::Left(2)),
-        (Novac(0o20, 0o2030), Told::Job(1)),
-        (Prio(0o10), Told::Runs(1)),
-    ])?;
+    let cores = asked(
+        &rt,
+        &[
+            (Novac(0o37, 0o2000), Told::Job(1)),
+            (Novac(0o20, 0o2010), Told::Job(2)),
+            (Novac(0o20, 0o2020), Told::Job(3)),
+            (End, Told::Left(2)),
+            (Novac(0o20, 0o2030), Told::Job(1)),
+            (Prio(0o10), Told::Runs(1)),
+        ],
+    )?;
     let sets = [
         set(1, 0o2030, 0o20000),
         set(2, 0o2010, 0o10000),
@@ -227,28 +259,61 @@ fn equal_priorities(rt: HostRuntime) -> Result<(), Fail> {
 
 #[test]
 fn rouse_tells_newjob(rt: HostRuntime) -> Result<(), Fail> {
-    let mut cores = asked(&rt, &[
-        (Novac(0o20, 0o2000), Told::Job(1)),
-        (Sleep(0o2044), Told::Idle),
-        (Novac(0o10, 0o2100), Told::Job(2)),
-    ])?;
-    compare(&rt, &cores, &[set(2, 0o2100, 0o10000), set(1, 0o2044, 0o57777)], FREE, 0)?;
-    assert_eq!(rt; in_numbers(answer(&mut cores, Rouse(0o2044))?), Told::Roused(1));
-    assert_eq!(rt; in_numbers(answer(&mut cores, Rouse(0o2044))?), Told::NoSleeper);
-    compare(&rt, &cores, &[set(2, 0o2100, 0o10000), set(1, 0o2044, 0o20000)], FREE, 0o14)
+    let mut cores = asked(
+        &rt,
+        &[
+            (Novac(0o20, 0o2000), Told::Job(1)),
+            (Sleep(0o2044), Told::Idle),
+            (Novac(0o10, 0o2100), Told::Job(2)),
+        ],
+    )?;
+    compare(
+        &rt,
+        &cores,
+        &[set(2, 0o2100, 0o10000), set(1, 0o2044, 0o57777)],
+        FREE,
+        0,
+    )?;
+    assert_eq!(rt;
+        in_numbers(answer(&mut cores, Rouse(0o2044))?),
+        Told::Roused(1)
+    );
+    assert_eq!(rt;
+        in_numbers(answer(&mut cores, Rouse(0o2044))?),
+        Told::NoSleeper
+    );
+    compare(
+        &rt,
+        &cores,
+        &[set(2, 0o2100, 0o10000), set(1, 0o2044, 0o20000)],
+        FREE,
+        0o14,
+    )
 }
 
 #[test]
 fn areas_before_sets(rt: HostRuntime) -> Result<(), Fail> {
     let mut cores = Cores::new();
     for number in 1..6u8 {
-        assert_eq!(rt; in_numbers(answer(&mut cores, Findvac(0o10, 0o2000))?), Told::Job(number));
+        assert_eq!(rt;
+            in_numbers(answer(&mut cores, Findvac(0o10, 0o2000))?),
+            Told::Job(number)
+        );
     }
-    assert_eq!(rt; in_numbers(answer(&mut cores, Findvac(0o10, 0o2000))?), Told::Alarm(Alarm::A1201));
+    assert_eq!(rt;
+        in_numbers(answer(&mut cores, Findvac(0o10, 0o2000))?),
+        Told::Alarm(Alarm::A1201)
+    );
     for number in 6..8u8 {
-        assert_eq!(rt; in_numbers(answer(&mut cores, Novac(0o10, 0o2000))?), Told::Job(number));
+        assert_eq!(rt;
+            in_numbers(answer(&mut cores, Novac(0o10, 0o2000))?),
+            Told::Job(number)
+        );
     }
-    assert_eq!(rt; in_numbers(answer(&mut cores, Findvac(0o10, 0o2000))?), Told::Alarm(Alarm::A1201));
+    assert_eq!(rt;
+        in_numbers(answer(&mut cores, Findvac(0o10, 0o2000))?),
+        Told::Alarm(Alarm::A1201)
+    );
     Ok(())
 }
 
@@ -256,23 +321,112 @@ fn areas_before_sets(rt: HostRuntime) -> Result<(), Fail> {
 fn sets_full_with_an_area_free(rt: HostRuntime) -> Result<(), Fail> {
     let mut cores = Cores::new();
     for number in 1..5u8 {
-        assert_eq!(rt; in_numbers(answer(&mut cores, Findvac(0o10, 0o2000))?), Told::Job(number));
+        assert_eq!(rt;
+            in_numbers(answer(&mut cores, Findvac(0o10, 0o2000))?),
+            Told::Job(number)
+        );
     }
     for number in 5..8u8 {
-        assert_eq!(rt; in_numbers(answer(&mut cores, Novac(0o10, 0o2000))?), Told::Job(number));
+        assert_eq!(rt;
+            in_numbers(answer(&mut cores, Novac(0o10, 0o2000))?),
+            Told::Job(number)
+        );
     }
-    assert_eq!(rt; in_numbers(answer(&mut cores, Findvac(0o10, 0o2000))?), Told::Alarm(Alarm::A1202));
+    assert_eq!(rt;
+        in_numbers(answer(&mut cores, Findvac(0o10, 0o2000))?),
+        Told::Alarm(Alarm::A1202)
+    );
     Ok(())
 }
 
 #[test]
 fn least_number_and_least_area(rt: HostRuntime) -> Result<(), Fail> {
-    let cores = asked(&rt, &[
-        (Findvac(0o10, 0o2000), Told::Job(1)),
-        (Findvac(0o10, 0o2010), Told::Job(2)),
-        (End, Told::Left(2)),
-        (Findvac(0o10, 0o2020), Told::Job(1)),
-    ])?;
+    let cores = asked(
+        &rt,
+        &[
+            (Findvac(0o10, 0o2000), Told::Job(1)),
+            (Findvac(0o10, 0o2010), Told::Job(2)),
+            (End, Told::Left(2)),
+            (Findvac(0o10, 0o2020), Told::Job(1)),
+        ],
+    )?;
     let sets = [set(2, 0o2010, 0o10354), set(1, 0o2020, 0o10300)];
     compare(&rt, &cores, &sets, [0, 0, 0o430, 0o504, 0o560], 0)
+}
+
+/// Compares what a core set holds with the slow list's job of its number. Answers whether it holds one.
+fn same_set(rt: &impl Abort, e: &Erasable, k: usize, slow: &Slow) -> bool {
+    assert!(rt; k < 7);
+    let priority = e.get(12 * k + 11).bits();
+    if priority == 0o77777 {
+        return false;
+    }
+    let number = e.get(12 * k).bits();
+    assert!(rt; number < 8, "set {k}");
+    let urgency = if priority < 16384 {
+        priority
+    } else {
+        32767 - priority
+    };
+    let address = urgency % 512;
+    let mut work = [0u16; 6];
+    for i in 0..6usize {
+        work[i] = e.get(12 * k + 1 + i).bits();
+    }
+    let job = Job {
+        at: e.get(12 * k + 8).bits(),
+        priority: (urgency / 512 % 32) as u8,
+        asleep: priority >= 16384,
+        area: if address < 148 {
+            0
+        } else {
+            ((address - 148) / 44) as u8
+        },
+        work,
+    };
+    assert_eq!(rt; Some(job), slow.job(number as u8), "set {k}");
+    if k == 0 && !job.asleep {
+        assert_eq!(rt; slow.running, Some(number as u8));
+    }
+    true
+}
+
+/// Compares core sets with the slow list.
+fn same_jobs(rt: &impl Abort, cores: &Cores, slow: &Slow) {
+    let mut e = Erasable::new();
+    cores.encode(&mut e);
+    let mut count = 0usize;
+    for k in 0..7usize {
+        if same_set(rt, &e, k, slow) {
+            count = count.saturating_add(1);
+        }
+    }
+    assert_eq!(rt; count, slow.count());
+    for area in 1..6u8 {
+        let want = if slow.is_owned(area) {
+            0
+        } else {
+            148 + 44 * area as u16
+        };
+        assert_eq!(rt; e.get(83 + area as usize).bits(), want, "area {area}");
+    }
+    assert_eq!(rt; cores.running().is_some(), slow.running.is_some());
+}
+
+#[test]
+fn two_thousand_requests(rt: HostRuntime) -> Result<(), Fail> {
+    let mut random = Random::new();
+    let mut slow = Slow::new();
+    let mut cores = Cores::new();
+    for i in 0..2000u32 {
+        let asked = random.ask();
+        let want = slow.ask(asked);
+        assert_eq!(rt;
+            in_numbers(answer(&mut cores, asked)?),
+            want,
+            "request {i}, {asked:?}"
+        );
+        same_jobs(&rt, &cores, &slow);
+    }
+    Ok(())
 }

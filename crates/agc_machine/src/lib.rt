@@ -11,3 +11,6 @@ mod totals;
 pub use answer::{Answer, Refusal};
 pub use machine::{Machine, NoMemory};
 pub use totals::Totals;
+
+#[cfg(test)]
+mod tests;
