@@ -1,6 +1,6 @@
 #!/bin/sh
 # Runs the program on standard input: ./agc script, ./agc serial or ./agc threads. It is proved and built first where it
-# must be; what that prints goes to standard error.
+# was never built.
 here="$(cd "$(dirname "$0")" && pwd)"
 [ -x "$here/crates/agc/out/agc" ] || (cd "$here/crates/agc" && rt run -- script < /dev/null) > /dev/null
 exec "$here/crates/agc/out/agc" "$@"
