@@ -7,3 +7,5 @@ pub mod Plans
 pub mod Eras
 pub mod Steps
 pub mod Seats
+pub mod Laws
+pub mod Examples

@@ -3,10 +3,13 @@
 #![tactic(auto)]
 
 mod fired;
+pub mod laws;
 mod number;
 mod plan;
 mod reply;
 mod request;
+#[cfg(test)]
+mod tests;
 
 pub use fired::Fired;
 pub use number::{Address, Delay, Group, JobNo, Limit, Phase, Place, Priority};

@@ -1,0 +1,118 @@
+-- The definitions on worked examples: what was asked, and the replies. Addresses and priorities are octal, as in the listings.
+use Rattle.std.specs.Prelude.{◌≡◌, ℕ, List, [], ◌∷◌, ◌++◌, Some, None, replicate}
+use Rattle.agc_plan.specs.declared.reply.Alarm.TheVariants.{A1201, A1202, A1203}
+use Rattle.agc_plan.specs.declared.reply.Code.TheVariants.{C1201, C1202, C1203}
+use Rattle.agc_plan.specs.declared.reply.Reply.{Reply}
+use Rattle.agc_plan.specs.declared.reply.Reply.TheVariants.{Established, Left, Roused, NoSleeper, NoJob, Runs, Stored, Listed, Ticked, Phased, Restarted, Alarmed}
+use Rattle.agc_plan.specs.declared.request.Action.{Action}
+use Rattle.agc_plan.specs.declared.request.Action.TheVariants as action
+use Rattle.agc_plan.specs.declared.request.Entry.{Entry}
+use Rattle.agc_plan.specs.declared.request.JobStart.TheVariants as start
+use Rattle.agc_plan.specs.declared.request.Request.{Request}
+use Rattle.agc_plan.specs.declared.request.Request.TheVariants.{Novac, Findvac, EndOfJob, Sleep, Rouse, Prio, Change, Store, Tick, SetPhase, Restart}
+use Rattle.agc_plan.specs.declared.request.Request.TheVariants as request
+use Rattle.agc_plan.specs.declared.request.Task.{Task}
+use Rattle.agc_plan.specs.Base.{fresh_base}
+use Rattle.agc_plan.specs.Begins.{Begins}
+use Rattle.agc_plan.specs.Plans.{Planned}
+use Rattle.agc_plan.specs.Steps.{Plain, era, step, reached}
+
+-- where a job begins, in bank 5
+abbrev pub entry : ℕ → Entry
+entry at = record { at = at; bank = 5 }
+
+-- a task in bank 5
+abbrev pub task : ℕ → Task
+task at = record { at = at; bank = 5 }
+
+-- a plan with these rows and entries, in which key and radar do nothing
+abbrev pub planned : List (Task × Action) → List Begins → Planned
+planned rows entries = record { rows = rows; entries = entries; key = action.Nothing; radar = action.Nothing }
+
+-- the replies to these requests, one after another
+abbrev pub replies_from : Planned → Plain → List Request → List Reply
+replies_from plan plain [] = []
+replies_from plan plain (asked ∷ log) = (step plan asked plain).reply ∷ replies_from plan (step plan asked plain).plain log
+
+-- the replies after a fresh start, with this plan
+abbrev pub replies_by : Planned → List Request → List Reply
+replies_by plan log = replies_from plan (era plan fresh_base) log
+
+-- the same with a plan of nothing
+abbrev pub replies : List Request → List Reply
+replies log = replies_by (planned [] []) log
+
+-- what is reached after a fresh start, with a plan of nothing
+abbrev pub state : List Request → Plain
+state log = reached (planned [] []) fresh_base log
+
+-- the replies to five jobs with areas, one after another
+abbrev pub five_established : List Reply
+five_established = Established 1 ∷ Established 2 ∷ Established 3 ∷ Established 4 ∷ Established 5 ∷ []
+
+-- the replies to seven jobs
+abbrev pub seven_established : List Reply
+seven_established = five_established ++ Established 6 ∷ Established 7 ∷ []
+
+-- five jobs with areas, and a sixth
+abbrev pub six_areas : List Request
+six_areas = replicate 6 (Findvac 0o10 (entry 0o2000))
+
+-- seven jobs without areas, and an eighth
+abbrev pub eight_jobs : List Request
+eight_jobs = replicate 8 (Novac 0o10 (entry 0o2000))
+
+-- nine tasks, and a tenth
+abbrev pub ten_tasks : List Request
+ten_tasks = replicate 10 (request.List 5 (task 0o2000))
+
+-- each line is what was asked and what was answered
+pub record Examples : Type 0 where
+  -- one job, and its end
+  pub one_job : replies (Novac 0o20 (entry 0o2000) ∷ EndOfJob ∷ []) ≡ Established 1 ∷ Left None ∷ []
+  -- a more urgent job waits until the first ends
+  pub end_hands_over : replies (Novac 0o20 (entry 0o2000) ∷ Novac 0o30 (entry 0o2100) ∷ EndOfJob ∷ []) ≡ Established 1 ∷ Established 2 ∷ Left (Some 2) ∷ []
+  -- or until the first gives way
+  pub change_of_job : replies (Novac 0o20 (entry 0o2000) ∷ Store 1 0o123 ∷ Novac 0o30 (entry 0o2100) ∷ Change ∷ []) ≡ Established 1 ∷ Stored ∷ Established 2 ∷ Runs 2 ∷ []
+  -- with nobody running there is no job to act on
+  pub nobody_runs : replies (Novac 0o20 (entry 0o2000) ∷ EndOfJob ∷ EndOfJob ∷ Store 1 1 ∷ []) ≡ Established 1 ∷ Left None ∷ NoJob ∷ NoJob ∷ []
+  -- of equal priorities the least number, which is used again once it is unused
+  pub equal_priorities :
+      replies (Novac 0o37 (entry 0o2000) ∷ Novac 0o20 (entry 0o2010) ∷ Novac 0o20 (entry 0o2020) ∷ EndOfJob ∷ Novac 0o20 (entry 0o2030) ∷ Prio 0o10 ∷ [])
+      ≡ Established 1 ∷ Established 2 ∷ Established 3 ∷ Left (Some 2) ∷ Established 1 ∷ Runs 1 ∷ []
+  -- a sleeper wakes once
+  pub one_sleeper :
+      replies (Novac 0o20 (entry 0o2000) ∷ Sleep 0o2044 ∷ Novac 0o10 (entry 0o2100) ∷ Rouse 0o2044 ∷ Rouse 0o2044 ∷ [])
+      ≡ Established 1 ∷ Left None ∷ Established 2 ∷ Roused 1 ∷ NoSleeper ∷ []
+  -- the sixth area
+  pub alarm_1201 : replies six_areas ≡ five_established ++ Alarmed A1201 ∷ []
+  -- the eighth job
+  pub alarm_1202 : replies eight_jobs ≡ seven_established ++ Alarmed A1202 ∷ []
+  -- with neither area nor number, it is the area that is missed
+  pub areas_before_numbers :
+      replies (replicate 5 (Findvac 0o10 (entry 0o2000)) ++ replicate 2 (Novac 0o10 (entry 0o2000)) ++ Findvac 0o10 (entry 0o2000) ∷ []) ≡ seven_established ++ Alarmed A1201 ∷ []
+  -- with an area and no number
+  pub area_without_number :
+      replies (replicate 4 (Findvac 0o10 (entry 0o2000)) ++ replicate 3 (Novac 0o10 (entry 0o2000)) ++ Findvac 0o10 (entry 0o2000) ∷ []) ≡ seven_established ++ Alarmed A1202 ∷ []
+  -- the tenth task
+  pub alarm_1203 : replies ten_tasks ≡ replicate 9 Listed ++ Alarmed A1203 ∷ []
+  -- first, second and latest alarm
+  pub three_alarms : (state (six_areas ++ eight_jobs ++ ten_tasks)).base.codes ≡ Some C1201 ∷ Some C1202 ∷ Some C1203 ∷ []
+  -- tasks of one due time fire in order of arrival
+  pub equal_due_times :
+      replies (request.List 5 (task 0o2000) ∷ request.List 10 (task 0o2010) ∷ request.List 5 (task 0o2020) ∷ replicate 5 Tick)
+      ≡ replicate 3 Listed ++ replicate 4 (Ticked [] None) ++ Ticked (task 0o2000 ∷ task 0o2020 ∷ []) None ∷ []
+  -- an alarm in an action ends the tick, and the third task is lost
+  pub alarm_inside_a_tick :
+      replies_by (planned ((task 0o2010, action.Novac 0o10 (entry 0o3000)) ∷ []) [])
+      (replicate 7 (Novac 0o10 (entry 0o2000)) ++ request.List 1 (task 0o2000) ∷ request.List 1 (task 0o2010) ∷ request.List 1 (task 0o2020) ∷ Tick ∷ [])
+      ≡ seven_established ++ replicate 3 Listed ++ Ticked (task 0o2000 ∷ task 0o2010 ∷ []) (Some A1202) ∷ []
+  -- a task that lists itself fires again three ticks later
+  pub task_lists_itself :
+      replies_by (planned ((task 0o2000, action.List 3 (task 0o2000)) ∷ []) []) (request.List 1 (task 0o2000) ∷ request.List 1 (task 0o2010) ∷ replicate 4 Tick)
+      ≡ replicate 2 Listed ++ Ticked (task 0o2000 ∷ task 0o2010 ∷ []) None ∷ Ticked [] None ∷ Ticked [] None ∷ Ticked (task 0o2000 ∷ []) None ∷ []
+  -- the job and the task of a phase begin again with a restart
+  pub phase_begins_again :
+      replies_by (planned [] (record { group = 2; phase = 3; job = Some (start.Findvac 0o20 (entry 0o4100)); task = Some (2, task 0o4000) } ∷ []))
+      (Novac 0o10 (entry 0o2000) ∷ SetPhase 2 3 ∷ Restart ∷ Tick ∷ Tick ∷ EndOfJob ∷ [])
+      ≡ Established 1 ∷ Phased ∷ Restarted ∷ Ticked [] None ∷ Ticked (task 0o4000 ∷ []) None ∷ Left None ∷ []

@@ -1,0 +1,141 @@
+-- What a reader of the landing alarms wants to know, in words that know nothing of how the model computes.
+use Rattle.std.specs.Prelude.{◌≡◌, ℕ, ◌<◌, ◌≤◌, suc, true, false, List, [], ◌∷◌, ◌++◌, length, map, All, Option, Some, None}
+use Rattle.agc_plan.specs.declared.request.Action.{Action}
+use Rattle.agc_plan.specs.declared.request.Action.TheVariants as action
+use Rattle.agc_plan.specs.declared.request.Request.{Request}
+use Rattle.agc_plan.specs.declared.request.Request.TheVariants as request
+use Rattle.agc_plan.specs.declared.request.Task.{Task}
+use Rattle.agc_plan.specs.Jobs.{Job, Jobs, job_in}
+use Rattle.agc_plan.specs.Tasks.{Pending, Agenda}
+use Rattle.agc_plan.specs.Begins.{Begins}
+use Rattle.agc_plan.specs.Steps.{Fires}
+
+-- this job lives and has this number; numbers begin with 1, and no two jobs have the same
+abbrev pub Lives : List (Option Job) → ℕ → Job → Type 0
+Lives slots number job = (1 ≤ number) × (job_in slots number ≡ Some job)
+
+-- it lives and is awake
+abbrev pub LivesAwake : List (Option Job) → ℕ → Job → Type 0
+LivesAwake slots number job = Lives slots number job × (job.asleep ≡ false)
+
+-- somebody is awake
+abbrev pub SomebodyIsAwake : List (Option Job) → Type 0
+SomebodyIsAwake slots = (number : ℕ) × (job : Job) × LivesAwake slots number job
+
+-- nobody is awake
+abbrev pub NobodyIsAwake : List (Option Job) → Type 0
+NobodyIsAwake slots = (number : ℕ) (job : Job) → Lives slots number job → job.asleep ≡ true
+
+-- the job of this number is awake, no awake job has a greater priority, and none of the same priority a lower number
+pub record IsMostUrgent (slots : List (Option Job)) (number : ℕ) : Type 0 where
+  pub job : Job
+  pub awake : LivesAwake slots number job
+  pub greatest : (other : ℕ) (rival : Job) → LivesAwake slots other rival → rival.priority ≤ job.priority
+  pub lowest : (other : ℕ) (rival : Job) → LivesAwake slots other rival → rival.priority ≡ job.priority → number ≤ other
+
+-- somebody has this number
+abbrev pub IsUsed : List (Option Job) → ℕ → Type 0
+IsUsed slots number = (job : Job) × Lives slots number job
+
+-- there is this number, from 1 to as many as there are slots, nobody has it, and each lower number is somebody's
+pub record IsLeastUnused (slots : List (Option Job)) (number : ℕ) : Type 0 where
+  pub low : 1 ≤ number
+  pub high : number ≤ length slots
+  pub unused : job_in slots number ≡ None
+  pub lower : (other : ℕ) → 1 ≤ other → other < number → IsUsed slots other
+
+-- each number is somebody's
+abbrev pub IsEachUsed : List (Option Job) → Type 0
+IsEachUsed slots = (number : ℕ) → 1 ≤ number → number ≤ length slots → IsUsed slots number
+
+-- somebody owns this area
+abbrev pub IsOwned : List (Option Job) → ℕ → Type 0
+IsOwned slots area = (number : ℕ) × (job : Job) × Lives slots number job × (job.area ≡ area)
+
+-- nobody owns it
+abbrev pub IsUnowned : List (Option Job) → ℕ → Type 0
+IsUnowned slots area = (number : ℕ) (job : Job) → Lives slots number job → job.area ≡ area → ⊥
+
+-- there is this area, from 1 to 5, nobody owns it, and each lower area is owned
+pub record IsLeastUnowned (slots : List (Option Job)) (area : ℕ) : Type 0 where
+  pub low : 1 ≤ area
+  pub high : area ≤ 5
+  pub unowned : IsUnowned slots area
+  pub lower : (other : ℕ) → 1 ≤ other → other < area → IsOwned slots other
+
+-- each of the five areas is owned
+abbrev pub IsEachOwned : List (Option Job) → Type 0
+IsEachOwned slots = (area : ℕ) → 1 ≤ area → area ≤ 5 → IsOwned slots area
+
+-- this job sleeps until this address is called
+abbrev pub Sleeps : ℕ → List (Option Job) → ℕ → Job → Type 0
+Sleeps at slots number job = Lives slots number job × (job.asleep ≡ true) × (job.at ≡ at)
+
+-- the job of this number sleeps until this address is called, and no lower-numbered job does
+pub record IsFirstSleeper (at : ℕ) (slots : List (Option Job)) (number : ℕ) : Type 0 where
+  pub job : Job
+  pub sleeps : Sleeps at slots number job
+  pub lowest : (other : ℕ) (rival : Job) → Sleeps at slots other rival → number ≤ other
+
+-- nobody sleeps until this address is called
+abbrev pub NobodySleepsAt : ℕ → List (Option Job) → Type 0
+NobodySleepsAt at slots = (number : ℕ) (job : Job) → Sleeps at slots number job → ⊥
+
+-- how many jobs live
+abbrev pub living : List (Option Job) → ℕ
+living [] = 0
+living (None ∷ slots) = living slots
+living (Some job ∷ slots) = suc (living slots)
+
+-- one of the five areas is nobody's
+abbrev pub SomeAreaIsUnowned : List (Option Job) → Type 0
+SomeAreaIsUnowned slots = (area : ℕ) × (1 ≤ area) × (area ≤ 5) × IsUnowned slots area
+
+-- the running job lives and is awake
+abbrev pub IsRunnerAwake : Jobs → Type 0
+IsRunnerAwake jobs = (number : ℕ) → jobs.running ≡ Some number → (job : Job) × LivesAwake jobs.slots number job
+
+-- no area is owned by two jobs; area 0 is none
+abbrev pub IsNoAreaShared : List (Option Job) → Type 0
+IsNoAreaShared slots =
+    (first second : ℕ) (job other : Job) → Lives slots first job → Lives slots second other → 1 ≤ job.area → job.area ≡ other.area → first ≡ second
+
+-- a job's area is one of the five, or 0 for none
+abbrev pub IsEachAreaKnown : List (Option Job) → Type 0
+IsEachAreaKnown slots = (number : ℕ) (job : Job) → Lives slots number job → job.area ≤ 5
+
+-- no awake job is strictly more urgent than the one that runs
+abbrev pub IsUnrivalled : Jobs → Type 0
+IsUnrivalled jobs =
+    (number : ℕ) (job : Job) → jobs.running ≡ Some number → Lives jobs.slots number job → (other : ℕ) (rival : Job) → LivesAwake jobs.slots other rival → rival.priority ≤ job.priority
+
+-- nothing is due: each task that waits is due later than now
+abbrev pub IsNothingDue : Agenda → Type 0
+IsNothingDue agenda = All (λ p. agenda.time < p.due) agenda.tasks
+
+-- what an action lists is due later than now, as each delay that can be asked for is at least 1
+abbrev pub IsActionDelayed : Action → Type 0
+IsActionDelayed (action.List delay task) = 1 ≤ delay
+IsActionDelayed other = Unit {0}
+
+-- so is what a phase's entry lists
+abbrev pub IsListingDelayed : Option (ℕ × Task) → Type 0
+IsListingDelayed None = Unit {0}
+IsListingDelayed (Some listing) = 1 ≤ listing.0
+
+-- and what is asked for
+abbrev pub IsRequestDelayed : Request → Type 0
+IsRequestDelayed (request.List delay task) = 1 ≤ delay
+IsRequestDelayed other = Unit {0}
+
+-- whatever these rows' actions list is due later
+abbrev pub AreActionsDelayed : List (Task × Action) → Type 0
+AreActionsDelayed rows = All (λ row. IsActionDelayed row.1) rows
+
+-- whatever these entries list is
+abbrev pub AreListingsDelayed : List Begins → Type 0
+AreListingsDelayed entries = All (λ e. IsListingDelayed e.task) entries
+
+-- of these tasks the first ones fired, in this order, and all of them unless an alarm came
+abbrev pub FiresThese : List Pending → Fires → Type 0
+FiresThese due fires = (rest : List Task) × (fires.fired ++ rest ≡ map (λ p. p.task) due) × (fires.alarm ≡ None → rest ≡ [])

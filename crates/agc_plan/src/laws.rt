@@ -1,0 +1,141 @@
+//! What a reader of the landing alarms wants to know of the plain model, as laws: each is the contract of a function that
+//! does nothing, and holds of every list of jobs and of every run of requests.
+
+ghost use Rattle.std.specs.Prelude.{◌≡◌, ◌↔◌, ◌≤◌, ℕ, ◌+◌, List, Option, Some, None, IsSome, All, length};
+ghost use Rattle.agc_plan.specs.declared.reply.Alarm.{Alarm};
+ghost use Rattle.agc_plan.specs.declared.reply.Alarm.TheVariants.{A1201, A1202, A1203};
+ghost use Rattle.agc_plan.specs.declared.reply.Reply.TheVariants.{Alarmed, Established};
+ghost use Rattle.agc_plan.specs.declared.request.Action.{Action};
+ghost use Rattle.agc_plan.specs.declared.request.Entry.{Entry};
+ghost use Rattle.agc_plan.specs.declared.request.Request.{Request};
+ghost use Rattle.agc_plan.specs.declared.request.Request.TheVariants.{EndOfJob, Sleep, Prio, Change};
+ghost use Rattle.agc_plan.specs.declared.request.Task.{Task};
+ghost use Rattle.agc_plan.specs.Jobs.{Job, Jobs, best, least_unused, least_unowned, sleeper_from, novac, findvac, rouse};
+ghost use Rattle.agc_plan.specs.Tasks.{Pending, due_at, InOrder};
+ghost use Rattle.agc_plan.specs.Base.{Base};
+ghost use Rattle.agc_plan.specs.Plans.{Planned};
+ghost use Rattle.agc_plan.specs.Eras.{Work};
+ghost use Rattle.agc_plan.specs.Steps.{Plain, with_listed, tick_fires, step, reached};
+ghost use Rattle.agc_plan.specs.Examples.{Examples};
+ghost use Rattle.agc_plan.specs.Laws.{Lives, IsMostUrgent, NobodyIsAwake, IsLeastUnused, IsEachUsed, IsLeastUnowned, IsEachOwned, SomeAreaIsUnowned, IsFirstSleeper, NobodySleepsAt, IsUnrivalled, SomebodyIsAwake, IsRunnerAwake, IsNoAreaShared, IsEachAreaKnown, IsNothingDue, IsRequestDelayed, AreActionsDelayed, AreListingsDelayed, FiresThese, living};
+
+/// The best job is awake, no awake job has a greater priority, and none of the same priority a lower number. There is
+/// one exactly where somebody is awake.
+pub fn best_job_is_most_urgent()
+    ensures best { (slots : List (Option Job)) (number : ℕ) → (best slots ≡ Some number) ↔ IsMostUrgent slots number }
+    ensures nobody { (slots : List (Option Job)) → (best slots ≡ None) ↔ NobodyIsAwake slots }
+{}
+
+/// The least unused number is a slot's in which nobody lives, and each lower number is somebody's. There is none exactly
+/// where each number is somebody's.
+pub fn least_unused_number_is_least()
+    ensures least { (slots : List (Option Job)) (number : ℕ) → (least_unused 1 slots ≡ Some number) ↔ IsLeastUnused slots number }
+    ensures full { (slots : List (Option Job)) → (least_unused 1 slots ≡ None) ↔ IsEachUsed slots }
+{}
+
+/// The least unowned area is one of 1 to 5 that nobody owns, and each lower area is owned. There is none exactly where
+/// each of the five is owned.
+pub fn least_unowned_area_is_least()
+    ensures least { (slots : List (Option Job)) (area : ℕ) → (least_unowned 5 1 slots ≡ Some area) ↔ IsLeastUnowned slots area }
+    ensures full { (slots : List (Option Job)) → (least_unowned 5 1 slots ≡ None) ↔ IsEachOwned slots }
+{}
+
+/// A rouse finds the sleeper of least number whose address is called. It finds none exactly where nobody sleeps until
+/// this address is called.
+pub fn sleeper_is_least()
+    ensures least { (at : ℕ) (slots : List (Option Job)) (number : ℕ) → (sleeper_from 1 at slots ≡ Some number) ↔ IsFirstSleeper at slots number }
+    ensures nobody { (at : ℕ) (slots : List (Option Job)) → (sleeper_from 1 at slots ≡ None) ↔ NobodySleepsAt at slots }
+{}
+
+/// A new job's number is the least unused one, whatever its area, and the area of FINDVAC's new job is the least that
+/// nobody owned.
+pub fn new_job_has_least_number_and_area()
+    ensures novac { (priority : ℕ) (entry : Entry) (jobs : Jobs) (number : ℕ) → ((novac priority entry jobs).reply ≡ Established number) ↔ IsLeastUnused jobs.slots number }
+    ensures findvac { (priority : ℕ) (entry : Entry) (jobs : Jobs) (number : ℕ) → (findvac priority entry jobs).reply ≡ Established number → IsLeastUnused jobs.slots number }
+    ensures area { (priority : ℕ) (entry : Entry) (jobs : Jobs) (number : ℕ) (job : Job) → (findvac priority entry jobs).reply ≡ Established number → Lives (findvac priority entry jobs).jobs.slots number job → IsLeastUnowned jobs.slots job.area }
+{}
+
+/// FINDVAC is answered by alarm 1201 exactly where each of the five areas is owned, whatever numbers are unused; NOVAC
+/// never is.
+pub fn alarm_1201_where_five_areas_are_owned()
+    ensures findvac { (priority : ℕ) (entry : Entry) (jobs : Jobs) → ((findvac priority entry jobs).reply ≡ Alarmed A1201) ↔ IsEachOwned jobs.slots }
+    ensures novac { (priority : ℕ) (entry : Entry) (jobs : Jobs) → (novac priority entry jobs).reply ≡ Alarmed A1201 → ⊥ }
+{}
+
+/// Of seven slots: NOVAC is answered by alarm 1202 exactly where seven jobs live, FINDVAC where besides one of the five
+/// areas is nobody's.
+pub fn alarm_1202_where_seven_jobs_live()
+    ensures novac { (priority : ℕ) (entry : Entry) (jobs : Jobs) → length jobs.slots ≡ 7 → ((novac priority entry jobs).reply ≡ Alarmed A1202) ↔ (living jobs.slots ≡ 7) }
+    ensures findvac { (priority : ℕ) (entry : Entry) (jobs : Jobs) → length jobs.slots ≡ 7 → ((findvac priority entry jobs).reply ≡ Alarmed A1202) ↔ (SomeAreaIsUnowned jobs.slots × (living jobs.slots ≡ 7)) }
+{}
+
+/// Where at most nine tasks wait, a listing is answered by alarm 1203 exactly where nine do.
+pub fn alarm_1203_where_nine_tasks_wait()
+    ensures { (delay : ℕ) (task : Task) (work : Work) → length work.agenda.tasks ≤ 9 → ((with_listed delay task work).reply ≡ Alarmed A1203) ↔ (length work.agenda.tasks ≡ 9) }
+{}
+
+/// An alarm by itself changes neither jobs nor tasks: what follows is the beginning of an era.
+pub fn alarm_changes_nothing()
+    ensures novac { (priority : ℕ) (entry : Entry) (jobs : Jobs) (alarm : Alarm) → (novac priority entry jobs).reply ≡ Alarmed alarm → (novac priority entry jobs).jobs ≡ jobs }
+    ensures findvac { (priority : ℕ) (entry : Entry) (jobs : Jobs) (alarm : Alarm) → (findvac priority entry jobs).reply ≡ Alarmed alarm → (findvac priority entry jobs).jobs ≡ jobs }
+    ensures listed { (delay : ℕ) (task : Task) (work : Work) (alarm : Alarm) → (with_listed delay task work).reply ≡ Alarmed alarm → (with_listed delay task work).work ≡ work }
+{}
+
+/// After end of job, sleep, change of priority and change of job, asked in any state, no awake job is strictly more
+/// urgent than the one that runs.
+pub fn nobody_more_urgent_waits()
+    ensures ended { (plan : Planned) (plain : Plain) → IsUnrivalled (step plan EndOfJob plain).plain.work.jobs }
+    ensures slept { (plan : Planned) (at : ℕ) (plain : Plain) → IsUnrivalled (step plan (Sleep at) plain).plain.work.jobs }
+    ensures prio { (plan : Planned) (priority : ℕ) (plain : Plain) → IsUnrivalled (step plan (Prio priority) plain).plain.work.jobs }
+    ensures changed { (plan : Planned) (plain : Plain) → IsUnrivalled (step plan Change plain).plain.work.jobs }
+{}
+
+/// A new job, or one that wakes, doesn't preempt: who runs goes on.
+pub fn nobody_preempts_by_coming()
+    ensures novac { (priority : ℕ) (entry : Entry) (jobs : Jobs) (number : ℕ) → jobs.running ≡ Some number → (novac priority entry jobs).jobs.running ≡ Some number }
+    ensures findvac { (priority : ℕ) (entry : Entry) (jobs : Jobs) (number : ℕ) → jobs.running ≡ Some number → (findvac priority entry jobs).jobs.running ≡ Some number }
+    ensures roused { (at : ℕ) (jobs : Jobs) (number : ℕ) → jobs.running ≡ Some number → (rouse at jobs).jobs.running ≡ Some number }
+{}
+
+/// In every state that a run of requests reaches, somebody runs exactly where somebody is awake, and the job that runs
+/// lives and is awake.
+pub fn somebody_runs_where_somebody_is_awake()
+    ensures exactly { (plan : Planned) (base : Base) (log : List Request) → IsSome (reached plan base log).work.jobs.running ↔ SomebodyIsAwake (reached plan base log).work.jobs.slots }
+    ensures runner { (plan : Planned) (base : Base) (log : List Request) → IsRunnerAwake (reached plan base log).work.jobs }
+{}
+
+/// In every state that a run of requests reaches there are seven slots, one for each number, so that no two jobs have
+/// the same number; a job's area is one of the five, or none; and no area is owned by two jobs.
+pub fn numbers_and_areas_are_distinct()
+    ensures numbers { (plan : Planned) (base : Base) (log : List Request) → length (reached plan base log).work.jobs.slots ≡ 7 }
+    ensures areas { (plan : Planned) (base : Base) (log : List Request) → IsEachAreaKnown (reached plan base log).work.jobs.slots }
+    ensures distinct { (plan : Planned) (base : Base) (log : List Request) → IsNoAreaShared (reached plan base log).work.jobs.slots }
+{}
+
+/// In every state that a run of requests reaches, at most nine tasks wait.
+pub fn at_most_nine_tasks_wait()
+    ensures { (plan : Planned) (base : Base) (log : List Request) → length (reached plan base log).work.agenda.tasks ≤ 9 }
+{}
+
+/// After a tick nothing is due, unless an alarm came. What an action lists is due later, as a delay is at least 1.
+pub fn tick_leaves_nothing_due()
+    ensures { (rows : List (Task × Action)) (work : Work) → AreActionsDelayed rows → (tick_fires rows work).alarm ≡ None → IsNothingDue (tick_fires rows work).work.agenda }
+{}
+
+/// In every state that a run of requests reaches nothing is due: it fired in the tick at which its time came. Delays are
+/// at least 1, in the plan and in what was asked.
+pub fn nothing_is_due_between_requests()
+    ensures { (plan : Planned) (base : Base) (log : List Request) → AreActionsDelayed plan.rows → AreListingsDelayed plan.entries → All IsRequestDelayed log → IsNothingDue (reached plan base log).work.agenda }
+{}
+
+/// Where nothing was due, the tasks that fire in a tick are all due at the same time, which is the present, and fire in
+/// order of arrival: all of them, or up to an alarm. To take the first of the tasks in order is the same.
+pub fn due_tasks_fire_in_order_of_arrival()
+    ensures arrival { (rows : List (Task × Action)) (work : Work) → AreActionsDelayed rows → IsNothingDue work.agenda → FiresThese (due_at (work.agenda.time + 1) work.agenda.tasks) (tick_fires rows work) }
+    ensures in_order { (rows : List (Task × Action)) (work : Work) (ordered : List Pending) → AreActionsDelayed rows → IsNothingDue work.agenda → InOrder work.agenda.tasks ordered → FiresThese (due_at (work.agenda.time + 1) ordered) (tick_fires rows work) }
+{}
+
+/// The definitions give the worked examples.
+pub fn worked_examples()
+    ensures { Examples }
+{}

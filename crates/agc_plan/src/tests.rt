@@ -1,0 +1,223 @@
+use crate::{
+    Action, Address, Delay, Entry, Fired, Group, JobNo, JobStart, Limit, Phase, PhaseEntry, Place,
+    Plan, PlanFault, Priority, Task,
+};
+use agc_word::Word;
+use std::test::Fail;
+
+fn word(bits: u16) -> Result<Word, Fail> {
+    Ok(Word::new(bits).ok_or("word")?)
+}
+
+fn address(at: u16) -> Result<Address, Fail> {
+    Ok(Address::new(at).ok_or("address")?)
+}
+
+fn task(at: u16, bank: u16) -> Result<Task, Fail> {
+    Ok(Task {
+        at: address(at)?,
+        bank: word(bank)?,
+    })
+}
+
+fn entry_point() -> Result<Entry, Fail> {
+    Ok(Entry {
+        at: address(1024)?,
+        bank: word(5)?,
+    })
+}
+
+/// A job of priority 16 without a VAC area.
+fn plain_job() -> Result<JobStart, Fail> {
+    Ok(JobStart::Novac(Priority::new(16).ok_or("priority")?, entry_point()?))
+}
+
+/// A job of priority 16 with a VAC area.
+fn area_job() -> Result<JobStart, Fail> {
+    Ok(JobStart::Findvac(Priority::new(16).ok_or("priority")?, entry_point()?))
+}
+
+/// What begins again with this group in this phase: the job, and no task.
+fn begins(group: u8, phase: u8, job: Option<JobStart>) -> Result<PhaseEntry, Fail> {
+    let group = Group::new(group).ok_or("group")?;
+    let phase = Phase::new(phase).ok_or("phase")?;
+    Ok(PhaseEntry::new(group, phase, job, None).ok_or("entry")?)
+}
+
+#[test]
+fn numbers_within_their_bounds(rt: HostRuntime) {
+    for (value, valid) in [(0, false), (1, true), (31, true), (32, false), (255, false)] {
+        assert_eq!(rt; Priority::new(value).is_some(), valid, "priority {value}");
+    }
+    for (value, valid) in [(0, false), (1, true), (16383, true), (16384, false)] {
+        assert_eq!(rt; Address::new(value).is_some(), valid, "address {value}");
+    }
+    for (value, valid) in [(0, false), (1, true), (7, true), (8, false)] {
+        assert_eq!(rt; JobNo::new(value).is_some(), valid, "job number {value}");
+    }
+    for (value, valid) in [(0, false), (1, true), (16250, true), (16251, false)] {
+        assert_eq!(rt; Delay::new(value).is_some(), valid, "delay {value}");
+    }
+    for (value, valid) in [(0, false), (1, true), (6, true), (7, false)] {
+        assert_eq!(rt; Group::new(value).is_some(), valid, "group {value}");
+        assert_eq!(rt; Place::new(value).is_some(), valid, "place {value}");
+    }
+    for (value, valid) in [(0, true), (127, true), (128, false)] {
+        assert_eq!(rt; Phase::new(value).is_some(), valid, "phase {value}");
+    }
+    for (value, valid) in [(0, false), (1, true), (1000000, true), (1000001, false)] {
+        assert_eq!(rt; Limit::new(value).is_some(), valid, "limit {value}");
+    }
+}
+
+#[test]
+fn numbers_are_kept(rt: HostRuntime) -> Result<(), Fail> {
+    assert_eq!(rt; Priority::new(31).ok_or("priority")?.get(), 31);
+    assert_eq!(rt; Address::new(16383).ok_or("address")?.get(), 16383);
+    assert_eq!(rt; JobNo::new(7).ok_or("job number")?.get(), 7);
+    assert_eq!(rt; Delay::new(16250).ok_or("delay")?.get(), 16250);
+    assert_eq!(rt; Group::new(6).ok_or("group")?.get(), 6);
+    assert_eq!(rt; Phase::new(127).ok_or("phase")?.get(), 127);
+    assert_eq!(rt; Place::new(6).ok_or("place")?.get(), 6);
+    assert_eq!(rt; Limit::new(1000000).ok_or("limit")?.get(), 1000000);
+    Ok(())
+}
+
+#[test]
+fn entries_of_phases(rt: HostRuntime) -> Result<(), Fail> {
+    let group = Group::new(3).ok_or("group")?;
+    let inactive = Phase::new(0).ok_or("phase 0")?;
+    let phase = Phase::new(1).ok_or("phase 1")?;
+    let delay = Delay::new(100).ok_or("delay")?;
+    let listing = Some((delay, task(1024, 5)?));
+    assert_eq!(rt; PhaseEntry::new(group, inactive, None, None), None);
+    let entry = PhaseEntry::new(group, phase, Some(area_job()?), listing).ok_or("entry")?;
+    assert_eq!(rt; entry.group(), group);
+    assert_eq!(rt; entry.phase(), phase);
+    assert_eq!(rt; entry.job(), Some(area_job()?));
+    assert_eq!(rt; entry.task(), listing);
+    Ok(())
+}
+
+#[test]
+fn faults_of_plans(rt: HostRuntime) -> Result<(), Fail> {
+    let nothing = Action::Nothing;
+    let rouse = Action::Rouse(address(1024)?);
+    let once = [
+        (task(1024, 5)?, nothing),
+        (task(1024, 6)?, nothing),
+        (task(1025, 5)?, nothing),
+    ];
+    let twice = [
+        (task(1024, 5)?, nothing),
+        (task(1025, 5)?, nothing),
+        (task(1024, 5)?, rouse),
+    ];
+    let apart = [
+        begins(1, 3, None)?,
+        begins(1, 4, None)?,
+        begins(2, 3, None)?,
+    ];
+    let both = [
+        begins(1, 3, None)?,
+        begins(2, 3, None)?,
+        begins(1, 3, Some(plain_job()?))?,
+    ];
+    let (wants, plain) = (Some(area_job()?), Some(plain_job()?));
+    let six = [
+        begins(1, 1, wants)?,
+        begins(2, 2, wants)?,
+        begins(3, 3, wants)?,
+        begins(4, 4, wants)?,
+        begins(5, 5, wants)?,
+        begins(6, 6, wants)?,
+    ];
+    let five = [
+        begins(1, 1, wants)?,
+        begins(2, 2, wants)?,
+        begins(3, 3, wants)?,
+        begins(4, 4, wants)?,
+        begins(5, 5, wants)?,
+        begins(6, 6, plain)?,
+    ];
+    let cases: [(&str, &[(Task, Action)], &[PhaseEntry], Option<PlanFault>); 7] = [
+        ("nothing", &[], &[], None),
+        ("tasks and phases apart", &once, &apart, None),
+        (
+            "two equal tasks",
+            &twice,
+            &apart,
+            Some(PlanFault::TaskTwice),
+        ),
+        (
+            "two entries of one phase",
+            &once,
+            &both,
+            Some(PlanFault::PhaseTwice),
+        ),
+        ("both at once", &twice, &both, Some(PlanFault::TaskTwice)),
+        (
+            "six groups want an area",
+            &once,
+            &six,
+            Some(PlanFault::TooManyAreas),
+        ),
+        ("five groups want an area", &once, &five, None),
+    ];
+    for (name, rows, entries, want) in cases {
+        match Plan::new(rt.alloc(), rows, entries, nothing, nothing) {
+            Ok(_) => assert!(rt; want.is_none(), "{name}"),
+            Err(fault) => assert!(rt; want == Some(fault), "{name}"),
+        }
+    }
+    Ok(())
+}
+
+/// An action that establishes a job with a VAC area.
+fn establishes() -> Result<Action, Fail> {
+    let priority = Priority::new(8).ok_or("priority")?;
+    Ok(Action::Findvac(priority, entry_point()?))
+}
+
+/// An action that lists a task.
+fn lists() -> Result<Action, Fail> {
+    let delay = Delay::new(10).ok_or("delay")?;
+    Ok(Action::List(delay, task(1024, 5)?))
+}
+
+/// With the first or second allocation refused, this test ends with `NoMemory`; it makes no third one.
+#[test]
+fn what_a_plan_says(rt: HostRuntime) -> Result<(), Fail> {
+    let rows = [(task(1024, 5)?, establishes()?), (task(1024, 6)?, lists()?)];
+    let entries = [begins(1, 3, None)?, begins(2, 3, Some(plain_job()?))?];
+    let key = Action::Rouse(address(1025)?);
+    let plan = Plan::new(rt.alloc(), &rows, &entries, key, lists()?)?;
+    assert_eq!(rt; plan.action(&task(1024, 5)?), establishes()?);
+    assert_eq!(rt; plan.action(&task(1024, 6)?), lists()?);
+    assert_eq!(rt; plan.action(&task(1025, 5)?), Action::Nothing);
+    let (one, two) = (Group::new(1).ok_or("group")?, Group::new(2).ok_or("group")?);
+    let (three, four) = (Phase::new(3).ok_or("phase")?, Phase::new(4).ok_or("phase")?);
+    assert!(rt; plan.entry(one, three) == Some(&begins(1, 3, None)?));
+    assert!(rt; plan.entry(two, three) == Some(&begins(2, 3, Some(plain_job()?))?));
+    assert!(rt; plan.entry(two, four).is_none());
+    assert_eq!(rt; plan.key(), Action::Rouse(address(1025)?));
+    assert_eq!(rt; plan.radar(), lists()?);
+    plan.begins_quietly();
+    Ok(())
+}
+
+#[test]
+fn fired_tasks_in_order(rt: HostRuntime) -> Result<(), Fail> {
+    let mut fired = Fired::new();
+    assert_eq!(rt; fired.len(), 0);
+    assert_eq!(rt; fired.get(0), None);
+    for at in 1..=9u16 {
+        assert!(rt; fired.len() < 9);
+        fired.push(task(at, 5)?);
+    }
+    assert_eq!(rt; fired.len(), 9);
+    assert_eq!(rt; fired.get(0), Some(task(1, 5)?));
+    assert_eq!(rt; fired.get(8), Some(task(9, 5)?));
+    assert_eq!(rt; fired.get(9), None);
+    Ok(())
+}
