@@ -1,27 +1,15 @@
 -- What firing leaves and what fires.
-use Rattle.std.proofs.Common.{◌≡◌, ◌≢◌, ℕ, zero, suc, ◌+◌, ◌<◌, ◌≤◌, ◌==◌, Bool, true, false, cond, List, [], ◌∷◌, ◌++◌, Option, Some, None, IsSome, drop, length, refl, ap, sym, ◌∙◌, inl, inr, arith, append_assoc, subst}
-use Rattle.std.specs.List.{All}
+use Rattle.std.proofs.Common.{◌≡◌, ◌≢◌, ℕ, zero, suc, ◌+◌, ◌<◌, ◌≤◌, ◌==◌, true, false, cond, List, [], ◌∷◌, ◌++◌, Option, Some, None, IsSome, drop, length, refl, ap, sym, ◌∙◌, inl, inr, arith, append_assoc, subst}
 use Rattle.std.proofs.lemmas.Bool.{cases_eq, cases_lt}
 use Rattle.std.proofs.lemmas.List.{append-nil}
 use Rattle.std.proofs.lemmas.Grind.{common_steps}
-use Rattle.agc_plan.specs.declared.reply.Alarm.{Alarm}
-use Rattle.agc_plan.specs.declared.request.Action.{Action}
-use Rattle.agc_plan.specs.declared.request.Action.TheVariants as action
 use Rattle.agc_plan.specs.declared.request.Task.{Task}
 use Rattle.agc_plan.specs.Eras.{Work}
-use Rattle.agc_plan.specs.Plans.{action_in, same_task}
-use Rattle.agc_plan.specs.Steps.{Fires, done, dispatched_work, later_work, fire, fire_first, unless_alarm, tick_fires}
-use Rattle.agc_plan.specs.Tasks.{Pending, Agenda, has_room, listed, due_at, first_due, without_first_due, count_due, InOrder, RisesFrom}
-use Rattle.agc_wait.specs.Runs.{ActsLater, first_of, FiresInOrder}
+use Rattle.agc_plan.specs.Steps.{Fires, dispatched_work, later_work, fire, fire_first, tick_fires}
+use Rattle.agc_plan.specs.Tasks.{Pending, due_at, first_due, without_first_due, count_due, InOrder, RisesFrom}
+use Rattle.agc_wait.specs.Runs.{first_of, FiresInOrder}
 use Rattle.agc_wait.proofs.Orders.{NoneBefore, first_due-at, due_at-without, InOrder-first, InOrder-rest, InOrder-nil, InOrder-none_due}
 use Rattle.agc_wait.proofs.Dues.{count_due-at}
-
--- a task that is due later isn't counted
-count_due-later : (time : ℕ) (tasks : List Pending) (y : Pending) → time < y.due → count_due time (tasks ++ y ∷ []) ≡ count_due time tasks
-count_due-later time [] y lt = grind (arith, common_steps)
-count_due-later time (x ∷ xs) y lt =
-    let rest : count_due time (xs ++ y ∷ []) ≡ count_due time xs = count_due-later time xs y lt in
-    grind (arith, common_steps)
 
 count_due-skip : (time : ℕ) (x : Pending) (xs : List Pending) → time < x.due → count_due time (x ∷ xs) ≡ count_due time xs
 count_due-skip time x xs lt = grind (arith, common_steps)
@@ -38,17 +26,6 @@ without_first_due-here time x xs le = grind (arith, common_steps)
 count_due-here : (time : ℕ) (x : Pending) (xs : List Pending) → x.due ≤ time → count_due time (x ∷ xs) ≡ suc (count_due time xs)
 count_due-here time x xs le = grind (arith, common_steps)
 
--- nothing is due where none is counted
-first_due-uncounted : (time : ℕ) (tasks : List Pending) → count_due time tasks ≡ 0 → first_due time tasks ≡ None
-first_due-uncounted time [] e = refl
-first_due-uncounted time (x ∷ xs) e = elim (cases_lt time x.due) [
-  | inl lt ↦
-      first_due-skip time x xs lt ∙ first_due-uncounted time xs (sym (count_due-skip time x xs lt) ∙ e)
-  | inr le ↦
-      let some : count_due time (x ∷ xs) ≡ suc (count_due time xs) = count_due-here time x xs le in
-      absurd (omega arith)
-]
-
 -- one that is due taken out is one fewer
 count_due-without : (time : ℕ) (task : Task) (tasks : List Pending) → first_due time tasks ≡ Some task → count_due time tasks ≡ suc (count_due time (without_first_due time tasks))
 count_due-without time task [] e = absurd (cc)
@@ -61,52 +38,6 @@ count_due-without time task (x ∷ xs) e = elim (cases_lt time x.due) [
 
 abbrev due_in : Work → ℕ
 due_in work = count_due work.agenda.time work.agenda.tasks
-
--- an action leaves alone what is due now
-due_in-done : (act : Action) (work : Work) → ActsLater act → due_in (done act work).work ≡ due_in work
-due_in-done action.Nothing work later = refl
-due_in-done (action.Novac priority entry) work later = refl
-due_in-done (action.Findvac priority entry) work later = refl
-due_in-done (action.Rouse at) work later = refl
-due_in-done (action.List delay task) work later = by_room (has_room work.agenda)
-  where
-    by_room : (b : Bool) → (let a : Agenda = cond b (listed delay task work.agenda) work.agenda in count_due a.time a.tasks) ≡ due_in work
-    by_room false = refl
-    by_room true = count_due-later work.agenda.time work.agenda.tasks (record { task = task; due = work.agenda.time + delay }) (omega arith)
-
--- the action of a row lists for later, where each row does
-ActsLater-in : (rows : List (Task × Action)) (task : Task) → All (λ row. ActsLater row.1) rows → ActsLater (action_in rows task)
-ActsLater-in [] task all = tt
-ActsLater-in (row ∷ rows) task all = pick (same_task row.0 task) row.1 (action_in rows task) (all 0 row (omega arith)) (ActsLater-in rows task (λ k d lt. all (suc k) d (omega arith)))
-  where
-    pick : (b : Bool) (x y : Action) → ActsLater x → ActsLater y → ActsLater (cond b x y)
-    pick true x y one other = one
-    pick false x y one other = other
-
--- when as many fired as were due, without an alarm, none is due
-abbrev IsQuiet : Fires → Type 0
-IsQuiet fires = fires.alarm ≡ None → first_due fires.work.agenda.time fires.work.agenda.tasks ≡ None
-
-fire-quiet_more : (n : ℕ) (rows : List (Task × Action)) (work : Work) (fired : List Task) → All (λ row. ActsLater row.1) rows → due_in work ≡ suc n → ((w : Work) (f : List Task) → due_in w ≡ n → IsQuiet (fire n rows w f)) → IsQuiet (fire (suc n) rows work fired)
-fire-quiet_more n rows work fired all is again = by_first (first_due work.agenda.time work.agenda.tasks) refl
-  where
-    by_alarm : (task : Task) → first_due work.agenda.time work.agenda.tasks ≡ Some task → (a : Option Alarm) → IsQuiet (unless_alarm a (done (action_in rows task) (dispatched_work work)).work (fired ++ task ∷ []) (fire n rows))
-    by_alarm task first None =
-        let one : due_in work ≡ suc (due_in (dispatched_work work)) = count_due-without work.agenda.time task work.agenda.tasks first in
-        let same : due_in (done (action_in rows task) (dispatched_work work)).work ≡ due_in (dispatched_work work) = due_in-done (action_in rows task) (dispatched_work work) (ActsLater-in rows task all) in
-        again (done (action_in rows task) (dispatched_work work)).work (fired ++ task ∷ []) (omega arith)
-    by_alarm task first (Some alarm) = λ quiet. absurd (cc)
-
-    by_first : (o : Option Task) → first_due work.agenda.time work.agenda.tasks ≡ o → IsQuiet (fire_first o rows work fired (fire n rows))
-    by_first None none = λ quiet. none
-    by_first (Some task) first = by_alarm task first (done (action_in rows task) (dispatched_work work)).alarm
-
-fire-quiet : (n : ℕ) (rows : List (Task × Action)) (work : Work) (fired : List Task) → All (λ row. ActsLater row.1) rows → due_in work ≡ n → IsQuiet (fire n rows work fired)
-fire-quiet zero rows work fired all is = λ quiet. first_due-uncounted work.agenda.time work.agenda.tasks is
-fire-quiet (suc n) rows work fired all is = fire-quiet_more n rows work fired all is (λ w f e. fire-quiet n rows w f all e)
-
-pub tick_fires-quiet : (rows : List (Task × Action)) (work : Work) → All (λ row. ActsLater row.1) rows → (tick_fires rows work).alarm ≡ None → first_due (tick_fires rows work).work.agenda.time (tick_fires rows work).work.agenda.tasks ≡ None
-tick_fires-quiet rows work all = fire-quiet (due_in (later_work work)) rows (later_work work) [] all refl
 
 unsome : {o : Option Task} → o ≡ None → IsSome o → ⊥
 unsome e some = let k : false ≡ true = rw e at some in absurd (cc)

@@ -1,8 +1,6 @@
 -- Runs of listings and ticks on the plain list of tasks, and which task fired when.
 use Rattle.std.specs.Prelude.{◌≡◌, ℕ, ◌+◌, ◌<◌, ◌≤◌, if◌then◌else◌, List, [], ◌∷◌, ◌++◌, Option, Some, None, IsSome, drop}
 use Rattle.std.specs.List.{fold}
-use Rattle.agc_plan.specs.declared.request.Action.{Action}
-use Rattle.agc_plan.specs.declared.request.Action.TheVariants as action
 use Rattle.agc_plan.specs.declared.request.Task.{Task}
 use Rattle.agc_plan.specs.Eras.{Work, no_work}
 use Rattle.agc_plan.specs.Steps.{tick_fires}
@@ -51,14 +49,6 @@ pub record FiresWhenDue (run : Run) : Type 0 where
   pub none_early : (time : ℕ) → run.work.agenda.time < time → due_at time run.fired ≡ []
   pub waits : (time : ℕ) → run.work.agenda.time < time → due_at time run.work.agenda.tasks ≡ due_at time run.accepted
   pub none_late : (time : ℕ) → time ≤ run.work.agenda.time → due_at time run.work.agenda.tasks ≡ []
-
--- an action that lists a task lists it for later
-abbrev pub ActsLater : Action → Type 0
-ActsLater (action.List delay task) = 1 ≤ delay
-ActsLater action.Nothing = Unit {0}
-ActsLater (action.Novac priority entry) = Unit {0}
-ActsLater (action.Findvac priority entry) = Unit {0}
-ActsLater (action.Rouse at) = Unit {0}
 
 -- the first task of a list
 abbrev pub first_of : List Pending → Option Task

@@ -8,5 +8,5 @@ mod record;
 mod tests;
 mod waits;
 
-pub use laws::{a_tick_leaves_none_due, earliest_arrival_is_first_in_order, tasks_fire_when_due};
+pub use laws::{earliest_arrival_is_first_in_order, tasks_fire_when_due};
 pub use waits::{Full, Waits};
