@@ -11,3 +11,7 @@ pub mod Names
 pub mod Beside
 pub mod Benches
 pub mod Refusals
+pub mod Steps
+pub mod Digits
+pub mod Sessions
+pub mod Pairs

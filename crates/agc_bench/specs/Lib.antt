@@ -11,3 +11,8 @@ pub mod Gives
 pub mod Benches
 pub mod Parts
 pub mod Faults
+pub mod Writing
+pub mod Replies
+pub mod Report
+pub mod Session
+pub mod Runs

@@ -2,22 +2,34 @@
 #![tactic(auto)]
 
 mod bench;
+mod bench_session;
 mod device;
 mod fault;
 mod input;
 mod keys;
 mod line;
 mod numbers;
+mod numerals;
+mod replies;
+mod reporting;
+mod run;
+mod run_fault;
+#[cfg(test)]
+mod run_tests;
 mod script;
+mod session;
+#[cfg(test)]
+mod tests;
 mod texts;
 mod values;
+mod writing;
 
 pub use bench::{Bench, read_bench};
 pub use device::Line;
 pub use fault::{BenchFault, ReadFault, ScriptFault};
 pub use input::read_all;
 pub use line::{parse_action, parse_line};
+pub use reporting::report;
+pub use run::{run_script, serial};
+pub use run_fault::{Output, RunFault};
 pub use script::read_script;
-
-#[cfg(test)]
-mod tests;

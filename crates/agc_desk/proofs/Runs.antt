@@ -1,4 +1,4 @@
-use Rattle.std.proofs.Common.{◌≡◌, ℕ, ◌+◌, ◌<◌, ◌≤◌, suc, zero, List, [], ◌∷◌, ◌++◌, length, take, refl, sym, subst, rules, arith, ap, get_or}
+use Rattle.std.proofs.Common.{◌≡◌, ℕ, ◌+◌, ◌<◌, List, [], ◌∷◌, ◌++◌, length, take, refl, sym, subst, ap, get_or}
 use Rattle.std.proofs.lemmas.List.{take_more}
 use Rattle.agc_plan.specs.declared.request.Request.{Request}
 use Rattle.agc_machine.specs.Said.{Said}

@@ -13,13 +13,14 @@ use std::sync::{Mutex, Wait};
 /// What lies under the lock.
 #[derive(Drop)]
 pub struct Held<N: Names> {
+    /// The desk that is asked.
     pub desk: Desk<N>,
 }
 
 /// A desk that several threads share.
 pub type Shared<N> = Mutex<Held<N>>;
 
-/// Asks the machine of the locked desk. It may wait for the lock.
+/// Asks the machine of the locked desk, and books in the share what its answer tells. It may wait for the lock.
 pub fn ask<N: Names, W: Wait>(
     rt: &W,
     shared: &Shared<N>,
@@ -35,7 +36,9 @@ pub fn ask<N: Names, W: Wait>(
 /// A shared desk with the share of one who asks.
 #[derive(Drop)]
 pub struct Caller<'a, N: Names> {
+    /// The desk that is asked.
     pub shared: &'a Shared<N>,
+    /// What was told so far.
     pub share: Share<N>,
 }
 

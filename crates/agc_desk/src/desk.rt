@@ -16,7 +16,7 @@ const SHARES: u64 = 64;
 /// A machine, with a book for each of its totals. Contracts see it as its machine, the machine's totals as the desk was
 /// made (`since`), the books, and how many shares were given out.
 ///
-/// Of every desk it holds that each book is the machine's total less its value as the desk was made.
+/// Of every desk it holds that each book is the machine's total less its value as the desk was made. Source: profile.
 #[derive(Drop)]
 pub struct Desk<N: Names> {
     machine: Machine,
@@ -89,15 +89,21 @@ impl<N: Names> Desk<N> {
     }
 }
 
-/// What [`gather`] hands back where it refuses.
+/// What [`gather`] hands back where it refuses: not as many shares came as the desk gave out.
 #[derive(Drop)]
 pub struct Ungathered<N: Names> {
+    /// The desk as it was.
     pub desk: Desk<N>,
+    /// The shares as they were.
     pub shares: Vec<Share<N>>,
 }
 
-/// The machine, and what the holders of all shares were told together. Refused exactly where not as many shares come as
-/// the desk gave out; desk and shares then come back as they were.
+/// Ends a desk: gives its machine, unchanged, and what the holders of all its shares were told together, which is what
+/// the machine's totals grew by since the desk was made.
+///
+/// # Errors
+///
+/// `Ungathered` exactly where not as many shares come as the desk gave out; desk and shares come back as they were.
 pub fn gather<N: Names>(
     desk: Desk<N>,
     shares: Vec<Share<N>>,

@@ -79,10 +79,13 @@ impl<N: Names> Ledger for Restarts<N> {
 /// They are made before the function that is generic over the ledgers' names is called.
 #[derive(Drop)]
 pub struct Blanks {
+    /// For the requests that were served.
     pub served: Blank,
+    /// For alarm 1201, as also the next two.
     pub a1201: Blank,
     pub a1202: Blank,
     pub a1203: Blank,
+    /// For the requests with which an era began.
     pub restarts: Blank,
     ghost served_parts: { served.parts ≡ 65 },
     ghost a1201_parts: { a1201.parts ≡ 65 },

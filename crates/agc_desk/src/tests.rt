@@ -5,12 +5,11 @@ use crate::{
     Blanks, Caller, Console, Desk, Gate, Held, Names, Share, Shared, Ungathered, drive, gather,
 };
 use agc_machine::{Answer, Machine, Totals};
-use agc_plan::{
-    Action, Address, Delay, Entry, Limit, Place, Plan, Priority, Reply, Request, Task,
-};
+use agc_plan::{Action, Address, Delay, Entry, Limit, Place, Plan, Priority, Reply, Request, Task};
 use agc_word::Word;
 use std::alloc::{AllocError, AllocFailed, Global};
 use std::marker::Brand;
+use std::sync::atomic::{AtomicU64, Ordering};
 use std::sync::{Mutex, Wait};
 use std::test::Fail;
 
@@ -284,18 +283,23 @@ impl Fake {
     }
 }
 
-// A gate that stops at the call of this number.
+// A gate that stops at the call of this number, and counts the calls that were answered.
 #[derive(Drop)]
-struct StopAt(usize);
+struct StopAt {
+    stop: usize,
+    answered: AtomicU64,
+}
 
 impl Gate for StopAt {
-    ghost may_stop = { λ gate _ call. gate.0 ≡ call };
+    ghost may_stop = { λ gate _ call. gate.stop ≡ call };
 
     fn before(&self, _worker: usize, call: usize) -> bool {
-        call != self.0
+        call != self.stop
     }
 
-    fn after(&self, _worker: usize, _call: usize) {}
+    fn after(&self, _worker: usize, _call: usize) {
+        self.answered.fetch_add(1, Ordering::SeqCst);
+    }
 }
 
 #[test]
@@ -317,7 +321,12 @@ fn a_gate_stops_a_worker(rt: HostRuntime) -> Result<(), Fail> {
         novac(9, 1027)?,
         Request::Change,
     ];
-    assert_eq!(rt; drive(&rt, &mut fake, 0, &requests, &StopAt(4)), 4);
+    let gate = StopAt {
+        stop: 4,
+        answered: AtomicU64::new(0),
+    };
+    assert_eq!(rt; drive(&rt, &mut fake, 0, &requests, &gate), 4);
+    assert_eq!(rt; gate.answered.load(Ordering::SeqCst), 4);
     assert_eq!(rt; fake.count, 4);
     assert_eq!(rt; fake.seen[..4], requests[..4]);
     Ok(())

@@ -1,0 +1,107 @@
+ghost use Rattle.std.specs.Prelude.{◌≡◌, OnOk, replicate};
+ghost use Rattle.std.specs.List.{flat_map};
+ghost use Rattle.agc_bench.specs.Writing.{Writes};
+ghost use Rattle.agc_bench.specs.Session.{after_all, answer_lines};
+ghost use Rattle.agc_bench.specs.Runs.{action_request, pulse_request, device_requests, bench_requests};
+
+use crate::bench::Bench;
+use crate::device::Line;
+use crate::run_fault::Output;
+use crate::session::{ask, ask_all};
+use agc_machine::Machine;
+use agc_plan::{Action, Request};
+use std::io::Write;
+
+/// The request by which an action is asked for.
+fn action_request(action: Action) -> Option<Request>
+    ensures { result ≡ action_request action }
+{
+    match action {
+        Action::Nothing => None,
+        Action::Novac(priority, entry) => Some(Request::Novac(priority, entry)),
+        Action::Findvac(priority, entry) => Some(Request::Findvac(priority, entry)),
+        Action::Rouse(at) => Some(Request::Rouse(at)),
+        Action::List(delay, task) => Some(Request::List(delay, task)),
+    }
+}
+
+/// The request for which a pulse of the line asks.
+fn pulse_request(bench: &Bench, line: Line) -> Option<Request>
+    ensures { result ≡ pulse_request bench.now line }
+{
+    match line {
+        Line::Timer => Some(Request::Tick),
+        Line::Key => action_request(bench.key()),
+        Line::Radar => action_request(bench.radar()),
+    }
+}
+
+/// Asks for the same request so many times.
+fn ask_times<W: Write>(
+    machine: &mut Machine,
+    request: &Request,
+    times: u32,
+    writer: &mut W,
+) -> Result<(), Output>
+    ensures after { OnOk result (machine.new ≡ after_all machine.old (replicate times request.now)) }
+    ensures writes { Writes (W.contents writer.old) (W.contents writer.new) (answer_lines machine.old (replicate times request.now)) result }
+{
+    for _pulse in 0..times {
+        ask(machine, *request, writer)?;
+    }
+    Ok(())
+}
+
+/// Asks for a device's requests.
+fn ask_device<W: Write>(
+    machine: &mut Machine,
+    bench: &Bench,
+    device: (Line, u32),
+    writer: &mut W,
+) -> Result<(), Output>
+    ensures after { OnOk result (machine.new ≡ after_all machine.old (device_requests bench.now device)) }
+    ensures writes { Writes (W.contents writer.old) (W.contents writer.new) (answer_lines machine.old (device_requests bench.now device)) result }
+{
+    match pulse_request(bench, device.0) {
+        Some(request) => ask_times(machine, &request, device.1, writer),
+        None => Ok(()),
+    }
+}
+
+fn ask_workers<W: Write>(
+    machine: &mut Machine,
+    workers: &[Vec<Request>],
+    writer: &mut W,
+) -> Result<(), Output>
+    ensures after { OnOk result (machine.new ≡ after_all machine.old (flat_map (λ w. w.items) workers.now)) }
+    ensures writes { Writes (W.contents writer.old) (W.contents writer.new) (answer_lines machine.old (flat_map (λ w. w.items) workers.now)) result }
+{
+    for worker in workers {
+        ask_all(machine, worker.as_slice(), writer)?;
+    }
+    Ok(())
+}
+
+fn ask_devices<W: Write>(machine: &mut Machine, bench: &Bench, writer: &mut W) -> Result<(), Output>
+    ensures after { OnOk result (machine.new ≡ after_all machine.old (flat_map (device_requests bench.now) bench.now.devices)) }
+    ensures writes { Writes (W.contents writer.old) (W.contents writer.new) (answer_lines machine.old (flat_map (device_requests bench.now) bench.now.devices)) result }
+{
+    for device in bench.devices() {
+        ask_device(machine, bench, *device, writer)?;
+    }
+    Ok(())
+}
+
+/// Asks for all requests of a bench: those of its script, then each worker's, then each device's.
+pub(crate) fn ask_bench<W: Write>(
+    machine: &mut Machine,
+    bench: &Bench,
+    writer: &mut W,
+) -> Result<(), Output>
+    ensures after { OnOk result (machine.new ≡ after_all machine.old (bench_requests bench.now)) }
+    ensures writes { Writes (W.contents writer.old) (W.contents writer.new) (answer_lines machine.old (bench_requests bench.now)) result }
+{
+    ask_all(machine, bench.script(), writer)?;
+    ask_workers(machine, bench.workers(), writer)?;
+    ask_devices(machine, bench, writer)
+}

@@ -1,0 +1,43 @@
+ghost use Rattle.std.specs.Prelude.{◌≡◌};
+ghost use Rattle.agc_bench.specs.declared.run_fault.RunFault.TheVariants.{NoMemory as WantOfMemory, Output as OutputFailed};
+
+use agc_machine::NoMemory;
+use thiserror::Error;
+
+/// A write failed, or took nothing of what was left.
+#[derive(Clone, Copy, PartialEq, Eq, Debug, Error)]
+#[error("output")]
+pub struct Output;
+
+/// Why a run did not come to its end. Source: profile.
+#[derive(Clone, Copy, PartialEq, Eq, Debug, Error)]
+pub enum RunFault {
+    /// Nothing was written.
+    #[error("no memory")]
+    NoMemory,
+    /// A write failed, after a part of the text.
+    #[error("output")]
+    Output,
+    /// A thread couldn't be started. Nothing was written.
+    #[error("no thread")]
+    NoThread,
+    /// The parts of a run didn't come together again. Nothing was written.
+    #[error("lost")]
+    Lost,
+}
+
+impl From<NoMemory> for RunFault {
+    ghost from_gives = { λ _ e. e ≡ WantOfMemory };
+
+    fn from(_error: NoMemory) -> RunFault {
+        RunFault::NoMemory
+    }
+}
+
+impl From<Output> for RunFault {
+    ghost from_gives = { λ _ e. e ≡ OutputFailed };
+
+    fn from(_error: Output) -> RunFault {
+        RunFault::Output
+    }
+}

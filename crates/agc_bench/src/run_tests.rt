@@ -1,0 +1,187 @@
+use crate::{Output, RunFault, read_bench, read_script, report, run_script, serial};
+use agc_machine::Totals;
+use agc_word::Word;
+use std::io;
+use std::test::Fail;
+
+/// A writer that takes so many bytes a call at most, and fails after so many calls.
+#[derive(Drop)]
+struct Narrow {
+    taken: Vec<u8>,
+    most: usize,
+    calls: usize,
+}
+
+impl io::Write for Narrow {
+    fn write(&mut self, buf: &[u8]) -> io::Result<usize> {
+        if self.calls == 0 {
+            return Err(io::Error::from(io::ErrorKind::Other));
+        }
+        self.calls -= 1;
+        let count = self.most.min(buf.len());
+        match self.taken.extend_from_slice(&buf[..count]) {
+            Ok(()) => Ok(count),
+            Err(_) => Err(io::Error::from(io::ErrorKind::OutOfMemory)),
+        }
+    }
+
+    fn flush(&mut self) -> io::Result<()> {
+        Ok(())
+    }
+}
+
+const EMPTY_SCRIPT: (&str, &str) = (
+    "",
+    "SET 0 FREE\nSET 1 FREE\nSET 2 FREE\nSET 3 FREE\nSET 4 FREE\nSET 5 FREE\nSET 6 FREE\nVAC 00300 00354 00430 00504 00560\nNEWJOB 77777\nTIME3 00000\nLST1 57777 57777 57777 57777 57777 57777 57777 57777\nLST2 00000 00000 00000 00000 00000 00000 00000 00000 00000 00000 00000 00000 00000 00000 00000 00000 00000 00000\nPHASE 77777 00000 77777 00000 77777 00000 77777 00000 77777 00000 77777 00000\nFAILREG 00000 00000 00000\nSERVED 0\nALARMS 0 0 0\nRESTARTS 0\n",
+);
+
+const FIRST_PATH: (&str, &str) = (
+    "novac 20 02000 00005\nend\n",
+    "job 1\nleft idle\nSET 0 FREE\nSET 1 FREE\nSET 2 FREE\nSET 3 FREE\nSET 4 FREE\nSET 5 FREE\nSET 6 FREE\nVAC 00300 00354 00430 00504 00560\nNEWJOB 77777\nTIME3 00000\nLST1 57777 57777 57777 57777 57777 57777 57777 57777\nLST2 00000 00000 00000 00000 00000 00000 00000 00000 00000 00000 00000 00000 00000 00000 00000 00000 00000 00000\nPHASE 77777 00000 77777 00000 77777 00000 77777 00000 77777 00000 77777 00000\nFAILREG 00000 00000 00000\nSERVED 2\nALARMS 0 0 0\nRESTARTS 0\n",
+);
+
+const THREE_ALARMS: (&str, &str) = (
+    "findvac 10 02000 00005\nfindvac 10 02000 00005\nfindvac 10 02000 00005\nfindvac 10 02000 00005\nfindvac 10 02000 00005\nfindvac 10 02000 00005\nnovac 10 02000 00005\nnovac 10 02000 00005\nnovac 10 02000 00005\nnovac 10 02000 00005\nnovac 10 02000 00005\nnovac 10 02000 00005\nnovac 10 02000 00005\nnovac 10 02000 00005\nlist 5 02000 00005\nlist 5 02000 00005\nlist 5 02000 00005\nlist 5 02000 00005\nlist 5 02000 00005\nlist 5 02000 00005\nlist 5 02000 00005\nlist 5 02000 00005\nlist 5 02000 00005\nlist 5 02000 00005\n",
+    "job 1\njob 2\njob 3\njob 4\njob 5\nalarm 1201\njob 1\njob 2\njob 3\njob 4\njob 5\njob 6\njob 7\nalarm 1202\nlisted\nlisted\nlisted\nlisted\nlisted\nlisted\nlisted\nlisted\nlisted\nalarm 1203\nSET 0 FREE\nSET 1 FREE\nSET 2 FREE\nSET 3 FREE\nSET 4 FREE\nSET 5 FREE\nSET 6 FREE\nVAC 00300 00354 00430 00504 00560\nNEWJOB 77777\nTIME3 00000\nLST1 57777 57777 57777 57777 57777 57777 57777 57777\nLST2 00000 00000 00000 00000 00000 00000 00000 00000 00000 00000 00000 00000 00000 00000 00000 00000 00000 00000\nPHASE 77777 00000 77777 00000 77777 00000 77777 00000 77777 00000 77777 00000\nFAILREG 01201 01202 01203\nSERVED 24\nALARMS 1 1 1\nRESTARTS 3\n",
+);
+
+const PLANNED_GROUP_AFTER_1203: (&str, &str) = (
+    "script = [\"phase 2 3\", \"list 5 02000 00005\", \"list 5 02000 00005\", \"list 5 02000 00005\", \"list 5 02000 00005\", \"list 5 02000 00005\", \"list 5 02000 00005\", \"list 5 02000 00005\", \"list 5 02000 00005\", \"list 5 02000 00005\", \"list 5 02000 00005\"]\nlimit = 100\n[[phase]]\ngroup = 2\nphase = 3\njob = \"findvac 20 04100 00007\"\ntask = \"list 100 04000 00007\"\n",
+    "phased\nlisted\nlisted\nlisted\nlisted\nlisted\nlisted\nlisted\nlisted\nlisted\nalarm 1203\nSET 0 00001 00000 00000 00000 00000 00000 00000 00000 04100 00007 00000 20300\nSET 1 FREE\nSET 2 FREE\nSET 3 FREE\nSET 4 FREE\nSET 5 FREE\nSET 6 FREE\nVAC 00000 00354 00430 00504 00560\nNEWJOB 00000\nTIME3 37634\nLST1 57777 57777 57777 57777 57777 57777 57777 57777\nLST2 04000 00007 00000 00000 00000 00000 00000 00000 00000 00000 00000 00000 00000 00000 00000 00000 00000 00000\nPHASE 77777 00000 77774 00003 77777 00000 77777 00000 77777 00000 77777 00000\nFAILREG 01203 00000 01203\nSERVED 11\nALARMS 0 0 1\nRESTARTS 1\n",
+);
+
+const ALARM_INSIDE_A_TICK: (&str, &str) = (
+    "script = [\"novac 10 02000 00005\", \"novac 10 02000 00005\", \"novac 10 02000 00005\", \"novac 10 02000 00005\", \"novac 10 02000 00005\", \"novac 10 02000 00005\", \"novac 10 02000 00005\", \"list 1 02000 00005\", \"list 1 02010 00005\", \"list 1 02020 00005\", \"tick\"]\n[[task]]\nat = \"02010\"\nbank = \"00005\"\naction = \"novac 10 03000 00005\"\n",
+    "job 1\njob 2\njob 3\njob 4\njob 5\njob 6\njob 7\nlisted\nlisted\nlisted\ntick 02000/00005 02010/00005 alarm 1202\nSET 0 FREE\nSET 1 FREE\nSET 2 FREE\nSET 3 FREE\nSET 4 FREE\nSET 5 FREE\nSET 6 FREE\nVAC 00300 00354 00430 00504 00560\nNEWJOB 77777\nTIME3 00000\nLST1 57777 57777 57777 57777 57777 57777 57777 57777\nLST2 00000 00000 00000 00000 00000 00000 00000 00000 00000 00000 00000 00000 00000 00000 00000 00000 00000 00000\nPHASE 77777 00000 77777 00000 77777 00000 77777 00000 77777 00000 77777 00000\nFAILREG 01202 00000 01202\nSERVED 11\nALARMS 0 1 0\nRESTARTS 1\n",
+);
+
+const DEVICES_IN_FILE_ORDER: (&str, &str) = (
+    "key = \"novac 10 02000 00005\"\nscript = [\"tick\"]\n[[worker]]\nscript = [\"end\"]\n[[device]]\nline = \"key\"\npulses = 1\n[[device]]\nline = \"radar\"\npulses = 3\n[[device]]\nline = \"timer\"\npulses = 1\n",
+    "tick\nno job\njob 1\ntick\nSET 0 00001 00000 00000 00000 00000 00000 00000 00000 02000 00005 00000 10000\nSET 1 FREE\nSET 2 FREE\nSET 3 FREE\nSET 4 FREE\nSET 5 FREE\nSET 6 FREE\nVAC 00300 00354 00430 00504 00560\nNEWJOB 00000\nTIME3 00000\nLST1 57777 57777 57777 57777 57777 57777 57777 57777\nLST2 00000 00000 00000 00000 00000 00000 00000 00000 00000 00000 00000 00000 00000 00000 00000 00000 00000 00000\nPHASE 77777 00000 77777 00000 77777 00000 77777 00000 77777 00000 77777 00000\nFAILREG 00000 00000 00000\nSERVED 4\nALARMS 0 0 0\nRESTARTS 0\n",
+);
+
+const POWER_UP_BROKEN_PAIR: (&str, &str) = (
+    "power = [\"77777\", \"00000\", \"77777\", \"00000\", \"77777\", \"00000\", \"77773\", \"00005\", \"77777\", \"00000\", \"77777\", \"00000\"]\n[[phase]]\ngroup = 4\nphase = 5\njob = \"novac 20 04000 00007\"\n",
+    "SET 0 FREE\nSET 1 FREE\nSET 2 FREE\nSET 3 FREE\nSET 4 FREE\nSET 5 FREE\nSET 6 FREE\nVAC 00300 00354 00430 00504 00560\nNEWJOB 77777\nTIME3 00000\nLST1 57777 57777 57777 57777 57777 57777 57777 57777\nLST2 00000 00000 00000 00000 00000 00000 00000 00000 00000 00000 00000 00000 00000 00000 00000 00000 00000 00000\nPHASE 77777 00000 77777 00000 77777 00000 77777 00000 77777 00000 77777 00000\nFAILREG 01107 00000 01107\nSERVED 0\nALARMS 0 0 0\nRESTARTS 0\n",
+);
+
+const FULL: &str =
+    "SET 0 12345 12345 12345 12345 12345 12345 12345 12345 12345 12345 12345 12345\nSET 1 12345 12345 12345 12345 12345 12345 12345 12345 12345 12345 12345 12345\nSET 2 12345 12345 12345 12345 12345 12345 12345 12345 12345 12345 12345 12345\nSET 3 12345 12345 12345 12345 12345 12345 12345 12345 12345 12345 12345 12345\nSET 4 12345 12345 12345 12345 12345 12345 12345 12345 12345 12345 12345 12345\nSET 5 12345 12345 12345 12345 12345 12345 12345 12345 12345 12345 12345 12345\nSET 6 12345 12345 12345 12345 12345 12345 12345 12345 12345 12345 12345 12345\nVAC 12345 12345 12345 12345 12345\nNEWJOB 12345\nTIME3 12345\nLST1 12345 12345 12345 12345 12345 12345 12345 12345\nLST2 12345 12345 12345 12345 12345 12345 12345 12345 12345 12345 12345 12345 12345 12345 12345 12345 12345 12345\nPHASE 12345 12345 12345 12345 12345 12345 12345 12345 12345 12345 12345 12345\nFAILREG 12345 12345 12345\nSERVED 18446744073709551615\nALARMS 18446744073709551615 10 9\nRESTARTS 18446744073709551615\n";
+
+#[test]
+fn scripts(rt: HostRuntime) -> Result<(), Fail> {
+    for (script, text) in [EMPTY_SCRIPT, FIRST_PATH, THREE_ALARMS] {
+        let requests = read_script(rt.alloc(), script)?;
+        let mut writer = Narrow {
+            taken: Vec::new(rt.alloc()),
+            most: 1000,
+            calls: 1000,
+        };
+        run_script(rt.alloc(), requests.as_slice(), &mut writer)?;
+        assert_eq!(rt; writer.taken.as_slice(), text.as_bytes());
+    }
+    Ok(())
+}
+
+#[test]
+fn benches(rt: HostRuntime) -> Result<(), Fail> {
+    for (document, text) in [
+        PLANNED_GROUP_AFTER_1203,
+        ALARM_INSIDE_A_TICK,
+        DEVICES_IN_FILE_ORDER,
+        POWER_UP_BROKEN_PAIR,
+    ] {
+        let bench = read_bench(rt.alloc(), document)?;
+        let mut writer = Narrow {
+            taken: Vec::new(rt.alloc()),
+            most: 1000,
+            calls: 1000,
+        };
+        serial(rt.alloc(), &bench, &mut writer)?;
+        assert_eq!(rt; writer.taken.as_slice(), text.as_bytes());
+    }
+    Ok(())
+}
+
+#[test]
+fn one_byte_a_call(rt: HostRuntime) -> Result<(), Fail> {
+    let (script, text) = FIRST_PATH;
+    let requests = read_script(rt.alloc(), script)?;
+    let mut writer = Narrow {
+        taken: Vec::new(rt.alloc()),
+        most: 1,
+        calls: 1000,
+    };
+    run_script(rt.alloc(), requests.as_slice(), &mut writer)?;
+    assert_eq!(rt; writer.taken.as_slice(), text.as_bytes());
+    Ok(())
+}
+
+#[test]
+fn a_write_fails_at_each_call(rt: HostRuntime) -> Result<(), Fail> {
+    let (script, text) = FIRST_PATH;
+    let requests = read_script(rt.alloc(), script)?;
+    for calls in 0..19 {
+        let mut writer = Narrow {
+            taken: Vec::new(rt.alloc()),
+            most: 1000,
+            calls,
+        };
+        let done = run_script(rt.alloc(), requests.as_slice(), &mut writer);
+        assert_eq!(rt; done, Err(RunFault::Output), "{calls}");
+        let mut front: usize = 0;
+        for line in text.lines().take(calls) {
+            front = front.saturating_add(line.len()).saturating_add(1);
+        }
+        assert_eq!(rt; writer.taken.len(), front, "{calls}");
+        assert!(rt;
+            text.as_bytes().starts_with(writer.taken.as_slice()),
+            "{calls}"
+        );
+    }
+    Ok(())
+}
+
+#[test]
+fn a_write_takes_nothing(rt: HostRuntime) -> Result<(), Fail> {
+    let mut writer = Narrow {
+        taken: Vec::new(rt.alloc()),
+        most: 0,
+        calls: 1000,
+    };
+    let done = run_script(rt.alloc(), &[], &mut writer);
+    assert_eq!(rt; done, Err(RunFault::Output));
+    let totals = Totals {
+        served: 0,
+        a1201: 0,
+        a1202: 0,
+        a1203: 0,
+        restarts: 0,
+    };
+    assert_eq!(rt;
+        report(&[Word::zero(); 132], &totals, &mut writer),
+        Err(Output)
+    );
+    assert!(rt; writer.taken.is_empty());
+    Ok(())
+}
+
+#[test]
+fn the_longest_lines(rt: HostRuntime) -> Result<(), Fail> {
+    let word = Word::new(0o12345).ok_or("word")?;
+    let totals = Totals {
+        served: u64::MAX,
+        a1201: u64::MAX,
+        a1202: 10,
+        a1203: 9,
+        restarts: u64::MAX,
+    };
+    let mut writer = Narrow {
+        taken: Vec::new(rt.alloc()),
+        most: 1000,
+        calls: 1000,
+    };
+    report(&[word; 132], &totals, &mut writer).map_err(|_| "output")?;
+    assert_eq!(rt; writer.taken.as_slice(), FULL.as_bytes());
+    Ok(())
+}
