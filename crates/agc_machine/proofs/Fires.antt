@@ -87,7 +87,7 @@ stopped rows start whole fired task action sets new_sets old mid new alarm on fi
     let count : count_due on.rest.agenda.time on.rest.agenda.tasks ≡ suc (due_now mid) = omega arith in
     let same : whole ≡ record { work = (done (action_in rows task) (dispatched_work on.rest)).work; fired = fired ++ task ∷ []; alarm = Some alarm } = sym on.fires ∙ fire_stopped rows on.rest fired task alarm (due_now mid) (first on.rest.agenda on.stands.agenda) (sym t.alarm_is) count in
     subst (λ (f : Fires). Fired new_sets new (fired ++ task ∷ []) (Some alarm) f (seated_fired rows start (fired ++ task ∷ []))) (sym same)
-      (record { stands = t.stands; fired_is = refl; alarm_is = refl })
+    (record { stands = t.stands; fired_is = refl; alarm_is = refl })
 
 -- no task is due any more
 pub finished : (rows : List (Task × Action)) (start : Seated) (whole : Fires) (fired : List Task) (sets : List (Option Held)) (waits : List Waiting) → GoesOn rows sets waits fired start whole → due_now waits ≡ 0 → Fired sets waits fired None whole (seated_fired rows start fired)

@@ -52,7 +52,7 @@ waits-tidy old new same tidy k lt e = tidy k lt (sym (same (91 + k) (omega arith
 phase_words-same : (old new : List ℕ) → length new ≡ length old → SameFrom 117 old new → phase_words new ≡ phase_words old
 phase_words-same old new len same =
     let tail : drop 117 new ≡ drop 117 old = same_number_lists (drop 117 new) (drop 117 old) (length-drop 117 new ∙ ap (λ (n : ℕ). n - 117) len ∙ sym (length-drop 117 old))
-      (λ k lt. get_or-drop 117 new k 0 ∙ same (117 + k) (omega arith) ∙ sym (get_or-drop 117 old k 0)) in
+    (λ k lt. get_or-drop 117 new k 0 ∙ same (117 + k) (omega arith) ∙ sym (get_or-drop 117 old k 0)) in
     ap (take 12) tail
 
 codes_in-same : (old new : List ℕ) → SameFrom 117 old new → codes_in new ≡ codes_in old

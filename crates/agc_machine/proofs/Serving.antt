@@ -86,9 +86,9 @@ served_if m asked e = elim (bool_cases (m.totals.served == m.allowance)) [
   | inr left ↦ elim (bool_cases ((length m.log == m.limit) && not (starts_over asked))) [
     | inl full ↦ let is : Some LogFull ≡ None = rw (left, full) at e in absurd (cc)
     | inr fits ↦ record {
-        unspent = λ same. grind (arith, common_steps);
-        unfilled = λ goes same. grind (arith, common_steps);
-      }
+      unspent = λ same. grind (arith, common_steps);
+      unfilled = λ goes same. grind (arith, common_steps);
+    }
   ]
 ]
 
@@ -135,12 +135,12 @@ same_served m asked now over base log totals over_is base_is log_is totals_is = 
 kept_served : (m : Machined) (asked : Request) (sets : List (Option Held)) (waits : List Waiting) (table : Base) (reply : Reply) (room more : ℕ) → IsLawful m → m.limit ≤ room → refusal_of m asked ≡ None → Steps sets waits table reply (stepped m asked) (places_after m.plan asked (plain_of m) (places_of m)) → due_now waits ≡ 0 → room ≤ more → IsKept (served (stepped m asked) asked m) sets waits table more
 kept_served m asked sets waits table reply room more lawful holds e steps none_due le =
     let both = kept_by (begins (stepped m asked).reply) m asked (stepped m asked) lawful (served_if m asked e).unspent
-      (room_left m asked (plain_of m) lawful.short e)
-      (era_began m.plan (acted m.plan asked (plain_of m)))
-      (sym (reached_more m.plan m.base m.log asked)) in
+    (room_left m asked (plain_of m) lawful.short e)
+    (era_began m.plan (acted m.plan asked (plain_of m)))
+    (sym (reached_more m.plan m.base m.log asked)) in
     let seats = places_by (begins (stepped m asked).reply) m asked (stepped m asked) (places_after m.plan asked (plain_of m) (places_of m))
-      (places_began m.plan asked (plain_of m) (places_of m))
-      (sym (places_more m.plan m.base m.log asked)) in
+    (places_began m.plan asked (plain_of m) (places_of m))
+    (sym (places_more m.plan m.base m.log asked)) in
     record {
       lawful = both.0;
       stands = subst (λ (p : Plain). StandsFor sets waits table p (places_of (served (stepped m asked) asked m))) both.1 (subst (λ (l : List ℕ). StandsFor sets waits table (stepped m asked).plain l) seats steps.state);
@@ -161,16 +161,16 @@ kept_stored m asked sets waits table reply room more over base log totals lawful
     let reply_is : reply ≡ (stepped m asked).reply = steps.reply_is in
     let base_now : (stepped m asked).plain.base ≡ table = steps.state.base_is in
     let here : ◌≡◌ {A = Machined} (record { plan = m.plan; limit = m.limit; allowance = m.allowance; base = base; log = log; totals = totals }) (served (stepped m asked) asked m) =
-        same_served m asked (stepped m asked) over base log totals (over_is ∙ ap begins reply_is) (base_is ∙ ap (λ (b : Base). if over then b else m.base) (sym base_now)) log_is (totals_is ∙ ap (λ (r : Reply). add m.totals (reply_told r)) reply_is) in
+    same_served m asked (stepped m asked) over base log totals (over_is ∙ ap begins reply_is) (base_is ∙ ap (λ (b : Base). if over then b else m.base) (sym base_now)) log_is (totals_is ∙ ap (λ (r : Reply). add m.totals (reply_told r)) reply_is) in
     (subst (λ (x : Machined). IsKept x sets waits table more) (sym here) (kept_served m asked sets waits table reply room more lawful holds e steps none_due le), here)
 
 -- what is kept where an era has just begun
 pub kept_begun : (plan : Planned) (limit allowance : ℕ) (base : Base) (log : List Request) (totals : Totals) (sets : List (Option Held)) (waits : List Waiting) (room : ℕ) → limit ≤ 1000000 → limit ≤ room → allowance < 2 ^ 64 → log ≡ [] → totals ≡ nothing → Stands sets waits (begun plan base.phases) (era_places plan base) → due_now waits ≡ 0 → IsKept (record { plan = plan; limit = limit; allowance = allowance; base = base; log = log; totals = totals }) sets waits base room
 kept_begun plan limit allowance base log totals sets waits room most le fits empty zero_is is none_due =
     subst (λ (l : List Request). IsKept (record { plan = plan; limit = limit; allowance = allowance; base = base; log = l; totals = totals }) sets waits base room) (sym empty)
-      (subst (λ (t : Totals). IsKept (record { plan = plan; limit = limit; allowance = allowance; base = base; log = []; totals = t }) sets waits base room) (sym zero_is) (record {
-        lawful = record { short = omega arith; most = most; allowed = omega arith; fits = fits; restarts = omega arith; alarms = omega arith };
-        stands = record { work = is; base_is = refl };
-        none_due = none_due;
-        holds = le;
-      }))
+    (subst (λ (t : Totals). IsKept (record { plan = plan; limit = limit; allowance = allowance; base = base; log = []; totals = t }) sets waits base room) (sym zero_is) (record {
+      lawful = record { short = omega arith; most = most; allowed = omega arith; fits = fits; restarts = omega arith; alarms = omega arith };
+      stands = record { work = is; base_is = refl };
+      none_due = none_due;
+      holds = le;
+    }))

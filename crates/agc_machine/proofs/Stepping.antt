@@ -33,7 +33,7 @@ steps_over plan asked plain places old_sets sets old_waits waits old_table table
     let places_is : places_after plan asked plain places ≡ era_places plan table = places_began plan asked plain places here ∙ ap (λ (p : Plain). era_places plan p.base) plain_is in
     record {
       state = subst (λ (p : Plain). StandsFor sets waits table p (places_after plan asked plain places)) (sym plain_is)
-        (subst (λ (l : List ℕ). StandsFor sets waits table (era plan table) l) (sym places_is) (record { work = stands; base_is = refl }));
+          (subst (λ (l : List ℕ). StandsFor sets waits table (era plan table) l) (sym places_is) (record { work = stands; base_is = refl }));
       reply_is = did.reply_is;
     }
 
@@ -43,6 +43,6 @@ steps_on plan asked plain places sets waits table reply did on =
     let here : begins (acted plan asked plain).reply ≡ false = ap begins (sym did.reply_is) ∙ on in
     record {
       state = subst (λ (p : Plain). StandsFor sets waits table p (places_after plan asked plain places)) (sym (ended_on plan asked plain here))
-        (subst (λ (l : List ℕ). StandsFor sets waits table (acted plan asked plain).plain l) (sym (places_on plan asked plain places here)) did.state);
+          (subst (λ (l : List ℕ). StandsFor sets waits table (acted plan asked plain).plain l) (sym (places_on plan asked plain places here)) did.state);
       reply_is = did.reply_is;
     }

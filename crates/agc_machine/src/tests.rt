@@ -81,12 +81,22 @@ fn a_planned_group_begins_after_1203(rt: HostRuntime) -> Result<(), Fail> {
     let mut machine = Machine::new(rt.alloc(), planned(rt.alloc())?, limit(100)?, 1_000_000)?;
     let group = Group::new(2).ok_or("group")?;
     let phase = Phase::new(3).ok_or("phase")?;
-    assert!(rt; matches!(reply(&mut machine, Request::SetPhase(group, phase))?, Reply::Phased));
+    assert!(rt;
+        matches!(
+            reply(&mut machine, Request::SetPhase(group, phase))?,
+            Reply::Phased
+        )
+    );
     for _ in 0..9 {
         assert!(rt; matches!(reply(&mut machine, list(5, 0o2000)?)?, Reply::Listed));
     }
     assert_eq!(rt; machine.log_len(), 10);
-    assert!(rt; matches!(reply(&mut machine, list(5, 0o2000)?)?, Reply::Alarmed(Alarm::A1203)));
+    assert!(rt;
+        matches!(
+            reply(&mut machine, list(5, 0o2000)?)?,
+            Reply::Alarmed(Alarm::A1203)
+        )
+    );
     assert_eq!(rt; machine.log_len(), 0);
     assert_eq!(rt; served(machine.totals()), (11, 0, 0, 1, 1));
     for (place, want) in [
@@ -153,10 +163,16 @@ fn a_full_log_and_a_spent_allowance(rt: HostRuntime) -> Result<(), Fail> {
     let _ = reply(&mut machine, novac(0o10, 0o2000)?)?;
     let _ = reply(&mut machine, Request::EndOfJob)?;
     let _ = reply(&mut machine, Request::EndOfJob)?;
-    assert_eq!(rt; refusal(&mut machine, Request::Change), Some(Refusal::LogFull));
+    assert_eq!(rt;
+        refusal(&mut machine, Request::Change),
+        Some(Refusal::LogFull)
+    );
     assert_eq!(rt; refusal(&mut machine, Request::Restart), None);
     assert_eq!(rt; refusal(&mut machine, Request::Change), None);
-    assert_eq!(rt; refusal(&mut machine, Request::Restart), Some(Refusal::Spent));
+    assert_eq!(rt;
+        refusal(&mut machine, Request::Restart),
+        Some(Refusal::Spent)
+    );
     assert_eq!(rt; served(machine.totals()), (5, 0, 0, 0, 1));
     assert!(rt; machine.apply(Request::Tick).request() == Request::Tick);
     assert_eq!(rt; machine.plan().key(), Action::Nothing);
@@ -173,7 +189,12 @@ fn phase_words(minus: u16, phase: u16) -> Result<[Word; 12], Fail> {
     ])
 }
 
-fn recovered(rt: &impl Abort, alloc: Global, minus: u16, want: (bool, u16, u16)) -> Result<(), Fail> {
+fn recovered(
+    rt: &impl Abort,
+    alloc: Global,
+    minus: u16,
+    want: (bool, u16, u16),
+) -> Result<(), Fail> {
     let group = Group::new(4).ok_or("group")?;
     let phase = Phase::new(5).ok_or("phase")?;
     let (priority, entry) = job(0o20, 0o4000)?;
