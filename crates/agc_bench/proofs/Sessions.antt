@@ -1,5 +1,5 @@
 -- The next request of a session, and those after it.
-use Rattle.std.proofs.Common.{◌≡◌, ℕ, suc, ◌+◌, ◌<◌, ◌≤◌, List, [], ◌∷◌, ◌++◌, length, get_or, drop, drop-cons, add-one, length-drop, Option, Some, None, map, subst, refl, sym, ap, ◌∙◌, append_assoc, inl, inr, Result, arith}
+use Rattle.std.proofs.Common.{◌≡◌, ℕ, ◌+◌, ◌<◌, ◌≤◌, List, [], ◌∷◌, ◌++◌, length, get_or, drop, drop-cons, add-one, length-drop, Option, Some, None, map, subst, refl, sym, ap, ◌∙◌, append_assoc, inl, inr, Result, arith}
 use Rattle.std.specs.Io.KnownBytes.{Appends}
 use Rattle.std.specs.Prelude.{IsErr}
 use Rattle.std.specs.List.{fold, flat_map}

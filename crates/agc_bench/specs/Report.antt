@@ -1,5 +1,5 @@
 -- The report of a machine's words and totals.
-use Rattle.std.specs.Prelude.{ℕ, ◌+◌, ◌*◌, List, [], ◌∷◌, ◌++◌, codes, if◌then◌else◌, ◌==◌, slice_index, take, drop}
+use Rattle.std.specs.Prelude.{ℕ, ◌*◌, List, [], ◌∷◌, ◌++◌, codes, if◌then◌else◌, ◌==◌, slice_index, take, drop}
 use Rattle.std.specs.List.{flat_map, range_with_len}
 use Rattle.std.specs.Fmt.{decimal}
 use Rattle.agc_machine.specs.declared.totals.Totals.{Totals}

@@ -1,5 +1,5 @@
 -- The machines of a script and of a bench, and what they are asked for.
-use Rattle.std.specs.Prelude.{ℕ, ◌==◌, ◌&&◌, nat_le, Bool, List, [], ◌∷◌, ◌++◌, Option, Some, None, replicate}
+use Rattle.std.specs.Prelude.{ℕ, ◌==◌, ◌&&◌, nat_le, Bool, List, [], ◌++◌, Option, Some, None, replicate}
 use Rattle.std.specs.List.{flat_map}
 use Rattle.agc_word.specs.Words.{complement}
 use Rattle.agc_plan.specs.declared.request.Action.{Action}

@@ -1,4 +1,4 @@
-use Rattle.std.proofs.Common.{◌≡◌, ◌<◌, ◌≤◌, length, get_or, replicate, sym, arith}
+use Rattle.std.proofs.Common.{◌≡◌, ◌<◌, ◌≤◌, length, get_or, replicate, sym}
 use Rattle.std.proofs.lemmas.List.{get_or-replicate, length-replicate}
 use Rattle.agc_bench.proofs.Steps.{up_to_more, fails_next}
 use Rattle.agc_bench.proofs.Sessions.{after_next, after_last, line_next, line_last}

@@ -1,4 +1,4 @@
-use Rattle.std.proofs.Common.{List, ℕ, ◌∷◌, [], ◌%◌, ◌+◌, ◌++◌, length, ap, ◌∙◌, arith}
+use Rattle.std.proofs.Common.{◌∷◌, [], ◌%◌, ◌+◌, ◌++◌, length, ap, ◌∙◌, arith}
 use Rattle.arrayvec.specs.ArrayString.{ArrayString}
 use Rattle.agc_bench.proofs.Digits.{decimal_one, length_one, length_more, after_rest}
 use Rattle.agc_bench.proofs.numerals.+add_digits.Goals as goal

@@ -1,4 +1,4 @@
-use Rattle.std.proofs.Common.{arith, refl}
+use Rattle.std.proofs.Common.{arith}
 use Rattle.std.specs.List.{range_with_len}
 use Rattle.agc_bench.specs.Report.{set_line, sets_text}
 use Rattle.agc_bench.proofs.Steps.{up_to_start, up_to_number, up_to_last, up_to_more, fails_next}

@@ -1,4 +1,3 @@
-use Rattle.std.proofs.Common.{◌≡◌}
 use Rattle.agc_bench.proofs.Pairs.{recovered_is}
 use Rattle.agc_bench.proofs.run.powered.Goals as goal
 
