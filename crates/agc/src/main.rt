@@ -1,4 +1,4 @@
-//! `agc script` and `agc serial`: runs a script of requests, or a bench, from standard input.
+//! `agc script`, `agc serial` and `agc threads`: runs a script of requests, or a bench, from standard input.
 #![tactic(auto)]
 
 mod fault;

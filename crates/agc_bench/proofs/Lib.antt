@@ -15,3 +15,6 @@ pub mod Steps
 pub mod Digits
 pub mod Sessions
 pub mod Pairs
+pub mod Askers
+pub mod Pledges
+pub mod Early

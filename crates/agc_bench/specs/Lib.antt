@@ -16,3 +16,4 @@ pub mod Replies
 pub mod Report
 pub mod Session
 pub mod Runs
+pub mod Threads

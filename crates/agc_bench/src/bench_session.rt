@@ -26,7 +26,7 @@ fn action_request(action: Action) -> Option<Request>
 }
 
 /// The request for which a pulse of the line asks.
-fn pulse_request(bench: &Bench, line: Line) -> Option<Request>
+pub(crate) fn pulse_request(bench: &Bench, line: Line) -> Option<Request>
     ensures { result ≡ pulse_request bench.now line }
 {
     match line {

@@ -1,6 +1,7 @@
 //! Scripts and benches: what a text asks of the machine, and why a text is refused.
 #![tactic(auto)]
 
+mod asker;
 mod bench;
 mod bench_session;
 mod device;
@@ -21,6 +22,9 @@ mod session;
 #[cfg(test)]
 mod tests;
 mod texts;
+#[cfg(test)]
+mod thread_tests;
+mod threading;
 mod values;
 mod writing;
 
@@ -33,3 +37,4 @@ pub use reporting::report;
 pub use run::{run_script, serial};
 pub use run_fault::{Output, RunFault};
 pub use script::read_script;
+pub use threading::threads;

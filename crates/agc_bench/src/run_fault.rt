@@ -2,6 +2,7 @@ ghost use Rattle.std.specs.Prelude.{◌≡◌};
 ghost use Rattle.agc_bench.specs.declared.run_fault.RunFault.TheVariants.{NoMemory as WantOfMemory, Output as OutputFailed};
 
 use agc_machine::NoMemory;
+use std::alloc::{AllocError, AllocFailed};
 use thiserror::Error;
 
 /// A write failed, or took nothing of what was left.
@@ -39,5 +40,21 @@ impl From<Output> for RunFault {
 
     fn from(_error: Output) -> RunFault {
         RunFault::Output
+    }
+}
+
+impl From<AllocError> for RunFault {
+    ghost from_gives = { λ _ e. e ≡ WantOfMemory };
+
+    fn from(_error: AllocError) -> RunFault {
+        RunFault::NoMemory
+    }
+}
+
+impl<T: Drop> From<AllocFailed<T>> for RunFault {
+    ghost from_gives = { λ _ e. e ≡ WantOfMemory };
+
+    fn from(_error: AllocFailed<T>) -> RunFault {
+        RunFault::NoMemory
     }
 }

@@ -12,8 +12,9 @@ use agc_plan::{Address, Alarm, Entry, JobNo, Place, Priority, Reply};
 use agc_word::{Erasable, Word};
 use std::marker::Model;
 
-/// The seven core sets, each free or a job's. Set 0 belongs to the running job. Contracts see the job that each set
-/// holds, if it holds one. Source: the listings' EXECUTIVE section.
+/// The seven core sets, 0 to 6, each free or a job's. Set 0 belongs to the running job. The five VAC areas, 1 to 5,
+/// are the jobs' too. Contracts see the job that each set holds, if it holds one. Source: the listings' EXECUTIVE
+/// section; seven sets and five areas: profile.
 #[derive(Drop)]
 pub struct Cores {
     sets: [Option<Record>; 7],
@@ -32,7 +33,7 @@ impl Model for Cores {
 }
 
 impl Cores {
-    /// All core sets and VAC areas free.
+    /// All core sets and VAC areas free, so nobody runs. Source: the listings' EXECUTIVE section.
     pub fn new() -> Cores
         ensures jobs { jobs_of result ≡ no_jobs 7 }
         ensures placed { entries_of result ≡ replicate 7 0 }
@@ -40,7 +41,7 @@ impl Cores {
         Cores { sets: [None; 7] }
     }
 
-    /// Frees all core sets and VAC areas.
+    /// Frees all core sets and VAC areas, so nobody runs. Source: the listings' EXECUTIVE section.
     pub fn clear(&mut self)
         ensures jobs { jobs_of self.new ≡ no_jobs 7 }
         ensures placed { entries_of self.new ≡ replicate 7 0 }
@@ -48,15 +49,17 @@ impl Cores {
         *self = Cores::new();
     }
 
-    /// The number of the running job, None where nobody runs.
+    /// The number of the running job, None where nobody runs. Source: the listings' EXECUTIVE section; numbers:
+    /// profile.
     pub fn running(&self) -> Option<JobNo>
         ensures { result ≡ running_in self.now }
     {
         running(&self.sets)
     }
 
-    /// NOVAC: establishes a job without a VAC area. `Established`, or `Alarmed` 1202 where seven jobs live, and then
-    /// nothing changes.
+    /// NOVAC: establishes a job without a VAC area, with work words 00000, which runs if nobody did. `Established`
+    /// with its number, the least unused one, or `Alarmed` 1202 where seven jobs live, and then nothing changes.
+    /// Source: the listings' EXECUTIVE section; which number and set: profile.
     pub fn novac(&mut self, priority: Priority, entry: Entry) -> Reply
         ensures outcome { record { jobs = jobs_of self.new; reply = result } ≡ plain.novac priority entry (jobs_of self.old) }
         ensures placed { entries_of self.new ≡ placed_new (established result) (running_in self.new) (entries_of self.old) }
@@ -64,8 +67,9 @@ impl Cores {
         sets::establish(&mut self.sets, priority, entry, 0)
     }
 
-    /// FINDVAC: establishes a job with a VAC area. `Established`, or `Alarmed` 1201 where all five areas are owned, else
-    /// 1202 where seven jobs live, and then nothing changes.
+    /// FINDVAC: as NOVAC, with the least free VAC area. `Established` with its number, or `Alarmed` 1201 where all
+    /// five areas are owned, else 1202 where seven jobs live, and then nothing changes. Source: the listings'
+    /// EXECUTIVE section; which number, set and area: profile.
     pub fn findvac(&mut self, priority: Priority, entry: Entry) -> Reply
         ensures outcome { record { jobs = jobs_of self.new; reply = result } ≡ plain.findvac priority entry (jobs_of self.old) }
         ensures placed { entries_of self.new ≡ placed_new (established result) (running_in self.new) (entries_of self.old) }
@@ -76,8 +80,8 @@ impl Cores {
         }
     }
 
-    /// End of job: frees the running job's set and area; the best job takes set 0. `Left` with who runs then, or `NoJob`
-    /// where nobody ran.
+    /// End of job: frees the running job's set and area; the best job takes set 0. `Left` with who runs then, or
+    /// `NoJob` where nobody ran, and then nothing changes. Source: the listings' EXECUTIVE section.
     pub fn end_of_job(&mut self) -> Reply
         ensures outcome { record { jobs = jobs_of self.new; reply = result } ≡ plain.end_of_job (jobs_of self.old) }
         ensures placed { entries_of self.new ≡ placed_end (running_in self.old) (running_in self.new) (entries_of self.old) }
@@ -86,7 +90,7 @@ impl Cores {
     }
 
     /// JOBSLEEP: the running job sleeps until this address is called; the best job takes set 0. `Left` with who runs
-    /// then, or `NoJob` where nobody ran.
+    /// then, or `NoJob` where nobody ran, and then nothing changes. Source: the listings' EXECUTIVE section.
     pub fn job_sleep(&mut self, at: Address) -> Reply
         ensures outcome { record { jobs = jobs_of self.new; reply = result } ≡ plain.sleep at (jobs_of self.old) }
         ensures placed { entries_of self.new ≡ fronted (running_in self.new) (entries_of self.old) }
@@ -94,7 +98,9 @@ impl Cores {
         sets::sleep(&mut self.sets, at)
     }
 
-    /// JOBWAKE: awakens the least-numbered sleeper of this address, which runs if nobody did. `Roused`, or `NoSleeper`.
+    /// JOBWAKE: awakens the least-numbered sleeper of this address, which runs if nobody did. `Roused` with its
+    /// number, or `NoSleeper`, and then nothing changes. Source: the listings' EXECUTIVE section; least number:
+    /// profile.
     pub fn job_wake(&mut self, at: Address) -> Reply
         ensures outcome { record { jobs = jobs_of self.new; reply = result } ≡ plain.rouse at (jobs_of self.old) }
         ensures placed { entries_of self.new ≡ fronted (running_in self.new) (entries_of self.old) }
@@ -102,8 +108,9 @@ impl Cores {
         sets::rouse(&mut self.sets, at)
     }
 
-    /// PRIOCHNG: sets the running job's priority; where an awake job is then strictly more urgent, the best takes set 0.
-    /// `Runs` with who runs then, or `NoJob` where nobody ran.
+    /// PRIOCHNG: sets the running job's priority; where an awake job is then strictly more urgent, the best takes set
+    /// 0. `Runs` with who runs then, or `NoJob` where nobody ran, and then nothing changes. Source: the listings'
+    /// EXECUTIVE section; the change at once: profile.
     pub fn prio_change(&mut self, priority: Priority) -> Reply
         ensures outcome { record { jobs = jobs_of self.new; reply = result } ≡ plain.prio priority (jobs_of self.old) }
         ensures placed { entries_of self.new ≡ fronted (running_in self.new) (entries_of self.old) }
@@ -111,8 +118,9 @@ impl Cores {
         sets::prio(&mut self.sets, priority)
     }
 
-    /// Change of job: where an awake job is strictly more urgent than the running one, the best takes set 0. `Runs` with
-    /// who runs then, or `NoJob` where nobody ran.
+    /// Change of job: where an awake job is strictly more urgent than the running one, the best takes set 0. `Runs`
+    /// with who runs then, or `NoJob` where nobody ran, and then nothing changes. Source: the listings' EXECUTIVE
+    /// section.
     pub fn change_job(&mut self) -> Reply
         ensures outcome { record { jobs = jobs_of self.new; reply = result } ≡ plain.change (jobs_of self.old) }
         ensures placed { entries_of self.new ≡ fronted (running_in self.new) (entries_of self.old) }
@@ -120,7 +128,8 @@ impl Cores {
         sets::change(&mut self.sets)
     }
 
-    /// Sets a work word of the running job. `Stored`, or `NoJob` where nobody runs. Source: profile.
+    /// Sets a work word of the running job, MPAC+1 to MPAC+6. `Stored`, or `NoJob` where nobody runs, and then
+    /// nothing changes. Source: profile.
     pub fn store(&mut self, place: Place, word: Word) -> Reply
         ensures outcome { record { jobs = jobs_of self.new; reply = result } ≡ plain.store place word (jobs_of self.old) }
         ensures placed { entries_of self.new ≡ entries_of self.old }
@@ -128,7 +137,11 @@ impl Cores {
         sets::store(&mut self.sets, place, word)
     }
 
-    /// Writes the core sets, use words and NEWJOB into places 0 to 89 of the erasable words, and no others.
+    /// Writes the core sets, use words and NEWJOB into places 0 to 89 of the erasable words, and no others. A set is
+    /// twelve words: MPAC, which holds the job's number and its six work words, MODE, LOC, its address, BANKSET,
+    /// PUSHLOC and PRIORITY, which is 77777 in a free set, 512 times the priority plus the area's address in that of
+    /// an awake job, and the complement of that in a sleeper's. Source: the listings' EXECUTIVE section; numbers, use
+    /// words and 77777 in NEWJOB: profile.
     pub fn encode(&self, e: &mut Erasable)
         ensures { IsEncoded self.now e.old e.new }
     {

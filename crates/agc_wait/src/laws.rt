@@ -6,12 +6,13 @@ ghost use Rattle.agc_wait.specs.Runs.{Move, MovesLater, run_of, FiresWhenDue, Fi
 
 /// Law: over every run of listings and ticks, a task that is listed with delay d while fewer than nine wait fires in the
 /// d-th tick after it, in no earlier and no later one, and the tasks of one due time fire in the order in which they
-/// were listed. (No task has an action here.)
+/// were listed. (No task has an action here.) Source: the listings' WAITLIST section.
 pub fn tasks_fire_when_due()
     ensures { (moves : List Move) → All MovesLater moves → FiresWhenDue (run_of moves) }
 {}
 
 /// Law: where no task is overdue, to fire the earliest arrival of those that are due is to fire the first in order.
+/// Source: the listings' WAITLIST section.
 pub fn earliest_arrival_is_first_in_order()
     ensures { (time : ℕ) (tasks ordered : List Pending) → InOrder tasks ordered → RisesFrom time ordered → FiresInOrder time tasks ordered }
 {}

@@ -12,13 +12,13 @@ use arrayvec::ArrayVec;
 use std::marker::Model;
 use thiserror::Error;
 
-/// A tenth task was to be listed. Source: the listings' WAITLIST section.
+/// A tenth task was to be listed: nine wait already. Source: the listings' WAITLIST section.
 #[derive(Clone, Copy, PartialEq, Eq, Debug, Error)]
 #[error("nine tasks wait already")]
 pub struct Full;
 
 /// The Waitlist over records: at most nine tasks, in the order in which they are due, each with its distance from now
-/// in centiseconds. Contracts see it as a list of these. Source: the listings' WAITLIST section.
+/// in centiseconds, 0 to 16250. Contracts see it as a list of these. Source: the listings' WAITLIST section.
 #[derive(Drop)]
 pub struct Waits {
     records: ArrayVec<Record, 9>,
@@ -37,7 +37,7 @@ impl Model for Waits {
 }
 
 impl Waits {
-    /// No tasks.
+    /// No tasks. Source: the listings' WAITLIST section.
     pub fn new() -> Waits
         ensures empty { result ≡ [] }
         ensures stands { (time : ℕ) → StandsFor result (record { tasks = []; time = time }) }
@@ -48,7 +48,7 @@ impl Waits {
         }
     }
 
-    /// Takes all tasks out.
+    /// Takes all tasks out. Source: the listings' WAITLIST section.
     pub fn clear(&mut self)
         ensures empty { self.new ≡ [] }
         ensures stands { (time : ℕ) → StandsFor self.new (record { tasks = []; time = time }) }
@@ -57,8 +57,8 @@ impl Waits {
         self.records.clear();
     }
 
-    /// Lists a task, due this long from now: after all that are due no later. `Full` with nine tasks, and then nothing
-    /// changes.
+    /// Lists a task, due this many centiseconds from now: after all that are due no later. `Full` with nine tasks,
+    /// and then nothing changes. Source: the listings' WAITLIST section.
     pub fn list(&mut self, delay: Delay, task: Task) -> Result<(), Full>
         ensures stands { (agenda : Agenda) × StandsFor self.old agenda }
         ensures full { (agenda : Agenda) → StandsFor self.old agenda → IsErr result ↔ (length agenda.tasks ≡ 9) }
@@ -76,7 +76,7 @@ impl Waits {
         Ok(())
     }
 
-    /// Whether a task is due now.
+    /// Whether a task is due now: whether the first distance is 0. Source: the listings' WAITLIST section.
     pub fn due(&self) -> bool
         ensures stands { (agenda : Agenda) × StandsFor self.now agenda }
         ensures value { result ≡ is_due self.now }
@@ -86,7 +86,8 @@ impl Waits {
         record::is_due(self.records.as_slice())
     }
 
-    /// A centisecond passes; no task may be due before it. Answers whether one is due now.
+    /// A centisecond passes; no task may be due before it. Answers whether one is due now. Source: the listings'
+    /// WAITLIST section.
     pub fn count_time3(&mut self) -> bool
         requires { is_due self.old ≡ false }
         ensures counted { (agenda : Agenda) → StandsFor self.old agenda → StandsFor self.new (later agenda) }
@@ -97,7 +98,8 @@ impl Waits {
         record::is_due(self.records.as_slice())
     }
 
-    /// Takes out the first task, which must be due: of those due now the earliest arrival.
+    /// Takes out the first task, which must be due: of those due now the earliest arrival. Source: the listings'
+    /// WAITLIST section.
     pub fn dispatch(&mut self) -> Task
         requires { is_due self.old ≡ true }
         ensures first { (agenda : Agenda) → StandsFor self.old agenda → first_due agenda.time agenda.tasks ≡ Some result }
@@ -108,7 +110,10 @@ impl Waits {
         first.task
     }
 
-    /// Writes TIME3, LST1 and LST2: places 90 to 116, and no others.
+    /// Writes TIME3, LST1 and LST2: places 90 to 116, and no others. TIME3 is 00000 at distance 0 or without a task,
+    /// else 16384 less the first distance. A word of LST1 has as its value 1 less the gap to the next task (a gap of
+    /// 1 is 00000), and is 57777 where there is no next task. LST2 has each task's address and bank word, 00000 00000
+    /// in empty places. Source: the listings' WAITLIST section; the coding: profile.
     pub fn encode(&self, e: &mut Erasable)
         ensures lawful { IsLawfulTable e.new }
         ensures same { waits_of e.new ≡ self.now }

@@ -3,7 +3,8 @@ ghost use Rattle.std.specs.Prelude.{◌≡◌, ◌<◌, length, replicate, slice
 use crate::word::Word;
 use std::marker::Model;
 
-/// The 132 words of erasable memory. Contracts see them as a list.
+/// The 132 words of erasable memory that the model has, by place, from 0 to 131. Contracts see them as the list of
+/// their bits. Source: profile.
 #[derive(Drop)]
 pub struct Erasable {
     words: [Word; 132],
@@ -20,7 +21,7 @@ impl Model for Erasable {
 }
 
 impl Erasable {
-    /// All 132 words 00000.
+    /// All 132 words 00000. Source: profile.
     pub fn new() -> Erasable
         ensures { result ≡ replicate 132 0 }
     {
@@ -29,7 +30,7 @@ impl Erasable {
         }
     }
 
-    /// The word at a place, from 0.
+    /// The word at a place, which must be below 132. Source: profile.
     pub fn get(&self, place: usize) -> Word
         requires { place < 132 }
         ensures value { result ≡ slice_index self.now place }
@@ -41,7 +42,7 @@ impl Erasable {
         word
     }
 
-    /// Sets the word at a place, from 0. No other word changes.
+    /// Sets the word at a place, which must be below 132. No other word changes. Source: profile.
     pub fn set(&mut self, place: usize, word: Word)
         requires { place < 132 }
         ensures value { self.new ≡ slice_set self.old place word }
@@ -50,7 +51,7 @@ impl Erasable {
         self.words[place] = word;
     }
 
-    /// All words, by place.
+    /// All 132 words, by place. Source: profile.
     pub fn words(&self) -> [Word; 132]
         ensures { result ≡ self.now }
     {
@@ -58,7 +59,7 @@ impl Erasable {
     }
 }
 
-/// The default has all 132 words 00000.
+/// The default has all 132 words 00000. Source: profile.
 impl Default for Erasable {
     ghost is_default = { λ e. e ≡ replicate 132 0 };
 

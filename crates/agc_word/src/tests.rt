@@ -5,24 +5,91 @@ fn word(bits: u16) -> Result<Word, Fail> {
     Ok(Word::new(bits).ok_or("word")?)
 }
 
+/// Two words, and the sum and whether it overflows, by the rule on sums of words.
+const SUMS: [(u16, u16, u16, bool); 52] = [
+    // Both zeros.
+    (0o00000, 0o00000, 0o00000, false),
+    (0o00000, 0o77777, 0o77777, false),
+    (0o77777, 0o00000, 0o77777, false),
+    (0o77777, 0o77777, 0o77777, false),
+    (0o00001, 0o77777, 0o00001, false),
+    (0o77777, 0o00001, 0o00001, false),
+    (0o77776, 0o77777, 0o77776, false),
+    (0o00000, 0o77776, 0o77776, false),
+    (0o37777, 0o77777, 0o37777, false),
+    (0o77777, 0o40000, 0o40000, false),
+    (0o00001, 0o77776, 0o77777, false),
+    (0o77776, 0o00001, 0o77777, false),
+    (0o12345, 0o65432, 0o77777, false),
+    (0o37777, 0o40000, 0o77777, false),
+    (0o40000, 0o37777, 0o77777, false),
+    // Carries.
+    (0o37776, 0o40000, 0o77776, false),
+    (0o37777, 0o40001, 0o00001, false),
+    (0o00002, 0o77776, 0o00001, false),
+    (0o00002, 0o77775, 0o77777, false),
+    (0o77776, 0o77776, 0o77775, false),
+    (0o07777, 0o00001, 0o10000, false),
+    (0o17777, 0o00001, 0o20000, false),
+    (0o57777, 0o20000, 0o77777, false),
+    (0o60000, 0o20000, 0o00001, false),
+    (0o40000, 0o00001, 0o40001, false),
+    (0o37777, 0o77776, 0o37776, false),
+    // Up to 16383, and beyond.
+    (0o00000, 0o37777, 0o37777, false),
+    (0o37776, 0o00001, 0o37777, false),
+    (0o20000, 0o17777, 0o37777, false),
+    (0o25252, 0o12525, 0o37777, false),
+    (0o37777, 0o00001, 0o00000, true),
+    (0o00001, 0o37777, 0o00000, true),
+    (0o37776, 0o00002, 0o00000, true),
+    (0o20000, 0o20000, 0o00000, true),
+    (0o25252, 0o12526, 0o00000, true),
+    (0o37777, 0o00002, 0o00001, true),
+    (0o20001, 0o20000, 0o00001, true),
+    (0o37777, 0o20000, 0o17777, true),
+    (0o37777, 0o37777, 0o37776, true),
+    // Down to -16383, and beyond.
+    (0o00000, 0o40000, 0o40000, false),
+    (0o40001, 0o77776, 0o40000, false),
+    (0o57777, 0o60000, 0o40000, false),
+    (0o52525, 0o65252, 0o40000, false),
+    (0o40000, 0o77776, 0o77777, true),
+    (0o77776, 0o40000, 0o77777, true),
+    (0o57777, 0o57777, 0o77777, true),
+    (0o40001, 0o77775, 0o77777, true),
+    (0o52525, 0o65251, 0o77777, true),
+    (0o40000, 0o77775, 0o77776, true),
+    (0o57776, 0o57777, 0o77776, true),
+    (0o40000, 0o57777, 0o60000, true),
+    (0o40000, 0o40000, 0o40001, true),
+];
+
 #[test]
 fn sums_at_the_ends_of_the_range(rt: HostRuntime) -> Result<(), Fail> {
-    let cases = [
-        (0o37777, 0o00001, 0o00000, true),
-        (0o00001, 0o77776, 0o77777, false),
-        (0o40000, 0o77776, 0o77777, true),
-        (0o20000, 0o20000, 0o00000, true),
-        (0o77777, 0o00001, 0o00001, false),
-    ];
-    for (one, other, want, beyond) in cases {
+    for (one, other, want, beyond) in SUMS {
         assert_eq!(rt;
             word(one)?.add(word(other)?),
             (word(want)?, beyond),
             "{one} and {other}"
         );
     }
-    assert_eq!(rt; word(0o37776)?.count_up(), (word(0o37777)?, false));
-    assert_eq!(rt; word(0o37777)?.count_up(), (Word::zero(), true));
+    Ok(())
+}
+
+#[test]
+fn counting_up_at_the_edges(rt: HostRuntime) -> Result<(), Fail> {
+    let cases = [
+        (0o00000, 0o00001, false),
+        (0o37776, 0o37777, false),
+        (0o37777, 0o00000, true),
+        (0o40000, 0o40001, false),
+        (0o77776, 0o77777, false),
+        (0o77777, 0o00001, false),
+    ];
+    for (before, want, beyond) in cases {
+        assert_eq!(rt; word(before)?.count_up(), (word(want)?, beyond), "{before}");
+    }
     Ok(())
 }
 

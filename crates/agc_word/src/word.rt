@@ -3,7 +3,8 @@ ghost use Rattle.agc_word.specs.Words.{value_of, complement, word_of, sum_of, ca
 
 use std::marker::Model;
 
-/// A word of fifteen bits in ones' complement. Contracts see it as its bits.
+/// A word of fifteen bits in ones' complement, 00000 to 77777 octal, of value -16383 to 16383. 77777 is minus zero.
+/// Contracts see it as its bits, a number below 32768. Source: the listings, in all sections.
 #[derive(Clone, Copy, PartialEq, Eq, Debug)]
 pub struct Word {
     bits: u16,
@@ -22,7 +23,7 @@ impl Model for Word {
 }
 
 impl Word {
-    /// The word of these bits. None from 32768 on.
+    /// The word of these bits, 0 to 32767. None from 32768 on. Source: the listings' words.
     pub fn new(bits: u16) -> Option<Word>
         ensures valid { IsSome result ↔ (bits < 32768) }
         ensures value { IfSome result (λ w. w ≡ bits) }
@@ -34,14 +35,14 @@ impl Word {
         }
     }
 
-    /// Plus zero, 00000.
+    /// Plus zero, 00000. Source: the listings' words.
     pub fn zero() -> Word
         ensures { result ≡ 0 }
     {
         Word { bits: 0 }
     }
 
-    /// The fifteen bits, as a number below 32768.
+    /// The fifteen bits, as a number below 32768. Source: the listings' words.
     pub fn bits(self) -> u16
         ensures value { result ≡ self }
         ensures range { self < 32768 }
@@ -49,7 +50,7 @@ impl Word {
         self.bits
     }
 
-    /// The negative: each bit turned.
+    /// The negative: each bit turned, so that 00000 gives 77777. Source: the listings' words.
     pub fn neg(self) -> Word
         ensures { result ≡ complement self }
     {
@@ -59,7 +60,7 @@ impl Word {
     }
 
     /// The word of a value: 00000 for 0, the complement of its amount for a negative value. None outside -16383 to
-    /// 16383.
+    /// 16383. Source: the listings' words.
     pub fn of_value(value: i32) -> Option<Word>
         ensures valid { IsSome result ↔ ((neg_ℤ (pos 16383) ≤ℤ value) × (value ≤ℤ pos 16383)) }
         ensures word { IfSome result (λ w. w ≡ word_of value) }
@@ -75,7 +76,7 @@ impl Word {
         }
     }
 
-    /// The value, from -16383 to 16383. Both zeros have value 0.
+    /// The value, from -16383 to 16383. Both zeros have value 0. Source: the listings' words.
     pub fn value(self) -> i32
         ensures value { result ≡ value_of self }
         ensures range { (neg_ℤ (pos 16383) ≤ℤ result) × (result ≤ℤ pos 16383) }
@@ -88,7 +89,8 @@ impl Word {
     }
 
     /// The sum, and whether the exact sum of both values overflows: whether it is beyond -16383 to 16383. Where it is, the
-    /// value of the answer is nearer to zero by 16384 than the exact sum.
+    /// value of the answer is nearer to zero by 16384 than the exact sum. Source: the listings' words, with
+    /// end-around carry; what an overflow leaves: profile.
     pub fn add(self, other: Word) -> (Word, bool)
         ensures sum { result ≡ sum_of self other }
         ensures exact { IsFalse result.1 → value_of result.0 ≡ value_of self +ℤ value_of other }
@@ -110,7 +112,8 @@ impl Word {
         }
     }
 
-    /// The sum with 00001, and whether it overflows: 37777 gives 00000 and true. Minus zero gives 00001.
+    /// The sum with 00001, and whether it overflows: 37777 gives 00000 and true. Minus zero gives 00001. Source: the
+    /// listings' counters.
     pub fn count_up(self) -> (Word, bool)
         ensures sum { result ≡ sum_of self 1 }
         ensures next { self < 16383 → result ≡ (self + 1, false) }
@@ -119,14 +122,14 @@ impl Word {
         self.add(Word { bits: 1 })
     }
 
-    /// Whether this is minus zero, 77777.
+    /// Whether this is minus zero, 77777. Source: the listings' words.
     pub fn is_minus_zero(self) -> bool
         ensures { IsTrue result ↔ (self ≡ 32767) }
     {
         self.bits == 32767
     }
 
-    /// Whether the first of the fifteen bits is set, as it is in minus zero too.
+    /// Whether the first of the fifteen bits is set: 40000 to 77777, minus zero too. Source: the listings' words.
     pub fn is_negative(self) -> bool
         ensures { IsTrue result ↔ (16384 ≤ self) }
     {
@@ -134,7 +137,7 @@ impl Word {
     }
 }
 
-/// The default is plus zero, 00000.
+/// The default is plus zero, 00000. Source: profile.
 impl Default for Word {
     ghost is_default = { λ w. w ≡ 0 };
 

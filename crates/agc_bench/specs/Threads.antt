@@ -1,0 +1,92 @@
+-- What the threads of a bench ask, and what a run of them writes.
+use Rattle.std.specs.Prelude.{◌≡◌, ℕ, ◌<◌, ◌-◌, List, [], ◌∷◌, ◌++◌, map, length, replicate, slice_index_or, Option, Result, Ok, Err}
+use Rattle.std.specs.List.{enumerate_from}
+use Rattle.std.specs.Io.KnownBytes.{Appends}
+use Rattle.agc_plan.specs.declared.request.Request.{Request}
+use Rattle.agc_machine.specs.declared.totals.Totals.{Totals}
+use Rattle.agc_machine.specs.Image.{IsImage}
+use Rattle.agc_machine.specs.Machines.{Machined}
+use Rattle.agc_machine.specs.Told.{nothing}
+use Rattle.agc_desk.specs.Accounts.{told_to}
+use Rattle.agc_desk.specs.Runs.{Asks, Reached, Worked}
+use Rattle.agc_bench.specs.declared.run_fault.RunFault.{RunFault}
+use Rattle.agc_bench.specs.declared.run_fault.RunFault.TheVariants.{NoMemory, Output, NoThread, Lost}
+use Rattle.agc_bench.specs.Benches.{Benched}
+use Rattle.agc_bench.specs.Runs.{device_requests}
+use Rattle.agc_bench.specs.Report.{report_text}
+use Rattle.agc_bench.specs.Writing.{AppendsFront}
+
+-- who asks in a thread: a worker with its number and its requests, or a device with its requests
+pub data Asker : Type 0 where
+  Worker : ℕ → List Request → Asker
+  Device : List Request → Asker
+
+-- a device without a pulse
+abbrev pub idle : Asker
+idle = Device []
+
+-- the workers of a bench, numbered from 0
+abbrev pub workers_of : Benched → List Asker
+workers_of bench = map (λ w. Worker w.0 w.1) (enumerate_from 0 bench.workers)
+
+-- the devices of a bench
+abbrev pub devices_of : Benched → List Asker
+devices_of bench = map (λ d. Device (device_requests bench d)) bench.devices
+
+-- these, or one that is idle where there is none
+abbrev pub some_or_idle : List Asker → List Asker
+some_or_idle [] = idle ∷ []
+some_or_idle (asker ∷ more) = asker ∷ more
+
+-- who asks, each in a thread: the workers, then the devices, and one at least
+abbrev pub askers_of : Benched → List Asker
+askers_of bench = some_or_idle (workers_of bench ++ devices_of bench)
+
+-- who asks in the thread of this number
+abbrev pub asker_at : Benched → ℕ → Asker
+asker_at bench thread = slice_index_or (askers_of bench) thread idle
+
+-- the holder of a share was told old, asked what is its own, and was then told new: a device asks it all, a worker as far
+-- as its gate lets it
+abbrev pub AsksOwn : (ℕ → ℕ → Type 0) → Asker → Totals → Totals → Type 0
+AsksOwn may_stop (Worker worker requests) old new = (n : ℕ) × Worked Asks (may_stop worker) requests n old new
+AsksOwn may_stop (Device requests) old new = Reached Asks old requests new
+
+-- in each thread what is its own was asked with the share at its place
+abbrev pub EachAsks : (ℕ → ℕ → Type 0) → Benched → List Totals → List Totals → Type 0
+EachAsks may_stop bench old new =
+    (i : ℕ) (s t : Totals) → i < length new → AsksOwn may_stop (asker_at bench i) (slice_index_or old i s) (slice_index_or new i t)
+
+-- the totals of a run: the script was asked with the first share; then each asked what is its own, the first with that
+-- share, each other with one that was told nothing; and the totals are what the shares were told together
+pub record IsGathered (may_stop : ℕ → ℕ → Type 0) (bench : Benched) (totals : Totals) : Type 0 where
+  pub first : Totals
+  pub shares : List Totals
+  pub script : Reached Asks nothing bench.script first
+  pub for_each : length shares ≡ length (askers_of bench)
+  pub asked : EachAsks may_stop bench (first ∷ replicate (length (askers_of bench) - 1) nothing) shares
+  pub together : totals ≡ told_to shares
+
+-- the report of words that are some machine's, and of the totals of a run
+pub record IsRunReport (may_stop : ℕ → ℕ → Type 0) (bench : Benched) (text : List ℕ) : Type 0 where
+  pub machine : Machined
+  pub words : List ℕ
+  pub totals : Totals
+  pub words_are : IsImage machine words
+  pub gathered : IsGathered may_stop bench totals
+  pub text_is : text ≡ report_text words totals
+
+-- a fault that comes before the first write
+abbrev pub IsEarly : RunFault → Type 0
+IsEarly NoMemory = Unit {0}
+IsEarly NoThread = Unit {0}
+IsEarly Lost = Unit {0}
+IsEarly Output = ⊥
+
+-- what a run of threads wrote: the report and nothing else; a front of it where a write failed; nothing at any other fault
+abbrev pub WritesRun : {T : Type 0} → (ℕ → ℕ → Type 0) → Benched → Option (List ℕ) → Option (List ℕ) → Result T RunFault → Type 0
+WritesRun may_stop bench old new (Ok _) = (text : List ℕ) × IsRunReport may_stop bench text × Appends old new text
+WritesRun may_stop bench old new (Err Output) = (text : List ℕ) × IsRunReport may_stop bench text × AppendsFront old new text
+WritesRun may_stop bench old new (Err NoMemory) = new ≡ old
+WritesRun may_stop bench old new (Err NoThread) = new ≡ old
+WritesRun may_stop bench old new (Err Lost) = new ≡ old

@@ -1,0 +1,215 @@
+use crate::{RunFault, read_bench, threads};
+use agc_desk::{Gate, OpenGate};
+use std::alloc::Global;
+use std::io;
+use std::sync::Wait;
+use std::sync::atomic::{AtomicBool, Ordering};
+use std::test::Fail;
+use std::thread::Threads;
+
+/// A writer into memory that fails after so many calls.
+#[derive(Drop)]
+struct Paper {
+    taken: Vec<u8>,
+    calls: usize,
+}
+
+impl io::Write for Paper {
+    fn write(&mut self, buf: &[u8]) -> io::Result<usize> {
+        if self.calls == 0 {
+            return Err(io::Error::from(io::ErrorKind::Other));
+        }
+        self.calls -= 1;
+        match self.taken.extend_from_slice(buf) {
+            Ok(()) => Ok(buf.len()),
+            Err(_) => Err(io::Error::from(io::ErrorKind::OutOfMemory)),
+        }
+    }
+
+    fn flush(&mut self) -> io::Result<()> {
+        Ok(())
+    }
+}
+
+const ALL_FREE: &str =
+    "SET 0 FREE\nSET 1 FREE\nSET 2 FREE\nSET 3 FREE\nSET 4 FREE\nSET 5 FREE\nSET 6 FREE\nVAC 00300 00354 00430 00504 00560\nNEWJOB 77777\nTIME3 00000\nLST1 57777 57777 57777 57777 57777 57777 57777 57777\nLST2 00000 00000 00000 00000 00000 00000 00000 00000 00000 00000 00000 00000 00000 00000 00000 00000 00000 00000\nPHASE 77777 00000 77777 00000 77777 00000 77777 00000 77777 00000 77777 00000\n";
+
+const NO_ALARMS: &str = "FAILREG 00000 00000 00000\n";
+
+const TWO_WORKERS: &str =
+    "[[worker]]\nscript = [\"change\", \"change\"]\n[[worker]]\nscript = [\"change\", \"change\"]\n";
+
+const ALARMS_OF_A_SCRIPT: &str =
+    "script = [\"findvac 10 02000 00005\", \"findvac 10 02000 00005\", \"findvac 10 02000 00005\", \"findvac 10 02000 00005\", \"findvac 10 02000 00005\", \"findvac 10 02000 00005\", \"novac 10 02000 00005\", \"novac 10 02000 00005\", \"novac 10 02000 00005\", \"novac 10 02000 00005\", \"novac 10 02000 00005\", \"novac 10 02000 00005\", \"novac 10 02000 00005\", \"novac 10 02000 00005\", \"list 5 02000 00005\", \"list 5 02000 00005\", \"list 5 02000 00005\", \"list 5 02000 00005\", \"list 5 02000 00005\", \"list 5 02000 00005\", \"list 5 02000 00005\", \"list 5 02000 00005\", \"list 5 02000 00005\", \"list 5 02000 00005\"]\n";
+
+const THREE_DEVICES: &str =
+    "limit = 10000\nkey = \"rouse 03000\"\nradar = \"rouse 03000\"\n[[device]]\nline = \"timer\"\npulses = 1000\n[[device]]\nline = \"key\"\npulses = 1000\n[[device]]\nline = \"radar\"\npulses = 1000\n";
+
+const IDLE_DEVICE: &str = "script = [\"tick\"]\n[[device]]\nline = \"key\"\npulses = 5\n";
+
+// What is written of a run with at most so many calls of the writer, and how the run ended.
+fn run<R: Threads + Wait + Sync, G: Gate + Sync>(
+    rt: &R,
+    alloc: Global,
+    document: &str,
+    gate: &G,
+    calls: usize,
+) -> Result<(Vec<u8>, Result<(), RunFault>), Fail> {
+    let bench = read_bench(alloc, document)?;
+    let mut paper = Paper {
+        taken: Vec::new(alloc),
+        calls,
+    };
+    let ended = threads(rt, alloc, &bench, &mut paper, gate);
+    Ok((paper.taken, ended))
+}
+
+// The report of all tables as at the start, but for these last lines.
+fn report_ending(alloc: Global, ending: [&str; 2]) -> Result<Vec<u8>, Fail> {
+    let mut text = Vec::new(alloc);
+    for part in [ALL_FREE, ending[0], ending[1]] {
+        text.extend_from_slice(part.as_bytes())?;
+    }
+    Ok(text)
+}
+
+/// Worker 0's first call comes after worker 1's first, and worker 1's second after worker 0's first.
+#[derive(Drop)]
+struct Crossed {
+    first_of_0: AtomicBool,
+    first_of_1: AtomicBool,
+}
+
+fn came(call: &AtomicBool) -> bool {
+    for _turn in 0..20_000_000 {
+        if call.load(Ordering::SeqCst) {
+            return true;
+        }
+    }
+    false
+}
+
+impl Gate for Crossed {
+    ghost may_stop = { λ _ _ _. Unit {0} };
+
+    fn before(&self, worker: usize, call: usize) -> bool {
+        match (worker, call) {
+            (0, 0) => came(&self.first_of_1),
+            (1, 1) => came(&self.first_of_0),
+            _ => true,
+        }
+    }
+
+    fn after(&self, worker: usize, call: usize) {
+        match (worker, call) {
+            (0, 0) => self.first_of_0.store(true, Ordering::SeqCst),
+            (1, 0) => self.first_of_1.store(true, Ordering::SeqCst),
+            _ => {}
+        }
+    }
+}
+
+#[test]
+fn workers_run_at_the_same_time(rt: HostRuntime) -> Result<(), Fail> {
+    let gate = Crossed {
+        first_of_0: AtomicBool::new(false),
+        first_of_1: AtomicBool::new(false),
+    };
+    let (text, ended) = run(&rt, rt.alloc(), TWO_WORKERS, &gate, 1000)?;
+    assert_eq!(rt; ended, Ok(()));
+    let wanted = report_ending(
+        rt.alloc(),
+        [NO_ALARMS, "SERVED 4\nALARMS 0 0 0\nRESTARTS 0\n"],
+    )?;
+    assert_eq!(rt; text.as_slice(), wanted.as_slice());
+    Ok(())
+}
+
+/// Stops worker 0 at its second call.
+#[derive(Clone, Copy)]
+struct StopsTheSecond;
+
+impl Gate for StopsTheSecond {
+    ghost may_stop = { λ _ worker call. (worker ≡ 0) × (call ≡ 1) };
+
+    fn before(&self, worker: usize, call: usize) -> bool {
+        !(worker == 0 && call == 1)
+    }
+
+    fn after(&self, _worker: usize, _call: usize) {}
+}
+
+#[test]
+fn a_gate_stops_one_worker(rt: HostRuntime) -> Result<(), Fail> {
+    let (text, ended) = run(&rt, rt.alloc(), TWO_WORKERS, &StopsTheSecond, 1000)?;
+    assert_eq!(rt; ended, Ok(()));
+    let wanted = report_ending(
+        rt.alloc(),
+        [NO_ALARMS, "SERVED 3\nALARMS 0 0 0\nRESTARTS 0\n"],
+    )?;
+    assert_eq!(rt; text.as_slice(), wanted.as_slice());
+    Ok(())
+}
+
+#[test]
+fn three_alarms_by_script_and_by_worker(rt: HostRuntime) -> Result<(), Fail> {
+    let mut by_worker = Vec::new(rt.alloc());
+    by_worker.extend_from_slice(b"[[worker]]\n")?;
+    by_worker.extend_from_slice(ALARMS_OF_A_SCRIPT.as_bytes())?;
+    let by_worker = str::from_utf8(by_worker.as_slice()).map_err(|_| "text")?;
+    let wanted = report_ending(
+        rt.alloc(),
+        [
+            "FAILREG 01201 01202 01203\n",
+            "SERVED 24\nALARMS 1 1 1\nRESTARTS 3\n",
+        ],
+    )?;
+    for document in [ALARMS_OF_A_SCRIPT, by_worker] {
+        let (text, ended) = run(&rt, rt.alloc(), document, &OpenGate, 1000)?;
+        assert_eq!(rt; ended, Ok(()));
+        assert_eq!(rt; text.as_slice(), wanted.as_slice());
+    }
+    Ok(())
+}
+
+#[test]
+fn each_device_sends_its_pulses(rt: HostRuntime) -> Result<(), Fail> {
+    let (text, ended) = run(&rt, rt.alloc(), THREE_DEVICES, &OpenGate, 1000)?;
+    assert_eq!(rt; ended, Ok(()));
+    let wanted = report_ending(
+        rt.alloc(),
+        [NO_ALARMS, "SERVED 3000\nALARMS 0 0 0\nRESTARTS 0\n"],
+    )?;
+    assert_eq!(rt; text.as_slice(), wanted.as_slice());
+    Ok(())
+}
+
+#[test]
+fn pulses_without_an_action_ask_nothing(rt: HostRuntime) -> Result<(), Fail> {
+    let wanted = report_ending(
+        rt.alloc(),
+        [NO_ALARMS, "SERVED 1\nALARMS 0 0 0\nRESTARTS 0\n"],
+    )?;
+    for document in [IDLE_DEVICE, "script = [\"tick\"]\n"] {
+        let (text, ended) = run(&rt, rt.alloc(), document, &OpenGate, 1000)?;
+        assert_eq!(rt; ended, Ok(()));
+        assert_eq!(rt; text.as_slice(), wanted.as_slice());
+    }
+    Ok(())
+}
+
+#[test]
+fn a_write_of_the_gathered_report_fails(rt: HostRuntime) -> Result<(), Fail> {
+    let wanted = report_ending(
+        rt.alloc(),
+        [NO_ALARMS, "SERVED 4\nALARMS 0 0 0\nRESTARTS 0\n"],
+    )?;
+    for calls in 0..17 {
+        let (text, ended) = run(&rt, rt.alloc(), TWO_WORKERS, &OpenGate, calls)?;
+        assert_eq!(rt; ended, Err(RunFault::Output), "{calls}");
+        let ends = text.iter().filter(|byte| **byte == b'\n').count();
+        assert_eq!(rt; ends, calls, "{calls}");
+        assert!(rt; wanted.as_slice().starts_with(text.as_slice()), "{calls}");
+    }
+    Ok(())
+}
