@@ -10,17 +10,18 @@ use agc_machine::Answer;
 use agc_plan::Request;
 use std::sync::{Mutex, Wait};
 
-/// What lies under the lock.
+/// What lies under the lock. Source: profile.
 #[derive(Drop)]
 pub struct Held<N: Names> {
-    /// The desk that is asked.
+    /// The desk that is asked. Source: profile.
     pub desk: Desk<N>,
 }
 
-/// A desk that several threads share.
+/// A desk that several threads share, under a lock. Source: profile.
 pub type Shared<N> = Mutex<Held<N>>;
 
-/// Asks the machine of the locked desk, and books in the share what its answer tells. It may wait for the lock.
+/// Asks the machine of the locked desk, and books in the share what its answer tells. A refusal is the answer's result.
+/// It may wait for the lock. Source: profile.
 pub fn ask<N: Names, W: Wait>(
     rt: &W,
     shared: &Shared<N>,
@@ -33,12 +34,12 @@ pub fn ask<N: Names, W: Wait>(
     shared.lock(rt).desk.serve(share, request)
 }
 
-/// A shared desk with the share of one who asks.
+/// A shared desk with the share of one who asks: a [`Console`]. Source: profile.
 #[derive(Drop)]
 pub struct Caller<'a, N: Names> {
-    /// The desk that is asked.
+    /// The desk that is asked. Source: profile.
     pub shared: &'a Shared<N>,
-    /// What was told so far.
+    /// What was told so far. Source: profile.
     pub share: Share<N>,
 }
 
@@ -51,7 +52,7 @@ impl<N: Names> Console for Caller<'_, N> {
 }
 
 /// Asks the requests in order at the shared desk, all or up to a call at which the gate may stop, and hands back the
-/// share. It may wait for the lock, and as its gate does.
+/// share. `worker` is the number that the gate is told. It may wait for the lock, and as its gate does. Source: profile.
 pub fn work<N: Names, G: Gate, W: Wait>(
     rt: &W,
     shared: &Shared<N>,

@@ -7,30 +7,30 @@ use agc_machine::Answer;
 use agc_plan::Request;
 use std::sync::Wait;
 
-/// Who is asked.
+/// Who is asked. Source: profile.
 pub trait Console {
-    /// How a request and its answer lead from a state to the next.
+    /// How a request and its answer lead from a state to the next. Source: profile.
     ghost leads: { Self → Request → Said → Self → Type 0 };
 
-    /// Asks one request.
+    /// Asks one request. It may wait. Source: profile.
     fn ask(&mut self, rt: &impl Wait, request: Request) -> Answer
         ensures { leads self.old request result self.new };
 }
 
-/// Who is asked before and after each call of a worker, both numbered from 0.
+/// Who is asked before and after each call of a worker, both numbered from 0. Source: profile.
 pub trait Gate {
-    /// The calls before which it may answer false.
+    /// The calls before which it may answer false, by worker and call. Source: profile.
     ghost may_stop: { Self → ℕ → ℕ → Type 0 };
 
-    /// Whether the worker may go on with this call; false ends it there.
+    /// Whether the worker may go on with this call; false ends it there. Source: profile.
     fn before(&self, worker: usize, call: usize) -> bool
         ensures { result ≡ false → may_stop self.now worker call };
 
-    /// The call was answered.
+    /// The call was answered. Source: profile.
     fn after(&self, worker: usize, call: usize);
 }
 
-/// The gate that stops no call.
+/// The gate that stops no call. Source: profile.
 #[derive(Clone, Copy, PartialEq, Eq, Debug, Default)]
 pub struct OpenGate;
 
@@ -47,7 +47,8 @@ impl Gate for OpenGate {
 }
 
 /// Asks the requests in order, and answers how many it asked: all of them, or those before a call at which the gate
-/// may stop. It waits as its console and its gate do.
+/// may stop. The gate is told `worker` as the worker's number. It waits as its console and its gate do. Source:
+/// profile.
 pub fn drive<C: Console, G: Gate, W: Wait>(
     rt: &W,
     console: &mut C,

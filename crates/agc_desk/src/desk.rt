@@ -36,7 +36,7 @@ impl<N: Names> Model for Desk<N> {
 }
 
 impl<N: Names> Desk<N> {
-    /// A desk that gave out no share, and booked nothing.
+    /// A desk that gave out no share, and booked nothing. Source: profile.
     pub fn new(machine: Machine, blanks: Blanks) -> Desk<N>
         requires { names_of blanks ≡ N.names }
         ensures { result ≡ record { machine = machine; since = machine.totals; booked = nothing; given = 0 } }
@@ -51,7 +51,7 @@ impl<N: Names> Desk<N> {
         }
     }
 
-    /// The machine.
+    /// The machine. Source: profile.
     pub fn machine(&self) -> &Machine
         ensures machine { result.now ≡ self.now.machine }
         ensures booked { add self.now.booked self.now.since ≡ result.now.totals }
@@ -59,7 +59,7 @@ impl<N: Names> Desk<N> {
         &self.machine
     }
 
-    /// A share whose holder was told nothing, unless 64 were given out.
+    /// A share whose holder was told nothing; none where 64 were given out. Source: profile.
     pub fn share(&mut self) -> Option<Share<N>>
         ensures none { IsNone result ↔ (self.old.given ≡ 64) }
         ensures told { IfSome result (λ s. s ≡ nothing) }
@@ -73,7 +73,8 @@ impl<N: Names> Desk<N> {
         Some(self.ledgers.part())
     }
 
-    /// Asks the machine, and books what its answer tells in the share and in the desk's books.
+    /// Asks the machine, and books what its answer tells in the share and in the desk's books. A refusal is the answer's
+    /// result, and books nothing. Source: profile.
     pub fn serve(&mut self, share: &mut Share<N>, request: Request) -> Answer
         ensures request { result.request ≡ request }
         ensures outcome { result.outcome ≡ answer_of self.old.machine request }
@@ -89,17 +90,17 @@ impl<N: Names> Desk<N> {
     }
 }
 
-/// What [`gather`] hands back where it refuses: not as many shares came as the desk gave out.
+/// What [`gather`] hands back where it refuses: not as many shares came as the desk gave out. Source: profile.
 #[derive(Drop)]
 pub struct Ungathered<N: Names> {
-    /// The desk as it was.
+    /// The desk as it was. Source: profile.
     pub desk: Desk<N>,
-    /// The shares as they were.
+    /// The shares as they were, in their order. Source: profile.
     pub shares: Vec<Share<N>>,
 }
 
 /// Ends a desk: gives its machine, unchanged, and what the holders of all its shares were told together, which is what
-/// the machine's totals grew by since the desk was made.
+/// the machine's totals grew by since the desk was made. Source: profile.
 ///
 /// # Errors
 ///

@@ -8,7 +8,7 @@ use crate::names::{A1201, A1202, A1203, Blanks, Names, Restarts, Served};
 use agc_machine::Totals;
 use std::marker::Model;
 
-/// What its holder was told by one desk. Contracts see it as these five numbers.
+/// What its holder was told by one desk. Contracts see it as these five numbers. Source: profile.
 ///
 /// It can't be copied, and a share of another desk's ledgers has another type.
 #[derive(Drop)]
@@ -29,7 +29,7 @@ impl<N: Names> Model for Share<N> {
 }
 
 impl<N: Names> Share<N> {
-    /// What its holder was told so far.
+    /// What its holder was told so far. Source: profile.
     pub fn told(&self) -> Totals
         ensures { result ≡ self.now }
     {

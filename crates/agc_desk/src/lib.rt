@@ -3,7 +3,7 @@
 //! A [`Desk`] gives out at most 64 shares. Each request is asked with a share, and what its answer tells of the
 //! machine's totals is added to that share and to the desk's books. Callers in several threads ask the desk under a lock
 //! ([`ask`], [`Caller`], [`work`]). When all shares are back, [`gather`] gives the machine and what all were told
-//! together.
+//! together. Source: profile.
 #![tactic(auto)]
 
 mod caller;

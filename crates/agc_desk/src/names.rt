@@ -7,11 +7,11 @@ use std::sync::ledger::{Blank, Ledger};
 /// Into how many parts each ledger is cut: one for each of 64 shares, and one that stays with the desk.
 const PARTS: u64 = 65;
 
-/// Which five ledgers a desk has, one for each number of [`Totals`].
+/// Which five ledgers a desk has, one for each number of [`Totals`]. Source: profile.
 ///
 /// A function that is generic over it is called with `Brand`, and the call picks the names.
 pub trait Names {
-    /// The name of each of the five.
+    /// The name of each of the five. Source: profile.
     ghost names: { FiveNames };
 }
 
@@ -76,14 +76,16 @@ impl<N: Names> Ledger for Restarts<N> {
 
 /// Five ledgers that have no names in the types yet, of 65 parts each, in fields named as those of [`Totals`].
 ///
-/// They are made before the function that is generic over the ledgers' names is called.
+/// They are made before the function that is generic over the ledgers' names is called. Source: profile.
 #[derive(Drop)]
 pub struct Blanks {
     /// For the requests that were served.
     pub served: Blank,
-    /// For alarm 1201, as also the next two.
+    /// For those that raised alarm 1201.
     pub a1201: Blank,
+    /// For those that raised alarm 1202.
     pub a1202: Blank,
+    /// For those that raised alarm 1203.
     pub a1203: Blank,
     /// For the requests with which an era began.
     pub restarts: Blank,
@@ -95,7 +97,7 @@ pub struct Blanks {
 }
 
 impl Blanks {
-    /// Five new ledgers.
+    /// Five new ledgers, of which nothing was booked. Source: profile.
     pub fn new() -> Blanks {
         Blanks {
             served: Blank::new(PARTS),

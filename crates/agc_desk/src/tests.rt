@@ -2,7 +2,8 @@ ghost use Rattle.std.specs.Prelude.{◌≡◌};
 ghost use Rattle.agc_desk.specs.Opening.{names_of};
 
 use crate::{
-    Blanks, Caller, Console, Desk, Gate, Held, Names, Share, Shared, Ungathered, drive, gather,
+    Blanks, Caller, Console, Desk, Gate, Held, Names, OpenGate, Share, Shared, Ungathered, drive,
+    gather, work,
 };
 use agc_machine::{Answer, Machine, Totals};
 use agc_plan::{Action, Address, Delay, Entry, Limit, Place, Plan, Priority, Reply, Request, Task};
@@ -195,6 +196,70 @@ fn a_caller_gets_the_machines_answers(rt: HostRuntime) -> Result<(), Fail> {
     Ok(())
 }
 
+// Asks through `work`, with the gate that stops no call.
+fn worked_through<N: Names, W: Wait>(
+    rt: &W,
+    alloc: Global,
+    machine: Machine,
+    blanks: Blanks,
+    requests: &[Request],
+) -> Result<(Machine, Totals), Fault>
+    requires { names_of blanks ≡ N.names }
+{
+    let mut desk: Desk<N> = Desk::new(machine, blanks);
+    let share = desk.share().ok_or(Fault::NoShare)?;
+    let shared: Shared<N> = Mutex::new(Held { desk });
+    let share = work(rt, &shared, share, 0, requests, &OpenGate);
+    let Held { desk } = shared.into_inner();
+    let mut shares = Vec::new(alloc);
+    shares.push(share)?;
+    match gather(desk, shares) {
+        Ok(all) => Ok(all),
+        Err(_left) => Err(Fault::Ungathered),
+    }
+}
+
+fn worked<W: Wait>(rt: &W, alloc: Global, requests: &[Request]) -> Result<(Machine, Totals), Fail> {
+    let machine = new_machine(alloc)?;
+    Ok(worked_through::<Brand, W>(rt, alloc, machine, Blanks::new(), requests)?)
+}
+
+fn bits(machine: &Machine, place: usize) -> u16 {
+    match machine.words().get(place) {
+        Some(word) => word.bits(),
+        None => 0,
+    }
+}
+
+#[test]
+fn a_worker_asks_just_its_requests(rt: HostRuntime) -> Result<(), Fail> {
+    let place = Place::new(1).ok_or("a place")?;
+    let word = Word::new(0o123).ok_or("a word")?;
+    let requests = [
+        novac(16, 0o2000)?,
+        Request::Store(place, word),
+        novac(24, 0o2100)?,
+    ];
+    let (machine, told) = worked(&rt, rt.alloc(), &requests)?;
+    let only_served = Totals {
+        served: 3,
+        a1201: 0,
+        a1202: 0,
+        a1203: 0,
+        restarts: 0,
+    };
+    assert_eq!(rt; told, only_served);
+    assert_eq!(rt; machine.totals(), only_served);
+    assert_eq!(rt; machine.log_len(), 3);
+    let running = [1, 0o123, 0, 0, 0, 0, 0, 0, 0o2000, 5, 0, 0o20000];
+    let waiting = [2, 0, 0, 0, 0, 0, 0, 0, 0o2100, 5, 0, 0o30000];
+    for (place, want) in running.iter().chain(waiting.iter()).enumerate() {
+        assert_eq!(rt; bits(&machine, place), *want, "at place {place}");
+    }
+    assert_eq!(rt; bits(&machine, 89), 0o14);
+    Ok(())
+}
+
 // How many shares a desk gives out.
 fn shares_given<N: Names>(machine: Machine, blanks: Blanks) -> u64
     requires { names_of blanks ≡ N.names }
@@ -283,9 +348,10 @@ impl Fake {
     }
 }
 
-// A gate that stops at the call of this number, and counts the calls that were answered.
+// A gate that stops at the call of this number, and counts the calls of one worker that were answered, in order from 0.
 #[derive(Drop)]
 struct StopAt {
+    worker: usize,
     stop: usize,
     answered: AtomicU64,
 }
@@ -297,8 +363,10 @@ impl Gate for StopAt {
         call != self.stop
     }
 
-    fn after(&self, _worker: usize, _call: usize) {
-        self.answered.fetch_add(1, Ordering::SeqCst);
+    fn after(&self, worker: usize, call: usize) {
+        if worker == self.worker && call as u64 == self.answered.load(Ordering::SeqCst) {
+            self.answered.fetch_add(1, Ordering::SeqCst);
+        }
     }
 }
 
@@ -322,10 +390,11 @@ fn a_gate_stops_a_worker(rt: HostRuntime) -> Result<(), Fail> {
         Request::Change,
     ];
     let gate = StopAt {
+        worker: 7,
         stop: 4,
         answered: AtomicU64::new(0),
     };
-    assert_eq!(rt; drive(&rt, &mut fake, 0, &requests, &gate), 4);
+    assert_eq!(rt; drive(&rt, &mut fake, 7, &requests, &gate), 4);
     assert_eq!(rt; gate.answered.load(Ordering::SeqCst), 4);
     assert_eq!(rt; fake.count, 4);
     assert_eq!(rt; fake.seen[..4], requests[..4]);

@@ -15,7 +15,8 @@ pub enum Refusal {
     LogFull,
 }
 
-/// What `Machine::apply` answers, which alone makes one. Contracts see it as its request and its result.
+/// What `Machine::apply` answers, which alone makes one: the request, and the reply to it or a refusal. It can't be
+/// copied or cloned. Contracts see it as its request and its result. Source: profile.
 #[derive(Drop)]
 pub struct Answer {
     request: Request,
@@ -53,14 +54,18 @@ impl Answer {
         }
     }
 
-    /// What was asked.
+    /// What was asked. Source: profile.
     pub fn request(&self) -> Request
         ensures { result ≡ self.now.request }
     {
         self.request
     }
 
-    /// The reply, or why there is none.
+    /// The reply, or why there is none. Source: profile.
+    ///
+    /// # Errors
+    ///
+    /// The `Refusal`, where the request was not served.
     pub fn result(self) -> Result<Reply, Refusal>
         ensures { result ≡ self.outcome }
     {

@@ -3,14 +3,16 @@ ghost use Rattle.agc_machine.specs.Told.{nothing, add, reply_told};
 
 use agc_plan::{Alarm, Reply};
 
-/// Counts of served requests since the machine was made. Source: profile.
+/// Counts of served requests since the machine was made, each at most the allowance. Source: profile.
 #[derive(Clone, Copy, PartialEq, Eq, Debug)]
 pub struct Totals {
-    /// All requests that were served.
+    /// All requests that were served. Refused ones are not counted.
     pub served: u64,
-    /// Those that raised alarm 1201, as also the next two, by themselves or inside a tick.
+    /// Those that raised alarm 1201, no VAC area was free, by themselves or inside a tick.
     pub a1201: u64,
+    /// Those that raised alarm 1202, no core set was free, by themselves or inside a tick.
     pub a1202: u64,
+    /// Those that raised alarm 1203, the Waitlist was full.
     pub a1203: u64,
     /// Those with which an era began: an alarm, a restart or a fresh start.
     pub restarts: u64,

@@ -7,7 +7,8 @@ use agc_plan::{Code, Group, Phase};
 use agc_word::{Erasable, Word};
 use std::marker::Model;
 
-/// The phases of groups 1 to 6, in order.
+/// The phases of groups 1 to 6, in order, each 0 to 127, 0 for inactive. Source: the listings' PHASE TABLE MAINTENANCE
+/// section; the greatest phase is profile.
 pub type Phases = [Phase; 6];
 
 /// The phases of the six restart groups, and FAILREG: the first, the second and the latest alarm code. Contracts see it
@@ -33,14 +34,15 @@ impl Model for PhaseTable {
 }
 
 impl PhaseTable {
-    /// A fresh start: all groups inactive, and no codes.
+    /// A fresh start: all groups inactive, and no codes. Source: the listings' FRESH START AND RESTART section.
     pub fn new() -> PhaseTable
         ensures { result ≡ fresh_base }
     {
         PhaseTable::with_phases([inactive(); 6])
     }
 
-    /// These phases, and no codes.
+    /// These phases, and no codes, as power-up begins with what it recovered. Source: the listings' FRESH START AND
+    /// RESTART section.
     pub fn with_phases(phases: Phases) -> PhaseTable
         ensures { result ≡ record { phases = phases; codes = replicate 3 None } }
     {
@@ -50,7 +52,7 @@ impl PhaseTable {
         }
     }
 
-    /// Sets a group's phase.
+    /// Sets a group's phase, and no other's. Source: the listings' PHASE TABLE MAINTENANCE section.
     pub fn set_phase(&mut self, group: Group, phase: Phase)
         ensures { self.new ≡ with_phase group phase self.old }
     {
@@ -66,6 +68,7 @@ impl PhaseTable {
     }
 
     /// Adds a code: as the first where there is none, else as the second where there is none, and always as the latest.
+    /// Source: profile.
     pub fn record_alarm(&mut self, code: Code)
         ensures { self.new ≡ with_code code self.old }
     {
@@ -79,7 +82,7 @@ impl PhaseTable {
         self.codes[2] = Some(code);
     }
 
-    /// FAILREG: the words of the first, the second and the latest code, 00000 for none.
+    /// FAILREG: the words of the first, the second and the latest code, 00000 for none. Source: profile.
     pub fn failreg(&self) -> [Word; 3]
         ensures { result ≡ map code_word self.now.codes }
     {
@@ -90,14 +93,15 @@ impl PhaseTable {
         ]
     }
 
-    /// Makes all groups inactive and drops the codes, as a fresh start does.
+    /// Makes all groups inactive and drops the codes. Source: the listings' FRESH START AND RESTART section.
     pub fn clear(&mut self)
         ensures { self.new ≡ fresh_base }
     {
         *self = PhaseTable::new();
     }
 
-    /// Writes the phases and the codes at places 117 to 131, as pairs -PHASE, PHASE and as FAILREG.
+    /// Writes the phases and the codes at places 117 to 131, as pairs -PHASE, PHASE and as FAILREG. No other word
+    /// changes. Source: the listings' PHASE TABLE MAINTENANCE section; the places and FAILREG are profile.
     pub fn encode(&self, e: &mut Erasable)
         ensures lawful { IsLawfulTable e.new }
         ensures same { base_of e.new ≡ self.now }

@@ -1,20 +1,18 @@
 -- An era of an accepted plan begins with no alarm.
-use Rattle.std.proofs.Common.{◌≡◌, ◌≢◌, ℕ, zero, suc, ◌+◌, ◌-◌, ◌<◌, ◌≤◌, ◌==◌, ◌&&◌, ◌||◌, Bool, true, false, ◌⊎◌, if◌then◌else◌, List, [], ◌∷◌, ◌++◌, Option, Some, None, length, slice_index_or, slice_set, nat_lt, replicate, refl, ap, sym, ◌∙◌, subst, inl, inr, arith}
+use Rattle.std.proofs.Common.{◌≡◌, ◌≢◌, ℕ, zero, suc, ◌+◌, ◌-◌, ◌<◌, ◌≤◌, ◌==◌, Bool, true, false, ◌⊎◌, List, [], ◌∷◌, Option, Some, None, length, slice_index_or, slice_set, nat_lt, replicate, refl, ap, sym, ◌∙◌, subst, inl, inr, arith}
 use Rattle.std.proofs.lemmas.Bool.{cases_eq, cases_lt}
 use Rattle.std.proofs.lemmas.List.{get_or-set_other, get_or-set_same, length-set, length-append}
 use Rattle.std.proofs.lemmas.Option.{same_Some}
 use Rattle.std.proofs.lemmas.Grind.{common_steps}
 use Rattle.agc_plan.specs.declared.plan.PlanFault.TheVariants.{TaskTwice, PhaseTwice, TooManyAreas}
-use Rattle.agc_plan.specs.declared.request.Entry.{Entry}
 use Rattle.agc_plan.specs.declared.request.JobStart.{JobStart}
 use Rattle.agc_plan.specs.declared.request.JobStart.TheVariants.{Novac, Findvac}
 use Rattle.agc_plan.specs.declared.request.Task.{Task}
-use Rattle.agc_plan.specs.declared.request.Action.{Action}
 use Rattle.agc_plan.specs.Jobs.{Job, Jobs, least_unused, is_owned, least_unowned, new_job, with_job, no_jobs, establish_at, findvac_at, runner_after}
-use Rattle.agc_plan.specs.Tasks.{Agenda, listed_if_room}
+use Rattle.agc_plan.specs.Tasks.{Agenda}
 use Rattle.agc_plan.specs.Begins.{Begins}
 use Rattle.agc_plan.specs.Plans.{Planned, entry_at, is_for, group_wants, all_want, wants_area, fault_of, task_twice, phase_twice}
-use Rattle.agc_plan.specs.Eras.{Work, no_work, alarm_in, started, jobs_begun, job_alarms, agenda_begun, task_alarms, active, group_begun, group_alarms, begun_from, alarms_from, BeginsQuietly}
+use Rattle.agc_plan.specs.Eras.{Work, no_work, alarm_in, jobs_begun, job_alarms, agenda_begun, task_alarms, active, group_begun, group_alarms, alarms_from, BeginsQuietly}
 
 -- at most k jobs so far, in the first slots, with areas up to a
 pub record Roomy (k a : ℕ) (jobs : Jobs) : Type 0 where

@@ -1,5 +1,5 @@
 -- Placement over a run of requests: which core set holds which job. It reads the plain states, and nothing in them reads it.
-use Rattle.std.specs.Prelude.{ℕ, ◌+◌, Bool, if◌then◌else◌, List, [], ◌∷◌, Option, Some, None, replicate}
+use Rattle.std.specs.Prelude.{ℕ, ◌+◌, if◌then◌else◌, List, [], ◌∷◌, Option, Some, None, replicate}
 use Rattle.std.specs.List.{fold}
 use Rattle.agc_plan.specs.declared.request.Action.{Action}
 use Rattle.agc_plan.specs.declared.request.Action.TheVariants as action
@@ -13,7 +13,7 @@ use Rattle.agc_plan.specs.Base.{Base}
 use Rattle.agc_plan.specs.Begins.{Begins}
 use Rattle.agc_plan.specs.Plans.{Planned, action_in}
 use Rattle.agc_plan.specs.Eras.{Work, started, active, group_begun, no_work}
-use Rattle.agc_plan.specs.Steps.{Plain, Stepped, era, acted, step, begins, tick_fires}
+use Rattle.agc_plan.specs.Steps.{Plain, era, step, begins, tick_fires}
 
 -- no job in any of the seven core sets
 abbrev pub no_places : List ℕ

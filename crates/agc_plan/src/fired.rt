@@ -61,7 +61,7 @@ impl Fired {
         }
     }
 
-    /// One more task fired, after the others. There is room for nine.
+    /// One more task fired, after the others. There is room for nine, so fewer have to be there.
     pub fn push(&mut self, task: Task)
         requires { length self.old < 9 }
         ensures { self.new ≡ self.old ++ task ∷ [] }

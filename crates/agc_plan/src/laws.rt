@@ -1,5 +1,6 @@
 //! What a reader of the landing alarms wants to know of the plain model, as laws: each is the contract of a function that
-//! does nothing, and holds of every list of jobs and of every run of requests.
+//! does nothing, and holds of every list of jobs and of every run of requests. Where the rules behind them come from, the
+//! listings or the profile, is said at the requests and in docs/MODEL.md.
 
 ghost use Rattle.std.specs.Prelude.{◌≡◌, ◌↔◌, ◌≤◌, ℕ, ◌+◌, List, Option, Some, None, IsSome, All, length};
 ghost use Rattle.agc_plan.specs.declared.reply.Alarm.{Alarm};

@@ -12,9 +12,10 @@ use thiserror::Error;
 /// Why rows and entries make no plan. Of several faults the first in this order is answered. Source: profile.
 #[derive(Clone, Copy, PartialEq, Eq, Debug, Error)]
 pub enum PlanFault {
+    /// The allocator refused room for the rows or for the entries. It may come in place of each other fault.
     #[error("no memory")]
     NoMemory,
-    /// One task has two rows.
+    /// One task, of one address and bank, has two rows.
     #[error("task twice")]
     TaskTwice,
     /// One group and phase has two entries.
@@ -74,8 +75,8 @@ fn task_twice(rows: &[(Task, Action)]) -> bool
 fn has_entry(entries: &[PhaseEntry], group: Group, phase: Phase) -> bool
     ensures { result ≡ has_entry entries.now group phase }
 {
-    for entry in entries {
-        if entry.group() == group && entry.phase() == phase {
+    for other in entries {
+        if other.group() == group && other.phase() == phase {
             return true;
         }
     }
@@ -145,11 +146,11 @@ fn fault_of(rows: &[(Task, Action)], entries: &[PhaseEntry]) -> Option<PlanFault
 }
 
 impl Plan {
-    /// A plan of these rows, entries and actions, each row the action of one task.
+    /// A plan of these rows, entries and actions, each row the action of one task: copies of them, in this order.
     ///
     /// # Errors
     ///
-    /// `NoMemory`, or else the first fault of the rows and entries.
+    /// `NoMemory`, or else the first of `TaskTwice`, `PhaseTwice` and `TooManyAreas` that applies.
     pub fn new(
         alloc: Global,
         rows: &[(Task, Action)],

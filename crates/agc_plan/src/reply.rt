@@ -4,15 +4,16 @@ use crate::number::JobNo;
 /// An alarm, by which a request is answered whose table is full. Source: the listings' EXECUTIVE and WAITLIST sections.
 #[derive(Clone, Copy, PartialEq, Eq, Debug)]
 pub enum Alarm {
-    /// No VAC area is free.
+    /// No VAC area is free: all five are owned.
     A1201,
-    /// No core set is free.
+    /// No core set is free: seven jobs live.
     A1202,
-    /// The Waitlist is full.
+    /// The Waitlist is full: nine tasks wait.
     A1203,
 }
 
-/// An alarm code as FAILREG holds it. Source: the listings' FRESH START AND RESTART section.
+/// An alarm code as FAILREG holds it: 01107, 01201, 01202 or 01203. Source: the listings' FRESH START AND RESTART
+/// section.
 #[derive(Clone, Copy, PartialEq, Eq, Debug)]
 pub enum Code {
     /// The phase words that were found at power-up don't agree.
@@ -25,7 +26,7 @@ pub enum Code {
     C1203,
 }
 
-/// What a request is answered.
+/// What a request is answered. Source: profile.
 #[derive(Drop)]
 pub enum Reply {
     /// A job with this number was established.

@@ -7,14 +7,18 @@ use std::marker::Model;
 /// Where a job begins: its address, and the word for its bank. Source: the listings' EXECUTIVE section.
 #[derive(Clone, Copy, PartialEq, Eq, Debug)]
 pub struct Entry {
+    /// Where the job begins.
     pub at: Address,
+    /// The word for its bank, kept in BANKSET as it was given.
     pub bank: Word,
 }
 
 /// A task of the Waitlist: its address, and the word for its bank. Source: the listings' WAITLIST section.
 #[derive(Clone, Copy, PartialEq, Eq, Debug)]
 pub struct Task {
+    /// Where the task begins.
     pub at: Address,
+    /// The word for its bank, kept in LST2 as it was given.
     pub bank: Word,
 }
 
@@ -23,29 +27,32 @@ pub struct Task {
 pub enum Action {
     /// Nothing is done.
     Nothing,
-    /// A job without a VAC area is established.
+    /// A job without a VAC area is established, of this priority.
     Novac(Priority, Entry),
-    /// A job with a VAC area is established.
+    /// A job with a VAC area is established, of this priority.
     Findvac(Priority, Entry),
     /// The least-numbered sleeper of this address is awakened.
     Rouse(Address),
-    /// A task is listed, due this long from now.
+    /// A task is listed, due this many centiseconds from now.
     List(Delay, Task),
 }
 
 /// How the job of a phase is established: without a VAC area, or with one. Source: profile.
 #[derive(Clone, Copy, PartialEq, Eq, Debug)]
 pub enum JobStart {
+    /// Without a VAC area, of this priority.
     Novac(Priority, Entry),
+    /// With a VAC area, of this priority.
     Findvac(Priority, Entry),
 }
 
-/// What may be asked of the machine.
+/// What may be asked of the machine. Source: at each request.
 #[derive(Clone, Copy, PartialEq, Eq, Debug)]
 pub enum Request {
-    /// Establish a job without a VAC area. Source: the listings' EXECUTIVE section, as for all up to `Change`.
+    /// Establish a job without a VAC area, of this priority. Source: the listings' EXECUTIVE section, as for all up to
+    /// `Change`.
     Novac(Priority, Entry),
-    /// Establish a job with a VAC area.
+    /// Establish a job with a VAC area, of this priority.
     Findvac(Priority, Entry),
     /// End the running job.
     EndOfJob,
@@ -59,15 +66,17 @@ pub enum Request {
     Change,
     /// Set one work word of the running job. Source: profile.
     Store(Place, Word),
-    /// List a task, due this long from now. Source: the listings' WAITLIST section.
+    /// List a task, due this many centiseconds from now. Source: the listings' WAITLIST section.
     List(Delay, Task),
     /// A centisecond passes: TIME3 counts up. Source: the listings' WAITLIST section.
     Tick,
-    /// Set the phase of a restart group. Source: the listings' PHASE TABLE MAINTENANCE section.
+    /// Set the phase of a restart group, 0 for inactive. Source: the listings' PHASE TABLE MAINTENANCE section.
     SetPhase(Group, Phase),
-    /// The software restart. Source: the listings' FRESH START AND RESTART section.
+    /// The software restart: an era begins with phases and codes as they stand. Source: the listings' FRESH START AND
+    /// RESTART section.
     Restart,
-    /// The fresh start. Source: the listings' FRESH START AND RESTART section.
+    /// The fresh start: an era begins with six phases 0 and no codes. Source: the listings' FRESH START AND RESTART
+    /// section.
     Fresh,
 }
 
@@ -138,7 +147,7 @@ impl PhaseEntry {
         self.job
     }
 
-    /// The task that is listed again, if one is, and its delay.
+    /// The task that is listed again, if one is, and its delay in centiseconds from the beginning of the era.
     pub fn task(&self) -> Option<(Delay, Task)>
         ensures { result ≡ self.now.task }
     {

@@ -185,7 +185,6 @@ fn lists() -> Result<Action, Fail> {
     Ok(Action::List(delay, task(1024, 5)?))
 }
 
-/// With the first or second allocation refused, this test ends with `NoMemory`; it makes no third one.
 #[test]
 fn what_a_plan_says(rt: HostRuntime) -> Result<(), Fail> {
     let rows = [(task(1024, 5)?, establishes()?), (task(1024, 6)?, lists()?)];
@@ -203,6 +202,30 @@ fn what_a_plan_says(rt: HostRuntime) -> Result<(), Fail> {
     assert_eq!(rt; plan.key(), Action::Rouse(address(1025)?));
     assert_eq!(rt; plan.radar(), lists()?);
     plan.begins_quietly();
+    Ok(())
+}
+
+/// Each call grows twice, for its rows and for its entries. `rt try --test --fail-alloc N` refuses the Nth growth: 1 and
+/// 2 are the first call's, 3 and 4 the second's, and with 5 or none given no growth is refused. That call answers
+/// `NoMemory`, and the other gives the plan.
+#[test]
+fn a_refused_growth_is_no_memory(rt: HostRuntime) -> Result<(), Fail> {
+    let rows = [(task(1024, 5)?, lists()?)];
+    let entries = [begins(1, 3, Some(plain_job()?))?];
+    let (one, three) = (Group::new(1).ok_or("group")?, Phase::new(3).ok_or("phase")?);
+    let mut is_made = false;
+    for _ in 0..2u8 {
+        match Plan::new(rt.alloc(), &rows, &entries, establishes()?, Action::Nothing) {
+            Err(fault) => assert!(rt; fault == PlanFault::NoMemory, "{fault}"),
+            Ok(plan) => {
+                assert_eq!(rt; plan.action(&task(1024, 5)?), lists()?);
+                assert!(rt; plan.entry(one, three) == Some(&begins(1, 3, Some(plain_job()?))?));
+                assert_eq!(rt; plan.key(), establishes()?);
+                is_made = true;
+            }
+        }
+    }
+    assert!(rt; is_made, "both calls were refused");
     Ok(())
 }
 
