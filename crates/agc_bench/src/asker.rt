@@ -1,7 +1,7 @@
-ghost use Rattle.std.specs.Prelude.{◌≡◌, ◌<◌, replicate, length};
+ghost use Rattle.std.specs.Prelude.{◌≡◌, length, replicate};
 ghost use Rattle.agc_desk.specs.Runs.{Asks, Reached};
 ghost use Rattle.agc_bench.specs.Runs.{device_requests};
-ghost use Rattle.agc_bench.specs.Threads.{AsksOwn, askers_of, asker_at, idle};
+ghost use Rattle.agc_bench.specs.Threads.{AsksOwn, askers_of, asker_at};
 
 use crate::bench::Bench;
 use crate::bench_session::pulse_request;
