@@ -1,9 +1,12 @@
 -- What a reader of the landing alarms wants to know, in words that know nothing of how the model computes.
-use Rattle.std.specs.Prelude.{◌≡◌, ℕ, ◌<◌, ◌≤◌, suc, true, false, List, [], ◌∷◌, ◌++◌, length, map, All, Option, Some, None}
+use Rattle.std.specs.Prelude.{◌≡◌, ℕ, ◌<◌, ◌≤◌, suc, true, false, List, [], ◌∷◌, ◌++◌, length, map, All, slice_index_or, Option, Some, None}
 use Rattle.agc_plan.specs.declared.request.Action.{Action}
 use Rattle.agc_plan.specs.declared.request.Action.TheVariants as action
 use Rattle.agc_plan.specs.declared.request.Request.{Request}
 use Rattle.agc_plan.specs.declared.request.Request.TheVariants as request
+use Rattle.agc_plan.specs.declared.request.Entry.{Entry}
+use Rattle.agc_plan.specs.declared.request.JobStart.{JobStart}
+use Rattle.agc_plan.specs.declared.request.JobStart.TheVariants.{Findvac}
 use Rattle.agc_plan.specs.declared.request.Task.{Task}
 use Rattle.agc_plan.specs.Jobs.{Job, Jobs, job_in}
 use Rattle.agc_plan.specs.Tasks.{Pending, Agenda}
@@ -139,3 +142,42 @@ AreListingsDelayed entries = All (λ e. IsListingDelayed e.task) entries
 -- of these tasks the first ones fired, in this order, and all of them unless an alarm came
 abbrev pub FiresThese : List Pending → Fires → Type 0
 FiresThese due fires = (rest : List Task) × (fires.fired ++ rest ≡ map (λ p. p.task) due) × (fires.alarm ≡ None → rest ≡ [])
+
+-- these are one task: the same address and bank
+abbrev pub IsOneTask : Task → Task → Type 0
+IsOneTask a b = (a.at ≡ b.at) × (a.bank ≡ b.bank)
+
+-- the rows at two places are of one task
+pub record HasTwoRows (rows : List (Task × Action)) : Type 0 where
+  pub first : ℕ
+  pub second : ℕ
+  pub before : first < second
+  pub within : second < length rows
+  pub same : (d : Task × Action) → IsOneTask (slice_index_or rows first d).0 (slice_index_or rows second d).0
+
+-- these are of one group and phase
+abbrev pub IsOnePhase : Begins → Begins → Type 0
+IsOnePhase a b = (a.group ≡ b.group) × (a.phase ≡ b.phase)
+
+-- the entries at two places are of one group and phase
+pub record HasTwoEntries (entries : List Begins) : Type 0 where
+  pub first : ℕ
+  pub second : ℕ
+  pub before : first < second
+  pub within : second < length entries
+  pub same : (d : Begins) → IsOnePhase (slice_index_or entries first d) (slice_index_or entries second d)
+
+-- a FINDVAC job
+abbrev pub IsWithArea : Option JobStart → Type 0
+IsWithArea job = (priority : ℕ) × (entry : Entry) × (job ≡ Some (Findvac priority entry))
+
+-- an entry of this group has a FINDVAC job
+pub record HasArea (entries : List Begins) (group : ℕ) : Type 0 where
+  pub place : ℕ
+  pub within : place < length entries
+  pub its : (d : Begins) → (slice_index_or entries place d).group ≡ group
+  pub with_area : (d : Begins) → IsWithArea (slice_index_or entries place d).job
+
+-- each of the six groups has one
+abbrev pub HasEachArea : List Begins → Type 0
+HasEachArea entries = (group : ℕ) → 1 ≤ group → group ≤ 6 → HasArea entries group

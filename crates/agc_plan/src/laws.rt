@@ -2,7 +2,7 @@
 //! does nothing, and holds of every list of jobs and of every run of requests. Where the rules behind them come from, the
 //! listings or the profile, is said at the requests and in docs/MODEL.md.
 
-ghost use Rattle.std.specs.Prelude.{◌≡◌, ◌↔◌, ◌≤◌, ℕ, ◌+◌, List, Option, Some, None, IsSome, All, length};
+ghost use Rattle.std.specs.Prelude.{◌≡◌, ◌↔◌, ◌≤◌, ℕ, ◌+◌, List, Option, Some, None, IsSome, All, length, true};
 ghost use Rattle.agc_plan.specs.declared.reply.Alarm.{Alarm};
 ghost use Rattle.agc_plan.specs.declared.reply.Alarm.TheVariants.{A1201, A1202, A1203};
 ghost use Rattle.agc_plan.specs.declared.reply.Reply.TheVariants.{Alarmed, Established};
@@ -14,11 +14,12 @@ ghost use Rattle.agc_plan.specs.declared.request.Task.{Task};
 ghost use Rattle.agc_plan.specs.Jobs.{Job, Jobs, best, least_unused, least_unowned, sleeper_from, novac, findvac, rouse};
 ghost use Rattle.agc_plan.specs.Tasks.{Pending, due_at, InOrder};
 ghost use Rattle.agc_plan.specs.Base.{Base};
-ghost use Rattle.agc_plan.specs.Plans.{Planned};
+ghost use Rattle.agc_plan.specs.Begins.{Begins};
+ghost use Rattle.agc_plan.specs.Plans.{Planned, task_twice, phase_twice, all_want};
 ghost use Rattle.agc_plan.specs.Eras.{Work};
 ghost use Rattle.agc_plan.specs.Steps.{Plain, with_listed, tick_fires, step, reached};
 ghost use Rattle.agc_plan.specs.Examples.{Examples};
-ghost use Rattle.agc_plan.specs.Laws.{Lives, IsMostUrgent, NobodyIsAwake, IsLeastUnused, IsEachUsed, IsLeastUnowned, IsEachOwned, SomeAreaIsUnowned, IsFirstSleeper, NobodySleepsAt, IsUnrivalled, SomebodyIsAwake, IsRunnerAwake, IsNoAreaShared, IsEachAreaKnown, IsNothingDue, IsRequestDelayed, AreActionsDelayed, AreListingsDelayed, FiresThese, living};
+ghost use Rattle.agc_plan.specs.Laws.{Lives, IsMostUrgent, NobodyIsAwake, IsLeastUnused, IsEachUsed, IsLeastUnowned, IsEachOwned, SomeAreaIsUnowned, IsFirstSleeper, NobodySleepsAt, IsUnrivalled, SomebodyIsAwake, IsRunnerAwake, IsNoAreaShared, IsEachAreaKnown, IsNothingDue, IsRequestDelayed, AreActionsDelayed, AreListingsDelayed, FiresThese, HasTwoRows, HasTwoEntries, HasEachArea, living};
 
 /// The best job is awake, no awake job has a greater priority, and none of the same priority a lower number. There is
 /// one exactly where somebody is awake.
@@ -134,6 +135,14 @@ pub fn nothing_is_due_between_requests()
 pub fn due_tasks_fire_in_order_of_arrival()
     ensures arrival { (rows : List (Task × Action)) (work : Work) → AreActionsDelayed rows → IsNothingDue work.agenda → FiresThese (due_at (work.agenda.time + 1) work.agenda.tasks) (tick_fires rows work) }
     ensures in_order { (rows : List (Task × Action)) (work : Work) (ordered : List Pending) → AreActionsDelayed rows → IsNothingDue work.agenda → InOrder work.agenda.tasks ordered → FiresThese (due_at (work.agenda.time + 1) ordered) (tick_fires rows work) }
+{}
+
+/// What the faults of a plan are: one task has the rows at two places; one group and phase has the entries at two places;
+/// each of the six groups has an entry with a FINDVAC job, one more than there are areas.
+pub fn faults_of_a_plan()
+    ensures task_twice { (rows : List (Task × Action)) → (task_twice rows ≡ true) ↔ HasTwoRows rows }
+    ensures phase_twice { (entries : List Begins) → (phase_twice entries ≡ true) ↔ HasTwoEntries entries }
+    ensures too_many_areas { (entries : List Begins) → (all_want entries ≡ true) ↔ HasEachArea entries }
 {}
 
 /// The definitions give the worked examples.
