@@ -1,3 +1,5 @@
+ghost use Rattle.std.specs.Prelude.{◌≡◌};
+
 use crate::{RunFault, read_bench, threads};
 use agc_desk::{Gate, OpenGate};
 use std::alloc::Global;
