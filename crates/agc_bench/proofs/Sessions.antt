@@ -109,7 +109,7 @@ session_written o w n machine start m rs from is h k =
 pub session_front : (o w n : Option (List ℕ)) (machine start m : Machined) (rs : List Request) → start ≡ machine → m ≡ after_all start rs → Appends o w (answer_lines start rs) → (words : List ℕ) × IsImage m words × AppendsFront w n (report_text words m.totals) → AppendsSessionFront o n machine rs
 session_front o w n machine start m rs from is h k =
     subst (λ (x : Machined). AppendsSessionFront o n x rs) from
-    (inr (answer_lines start rs ++ report_text k.0 m.totals, session_of start m rs k.0 is k.1, (k.2.0, up_to_more_front o w n (answer_lines start rs) (report_text k.0 m.totals) k.2.0 h k.2.1)))
+    (inr (answer_lines start rs ++ report_text k.0 m.totals, session_of start m rs k.0 is k.1, (k.2.0, k.2.1, up_to_more_front o w n (answer_lines start rs) (report_text k.0 m.totals) k.2.0 h k.2.2)))
 
 -- a front of the answers' lines was
 pub lines_front : (o n : Option (List ℕ)) (machine start : Machined) (rs : List Request) → start ≡ machine → AppendsFront o n (answer_lines start rs) → AppendsSessionFront o n machine rs

@@ -1,5 +1,5 @@
 -- One write after another.
-use Rattle.std.proofs.Common.{◌≡◌, ℕ, ◌+◌, ◌<◌, List, [], ◌++◌, length, take, drop, Option, Some, None, Result, Ok, Err, refl, sym, ap, subst, ◌∙◌, append_assoc}
+use Rattle.std.proofs.Common.{◌≡◌, ◌≢◌, ℕ, ◌+◌, ◌<◌, List, [], ◌++◌, length, take, drop, Option, Some, None, Result, Ok, Err, refl, sym, ap, subst, ◌∙◌, append_assoc}
 use Rattle.std.proofs.Common.{drop-cons, add-one, get_or, slice_get, suc, zero-add, ◌∷◌, ◌≤◌, length-drop, arith}
 use Rattle.std.specs.List.{flat_map, range_with_len}
 use Rattle.std.proofs.lemmas.List.FromFn.{get_or-range_with_len, length-range_with_len}
@@ -37,12 +37,16 @@ up_to_more o m n text a rest h k = record { front = h.front ++ a; whole = h.whol
 pub up_to_end : (o n : Option (List ℕ)) (text : List ℕ) → AppendsUpTo o n text [] → Appends o n text
 up_to_end o n text h = subst (λ (t : List ℕ). Appends o n t) (sym (h.whole ∙ append-nil h.front)) h.written
 
+left_over : (a b : List ℕ) → a ≢ [] → a ++ b ≢ []
+left_over [] b some = λ e. some refl
+left_over (x ∷ a) b some = λ e. absurd (cc)
+
 -- a front of what is left
 pub up_to_front : (o m n : Option (List ℕ)) (text a rest : List ℕ) → AppendsUpTo o m text (a ++ rest) → AppendsFront m n a → AppendsFront o n text
 up_to_front o m n text a rest h k =
-    let e : a ++ rest ≡ k.1.front ++ (k.0 ++ rest) = ap (λ (s : List ℕ). s ++ rest) k.1.whole ∙ append_assoc k.1.front k.0 rest in
-    let split : AppendsUpTo o m text (k.1.front ++ (k.0 ++ rest)) = subst (λ (t : List ℕ). AppendsUpTo o m text t) e h in
-    (k.0 ++ rest, up_to_more o m n text k.1.front (k.0 ++ rest) split k.1.written)
+    let e : a ++ rest ≡ k.2.front ++ (k.0 ++ rest) = ap (λ (s : List ℕ). s ++ rest) k.2.whole ∙ append_assoc k.2.front k.0 rest in
+    let split : AppendsUpTo o m text (k.2.front ++ (k.0 ++ rest)) = subst (λ (t : List ℕ). AppendsUpTo o m text t) e h in
+    (k.0 ++ rest, left_over k.0 rest k.1, up_to_more o m n text k.2.front (k.0 ++ rest) split k.2.written)
 
 pub up_to_drop : (o m n : Option (List ℕ)) (text rest : List ℕ) (k : ℕ) → AppendsUpTo o m text rest → Appends m n (take k rest) → AppendsUpTo o n text (drop k rest)
 up_to_drop o m n text rest k h w = up_to_more o m n text (take k rest) (drop k rest) (rw take-append-drop h) w
@@ -51,9 +55,6 @@ up_to_drop o m n text rest k h w = up_to_more o m n text (take k rest) (drop k r
 pub two_steps : {T E : Type 0} → (r : Result T E) (o m n a b whole : List ℕ) → m ≡ o ++ a → OnOk r (n ≡ m ++ b) → whole ≡ a ++ b → OnOk r (n ≡ o ++ whole)
 two_steps (Ok x) o m n a b whole e f g = f ∙ ap (λ (s : List ℕ). s ++ b) e ∙ append_assoc o a b ∙ ap (λ (s : List ℕ). o ++ s) (sym g)
 two_steps (Err x) o m n a b whole e f g = tt
-
-pub nothing : (o : Option (List ℕ)) (text : List ℕ) → AppendsFront o o text
-nothing o text = (text, up_to_start o text)
 
 -- where the next piece failed
 pub fails_next : {U D : Type 0} → (o m n : Option (List ℕ)) (text a rest : List ℕ) (r : Result U D) → AppendsUpTo o m text (a ++ rest) → AppendsFront m n a → IsErr r → Writes o n text r
@@ -112,4 +113,4 @@ writes_first o n a b (Err x) h is = front_of_first o n a b h
 -- the second of two texts, after the first
 pub writes_second : {U D : Type 0} → (o m n : Option (List ℕ)) (a b : List ℕ) (r : Result U D) → Appends o m a → Writes m n b r → Writes o n (a ++ b) r
 writes_second o m n a b (Ok x) h k = appends_both o m n a b h k
-writes_second o m n a b (Err x) h k = (k.0, up_to_more_front o m n a b k.0 h k.1)
+writes_second o m n a b (Err x) h k = (k.0, k.1, up_to_more_front o m n a b k.0 h k.2)

@@ -52,7 +52,7 @@ impl Model for Bench {
 }
 
 impl Bench {
-    /// How many requests the log may hold.
+    /// How many requests the log may hold, 1 to 1,000,000.
     pub fn limit(&self) -> Limit
         ensures { result ≡ self.now.limit }
     {
@@ -67,7 +67,7 @@ impl Bench {
         self.parts.allowance
     }
 
-    /// How often the devices are attended to while they run, at most 1000.
+    /// A number from 0 to 1000. Read and kept; nothing uses it yet.
     pub fn attends(&self) -> u32
         ensures value { result ≡ self.now.attends }
         ensures range { result ≤ 1000 }
@@ -127,7 +127,7 @@ impl Bench {
         self.parts.workers.as_slice()
     }
 
-    /// The line of each device, and how many pulses it sends; at most 32 devices.
+    /// The line of each device, and how many pulses it sends, 0 to 1,000,000; at most 32 devices.
     pub fn devices(&self) -> &[(Line, u32)]
         ensures value { result.now ≡ self.now.devices }
         ensures few { length result.now ≤ 32 }

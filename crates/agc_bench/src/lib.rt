@@ -26,6 +26,8 @@ mod texts;
 mod thread_tests;
 mod threading;
 mod values;
+#[cfg(test)]
+mod writers;
 mod writing;
 
 pub use bench::{Bench, read_bench};

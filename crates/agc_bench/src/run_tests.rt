@@ -1,34 +1,8 @@
+use crate::writers::Narrow;
 use crate::{Output, RunFault, read_bench, read_script, report, run_script, serial};
 use agc_machine::Totals;
 use agc_word::Word;
-use std::io;
 use std::test::Fail;
-
-/// A writer that takes so many bytes a call at most, and fails after so many calls.
-#[derive(Drop)]
-struct Narrow {
-    taken: Vec<u8>,
-    most: usize,
-    calls: usize,
-}
-
-impl io::Write for Narrow {
-    fn write(&mut self, buf: &[u8]) -> io::Result<usize> {
-        if self.calls == 0 {
-            return Err(io::Error::from(io::ErrorKind::Other));
-        }
-        self.calls -= 1;
-        let count = self.most.min(buf.len());
-        match self.taken.extend_from_slice(&buf[..count]) {
-            Ok(()) => Ok(count),
-            Err(_) => Err(io::Error::from(io::ErrorKind::OutOfMemory)),
-        }
-    }
-
-    fn flush(&mut self) -> io::Result<()> {
-        Ok(())
-    }
-}
 
 const EMPTY_SCRIPT: (&str, &str) = (
     "",
@@ -72,11 +46,7 @@ const FULL: &str =
 fn scripts(rt: HostRuntime) -> Result<(), Fail> {
     for (script, text) in [EMPTY_SCRIPT, FIRST_PATH, THREE_ALARMS] {
         let requests = read_script(rt.alloc(), script)?;
-        let mut writer = Narrow {
-            taken: Vec::new(rt.alloc()),
-            most: 1000,
-            calls: 1000,
-        };
+        let mut writer = Narrow::new(rt.alloc(), 1000, 1000);
         run_script(rt.alloc(), requests.as_slice(), &mut writer)?;
         assert_eq!(rt; writer.taken.as_slice(), text.as_bytes());
     }
@@ -92,11 +62,7 @@ fn benches(rt: HostRuntime) -> Result<(), Fail> {
         POWER_UP_BROKEN_PAIR,
     ] {
         let bench = read_bench(rt.alloc(), document)?;
-        let mut writer = Narrow {
-            taken: Vec::new(rt.alloc()),
-            most: 1000,
-            calls: 1000,
-        };
+        let mut writer = Narrow::new(rt.alloc(), 1000, 1000);
         serial(rt.alloc(), &bench, &mut writer)?;
         assert_eq!(rt; writer.taken.as_slice(), text.as_bytes());
     }
@@ -107,11 +73,7 @@ fn benches(rt: HostRuntime) -> Result<(), Fail> {
 fn one_byte_a_call(rt: HostRuntime) -> Result<(), Fail> {
     let (script, text) = FIRST_PATH;
     let requests = read_script(rt.alloc(), script)?;
-    let mut writer = Narrow {
-        taken: Vec::new(rt.alloc()),
-        most: 1,
-        calls: 1000,
-    };
+    let mut writer = Narrow::new(rt.alloc(), 1, 1000);
     run_script(rt.alloc(), requests.as_slice(), &mut writer)?;
     assert_eq!(rt; writer.taken.as_slice(), text.as_bytes());
     Ok(())
@@ -122,11 +84,7 @@ fn a_write_fails_at_each_call(rt: HostRuntime) -> Result<(), Fail> {
     let (script, text) = FIRST_PATH;
     let requests = read_script(rt.alloc(), script)?;
     for calls in 0..19 {
-        let mut writer = Narrow {
-            taken: Vec::new(rt.alloc()),
-            most: 1000,
-            calls,
-        };
+        let mut writer = Narrow::new(rt.alloc(), 1000, calls);
         let done = run_script(rt.alloc(), requests.as_slice(), &mut writer);
         assert_eq!(rt; done, Err(RunFault::Output), "{calls}");
         let ends = writer.taken.iter().filter(|byte| **byte == b'\n').count();
@@ -145,11 +103,7 @@ fn a_write_fails_at_each_call(rt: HostRuntime) -> Result<(), Fail> {
 
 #[test]
 fn a_write_takes_nothing(rt: HostRuntime) -> Result<(), Fail> {
-    let mut writer = Narrow {
-        taken: Vec::new(rt.alloc()),
-        most: 0,
-        calls: 1000,
-    };
+    let mut writer = Narrow::new(rt.alloc(), 0, 1000);
     let done = run_script(rt.alloc(), &[], &mut writer);
     assert_eq!(rt; done, Err(RunFault::Output));
     let totals = Totals {
@@ -177,11 +131,7 @@ fn the_longest_lines(rt: HostRuntime) -> Result<(), Fail> {
         a1203: 9,
         restarts: u64::MAX,
     };
-    let mut writer = Narrow {
-        taken: Vec::new(rt.alloc()),
-        most: 1000,
-        calls: 1000,
-    };
+    let mut writer = Narrow::new(rt.alloc(), 1000, 1000);
     report(&[word; 132], &totals, &mut writer).map_err(|_| "output")?;
     assert_eq!(rt; writer.taken.as_slice(), FULL.as_bytes());
     Ok(())

@@ -192,7 +192,7 @@ fn scripts(rt: HostRuntime) -> Result<(), Fail> {
     Ok(())
 }
 
-/// Gives so many bytes of one kind, at most `step` a read, and fails at the read of a number.
+/// Gives so many bytes of one kind, at most `step` a read, and fails at the read of a number. It counts its reads.
 #[derive(Drop)]
 struct Source {
     rest: usize,
@@ -200,10 +200,12 @@ struct Source {
     step: usize,
     fails_at: Option<usize>,
     kind: io::ErrorKind,
+    reads: u64,
 }
 
 impl io::Read for Source {
     fn read(&mut self, piece: &mut [u8]) -> io::Result<usize> {
+        self.reads = self.reads.saturating_add(1);
         if let Some(left) = self.fails_at {
             self.fails_at = left.checked_sub(1);
             if left == 0 {
@@ -226,6 +228,7 @@ fn bytes_of(rest: usize, byte: u8, step: usize, fails_at: Option<usize>) -> Sour
         step,
         fails_at,
         kind: io::ErrorKind::ConnectionReset,
+        reads: 0,
     }
 }
 
@@ -241,6 +244,16 @@ fn whole_inputs(rt: HostRuntime) -> Result<(), Fail> {
     );
     let mut input = b"end\n\xc3\xa4".as_slice();
     assert_eq!(rt; read_all(rt.alloc(), &mut input)?.as_str(), "end\n\u{e4}");
+    Ok(())
+}
+
+#[test]
+fn one_read_more_than_bytes(rt: HostRuntime) -> Result<(), Fail> {
+    for (bytes, reads) in [(0, 1), (3, 4), (1_048_576, 1_048_577)] {
+        let mut source = bytes_of(bytes, b'a', 1, None);
+        assert_eq!(rt; read_all(rt.alloc(), &mut source)?.len(), bytes);
+        assert_eq!(rt; source.reads, reads, "{bytes}");
+    }
     Ok(())
 }
 

@@ -1,37 +1,13 @@
 ghost use Rattle.std.specs.Prelude.{◌≡◌};
 
+use crate::writers::Narrow;
 use crate::{RunFault, read_bench, threads};
 use agc_desk::{Gate, OpenGate};
 use std::alloc::Global;
-use std::io;
 use std::sync::Wait;
 use std::sync::atomic::{AtomicBool, Ordering};
 use std::test::Fail;
 use std::thread::Threads;
-
-/// A writer into memory that fails after so many calls.
-#[derive(Drop)]
-struct Paper {
-    taken: Vec<u8>,
-    calls: usize,
-}
-
-impl io::Write for Paper {
-    fn write(&mut self, buf: &[u8]) -> io::Result<usize> {
-        if self.calls == 0 {
-            return Err(io::Error::from(io::ErrorKind::Other));
-        }
-        self.calls -= 1;
-        match self.taken.extend_from_slice(buf) {
-            Ok(()) => Ok(buf.len()),
-            Err(_) => Err(io::Error::from(io::ErrorKind::OutOfMemory)),
-        }
-    }
-
-    fn flush(&mut self) -> io::Result<()> {
-        Ok(())
-    }
-}
 
 const ALL_FREE: &str =
     "SET 0 FREE\nSET 1 FREE\nSET 2 FREE\nSET 3 FREE\nSET 4 FREE\nSET 5 FREE\nSET 6 FREE\nVAC 00300 00354 00430 00504 00560\nNEWJOB 77777\nTIME3 00000\nLST1 57777 57777 57777 57777 57777 57777 57777 57777\nLST2 00000 00000 00000 00000 00000 00000 00000 00000 00000 00000 00000 00000 00000 00000 00000 00000 00000 00000\nPHASE 77777 00000 77777 00000 77777 00000 77777 00000 77777 00000 77777 00000\n";
@@ -58,12 +34,9 @@ fn run<R: Threads + Wait + Sync, G: Gate + Sync>(
     calls: usize,
 ) -> Result<(Vec<u8>, Result<(), RunFault>), Fail> {
     let bench = read_bench(alloc, document)?;
-    let mut paper = Paper {
-        taken: Vec::new(alloc),
-        calls,
-    };
-    let ended = threads(rt, alloc, &bench, &mut paper, gate);
-    Ok((paper.taken, ended))
+    let mut writer = Narrow::new(alloc, 1000, calls);
+    let ended = threads(rt, alloc, &bench, &mut writer, gate);
+    Ok((writer.taken, ended))
 }
 
 // The report of all tables as at the start, but for these last lines.

@@ -1,4 +1,4 @@
-ghost use Rattle.std.specs.Prelude.{◌≡◌, ◌-◌, ◌∷◌, IfOk, IfErr, length, replicate, vec_len};
+ghost use Rattle.std.specs.Prelude.{◌≡◌, ◌+◌, ◌-◌, ◌<◌, ◌∷◌, IfOk, IfErr, length, replicate, vec_len};
 ghost use Rattle.agc_machine.specs.Told.{nothing};
 ghost use Rattle.agc_desk.specs.Opening.{names_of};
 ghost use Rattle.agc_bench.specs.Threads.{AsksOwn, EachAsks, IsEarly, IsGathered, WritesRun, asker_at, askers_of};
@@ -30,7 +30,24 @@ impl<'b, 'g, N: Names, G: Gate> Promise<Share<N>> for Pledge<'b, 'g, G> {
     ghost kept_by = { λ pledge told. AsksOwn (λ n call. G.may_stop pledge.gate.now n call) (asker_at pledge.bench.now pledge.thread) pledge.start told };
 }
 
-/// So many shares of a desk.
+/// The pledge of the thread of this number, which starts with this share.
+fn pledge_of<'b, 'g, N: Names, G: Gate>(
+    share: &Share<N>,
+    bench: &'b Bench,
+    thread: usize,
+    gate: &'g G,
+) -> Pledge<'b, 'g, G>
+    ensures { result ≡ record { start = share.now; bench = bench.entry; thread = thread; gate = gate.entry } }
+{
+    Pledge {
+        start: share.told(),
+        bench,
+        thread,
+        gate,
+    }
+}
+
+/// So many shares of a desk. `Lost` comes only where the desk has fewer left.
 fn shares_of<N: Names>(
     alloc: Global,
     desk: &mut Desk<N>,
@@ -38,6 +55,7 @@ fn shares_of<N: Names>(
 ) -> Result<Vec<Share<N>>, RunFault>
     ensures told { IfOk result (λ v. v.items ≡ replicate count nothing) }
     ensures early { IfErr result (λ fault. IsEarly fault) }
+    ensures lost { IfErr result (λ fault. fault ≡ RunFault.Lost → 64 < desk.old.given + count) }
 {
     let mut shares = Vec::new(alloc);
     for _given in 0..count {
@@ -73,13 +91,7 @@ fn ask_at_once<N: Names + Send + Sync, G: Gate + Sync, W: Threads + Wait + Sync>
             let mut running = Vec::new(alloc);
             for share in shares {
                 let thread = running.len();
-                let start = share.told();
-                let pledge = Pledge {
-                    start,
-                    bench,
-                    thread,
-                    gate,
-                };
+                let pledge = pledge_of(&share, bench, thread, gate);
                 let own = move || -> Share<N>
                     ensures { AsksOwn (λ n call. G.may_stop gate.entry.now n call) (asker_at bench.entry.now thread) share result }
                 { ask_own(rt, shared, share, bench, thread, gate) };

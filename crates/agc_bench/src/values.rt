@@ -60,16 +60,10 @@ fn row_of(texts: &RowTexts<'_>) -> Option<(Task, Action)>
     ensures found { IfSome result (λ r. IsRow r × (row_seen texts.now ≡ row_texts r)) }
     ensures only { IfNone result ((r : Task × Action) → IsRow r → row_seen texts.now ≢ row_texts r) }
 {
-    match parse_address(texts.at) {
-        None => None,
-        Some(at) => match parse_word(texts.bank) {
-            None => None,
-            Some(bank) => match parse_action(texts.action) {
-                None => None,
-                Some(action) => Some((Task { at, bank }, action)),
-            },
-        },
-    }
+    let at = parse_address(texts.at)?;
+    let bank = parse_word(texts.bank)?;
+    let action = parse_action(texts.action)?;
+    Some((Task { at, bank }, action))
 }
 
 /// The rows that their texts spell, in order.
@@ -118,13 +112,11 @@ fn parse_job(text: Option<&str>) -> Option<Option<JobStart>>
 {
     match text {
         None => Some(None),
-        Some(text) => match parse_line(text) {
-            None => None,
-            Some(request) => match job_of(&request) {
-                None => None,
-                Some(job) => Some(Some(job)),
-            },
-        },
+        Some(text) => {
+            let request = parse_line(text)?;
+            let job = job_of(&request)?;
+            Some(Some(job))
+        }
     }
 }
 
@@ -135,13 +127,11 @@ fn parse_timed(text: Option<&str>) -> Option<Option<(Delay, Task)>>
 {
     match text {
         None => Some(None),
-        Some(text) => match parse_line(text) {
-            None => None,
-            Some(request) => match timed_of(&request) {
-                None => None,
-                Some(timed) => Some(Some(timed)),
-            },
-        },
+        Some(text) => {
+            let request = parse_line(text)?;
+            let timed = timed_of(&request)?;
+            Some(Some(timed))
+        }
     }
 }
 
@@ -150,19 +140,11 @@ fn entry_of(texts: &EntryTexts<'_>) -> Option<PhaseEntry>
     ensures found { IfSome result (λ b. IsEntry b × (entry_seen texts.now ≡ entry_texts b)) }
     ensures only { IfNone result ((b : Begins) → IsEntry b → entry_seen texts.now ≢ entry_texts b) }
 {
-    match Group::new(texts.group) {
-        None => None,
-        Some(group) => match Phase::new(texts.phase) {
-            None => None,
-            Some(phase) => match parse_job(texts.job) {
-                None => None,
-                Some(job) => match parse_timed(texts.task) {
-                    None => None,
-                    Some(task) => PhaseEntry::new(group, phase, job, task),
-                },
-            },
-        },
-    }
+    let group = Group::new(texts.group)?;
+    let phase = Phase::new(texts.phase)?;
+    let job = parse_job(texts.job)?;
+    let task = parse_timed(texts.task)?;
+    PhaseEntry::new(group, phase, job, task)
 }
 
 /// The phase entries that their numbers and texts spell, in order.
@@ -217,10 +199,8 @@ fn device_of(texts: &DeviceTexts<'_>) -> Option<(Line, u32)>
     ensures found { IfSome result (λ d. IsDevice d × (device_seen texts.now ≡ device_texts d)) }
     ensures only { IfNone result ((d : Line × ℕ) → IsDevice d → device_seen texts.now ≢ device_texts d) }
 {
-    match parse_kind(texts.line) {
-        None => None,
-        Some(line) => Some((line, texts.pulses)),
-    }
+    let line = parse_kind(texts.line)?;
+    Some((line, texts.pulses))
 }
 
 /// The devices that their texts and numbers spell, in order.
@@ -266,9 +246,9 @@ pub(crate) fn power_of(texts: &Option<Vec<&str>>) -> Option<Option<[Word; 12]>>
 {
     match texts {
         None => Some(None),
-        Some(texts) => match words_of(texts.as_slice()) {
-            None => None,
-            Some(words) => Some(Some(words)),
-        },
+        Some(texts) => {
+            let words = words_of(texts.as_slice())?;
+            Some(Some(words))
+        }
     }
 }

@@ -193,6 +193,10 @@ fn a_caller_gets_the_machines_answers(rt: HostRuntime) -> Result<(), Fail> {
     let wanted = [Heard::Job(1), Heard::Stored, Heard::Job(2), Heard::Runs(2)];
     assert_eq!(rt; replies.as_slice(), wanted.as_slice());
     assert_eq!(rt; outcome.machine.totals().served, 4);
+    let stored = [2, 0, 1, 0o123];
+    for (place, want) in [0, 1, 12, 13].iter().zip(stored.iter()) {
+        assert_eq!(rt; bits(&outcome.machine, *place), *want, "at place {place}");
+    }
     Ok(())
 }
 
@@ -398,5 +402,66 @@ fn a_gate_stops_a_worker(rt: HostRuntime) -> Result<(), Fail> {
     assert_eq!(rt; gate.answered.load(Ordering::SeqCst), 4);
     assert_eq!(rt; fake.count, 4);
     assert_eq!(rt; fake.seen[..4], requests[..4]);
+    Ok(())
+}
+
+// A console with a machine of its own, which counts in the open how often it was asked.
+#[derive(Drop)]
+struct Counting<'a> {
+    machine: Machine,
+    asked: &'a AtomicU64,
+}
+
+impl Console for Counting<'_> {
+    ghost leads = { λ _ _ _ _. Unit {0} };
+
+    fn ask(&mut self, _rt: &impl Wait, request: Request) -> Answer {
+        self.asked.fetch_add(1, Ordering::SeqCst);
+        self.machine.apply(request)
+    }
+}
+
+// A gate that counts the calls before which its console was asked just for those that come first, and the calls after
+// which it was asked for one more.
+#[derive(Drop)]
+struct InTurn<'a> {
+    asked: &'a AtomicU64,
+    begun: AtomicU64,
+    ended: AtomicU64,
+}
+
+impl Gate for InTurn<'_> {
+    ghost may_stop = { λ _ _ _. ⊥ };
+
+    fn before(&self, _worker: usize, call: usize) -> bool {
+        if self.asked.load(Ordering::SeqCst) == call as u64 {
+            self.begun.fetch_add(1, Ordering::SeqCst);
+        }
+        true
+    }
+
+    fn after(&self, _worker: usize, call: usize) {
+        if self.asked.load(Ordering::SeqCst).checked_sub(1) == Some(call as u64) {
+            self.ended.fetch_add(1, Ordering::SeqCst);
+        }
+    }
+}
+
+#[test]
+fn a_call_is_asked_between_before_and_after(rt: HostRuntime) -> Result<(), Fail> {
+    let asked = AtomicU64::new(0);
+    let mut console = Counting {
+        machine: new_machine(rt.alloc())?,
+        asked: &asked,
+    };
+    let gate = InTurn {
+        asked: &asked,
+        begun: AtomicU64::new(0),
+        ended: AtomicU64::new(0),
+    };
+    let requests = [novac(8, 1024)?, Request::Tick, Request::EndOfJob];
+    assert_eq!(rt; drive(&rt, &mut console, 0, &requests, &gate), 3);
+    assert_eq!(rt; gate.begun.load(Ordering::SeqCst), 3);
+    assert_eq!(rt; gate.ended.load(Ordering::SeqCst), 3);
     Ok(())
 }

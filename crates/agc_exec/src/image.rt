@@ -164,7 +164,7 @@ fn newjob(sets: &[Option<Record>]) -> Word
         None => word(32767),
         Some(first) => match current(sets) {
             None => unreachable!(),
-            Some(front) => newjob_with(first.0, &first.1, &front),
+            Some(front) => newjob_with(first.0, first.1, &front),
         },
     }
 }

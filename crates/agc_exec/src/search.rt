@@ -1,5 +1,5 @@
 // Searches in the core sets.
-ghost use Rattle.std.specs.Prelude.{◌≡◌, false, ◌<◌, ◌≤◌, IsSome, IsNone, IfSome, length, is_some, None};
+ghost use Rattle.std.specs.Prelude.{◌≡◌, false, ◌<◌, ◌≤◌, IsSome, IsNone, IfSome, length, is_some, None, option_map};
 ghost use Rattle.agc_plan.specs.Jobs.{least_unused, least_unowned};
 ghost use Rattle.agc_plan.specs.Places.{place_of};
 ghost use Rattle.agc_exec.specs.Best.{better_of, earlier};
@@ -52,8 +52,12 @@ pub fn free_number(sets: &[Option<Record>]) -> Option<JobNo>
 }
 
 /// The best job so far, after one more set.
-fn better(best: Option<(usize, Record)>, k: usize, set: Option<Record>) -> Option<(usize, Record)>
-    ensures { result ≡ better_of best k set }
+fn better<'a>(
+    best: Option<(usize, &'a Record)>,
+    k: usize,
+    set: &'a Option<Record>,
+) -> Option<(usize, &'a Record)>
+    ensures { option_map (λ p. (p.0, p.1.now)) result ≡ better_of (option_map (λ p. (p.0, p.1.now)) best.entry) k set.now }
 {
     match (best, set) {
         (_, None) => best,
@@ -63,7 +67,7 @@ fn better(best: Option<(usize, Record)>, k: usize, set: Option<Record>) -> Optio
             Some((k, record))
         },
         (Some((j, other)), Some(record)) => {
-            if record.asleep || other.precedes(&record) {
+            if record.asleep || other.precedes(record) {
                 Some((j, other))
             } else {
                 Some((k, record))
@@ -73,12 +77,12 @@ fn better(best: Option<(usize, Record)>, k: usize, set: Option<Record>) -> Optio
 }
 
 /// The best job, with its core set.
-pub fn best_set(sets: &[Option<Record>]) -> Option<(usize, Record)>
-    ensures { BestBelow sets.now (length sets.now) result }
+pub fn best_set(sets: &[Option<Record>]) -> Option<(usize, &Record)>
+    ensures { BestBelow sets.now (length sets.now) (option_map (λ p. (p.0, p.1.now)) result) }
 {
-    let mut best: Option<(usize, Record)> = None;
+    let mut best: Option<(usize, &Record)> = None;
     for (k, set) in sets.iter().enumerate() {
-        best = better(best, k, *set);
+        best = better(best, k, set);
     }
     best
 }
@@ -133,13 +137,13 @@ pub fn free_area(sets: &[Option<Record>]) -> Option<u8>
 }
 
 /// The least-numbered sleeper so far, after one more set.
-fn earlier(
+fn earlier<'a>(
     at: Address,
-    found: Option<(usize, Record)>,
+    found: Option<(usize, &'a Record)>,
     k: usize,
-    set: Option<Record>,
-) -> Option<(usize, Record)>
-    ensures { result ≡ earlier at found k set }
+    set: &'a Option<Record>,
+) -> Option<(usize, &'a Record)>
+    ensures { option_map (λ p. (p.0, p.1.now)) result ≡ earlier at (option_map (λ p. (p.0, p.1.now)) found.entry) k set.now }
 {
     match (found, set) {
         (_, None) => found,
@@ -159,12 +163,12 @@ fn earlier(
 }
 
 /// The least-numbered sleeper of this address, with its core set.
-pub fn sleeper(sets: &[Option<Record>], at: Address) -> Option<(usize, Record)>
-    ensures { FirstBelow sets.now at (length sets.now) result }
+pub fn sleeper(sets: &[Option<Record>], at: Address) -> Option<(usize, &Record)>
+    ensures { FirstBelow sets.now at (length sets.now) (option_map (λ p. (p.0, p.1.now)) result) }
 {
-    let mut found: Option<(usize, Record)> = None;
+    let mut found: Option<(usize, &Record)> = None;
     for (k, set) in sets.iter().enumerate() {
-        found = earlier(at, found, k, *set);
+        found = earlier(at, found, k, set);
     }
     found
 }

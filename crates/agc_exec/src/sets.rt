@@ -90,10 +90,11 @@ fn give_way(sets: &mut [Option<Record>], job: Record) -> JobNo
 {
     match best_set(sets) {
         None => job.number(),
-        Some(first) => {
-            if first.1.is_more_urgent(&job) {
-                sets.swap(0, first.0);
-                first.1.number()
+        Some((k, first)) => {
+            let number = first.number();
+            if first.is_more_urgent(&job) {
+                sets.swap(0, k);
+                number
             } else {
                 job.number()
             }
@@ -147,11 +148,12 @@ pub fn rouse(sets: &mut [Option<Record>], at: Address) -> Reply
 {
     match sleeper(sets, at) {
         None => Reply::NoSleeper,
-        Some(found) => {
+        Some((k, job)) => {
             let runner = running(sets);
-            sets[found.0] = Some(found.1.woken());
+            let woken = job.woken();
+            sets[k] = Some(woken);
             take_over(sets, runner);
-            Reply::Roused(found.1.number())
+            Reply::Roused(woken.number())
         }
     }
 }

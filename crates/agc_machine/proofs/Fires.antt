@@ -7,7 +7,7 @@ use Rattle.agc_plan.specs.declared.request.Action.{Action}
 use Rattle.agc_plan.specs.Eras.{Work}
 use Rattle.agc_plan.specs.Plans.{action_in}
 use Rattle.agc_plan.specs.Seats.{Seated, seated_action, seated_fired}
-use Rattle.agc_plan.specs.Steps.{Did, Fires, done, dispatched_work, later_work, fire, fire_first, unless_alarm, fire_all}
+use Rattle.agc_plan.specs.Steps.{Fires, done, dispatched_work, later_work, fire, fire_first, unless_alarm, fire_all}
 use Rattle.agc_plan.specs.Tasks.{Agenda, Waiting, first_due, dispatched, later, count_due}
 use Rattle.agc_plan.specs.Tasks as tasks
 use Rattle.agc_exec.specs.Held.{Held}

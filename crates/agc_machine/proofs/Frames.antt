@@ -1,18 +1,17 @@
 -- What words are read as depends on their own table's places alone.
-use Rattle.std.proofs.Common.{◌≡◌, ◌⊎◌, ℕ, ◌+◌, ◌-◌, ◌*◌, ◌<◌, ◌≤◌, Bool, false, List, Option, length, drop, take, slice_index, slice_index_or, refl, ap, sym, subst, ◌∙◌, inl, inr, arith}
+use Rattle.std.proofs.Common.{◌≡◌, ℕ, ◌+◌, ◌-◌, ◌≤◌, List, Option, length, drop, take, slice_index, refl, ap, sym, subst, ◌∙◌, inr, arith}
 use Rattle.std.proofs.lemmas.List.{get_or-drop, length-drop}
 use Rattle.std.proofs.lemmas.Grind.{same_number_lists}
 use Rattle.agc_plan.specs.Base.{Base}
-use Rattle.agc_plan.specs.Steps.{Plain}
 use Rattle.agc_plan.specs.Tasks.{Waiting}
 use Rattle.agc_plan.specs.Tasks as tasks
 use Rattle.agc_exec.specs.Held.{Held}
 use Rattle.agc_exec.specs.Image.{IsEncoded}
 use Rattle.agc_exec.specs.Sets.{jobs_of, entries_of}
-use Rattle.agc_wait.specs.Waits.{due_now, is_due}
-use Rattle.agc_wait.specs.Table.{Carries, waits_of, distance_of, gap_of, time3, lst1, at_in, bank_in}
+use Rattle.agc_wait.specs.Waits.{is_due}
+use Rattle.agc_wait.specs.Table.{waits_of}
 use Rattle.agc_wait.specs.Table as table
-use Rattle.agc_wait.proofs.Tables.{waits_of-carried, IsLawfulTable-carried}
+use Rattle.agc_wait.proofs.Same.{waits_of-same, IsLawfulTable-same, IsTidy-same}
 use Rattle.agc_wait.proofs.Dues.{is_due-none}
 use Rattle.agc_phase.specs.Image.{phase_words, failreg_word, phases_in, codes_in, code_of_word, base_of, ArePairs, IsCodeWord, IsFailreg}
 use Rattle.agc_phase.specs.Image as phases
@@ -22,32 +21,6 @@ use Rattle.agc_machine.specs.Image.{IsImage}
 -- from this place on the words are the same
 abbrev SameFrom : ℕ → List ℕ → List ℕ → Type 0
 SameFrom first old new = (i : ℕ) → first ≤ i → slice_index new i ≡ slice_index old i
-
-Carries-same : (old new : List ℕ) (waits : List Waiting) → SameFrom 90 old new → Carries old waits → Carries new waits
-Carries-same old new waits same c =
-    let gap : (k : ℕ) → lst1 new k ≡ lst1 old k = λ k. same (91 + k) (omega arith) in
-    record {
-      nine = c.nine;
-      at = λ k lt. same (99 + 2 * k) (omega arith) ∙ c.at k lt;
-      bank = λ k lt. same (100 + 2 * k) (omega arith) ∙ c.bank k lt;
-      low = c.low;
-      high = c.high;
-      counter = let e : time3 new ≡ time3 old = same 90 (omega arith) in let lt : time3 old < 16384 = c.counter in omega arith;
-      first = ap distance_of (same 90 (omega arith)) ∙ c.first;
-      next = λ k lt. c.next k lt ∙ ap (λ (w : ℕ). (table.place_in waits k).distance + gap_of w) (sym (gap k));
-      gaps = λ k lt. subst (λ (w : ℕ). (w ≤ 1) ⊎ (16384 ≤ w)) (sym (gap k)) (c.gaps k lt);
-      rest = λ k le lt. gap k ∙ c.rest k le lt;
-      near = c.near;
-    }
-
-waits_of-same : (old new : List ℕ) → SameFrom 90 old new → table.IsLawfulTable old → waits_of new ≡ waits_of old
-waits_of-same old new same lawful = waits_of-carried new (waits_of old) (Carries-same old new (waits_of old) same lawful)
-
-waits-lawful : (old new : List ℕ) → SameFrom 90 old new → table.IsLawfulTable old → table.IsLawfulTable new
-waits-lawful old new same lawful = IsLawfulTable-carried new (waits_of old) (Carries-same old new (waits_of old) same lawful)
-
-waits-tidy : (old new : List ℕ) → SameFrom 90 old new → table.IsTidy old → table.IsTidy new
-waits-tidy old new same tidy k lt e = tidy k lt (sym (same (91 + k) (omega arith)) ∙ e)
 
 phase_words-same : (old new : List ℕ) → length new ≡ length old → SameFrom 117 old new → phase_words new ≡ phase_words old
 phase_words-same old new len same =
@@ -74,16 +47,18 @@ image_written m sets waits base room e1 e2 e3 words kept size1 lawful1 base1 siz
     let same2 : SameFrom 117 e1 e2 = λ i le. others2 i (inr (omega arith)) in
     let same3 : SameFrom 90 e2 e3 = encoded.others in
     let same13 : SameFrom 117 e1 e3 = λ i le. same3 i (omega arith) ∙ same2 i le in
-    let waits_is : waits_of e3 ≡ waits = waits_of-same e2 e3 same3 lawful2 ∙ waits2 in
+    let same_table : table.SameTable e3 e2 = λ i from to. same3 i from in
+    let waits_is : waits_of e3 ≡ waits = waits_of-same e3 e2 same_table ∙ waits2 in
     subst (λ (w : List ℕ). IsImage m w) (sym is) (record {
+      machine = kept.lawful;
       lawful = record {
         size = size3;
         cores = encoded.lawful;
-        waits = waits-lawful e2 e3 same3 lawful2;
+        waits = IsLawfulTable-same e3 e2 same_table lawful2;
         none_due = ap is_due waits_is ∙ is_due-none waits kept.none_due;
         phases = phases-lawful e1 e3 (size3 ∙ sym size1) same13 lawful1;
       };
-      tidy = record { cores = encoded.tidy; waits = waits-tidy e2 e3 same3 tidy2 };
+      tidy = record { cores = encoded.tidy; waits = IsTidy-same e3 e2 same_table tidy2 };
       placed = ap entries_of encoded.sets_is ∙ sym kept.stands.work.places_is;
       stands = record {
         jobs = ap jobs_of encoded.sets_is ∙ sym kept.stands.work.jobs_is;

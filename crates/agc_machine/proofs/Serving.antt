@@ -1,5 +1,5 @@
 -- What a served request leaves is kept.
-use Rattle.std.proofs.Common.{◌≡◌, ◌≢◌, ℕ, zero, suc, ◌+◌, ◌<◌, ◌≤◌, ◌^◌, ◌==◌, ◌&&◌, not, if◌then◌else◌, Bool, true, false, ◌⊎◌, inl, inr, List, [], ◌∷◌, ◌++◌, Option, Some, None, length, refl, ap, sym, ◌∙◌, subst, arith}
+use Rattle.std.proofs.Common.{◌≡◌, ◌≢◌, ℕ, ◌+◌, ◌<◌, ◌≤◌, ◌^◌, ◌==◌, ◌&&◌, not, if◌then◌else◌, Bool, true, false, ◌⊎◌, inl, inr, List, [], ◌∷◌, ◌++◌, Option, Some, None, length, refl, ap, sym, ◌∙◌, subst, arith}
 use Rattle.std.proofs.lemmas.Grind.{common_steps}
 use Rattle.std.proofs.lemmas.List.{length-append}
 use Rattle.std.specs.List.{fold}
@@ -10,7 +10,7 @@ use Rattle.agc_plan.specs.declared.reply.Reply.{Reply}
 use Rattle.agc_plan.specs.declared.reply.Reply.TheVariants.{Alarmed, Ticked, Restarted}
 use Rattle.agc_plan.specs.declared.request.Request.{Request}
 use Rattle.agc_plan.specs.declared.request.Request.TheVariants.{Restart, Fresh}
-use Rattle.agc_plan.specs.Plans.{Planned}
+use Rattle.agc_plan.specs.Plans.{Planned, fault_of}
 use Rattle.agc_plan.specs.Base.{Base}
 use Rattle.agc_plan.specs.Eras.{begun}
 use Rattle.agc_plan.specs.Seats.{Placed, placed, placed_step, places_after, era_places}
@@ -115,14 +115,14 @@ kept_by true m asked now l unspent short begun goes =
     let one : (reply_told now.reply).served ≡ 1 = t.one in
     let few : (reply_told now.reply).restarts ≤ 1 = t.few in
     let most : (reply_told now.reply).a1201 + (reply_told now.reply).a1202 + (reply_told now.reply).a1203 ≤ (reply_told now.reply).restarts = t.alarms in
-    (record { short = omega arith; most = l.most; allowed = omega arith; fits = l.fits; restarts = omega arith; alarms = omega arith }, begun refl)
+    (record { accepted = l.accepted; least = l.least; short = omega arith; most = l.most; allowed = omega arith; fits = l.fits; restarts = omega arith; alarms = omega arith }, begun refl)
 kept_by false m asked now l unspent short begun goes =
     let t : Tells (reply_told now.reply) = tells now.reply in
     let one : (reply_told now.reply).served ≡ 1 = t.one in
     let few : (reply_told now.reply).restarts ≤ 1 = t.few in
     let most : (reply_told now.reply).a1201 + (reply_told now.reply).a1202 + (reply_told now.reply).a1203 ≤ (reply_told now.reply).restarts = t.alarms in
     let left : length m.log < m.limit = short refl in
-    (record { short = rw length-append (omega arith); most = l.most; allowed = omega arith; fits = l.fits; restarts = omega arith; alarms = omega arith }, goes)
+    (record { accepted = l.accepted; least = l.least; short = rw length-append (omega arith); most = l.most; allowed = omega arith; fits = l.fits; restarts = omega arith; alarms = omega arith }, goes)
 
 places_by : (over : Bool) (m : Machined) (asked : Request) (now : Stepped) (places : List ℕ) → (over ≡ true → places ≡ era_places m.plan now.plain.base) → places ≡ (placed m.plan m.base (m.log ++ asked ∷ [])).places → places ≡ places_of (served_by over now asked m)
 places_by true m asked now places begun goes = begun refl
@@ -165,11 +165,11 @@ kept_stored m asked sets waits table reply room more over base log totals lawful
     (subst (λ (x : Machined). IsKept x sets waits table more) (sym here) (kept_served m asked sets waits table reply room more lawful holds e steps none_due le), here)
 
 -- what is kept where an era has just begun
-pub kept_begun : (plan : Planned) (limit allowance : ℕ) (base : Base) (log : List Request) (totals : Totals) (sets : List (Option Held)) (waits : List Waiting) (room : ℕ) → limit ≤ 1000000 → limit ≤ room → allowance < 2 ^ 64 → log ≡ [] → totals ≡ nothing → Stands sets waits (begun plan base.phases) (era_places plan base) → due_now waits ≡ 0 → IsKept (record { plan = plan; limit = limit; allowance = allowance; base = base; log = log; totals = totals }) sets waits base room
-kept_begun plan limit allowance base log totals sets waits room most le fits empty zero_is is none_due =
+pub kept_begun : (plan : Planned) (limit allowance : ℕ) (base : Base) (log : List Request) (totals : Totals) (sets : List (Option Held)) (waits : List Waiting) (room : ℕ) → fault_of plan.rows plan.entries ≡ None → 1 ≤ limit → limit ≤ 1000000 → limit ≤ room → allowance < 2 ^ 64 → log ≡ [] → totals ≡ nothing → Stands sets waits (begun plan base.phases) (era_places plan base) → due_now waits ≡ 0 → IsKept (record { plan = plan; limit = limit; allowance = allowance; base = base; log = log; totals = totals }) sets waits base room
+kept_begun plan limit allowance base log totals sets waits room accepted least most le fits empty zero_is is none_due =
     subst (λ (l : List Request). IsKept (record { plan = plan; limit = limit; allowance = allowance; base = base; log = l; totals = totals }) sets waits base room) (sym empty)
     (subst (λ (t : Totals). IsKept (record { plan = plan; limit = limit; allowance = allowance; base = base; log = []; totals = t }) sets waits base room) (sym zero_is) (record {
-      lawful = record { short = omega arith; most = most; allowed = omega arith; fits = fits; restarts = omega arith; alarms = omega arith };
+      lawful = record { accepted = accepted; least = least; short = omega arith; most = most; allowed = omega arith; fits = fits; restarts = omega arith; alarms = omega arith };
       stands = record { work = is; base_is = refl };
       none_due = none_due;
       holds = le;

@@ -6,7 +6,7 @@ use Rattle.agc_plan.specs.Base.{Base}
 use Rattle.agc_plan.specs.Eras.{begun}
 use Rattle.agc_plan.specs.Plans.{Planned}
 use Rattle.agc_plan.specs.Seats.{places_acted, places_after, era_places}
-use Rattle.agc_plan.specs.Steps.{Plain, acted, step, begins, base_after, ended, era}
+use Rattle.agc_plan.specs.Steps.{Plain, acted, step, begins, base_after, era}
 use Rattle.agc_plan.specs.Tasks.{Waiting}
 use Rattle.agc_exec.specs.Held.{Held}
 use Rattle.agc_machine.specs.Stands.{Stands, StandsFor, Steps}

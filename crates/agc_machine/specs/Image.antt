@@ -1,6 +1,5 @@
 -- The words of a machine: lawful, tidy, placed, and standing for what base and log reach.
-use Rattle.std.specs.Prelude.{◌≡◌, ℕ, Bool, false, List, length}
-use Rattle.agc_plan.specs.Base.{Base}
+use Rattle.std.specs.Prelude.{◌≡◌, ℕ, false, List, length}
 use Rattle.agc_plan.specs.Steps.{Plain}
 use Rattle.agc_plan.specs.Tasks.{StandsFor}
 use Rattle.agc_exec.specs.Image.{jobs_in, entries_in}
@@ -10,7 +9,7 @@ use Rattle.agc_wait.specs.Table as table
 use Rattle.agc_wait.specs.Waits.{is_due}
 use Rattle.agc_phase.specs.Image.{base_of}
 use Rattle.agc_phase.specs.Image as phases
-use Rattle.agc_machine.specs.Machines.{Machined, plain_of, places_of}
+use Rattle.agc_machine.specs.Machines.{Machined, IsLawful, plain_of, places_of}
 
 -- lawful words: each table's part is, and no task is due
 pub record IsLawfulImage (words : List ℕ) : Type 0 where
@@ -31,8 +30,9 @@ pub record WordsStandFor (words : List ℕ) (plain : Plain) : Type 0 where
   pub tasks : StandsFor (waits_of words) plain.work.agenda
   pub base : base_of words ≡ plain.base
 
--- the words of this machine: they stand for what its base and log reach, with the jobs in the core sets of their placement
+-- the words of this machine, which is lawful: they stand for what its base and log reach, with the jobs in the core sets of their placement
 pub record IsImage (m : Machined) (words : List ℕ) : Type 0 where
+  pub machine : IsLawful m
   pub lawful : IsLawfulImage words
   pub tidy : IsTidyImage words
   pub placed : entries_in words ≡ places_of m

@@ -5,7 +5,7 @@ use Rattle.agc_plan.specs.declared.request.Request.TheVariants.{Restart, Fresh}
 use Rattle.agc_plan.specs.declared.reply.Reply.{Reply}
 use Rattle.agc_plan.specs.declared.reply.Code.TheVariants.{C1107}
 use Rattle.agc_plan.specs.Base.{Base, fresh_base, with_code}
-use Rattle.agc_plan.specs.Plans.{Planned}
+use Rattle.agc_plan.specs.Plans.{Planned, fault_of}
 use Rattle.agc_plan.specs.Seats.{placed}
 use Rattle.agc_plan.specs.Steps.{Plain, Stepped, step, reached, begins}
 use Rattle.agc_plan.specs.Tasks.{Waiting}
@@ -37,6 +37,8 @@ places_of m = (placed m.plan m.base m.log).places
 
 -- what holds of every machine
 pub record IsLawful (m : Machined) : Type 0 where
+  pub accepted : fault_of m.plan.rows m.plan.entries ≡ None
+  pub least : 1 ≤ m.limit
   pub short : length m.log ≤ m.limit
   pub most : m.limit ≤ 1000000
   pub allowed : m.totals.served ≤ m.allowance

@@ -1,5 +1,5 @@
 -- What an answer tells of the totals.
-use Rattle.std.specs.Prelude.{ℕ, ◌+◌, Option, Some, None, Result, Ok, Err}
+use Rattle.std.specs.Prelude.{◌+◌, Some, Result, Ok, Err}
 use Rattle.agc_plan.specs.declared.reply.Alarm.{Alarm}
 use Rattle.agc_plan.specs.declared.reply.Alarm.TheVariants.{A1201, A1202, A1203}
 use Rattle.agc_plan.specs.declared.reply.Reply.{Reply}

@@ -41,10 +41,10 @@ fewer_left time (x ∷ xs) = elim (cases_Bool (nat_le x.due time)) [
   | inr off ↦ let le : length (without_first_due time xs) ≤ length xs = fewer_left time xs in rw off (omega arith)
 ]
 
-dispatched_steady : (work : Work) → IsSteady work → IsSteady (dispatched_work work)
+pub dispatched_steady : (work : Work) → IsSteady work → IsSteady (dispatched_work work)
 dispatched_steady work s = record { jobs = s.jobs; tasks = let le = fewer_left work.agenda.time work.agenda.tasks in let few : length work.agenda.tasks ≤ 9 = s.tasks in omega arith }
 
-done_steady : (a : Action) (work : Work) → IsSteady work → IsSteady (done a work).work
+pub done_steady : (a : Action) (work : Work) → IsSteady work → IsSteady (done a work).work
 done_steady action.Nothing work s = s
 done_steady (action.Novac priority entry) work s = record { jobs = novac_sound priority entry work.jobs s.jobs; tasks = s.tasks }
 done_steady (action.Findvac priority entry) work s = record { jobs = findvac_sound priority entry work.jobs s.jobs; tasks = s.tasks }
@@ -66,7 +66,7 @@ fire_steady : (more : ℕ) (rows : List (Task × Action)) (work : Work) (fired :
 fire_steady zero rows work fired s = s
 fire_steady (suc more) rows work fired s = first_steady (first_due work.agenda.time work.agenda.tasks) rows work fired (fire more rows) (fire_steady more rows) s
 
-later_steady : (work : Work) → IsSteady work → IsSteady (later_work work)
+pub later_steady : (work : Work) → IsSteady work → IsSteady (later_work work)
 later_steady work s = record { jobs = s.jobs; tasks = s.tasks }
 
 acted_steady : (plan : Planned) (asked : Request) (plain : Plain) → IsSteady plain.work → IsSteady (acted plan asked plain).plain.work

@@ -5,10 +5,14 @@ use Rattle.agc_plan.specs.Examples.{Examples}
 pub worked : Examples
 worked = record {
   one_job = refl;
+  nobody_left = refl;
   end_hands_over = refl;
   change_of_job = refl;
   nobody_runs = refl;
   equal_priorities = refl;
+  least_again = refl;
+  least_area_again = refl;
+  over_a_sleeper = refl;
   one_sleeper = refl;
   alarm_1201 = refl;
   alarm_1202 = refl;

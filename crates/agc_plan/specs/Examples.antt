@@ -1,5 +1,5 @@
 -- The definitions on worked examples: what was asked, and the replies. Addresses and priorities are octal, as in the listings.
-use Rattle.std.specs.Prelude.{◌≡◌, ℕ, List, [], ◌∷◌, ◌++◌, Some, None, replicate}
+use Rattle.std.specs.Prelude.{◌≡◌, ℕ, List, [], ◌∷◌, ◌++◌, Some, None, option_map, replicate}
 use Rattle.agc_plan.specs.declared.reply.Alarm.TheVariants.{A1201, A1202, A1203}
 use Rattle.agc_plan.specs.declared.reply.Code.TheVariants.{C1201, C1202, C1203}
 use Rattle.agc_plan.specs.declared.reply.Reply.{Reply}
@@ -12,6 +12,8 @@ use Rattle.agc_plan.specs.declared.request.Request.{Request}
 use Rattle.agc_plan.specs.declared.request.Request.TheVariants.{Novac, Findvac, EndOfJob, Sleep, Rouse, Prio, Change, Store, Tick, SetPhase, Restart}
 use Rattle.agc_plan.specs.declared.request.Request.TheVariants as request
 use Rattle.agc_plan.specs.declared.request.Task.{Task}
+use Rattle.agc_plan.specs.Jobs.{no_jobs, job_in}
+use Rattle.agc_plan.specs.Places.{placed_new}
 use Rattle.agc_plan.specs.Base.{fresh_base}
 use Rattle.agc_plan.specs.Begins.{Begins}
 use Rattle.agc_plan.specs.Plans.{Planned}
@@ -66,20 +68,33 @@ eight_jobs = replicate 8 (Novac 0o10 (entry 0o2000))
 abbrev pub ten_tasks : List Request
 ten_tasks = replicate 10 (request.List 5 (task 0o2000))
 
+-- two jobs with areas, the end of the first, and a third
+abbrev pub area_again : List Request
+area_again = Findvac 0o10 (entry 0o2000) ∷ Findvac 0o10 (entry 0o2010) ∷ EndOfJob ∷ Findvac 0o10 (entry 0o2020) ∷ []
+
 -- each line is what was asked and what was answered
 pub record Examples : Type 0 where
   -- one job, and its end
   pub one_job : replies (Novac 0o20 (entry 0o2000) ∷ EndOfJob ∷ []) ≡ Established 1 ∷ Left None ∷ []
+  -- which leaves nobody
+  pub nobody_left : (state (Novac 0o20 (entry 0o2000) ∷ EndOfJob ∷ [])).work.jobs ≡ no_jobs 7
   -- a more urgent job waits until the first ends
   pub end_hands_over : replies (Novac 0o20 (entry 0o2000) ∷ Novac 0o30 (entry 0o2100) ∷ EndOfJob ∷ []) ≡ Established 1 ∷ Established 2 ∷ Left (Some 2) ∷ []
   -- or until the first gives way
   pub change_of_job : replies (Novac 0o20 (entry 0o2000) ∷ Store 1 0o123 ∷ Novac 0o30 (entry 0o2100) ∷ Change ∷ []) ≡ Established 1 ∷ Stored ∷ Established 2 ∷ Runs 2 ∷ []
   -- with nobody running there is no job to act on
-  pub nobody_runs : replies (Novac 0o20 (entry 0o2000) ∷ EndOfJob ∷ EndOfJob ∷ Store 1 1 ∷ []) ≡ Established 1 ∷ Left None ∷ NoJob ∷ NoJob ∷ []
+  pub nobody_runs :
+      replies (Novac 0o20 (entry 0o2000) ∷ EndOfJob ∷ EndOfJob ∷ Store 1 1 ∷ Sleep 0o2044 ∷ Prio 0o10 ∷ Change ∷ []) ≡ Established 1 ∷ Left None ∷ replicate 5 NoJob
   -- of equal priorities the least number, which is used again once it is unused
   pub equal_priorities :
       replies (Novac 0o37 (entry 0o2000) ∷ Novac 0o20 (entry 0o2010) ∷ Novac 0o20 (entry 0o2020) ∷ EndOfJob ∷ Novac 0o20 (entry 0o2030) ∷ Prio 0o10 ∷ [])
       ≡ Established 1 ∷ Established 2 ∷ Established 3 ∷ Left (Some 2) ∷ Established 1 ∷ Runs 1 ∷ []
+  -- the least number is used again
+  pub least_again : replies area_again ≡ Established 1 ∷ Established 2 ∷ Left (Some 2) ∷ Established 1 ∷ []
+  -- and so is the least area
+  pub least_area_again : option_map (λ j. j.area) (job_in (state area_again).work.jobs.slots 1) ≡ Some 1
+  -- a new job comes to the second core set, as a sleeper stands in the first, and is exchanged into it as it runs
+  pub over_a_sleeper : placed_new (Some 2) (Some 2) (1 ∷ replicate 6 0) ≡ 2 ∷ 1 ∷ replicate 5 0
   -- a sleeper wakes once
   pub one_sleeper :
       replies (Novac 0o20 (entry 0o2000) ∷ Sleep 0o2044 ∷ Novac 0o10 (entry 0o2100) ∷ Rouse 0o2044 ∷ Rouse 0o2044 ∷ [])

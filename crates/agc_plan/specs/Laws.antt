@@ -1,5 +1,8 @@
--- What a reader of the landing alarms wants to know, in words that know nothing of how the model computes.
-use Rattle.std.specs.Prelude.{◌≡◌, ℕ, ◌<◌, ◌≤◌, suc, true, false, List, [], ◌∷◌, ◌++◌, length, map, All, slice_index_or, Option, Some, None}
+-- What a reader of the landing alarms wants to know, in words that know nothing of how the model computes, but for what one
+-- task that fires does.
+use Rattle.std.specs.Prelude.{◌≡◌, ◌⊎◌, ℕ, ◌<◌, ◌≤◌, suc, true, false, List, [], ◌∷◌, ◌++◌, length, map, All, slice_index_or, Option, Some, None}
+use Rattle.agc_plan.specs.declared.reply.Alarm.{Alarm}
+use Rattle.agc_plan.specs.declared.reply.Alarm.TheVariants.{A1201, A1202, A1203}
 use Rattle.agc_plan.specs.declared.request.Action.{Action}
 use Rattle.agc_plan.specs.declared.request.Action.TheVariants as action
 use Rattle.agc_plan.specs.declared.request.Request.{Request}
@@ -9,9 +12,11 @@ use Rattle.agc_plan.specs.declared.request.JobStart.{JobStart}
 use Rattle.agc_plan.specs.declared.request.JobStart.TheVariants.{Findvac}
 use Rattle.agc_plan.specs.declared.request.Task.{Task}
 use Rattle.agc_plan.specs.Jobs.{Job, Jobs, job_in}
-use Rattle.agc_plan.specs.Tasks.{Pending, Agenda}
+use Rattle.agc_plan.specs.Tasks.{Pending, Agenda, first_due}
 use Rattle.agc_plan.specs.Begins.{Begins}
-use Rattle.agc_plan.specs.Steps.{Fires}
+use Rattle.agc_plan.specs.Plans.{action_in}
+use Rattle.agc_plan.specs.Eras.{Work}
+use Rattle.agc_plan.specs.Steps.{Fires, done, dispatched_work}
 
 -- this job lives and has this number; numbers begin with 1, and no two jobs have the same
 abbrev pub Lives : List (Option Job) → ℕ → Job → Type 0
@@ -93,6 +98,51 @@ living (Some job ∷ slots) = suc (living slots)
 -- one of the five areas is nobody's
 abbrev pub SomeAreaIsUnowned : List (Option Job) → Type 0
 SomeAreaIsUnowned slots = (area : ℕ) × (1 ≤ area) × (area ≤ 5) × IsUnowned slots area
+
+-- it asks for a job with an area, and each of the five is owned
+abbrev pub MissesArea : Action → Work → Type 0
+MissesArea (action.Findvac priority entry) work = IsEachOwned work.jobs.slots
+MissesArea other work = ⊥
+
+-- it asks for a job, and seven live; where the job is to have an area, one of the five is nobody's
+abbrev pub MissesNumber : Action → Work → Type 0
+MissesNumber (action.Novac priority entry) work = living work.jobs.slots ≡ 7
+MissesNumber (action.Findvac priority entry) work = SomeAreaIsUnowned work.jobs.slots × (living work.jobs.slots ≡ 7)
+MissesNumber other work = ⊥
+
+-- it lists a task, and nine wait
+abbrev pub MissesRoom : Action → Work → Type 0
+MissesRoom (action.List delay task) work = length work.agenda.tasks ≡ 9
+MissesRoom other work = ⊥
+
+-- what an alarm tells of an action, and of the work in which it is done
+abbrev pub Misses : Alarm → Action → Work → Type 0
+Misses A1201 act work = MissesArea act work
+Misses A1202 act work = MissesNumber act work
+Misses A1203 act work = MissesRoom act work
+
+-- no alarm tells of it
+abbrev pub MissesNothing : Action → Work → Type 0
+MissesNothing act work = (alarm : Alarm) → Misses alarm act work → ⊥
+
+-- the action that asks for what a request asks for: Nothing where no action does
+abbrev pub as_action : Request → Action
+as_action (request.Novac priority entry) = action.Novac priority entry
+as_action (request.Findvac priority entry) = action.Findvac priority entry
+as_action (request.Rouse at) = action.Rouse at
+as_action (request.List delay task) = action.List delay task
+as_action other = action.Nothing
+
+-- these tasks fire one after another, each the first that is due, taken out before its action is done: an action misses
+-- nothing, or the task is the last and this alarm tells what its action misses; where none misses anything, there is none
+abbrev pub EndsByLast : List (Task × Action) → Work → List Task → Option Alarm → Type 0
+EndsByLast rows work [] told = told ≡ None
+EndsByLast rows work (task ∷ tasks) told =
+    let act = action_in rows task in
+    let here = dispatched_work work in
+    (first_due work.agenda.time work.agenda.tasks ≡ Some task)
+    × ((MissesNothing act here × EndsByLast rows (done act here).work tasks told)
+    ⊎ ((tasks ≡ []) × ((alarm : Alarm) × (told ≡ Some alarm) × Misses alarm act here)))
 
 -- the running job lives and is awake
 abbrev pub IsRunnerAwake : Jobs → Type 0

@@ -1,15 +1,16 @@
 //! What a reader of the landing alarms wants to know of the plain model, as laws: each is the contract of a function that
-//! does nothing, and holds of every list of jobs and of every run of requests. Where the rules behind them come from, the
-//! listings or the profile, is said at the requests and in docs/MODEL.md.
+//! does nothing. Some speak of one call, on every list of jobs or of tasks, some of every state that a run of requests
+//! reaches, and some of a plan. Where the rules behind them come from, the listings or the profile, is said at the requests
+//! and in docs/MODEL.md.
 
 ghost use Rattle.std.specs.Prelude.{◌≡◌, ◌↔◌, ◌≤◌, ℕ, ◌+◌, List, Option, Some, None, IsSome, All, length, true};
 ghost use Rattle.agc_plan.specs.declared.reply.Alarm.{Alarm};
 ghost use Rattle.agc_plan.specs.declared.reply.Alarm.TheVariants.{A1201, A1202, A1203};
-ghost use Rattle.agc_plan.specs.declared.reply.Reply.TheVariants.{Alarmed, Established};
+ghost use Rattle.agc_plan.specs.declared.reply.Reply.TheVariants.{Alarmed, Established, Ticked};
 ghost use Rattle.agc_plan.specs.declared.request.Action.{Action};
 ghost use Rattle.agc_plan.specs.declared.request.Entry.{Entry};
 ghost use Rattle.agc_plan.specs.declared.request.Request.{Request};
-ghost use Rattle.agc_plan.specs.declared.request.Request.TheVariants.{EndOfJob, Sleep, Prio, Change};
+ghost use Rattle.agc_plan.specs.declared.request.Request.TheVariants.{EndOfJob, Sleep, Prio, Change, Tick};
 ghost use Rattle.agc_plan.specs.declared.request.Task.{Task};
 ghost use Rattle.agc_plan.specs.Jobs.{Job, Jobs, best, least_unused, least_unowned, sleeper_from, novac, findvac, rouse};
 ghost use Rattle.agc_plan.specs.Tasks.{Pending, due_at, InOrder};
@@ -17,9 +18,9 @@ ghost use Rattle.agc_plan.specs.Base.{Base};
 ghost use Rattle.agc_plan.specs.Begins.{Begins};
 ghost use Rattle.agc_plan.specs.Plans.{Planned, task_twice, phase_twice, all_want};
 ghost use Rattle.agc_plan.specs.Eras.{Work};
-ghost use Rattle.agc_plan.specs.Steps.{Plain, with_listed, tick_fires, step, reached};
+ghost use Rattle.agc_plan.specs.Steps.{Plain, with_listed, later_work, tick_fires, step, reached};
 ghost use Rattle.agc_plan.specs.Examples.{Examples};
-ghost use Rattle.agc_plan.specs.Laws.{Lives, IsMostUrgent, NobodyIsAwake, IsLeastUnused, IsEachUsed, IsLeastUnowned, IsEachOwned, SomeAreaIsUnowned, IsFirstSleeper, NobodySleepsAt, IsUnrivalled, SomebodyIsAwake, IsRunnerAwake, IsNoAreaShared, IsEachAreaKnown, IsNothingDue, IsRequestDelayed, AreActionsDelayed, AreListingsDelayed, FiresThese, HasTwoRows, HasTwoEntries, HasEachArea, living};
+ghost use Rattle.agc_plan.specs.Laws.{Lives, IsMostUrgent, NobodyIsAwake, IsLeastUnused, IsEachUsed, IsLeastUnowned, IsEachOwned, SomeAreaIsUnowned, IsFirstSleeper, NobodySleepsAt, IsUnrivalled, SomebodyIsAwake, IsRunnerAwake, IsNoAreaShared, IsEachAreaKnown, IsNothingDue, IsRequestDelayed, AreActionsDelayed, AreListingsDelayed, FiresThese, HasTwoRows, HasTwoEntries, HasEachArea, Misses, EndsByLast, as_action, living};
 
 /// The best job is awake, no awake job has a greater priority, and none of the same priority a lower number. There is
 /// one exactly where somebody is awake.
@@ -74,6 +75,25 @@ pub fn alarm_1202_where_seven_jobs_live()
 /// Where at most nine tasks wait, a listing is answered by alarm 1203 exactly where nine do.
 pub fn alarm_1203_where_nine_tasks_wait()
     ensures { (delay : ℕ) (task : Task) (work : Work) → length work.agenda.tasks ≤ 9 → ((with_listed delay task work).reply ≡ Alarmed A1203) ↔ (length work.agenda.tasks ≡ 9) }
+{}
+
+/// In every state that a run of requests reaches, a request is answered by alarm 1201 exactly where it is FINDVAC and each
+/// of the five areas is owned; by 1202 exactly where it is NOVAC and seven jobs live, or FINDVAC, seven live and an area is
+/// nobody's; by 1203 exactly where it is a listing and nine tasks wait. So no other request is.
+pub fn request_is_alarmed_where_it_misses_something()
+    ensures { (plan : Planned) (base : Base) (log : List Request) (asked : Request) (alarm : Alarm) → ((step plan asked (reached plan base log)).reply ≡ Alarmed alarm) ↔ Misses alarm (as_action asked) (reached plan base log).work }
+{}
+
+/// In every state that a run of requests reaches, a tick ends by the task that fired last: where it has an alarm, this
+/// tells what that task's action missed, in the work in which it was done, and the tasks before it missed nothing; where
+/// it has none, no action missed anything.
+pub fn tick_ends_by_its_last_task()
+    ensures { (plan : Planned) (base : Base) (log : List Request) (fired : List Task) (told : Option Alarm) → (step plan Tick (reached plan base log)).reply ≡ Ticked fired told → EndsByLast plan.rows (later_work (reached plan base log).work) fired told }
+{}
+
+/// In every state that a run of requests reaches, a tick never has alarm 1203: the task that fired made room.
+pub fn tick_has_room_for_listings()
+    ensures { (plan : Planned) (base : Base) (log : List Request) (fired : List Task) → (step plan Tick (reached plan base log)).reply ≡ Ticked fired (Some A1203) → ⊥ }
 {}
 
 /// An alarm by itself changes neither jobs nor tasks: what follows is the beginning of an era.

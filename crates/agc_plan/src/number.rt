@@ -165,7 +165,7 @@ impl Delay {
 /// A restart group, 1 to 6. Source: the listings' PHASE TABLE MAINTENANCE section.
 #[derive(Clone, Copy, PartialEq, Eq, Debug)]
 pub struct Group {
-    value: u8,
+    number: u8,
 }
 
 impl Model for Group {
@@ -173,21 +173,21 @@ impl Model for Group {
 
     ghost Value = { ℕ };
 
-    ghost view = { λ n. n.value };
+    ghost view = { λ n. n.number };
 
-    ghost invariant = { λ n. (1 ≤ n.value) × (n.value ≤ 6) };
+    ghost invariant = { λ n. (1 ≤ n.number) × (n.number ≤ 6) };
 
-    ghost inverse = { λ n. record { value = n } };
+    ghost inverse = { λ n. record { number = n } };
 }
 
 impl Group {
     /// A restart group. None outside 1 to 6.
-    pub fn new(value: u8) -> Option<Group>
-        ensures valid { IsSome result ↔ ((1 ≤ value) × (value ≤ 6)) }
-        ensures value { IfSome result (λ n. n ≡ value) }
+    pub fn new(number: u8) -> Option<Group>
+        ensures valid { IsSome result ↔ ((1 ≤ number) × (number ≤ 6)) }
+        ensures value { IfSome result (λ n. n ≡ number) }
     {
-        if (1..=6).contains(&value) {
-            Some(Group { value })
+        if (1..=6).contains(&number) {
+            Some(Group { number })
         } else {
             None
         }
@@ -198,7 +198,7 @@ impl Group {
         ensures value { result ≡ self }
         ensures range { (1 ≤ self) × (self ≤ 6) }
     {
-        self.value
+        self.number
     }
 }
 
@@ -245,7 +245,7 @@ impl Phase {
 /// The place of a job's work word, 1 to 6: MPAC+1 to MPAC+6. Source: profile.
 #[derive(Clone, Copy, PartialEq, Eq, Debug)]
 pub struct Place {
-    value: u8,
+    offset: u8,
 }
 
 impl Model for Place {
@@ -253,21 +253,21 @@ impl Model for Place {
 
     ghost Value = { ℕ };
 
-    ghost view = { λ n. n.value };
+    ghost view = { λ n. n.offset };
 
-    ghost invariant = { λ n. (1 ≤ n.value) × (n.value ≤ 6) };
+    ghost invariant = { λ n. (1 ≤ n.offset) × (n.offset ≤ 6) };
 
-    ghost inverse = { λ n. record { value = n } };
+    ghost inverse = { λ n. record { offset = n } };
 }
 
 impl Place {
     /// The place of a work word. None outside 1 to 6.
-    pub fn new(value: u8) -> Option<Place>
-        ensures valid { IsSome result ↔ ((1 ≤ value) × (value ≤ 6)) }
-        ensures value { IfSome result (λ n. n ≡ value) }
+    pub fn new(offset: u8) -> Option<Place>
+        ensures valid { IsSome result ↔ ((1 ≤ offset) × (offset ≤ 6)) }
+        ensures value { IfSome result (λ n. n ≡ offset) }
     {
-        if (1..=6).contains(&value) {
-            Some(Place { value })
+        if (1..=6).contains(&offset) {
+            Some(Place { offset })
         } else {
             None
         }
@@ -278,7 +278,7 @@ impl Place {
         ensures value { result ≡ self }
         ensures range { (1 ≤ self) × (self ≤ 6) }
     {
-        self.value
+        self.offset
     }
 }
 

@@ -182,9 +182,10 @@ impl Plan {
         }
     }
 
-    /// A law: an era of this plan begins with no alarm, whatever the six phases.
+    /// A law: this plan has no fault, and an era of it begins with no alarm, whatever the six phases.
     pub fn begins_quietly(&self)
-        ensures { BeginsQuietly self.now }
+        ensures accepted { fault_of self.now.rows self.now.entries ≡ None }
+        ensures quiet { BeginsQuietly self.now }
     {
         let _ = &self.rows;
     }

@@ -3,6 +3,7 @@ use crate::{
     Plan, PlanFault, Priority, Task,
 };
 use agc_word::Word;
+use std::alloc::Global;
 use std::test::Fail;
 
 fn word(bits: u16) -> Result<Word, Fail> {
@@ -99,77 +100,113 @@ fn entries_of_phases(rt: HostRuntime) -> Result<(), Fail> {
     Ok(())
 }
 
-#[test]
-fn faults_of_plans(rt: HostRuntime) -> Result<(), Fail> {
-    let nothing = Action::Nothing;
-    let rouse = Action::Rouse(address(1024)?);
-    let once = [
-        (task(1024, 5)?, nothing),
-        (task(1024, 6)?, nothing),
-        (task(1025, 5)?, nothing),
-    ];
-    let twice = [
-        (task(1024, 5)?, nothing),
-        (task(1025, 5)?, nothing),
-        (task(1024, 5)?, rouse),
-    ];
-    let apart = [
+/// Why rows and entries make no plan. None where they make one.
+fn fault(alloc: Global, rows: &[(Task, Action)], entries: &[PhaseEntry]) -> Option<PlanFault> {
+    match Plan::new(alloc, rows, entries, Action::Nothing, Action::Nothing) {
+        Ok(_) => None,
+        Err(fault) => Some(fault),
+    }
+}
+
+/// Rows of three tasks, of which no two have both address and bank in common.
+fn rows_apart() -> Result<[(Task, Action); 3], Fail> {
+    Ok([
+        (task(1024, 5)?, Action::Nothing),
+        (task(1024, 6)?, Action::Nothing),
+        (task(1025, 5)?, Action::Nothing),
+    ])
+}
+
+/// Rows of which the first and the last are of one task.
+fn rows_of_one_task() -> Result<[(Task, Action); 3], Fail> {
+    Ok([
+        (task(1024, 5)?, Action::Nothing),
+        (task(1025, 5)?, Action::Nothing),
+        (task(1024, 5)?, Action::Rouse(address(1024)?)),
+    ])
+}
+
+/// Entries of which no two have both group and phase in common.
+fn entries_apart() -> Result<[PhaseEntry; 3], Fail> {
+    Ok([
         begins(1, 3, None)?,
         begins(1, 4, None)?,
         begins(2, 3, None)?,
-    ];
-    let both = [
+    ])
+}
+
+/// Entries of which the first and the last are of one group and phase.
+fn entries_of_one_phase() -> Result<[PhaseEntry; 3], Fail> {
+    Ok([
         begins(1, 3, None)?,
         begins(2, 3, None)?,
         begins(1, 3, Some(plain_job()?))?,
-    ];
-    let (wants, plain) = (Some(area_job()?), Some(plain_job()?));
-    let six = [
+    ])
+}
+
+/// Entries of six groups: the first five have a job with a VAC area, and the sixth has this job.
+fn entries_of_six_groups(sixth: JobStart) -> Result<[PhaseEntry; 6], Fail> {
+    let wants = Some(area_job()?);
+    Ok([
         begins(1, 1, wants)?,
         begins(2, 2, wants)?,
         begins(3, 3, wants)?,
         begins(4, 4, wants)?,
         begins(5, 5, wants)?,
-        begins(6, 6, wants)?,
-    ];
-    let five = [
-        begins(1, 1, wants)?,
-        begins(2, 2, wants)?,
-        begins(3, 3, wants)?,
-        begins(4, 4, wants)?,
-        begins(5, 5, wants)?,
-        begins(6, 6, plain)?,
-    ];
-    let cases: [(&str, &[(Task, Action)], &[PhaseEntry], Option<PlanFault>); 7] = [
-        ("nothing", &[], &[], None),
-        ("tasks and phases apart", &once, &apart, None),
-        (
-            "two equal tasks",
-            &twice,
-            &apart,
-            Some(PlanFault::TaskTwice),
-        ),
-        (
-            "two entries of one phase",
-            &once,
-            &both,
-            Some(PlanFault::PhaseTwice),
-        ),
-        ("both at once", &twice, &both, Some(PlanFault::TaskTwice)),
-        (
-            "six groups want an area",
-            &once,
-            &six,
-            Some(PlanFault::TooManyAreas),
-        ),
-        ("five groups want an area", &once, &five, None),
-    ];
-    for (name, rows, entries, want) in cases {
-        match Plan::new(rt.alloc(), rows, entries, nothing, nothing) {
-            Ok(_) => assert!(rt; want.is_none(), "{name}"),
-            Err(fault) => assert!(rt; want == Some(fault), "{name}"),
-        }
-    }
+        begins(6, 6, Some(sixth))?,
+    ])
+}
+
+#[test]
+fn one_task_has_one_row(rt: HostRuntime) -> Result<(), Fail> {
+    let (once, twice, apart) = (rows_apart()?, rows_of_one_task()?, entries_apart()?);
+    assert_eq!(rt; fault(rt.alloc(), &[], &[]), None, "nothing");
+    assert_eq!(rt;
+        fault(rt.alloc(), &once, &apart),
+        None,
+        "tasks and phases apart"
+    );
+    assert_eq!(rt;
+        fault(rt.alloc(), &twice, &apart),
+        Some(PlanFault::TaskTwice),
+        "two equal tasks"
+    );
+    Ok(())
+}
+
+#[test]
+fn one_phase_has_one_entry(rt: HostRuntime) -> Result<(), Fail> {
+    let (once, twice, both) = (rows_apart()?, rows_of_one_task()?, entries_of_one_phase()?);
+    assert_eq!(rt;
+        fault(rt.alloc(), &once, &both),
+        Some(PlanFault::PhaseTwice),
+        "two entries of one phase"
+    );
+    assert_eq!(rt;
+        fault(rt.alloc(), &twice, &both),
+        Some(PlanFault::TaskTwice),
+        "both at once"
+    );
+    Ok(())
+}
+
+#[test]
+fn five_groups_may_want_an_area(rt: HostRuntime) -> Result<(), Fail> {
+    let once = rows_apart()?;
+    let (six, five) = (
+        entries_of_six_groups(area_job()?)?,
+        entries_of_six_groups(plain_job()?)?,
+    );
+    assert_eq!(rt;
+        fault(rt.alloc(), &once, &six),
+        Some(PlanFault::TooManyAreas),
+        "six groups want an area"
+    );
+    assert_eq!(rt;
+        fault(rt.alloc(), &once, &five),
+        None,
+        "five groups want an area"
+    );
     Ok(())
 }
 

@@ -1,12 +1,14 @@
 -- The words that tasks are written as.
 use Rattle.std.proofs.Common.{◌≡◌, ◌≢◌, ◌⊎◌, ℕ, zero, suc, ◌+◌, ◌-◌, ◌<◌, ◌≤◌, ◌==◌, Bool, true, false, cond, List, [], ◌∷◌, length, slice_index, refl, ap, sym, ◌∙◌, inl, inr, nat_lt, arith}
 use Rattle.std.proofs.lemmas.Bool.{cases_eq, cases_lt}
+use Rattle.std.proofs.lemmas.List.{get_or_past}
 use Rattle.std.proofs.lemmas.Grind.{common_steps}
 use Rattle.agc_plan.specs.Tasks.{Waiting}
 use Rattle.agc_wait.specs.Waits.{Spreads, IsLawful}
-use Rattle.agc_wait.specs.Table.{Carries, time3, lst1, gap_of, distance_of, place_in}
-use Rattle.agc_wait.specs.Writing.{gap_word, counter_at, lst1_word, gaps_written, PairsWritten, IsEncoded}
-use Rattle.agc_wait.proofs.Tables.{other_word, distance_of-counter_at, waits_of-carried, IsLawfulTable-carried}
+use Rattle.agc_wait.specs.Table.{time3, lst1, at_in, gap_of, distance_of}
+use Rattle.agc_wait.specs.Writing.{place_in, no_task, gap_word, counter_at, lst1_word, gaps_written, PairsWritten, IsEncoded}
+use Rattle.agc_wait.proofs.Places.{at_each_place}
+use Rattle.agc_wait.proofs.Tables.{Carries, other_word, distance_of-counter_at, waits_of-carried, IsLawfulTable-carried}
 
 pub gap_of-gap_word : (gap : ℕ) → gap ≤ 16250 → gap_of (gap_word gap) ≡ gap
 gap_of-gap_word gap le = elim (cases_lt gap 2) [
@@ -26,6 +28,12 @@ gap_word-legal gap le = elim (cases_lt gap 2) [
 
 pub gap_word-tidy : (gap : ℕ) → gap_word gap ≢ 32767
 gap_word-tidy gap e = elim (cases_lt gap 2) [
+  | inl lt ↦ let w : gap_word gap ≡ 1 - gap = grind (arith, common_steps) in omega arith
+  | inr ge ↦ let w : gap_word gap ≡ 32768 - gap = grind (arith, common_steps) in omega arith
+]
+
+pub gap_word-word : (gap : ℕ) → gap_word gap < 32768
+gap_word-word gap = elim (cases_lt gap 2) [
   | inl lt ↦ let w : gap_word gap ≡ 1 - gap = grind (arith, common_steps) in omega arith
   | inr ge ↦ let w : gap_word gap ≡ 32768 - gap = grind (arith, common_steps) in omega arith
 ]
@@ -56,19 +64,35 @@ lst1_word-rest ws k le = pass (nat_lt (k + 1) (length ws)) _ _ (grind (arith, co
     pass : (b : Bool) (x y : ℕ) → b ≡ false → cond b x y ≡ y
     pass b x y e = rw e refl
 
+lst1_word-word : (ws : List Waiting) (k : ℕ) → lst1_word ws k < 32768
+lst1_word-word ws k = elim (cases_lt (k + 1) (length ws)) [
+  | inl lt ↦
+      let is : lst1_word ws k ≡ gap_word ((place_in ws (k + 1)).distance - (place_in ws k).distance) = lst1_word-gap ws k lt in
+      let low : gap_word ((place_in ws (k + 1)).distance - (place_in ws k).distance) < 32768 = gap_word-word ((place_in ws (k + 1)).distance - (place_in ws k).distance) in
+      omega arith
+  | inr le ↦ let is : lst1_word ws k ≡ 24575 = lst1_word-rest ws k le in omega arith
+]
+
 counter_at-low : (d : ℕ) → counter_at d < 16384
 counter_at-low d = elim (cases_eq d 0) [ inl z ↦ (let c : counter_at d ≡ 0 = grind (arith, common_steps) in omega arith) | inr nz ↦ (let c : counter_at d ≡ 16384 - d = grind (arith, common_steps) in omega arith) ]
 
 Carries-encoded : (words : List ℕ) (ws : List Waiting) (old : List ℕ) → IsLawful ws → time3 words ≡ counter_at (place_in ws 0).distance → ((k : ℕ) → k < 8 → lst1 words k ≡ lst1_word ws k) → PairsWritten ws old 9 words → Carries words ws
 Carries-encoded words ws old lawful counter gaps written =
     let nine : length ws ≤ 9 = lawful.nine in
+    let low : time3 words < 16384 = rw counter (counter_at-low (place_in ws 0).distance) in
     record {
+      word = at_each_place (λ i. slice_index words i < 32768)
+          (omega arith)
+          (λ k lt. rw (gaps k lt) (lst1_word-word ws k))
+          (λ k lt. let at : at_in words k ≡ (place_in ws k).task.at = written.at k lt in let low : (place_in ws k).task.at < 16384 = high k in omega arith)
+          written.word;
       nine = nine;
       at = written.at;
       bank = written.bank;
       low = λ k lt. written.low k (omega arith) lt;
-      high = λ k lt. written.high k (omega arith) lt;
-      counter = rw counter (counter_at-low (place_in ws 0).distance);
+      high = high;
+      counter = low;
+      idle = λ none. counter ∙ ap (λ (l : List Waiting). counter_at (place_in l 0).distance) none;
       first = ap distance_of counter ∙ distance_of-counter_at (place_in ws 0).distance (Spreads-near 0 16250 ws lawful.spreads 0);
       next = λ k lt.
           let word : lst1 words k ≡ gap_word ((place_in ws (k + 1)).distance - (place_in ws k).distance) = gaps k (omega arith) ∙ lst1_word-gap ws k lt in
@@ -83,6 +107,14 @@ Carries-encoded words ws old lawful counter gaps written =
       rest = λ k le lt. gaps k lt ∙ lst1_word-rest ws k le;
       near = Spreads-near 0 16250 ws lawful.spreads;
     }
+  where
+    high : (k : ℕ) → (place_in ws k).task.at < 16384
+    high k = elim (cases_lt k (length ws)) [
+      | inl some ↦
+          let nine : length ws ≤ 9 = lawful.nine in
+          let low : (place_in ws k).task.at ≤ 16383 = written.high k (omega arith) some in omega arith
+      | inr past ↦ let none : (place_in ws k).task.at ≡ 0 = ap (λ (w : Waiting). w.task.at) (get_or_past ws k no_task past) in omega arith
+    ]
 
 lst1_word-tidy : (ws : List Waiting) (k : ℕ) → lst1_word ws k ≢ 32767
 lst1_word-tidy ws k e = elim (cases_lt (k + 1) (length ws)) [

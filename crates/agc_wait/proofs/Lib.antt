@@ -1,7 +1,10 @@
 pub mod Orders
 pub mod Distances
 pub mod Dues
+pub mod Places
 pub mod Tables
+pub mod Same
 pub mod Encodes
 pub mod Firings
 pub mod Histories
+pub mod OneImage

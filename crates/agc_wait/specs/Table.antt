@@ -1,6 +1,7 @@
 -- How the words of the Waitlist are read: TIME3 at place 90, LST1 at 91 to 98, the nine pairs of LST2 at 99 to 116.
-use Rattle.std.specs.Prelude.{◌≡◌, ◌⊎◌, ℕ, zero, suc, ◌+◌, ◌-◌, ◌*◌, ◌<◌, ◌≤◌, ◌==◌, nat_lt, if◌then◌else◌, List, [], ◌∷◌, length, slice_index, slice_index_or}
-use Rattle.agc_plan.specs.Tasks.{Waiting}
+use Rattle.std.specs.Prelude.{◌≡◌, ◌⊎◌, ℕ, zero, suc, ◌+◌, ◌-◌, ◌*◌, ◌<◌, ◌≤◌, ◌==◌, nat_lt, if◌then◌else◌, List, [], ◌∷◌, length, slice_index}
+use Rattle.std.specs.List.{All}
+use Rattle.agc_plan.specs.Tasks.{Waiting, Agenda, StandsFor}
 
 -- the counter
 abbrev pub time3 : List ℕ → ℕ
@@ -37,31 +38,16 @@ waits_from (suc left) k distance words =
 unfoldable pub waits_of : List ℕ → List Waiting
 waits_of words = waits_from 9 0 (distance_of (time3 words)) words
 
--- what stands for a task that isn't there
-abbrev pub no_task : Waiting
-no_task = record { task = record { at = 0; bank = 0 }; distance = 0 }
-
--- the task of a place
-abbrev pub place_in : List Waiting → ℕ → Waiting
-place_in waits k = slice_index_or waits k no_task
-
--- the words hold these tasks, at most nine and none further than the longest delay, and all else in the table is blank
-pub record Carries (words : List ℕ) (waits : List Waiting) : Type 0 where
-  pub nine : length waits ≤ 9
-  pub at : (k : ℕ) → k < 9 → at_in words k ≡ (place_in waits k).task.at
-  pub bank : (k : ℕ) → k < 9 → bank_in words k ≡ (place_in waits k).task.bank
-  pub low : (k : ℕ) → k < length waits → 1 ≤ (place_in waits k).task.at
-  pub high : (k : ℕ) → k < length waits → (place_in waits k).task.at ≤ 16383
+-- the table is in order: no word has more than fifteen bits, what is read is within its range, and all else is blank
+pub record IsLawfulTable (words : List ℕ) : Type 0 where
+  pub word : (i : ℕ) → 90 ≤ i → i ≤ 116 → slice_index words i < 32768
   pub counter : time3 words < 16384
-  pub first : distance_of (time3 words) ≡ (place_in waits 0).distance
-  pub next : (k : ℕ) → k + 1 < length waits → (place_in waits (k + 1)).distance ≡ (place_in waits k).distance + gap_of (lst1 words k)
-  pub gaps : (k : ℕ) → k + 1 < length waits → (lst1 words k ≤ 1) ⊎ (16384 ≤ lst1 words k)
-  pub rest : (k : ℕ) → length waits ≤ k + 1 → k < 8 → lst1 words k ≡ 24575
-  pub near : (k : ℕ) → (place_in waits k).distance ≤ 16250
-
--- the table is in order: it holds what is read from it, and nothing else
-abbrev pub IsLawfulTable : List ℕ → Type 0
-IsLawfulTable words = Carries words (waits_of words)
+  pub idle : waits_of words ≡ [] → time3 words ≡ 0
+  pub near : All (λ w. w.distance ≤ 16250) (waits_of words)
+  pub address : (k : ℕ) → k < 9 → at_in words k < 16384
+  pub gap : (k : ℕ) → k + 1 < length (waits_of words) → (lst1 words k ≤ 1) ⊎ (16384 ≤ lst1 words k)
+  pub no_gap : (k : ℕ) → length (waits_of words) ≤ k + 1 → k < 8 → lst1 words k ≡ 24575
+  pub no_task : (k : ℕ) → length (waits_of words) ≤ k → k < 9 → (at_in words k ≡ 0) × (bank_in words k ≡ 0)
 
 -- outside the table, nothing changed
 abbrev pub SameOutside : List ℕ → List ℕ → Type 0
@@ -70,3 +56,13 @@ SameOutside old new = (i : ℕ) → (i < 90) ⊎ (116 < i) → slice_index new i
 -- no gap is written as minus zero
 abbrev pub IsTidy : List ℕ → Type 0
 IsTidy words = (k : ℕ) → k < 8 → (lst1 words k ≡ 32767) → ⊥
+
+-- the table is in order and tidy, and its tasks stand for this agenda
+pub record Shows (words : List ℕ) (agenda : Agenda) : Type 0 where
+  pub lawful : IsLawfulTable words
+  pub tidy : IsTidy words
+  pub stands : StandsFor (waits_of words) agenda
+
+-- in the table, the same words
+abbrev pub SameTable : List ℕ → List ℕ → Type 0
+SameTable these those = (i : ℕ) → 90 ≤ i → i ≤ 116 → slice_index these i ≡ slice_index those i

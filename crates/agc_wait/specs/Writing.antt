@@ -1,7 +1,15 @@
 -- How tasks are written as words.
-use Rattle.std.specs.Prelude.{◌≡◌, ◌⊎◌, ℕ, ◌+◌, ◌-◌, ◌<◌, ◌≤◌, ◌==◌, nat_lt, nat_le, ◌&&◌, if◌then◌else◌, List, length, slice_index}
+use Rattle.std.specs.Prelude.{◌≡◌, ◌⊎◌, ℕ, ◌+◌, ◌-◌, ◌<◌, ◌≤◌, ◌==◌, nat_lt, nat_le, ◌&&◌, if◌then◌else◌, List, length, slice_index, slice_index_or}
 use Rattle.agc_plan.specs.Tasks.{Waiting}
-use Rattle.agc_wait.specs.Table.{place_in, at_in, bank_in, waits_of, IsLawfulTable, SameOutside, IsTidy}
+use Rattle.agc_wait.specs.Table.{at_in, bank_in, waits_of, IsLawfulTable, SameOutside, IsTidy}
+
+-- what stands for a task that isn't there
+abbrev pub no_task : Waiting
+no_task = record { task = record { at = 0; bank = 0 }; distance = 0 }
+
+-- the task of a place
+abbrev pub place_in : List Waiting → ℕ → Waiting
+place_in waits k = slice_index_or waits k no_task
 
 -- the word of a gap
 abbrev pub gap_word : ℕ → ℕ
@@ -25,6 +33,7 @@ pub record PairsWritten (waits : List Waiting) (old : List ℕ) (n : ℕ) (new :
   pub bank : (k : ℕ) → k < n → bank_in new k ≡ (place_in waits k).task.bank
   pub low : (k : ℕ) → k < n → k < length waits → 1 ≤ (place_in waits k).task.at
   pub high : (k : ℕ) → k < n → k < length waits → (place_in waits k).task.at ≤ 16383
+  pub word : (k : ℕ) → k < n → bank_in new k < 32768
   pub same : (j : ℕ) → (j < 99) ⊎ (116 < j) → slice_index new j ≡ slice_index old j
 
 -- the table has just these tasks

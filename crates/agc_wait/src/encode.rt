@@ -1,8 +1,7 @@
 // The tasks as words.
 ghost use Rattle.std.specs.Prelude.{◌≡◌, ◌<◌, ◌≤◌, ℕ, length, slice_index};
 ghost use Rattle.agc_wait.specs.Waits.{IsLawful, Spreads};
-ghost use Rattle.agc_wait.specs.Table.{place_in};
-ghost use Rattle.agc_wait.specs.Writing.{gap_word, counter_at, lst1_word, gaps_written, PairsWritten, IsEncoded};
+ghost use Rattle.agc_wait.specs.Writing.{place_in, gap_word, counter_at, lst1_word, gaps_written, PairsWritten, IsEncoded};
 
 use crate::record::Record;
 use agc_plan::Address;
@@ -70,16 +69,25 @@ fn address_word(at: Address) -> Word
     word(at.get())
 }
 
+/// A bank word, which is below 32768.
+fn bank_word(bank: Word) -> Word
+    ensures value { result ≡ bank }
+    ensures word { bank < 32768 }
+{
+    word(bank.bits())
+}
+
 /// The words of a place: its task, or zeros.
 fn pair_of(records: &[Record], k: usize) -> (Word, Word)
     ensures at { result.0 ≡ (place_in records.now k).task.at }
     ensures bank { result.1 ≡ (place_in records.now k).task.bank }
+    ensures word { result.1 < 32768 }
     ensures low { k < length records.now → 1 ≤ (place_in records.now k).task.at }
     ensures high { k < length records.now → (place_in records.now k).task.at ≤ 16383 }
 {
     match records.get(k) {
         None => (Word::zero(), Word::zero()),
-        Some(record) => (address_word(record.task.at), record.task.bank),
+        Some(record) => (address_word(record.task.at), bank_word(record.task.bank)),
     }
 }
 

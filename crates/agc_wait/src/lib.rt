@@ -8,5 +8,5 @@ mod record;
 mod tests;
 mod waits;
 
-pub use laws::{earliest_arrival_is_first_in_order, tasks_fire_when_due};
+pub use laws::{earliest_arrival_is_first_in_order, one_table_of_an_agenda, tasks_fire_when_due};
 pub use waits::{Full, Waits};

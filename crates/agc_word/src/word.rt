@@ -50,9 +50,11 @@ impl Word {
         self.bits
     }
 
-    /// The negative: each bit turned, so that 00000 gives 77777. Source: the listings' words.
+    /// The negative: each bit turned, so that 00000 gives 77777, and the negative of that the same word again. Source:
+    /// the listings' words.
     pub fn neg(self) -> Word
-        ensures { result ≡ complement self }
+        ensures turned { result ≡ complement self }
+        ensures twice { complement result ≡ self }
     {
         Word {
             bits: 32767 - self.bits,

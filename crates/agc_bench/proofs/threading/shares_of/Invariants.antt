@@ -1,6 +1,9 @@
-use Rattle.std.proofs.Common.{◌≡◌, replicate}
+use Rattle.std.proofs.Common.{◌≡◌, ◌+◌, replicate}
 use Rattle.agc_machine.specs.Told.{nothing}
 use Rattle.agc_bench.proofs.threading.shares_of.Given as goal
 
 abbrev pub invariant-loop-given : goal.invariant-loop-given
-invariant-loop-given g l = l.shares.items ≡ replicate l._given nothing
+invariant-loop-given g l = record {
+  told : l.shares.items ≡ replicate l._given nothing;
+  given : l.desk.given ≡ l.initial.desk.given + l._given;
+}

@@ -8,8 +8,8 @@ returns-in-None c = c.word.ensures ∙ sym (newjob_of-none c.args.sets.now c.req
 
 pub newjob_with-requires : goal.newjob_with-requires
 newjob_with-requires c =
-    let lt : c.in-Some.first.0 < length c.args.sets.now = Holds-within c.args.sets.now c.in-Some.first.0 c.in-Some.first.1 c.in-Some.ensures.here in
+    let lt : c.in-Some.first.0 < length c.args.sets.now = Holds-within c.args.sets.now c.in-Some.first.0 c.in-Some.first.1.now c.in-Some.ensures.here in
     omega arith
 
 pub returns-in-Some-current : goal.returns-in-Some-current
-returns-in-Some-current c = c.newjob_with.ensures ∙ sym (newjob_of-best c.args.sets.now c.in-Some.first.0 c.in-Some.first.1 c.in-Some-current.front c.requires.standing.lawful c.in-Some.ensures c.in-Some-current.ensures.some.0)
+returns-in-Some-current c = c.newjob_with.ensures ∙ sym (newjob_of-best c.args.sets.now c.in-Some.first.0 c.in-Some.first.1.now c.in-Some-current.front c.requires.standing.lawful c.in-Some.ensures c.in-Some-current.ensures.some.0)

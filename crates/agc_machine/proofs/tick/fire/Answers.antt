@@ -1,9 +1,8 @@
-use Rattle.std.proofs.Common.{◌≡◌, ℕ, ◌+◌, ◌≤◌, ◌∷◌, ◌++◌, [], length, List, Some, None, nat_lt, arith, ap, sym, ◌∙◌, subst, false}
+use Rattle.std.proofs.Common.{◌≡◌, ℕ, [], List, Some, nat_lt, arith, sym, ◌∙◌, subst, false}
 use Rattle.std.proofs.lemmas.Grind.{common_steps}
 use Rattle.std.proofs.lemmas.List.{length-append}
 use Rattle.agc_plan.specs.declared.request.Task.{Task}
-use Rattle.agc_plan.specs.Eras.{Work}
-use Rattle.agc_plan.specs.Seats.{Seated, seated_fired}
+use Rattle.agc_plan.specs.Seats.{seated_fired}
 use Rattle.agc_plan.specs.Steps.{fire_all}
 use Rattle.agc_wait.specs.Waits.{due_now}
 use Rattle.agc_machine.specs.Stands.{Fired}

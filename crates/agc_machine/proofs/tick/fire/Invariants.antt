@@ -1,4 +1,4 @@
-use Rattle.std.proofs.Common.{◌≡◌, ℕ, ◌+◌, ◌≤◌, List, [], length}
+use Rattle.std.proofs.Common.{ℕ, ◌+◌, ◌≤◌, List, [], length}
 use Rattle.agc_plan.specs.Eras.{Work}
 use Rattle.agc_plan.specs.Steps.{fire_all}
 use Rattle.agc_wait.specs.Waits.{due_now}

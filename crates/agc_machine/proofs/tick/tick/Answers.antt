@@ -1,8 +1,7 @@
-use Rattle.std.proofs.Common.{◌≡◌, List, Option, ap, ◌∙◌, subst, sym}
+use Rattle.std.proofs.Common.{List, Option, ap, ◌∙◌, subst}
 use Rattle.agc_plan.specs.declared.reply.Alarm.{Alarm}
 use Rattle.agc_plan.specs.declared.reply.Reply.TheVariants.{Ticked}
 use Rattle.agc_plan.specs.declared.request.Task.{Task}
-use Rattle.agc_plan.specs.Eras.{Work}
 use Rattle.agc_plan.specs.Seats.{seated_fired}
 use Rattle.agc_plan.specs.Steps.{later_work, tick_fires}
 use Rattle.agc_machine.specs.Stands.{Stands}

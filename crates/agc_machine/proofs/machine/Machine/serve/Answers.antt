@@ -1,4 +1,4 @@
-use Rattle.std.proofs.Common.{◌≡◌, None, arith, sym, ◌∙◌, subst, ap}
+use Rattle.std.proofs.Common.{◌≡◌, None, sym, ◌∙◌, subst, ap}
 use Rattle.agc_machine.specs.Machines.{Machined, refusal_of, stepped, served}
 use Rattle.agc_machine.proofs.Serving.{store_room, kept_stored}
 use Rattle.agc_machine.proofs.machine.Machine.serve.Goals as goal

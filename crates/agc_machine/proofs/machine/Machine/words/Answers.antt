@@ -1,4 +1,4 @@
-use Rattle.std.proofs.Common.{◌≡◌, ℕ, List, length, ap, sym, ◌∙◌, subst}
+use Rattle.std.proofs.Common.{◌≡◌, length, ap, ◌∙◌, subst}
 use Rattle.agc_machine.specs.Image.{IsImage}
 use Rattle.agc_machine.specs.Machines.{Machined}
 use Rattle.agc_machine.proofs.Frames.{image_written}

@@ -12,7 +12,7 @@ returns-then-exact-ge16384-clause-above c = grind (arith, ints)
 
 pub returns-then-exact-leminus16384-clause-sum : goal.returns-then-exact-leminus16384-clause-sum
 returns-then-exact-leminus16384-clause-sum c =
-    ap (λ (n : ℕ). (n, true)) c.neg.ensures
+    ap (λ (n : ℕ). (n, true)) c.neg.ensures.turned
     ∙ sum_of-below c.args.self c.args.other _ c.value.result c.value-2.result c.value.ensures.value c.value-2.ensures.value (omega (arith, ints)) (omega (arith, ints))
 
 pub returns-then-exact-leminus16384-clause-above :
@@ -22,7 +22,7 @@ returns-then-exact-leminus16384-clause-above c = grind (arith, ints)
 pub returns-then-exact-leminus16384-clause-below :
     goal.returns-then-exact-leminus16384-clause-below
 returns-then-exact-leminus16384-clause-below c h =
-    (refl, value_of-below c.args.self c.args.other c.neg.result _ c.value.result c.value-2.result c.value.ensures.value c.value-2.ensures.value (grind (arith, ints)) c.neg.ensures (grind (arith, ints)))
+    (refl, value_of-below c.args.self c.args.other c.neg.result _ c.value.result c.value-2.result c.value.ensures.value c.value-2.ensures.value (grind (arith, ints)) c.neg.ensures.turned (grind (arith, ints)))
 
 pub returns-else-exact-leminus16384-clause-exact :
     goal.returns-else-exact-leminus16384-clause-exact

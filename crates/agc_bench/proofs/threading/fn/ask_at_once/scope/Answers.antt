@@ -7,12 +7,12 @@ use Rattle.agc_bench.proofs.threading.fn.ask_at_once.scope.Goals as goal
 pub loop-share-preserved : goal.loop-share-preserved
 loop-share-preserved g c =
     let starts : List Totals = c.loop-share.yielded ++ c.in-Some.share ∷ [] in
-    let e = c.in-Ok.ensures.ok in
+    let e = c.in-Ok.ensures.ok ∙ c.pledge_of-pledge.ensures in
     let n : length c.loop-share.running.items ≡ length c.loop-share.yielded = omega (arith, c.loop-share.invariant.len) in
     let m : c.len-thread.result ≡ length c.loop-share.running.items = omega (arith, c.len-thread.ensures) in
     let grown : length starts ≡ length c.loop-share.yielded + 1 = length-append c.loop-share.yielded (c.in-Some.share ∷ []) in
     let here : IsPledge c.captures.bench.now starts c.captures.gate.now (length c.loop-share.running.items) c.in-Ok.thread.promise.start c.in-Ok.thread.promise.bench.now c.in-Ok.thread.promise.thread c.in-Ok.thread.promise.gate.now = record {
-      start_is = λ s. ap (λ p. p.start) e ∙ (c.told-start.ensures ∙ sym (ap (λ k. get_or starts k s) n ∙ get_or-append_seam c.loop-share.yielded c.in-Some.share [] s));
+      start_is = λ s. ap (λ p. p.start) e ∙ sym (ap (λ k. get_or starts k s) n ∙ get_or-append_seam c.loop-share.yielded c.in-Some.share [] s);
       bench_is = ap (λ p. p.bench.now) e;
       thread_is = ap (λ p. p.thread) e ∙ m;
       gate_is = ap (λ p. p.gate.now) e;
