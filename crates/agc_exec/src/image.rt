@@ -170,7 +170,7 @@ fn newjob(sets: &[Option<Record>]) -> Word
 }
 
 /// Writes sets, use words and NEWJOB: places 0 to 89, and no others.
-pub fn write(e: &mut Erasable, sets: &[Option<Record>])
+pub(crate) fn write(e: &mut Erasable, sets: &[Option<Record>])
     requires standing { IsStanding sets.now }
     requires seven { length sets.now ≡ 7 }
     ensures { IsEncoded sets.now e.old e.new }

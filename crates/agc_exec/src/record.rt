@@ -36,7 +36,7 @@ impl Model for Record {
 
 impl Record {
     /// A new job.
-    pub fn new(number: JobNo, priority: Priority, entry: Entry, area: u8) -> Record
+    pub(crate) fn new(number: JobNo, priority: Priority, entry: Entry, area: u8) -> Record
         requires { area ≤ 5 }
         ensures number { result.number ≡ number }
         ensures job { job_of result ≡ new_job priority entry area }
@@ -53,14 +53,14 @@ impl Record {
     }
 
     /// The job's number.
-    pub fn number(self) -> JobNo
+    pub(crate) fn number(self) -> JobNo
         ensures { result ≡ self.number }
     {
         self.number
     }
 
     /// This job asleep, to be awakened at this address.
-    pub fn sleeping_at(mut self, at: Address) -> Record
+    pub(crate) fn sleeping_at(mut self, at: Address) -> Record
         ensures number { result.number ≡ self.number }
         ensures job { job_of result ≡ sleeping_at at (job_of self) }
     {
@@ -70,7 +70,7 @@ impl Record {
     }
 
     /// This job awake.
-    pub fn woken(mut self) -> Record
+    pub(crate) fn woken(mut self) -> Record
         ensures number { result.number ≡ self.number }
         ensures job { job_of result ≡ woken (job_of self) }
     {
@@ -79,7 +79,7 @@ impl Record {
     }
 
     /// This job with another priority.
-    pub fn with_priority(mut self, priority: Priority) -> Record
+    pub(crate) fn with_priority(mut self, priority: Priority) -> Record
         ensures number { result.number ≡ self.number }
         ensures job { job_of result ≡ with_priority priority (job_of self) }
     {
@@ -88,7 +88,7 @@ impl Record {
     }
 
     /// This job with this word in a work place.
-    pub fn with_word(mut self, place: Place, word: Word) -> Record
+    pub(crate) fn with_word(mut self, place: Place, word: Word) -> Record
         ensures number { result.number ≡ self.number }
         ensures job { job_of result ≡ with_word place word (job_of self) }
     {
@@ -97,21 +97,21 @@ impl Record {
     }
 
     /// Whether this job is strictly more urgent than the other.
-    pub fn is_more_urgent(&self, other: &Record) -> bool
+    pub(crate) fn is_more_urgent(&self, other: &Record) -> bool
         ensures { result ≡ nat_lt other.now.priority self.now.priority }
     {
         self.priority.get() > other.priority.get()
     }
 
     /// Whether this job sleeps until this address is called.
-    pub fn sleeps_at(&self, at: Address) -> bool
+    pub(crate) fn sleeps_at(&self, at: Address) -> bool
         ensures { result ≡ is_sleeper at (job_of self.now) }
     {
         self.asleep && self.at == at
     }
 
     /// Whether this job is to run before the other.
-    pub fn precedes(&self, other: &Record) -> bool
+    pub(crate) fn precedes(&self, other: &Record) -> bool
         ensures { result ≡ precedes self.now other.now }
     {
         let here = self.priority.get();

@@ -9,7 +9,7 @@ use crate::record::Record;
 use agc_plan::{Address, JobNo};
 
 /// The least free core set, of which there is one where a number is unused.
-pub fn free_set(sets: &[Option<Record>]) -> usize
+pub(crate) fn free_set(sets: &[Option<Record>]) -> usize
     requires lawful { IsLawful sets.now }
     requires room { IsSome (least_unused 1 (slots_of sets.now)) }
     ensures free { (result < length sets.now) × IsFreeAt sets.now result }
@@ -24,7 +24,7 @@ pub fn free_set(sets: &[Option<Record>]) -> usize
     unreachable!()
 }
 
-pub fn has_number(sets: &[Option<Record>], number: JobNo) -> bool
+pub(crate) fn has_number(sets: &[Option<Record>], number: JobNo) -> bool
     ensures { result ≡ is_some (job_numbered sets.now number) }
 {
     for set in sets {
@@ -38,7 +38,7 @@ pub fn has_number(sets: &[Option<Record>], number: JobNo) -> bool
 }
 
 /// The least number that no job has.
-pub fn free_number(sets: &[Option<Record>]) -> Option<JobNo>
+pub(crate) fn free_number(sets: &[Option<Record>]) -> Option<JobNo>
     requires { length sets.now ≡ 7 }
     ensures { result ≡ least_unused 1 (slots_of sets.now) }
 {
@@ -77,7 +77,7 @@ fn better<'a>(
 }
 
 /// The best job, with its core set.
-pub fn best_set(sets: &[Option<Record>]) -> Option<(usize, &Record)>
+pub(crate) fn best_set(sets: &[Option<Record>]) -> Option<(usize, &Record)>
     ensures { BestBelow sets.now (length sets.now) (option_map (λ p. (p.0, p.1.now)) result) }
 {
     let mut best: Option<(usize, &Record)> = None;
@@ -88,7 +88,7 @@ pub fn best_set(sets: &[Option<Record>]) -> Option<(usize, &Record)>
 }
 
 /// The job in set 0, if it is awake, runs.
-pub fn running(sets: &[Option<Record>]) -> Option<JobNo>
+pub(crate) fn running(sets: &[Option<Record>]) -> Option<JobNo>
     ensures { result ≡ running_in sets.now }
 {
     match sets {
@@ -98,7 +98,7 @@ pub fn running(sets: &[Option<Record>]) -> Option<JobNo>
 }
 
 /// The running job.
-pub fn current(sets: &[Option<Record>]) -> Option<Record>
+pub(crate) fn current(sets: &[Option<Record>]) -> Option<Record>
     ensures none { IsNone result → running_in sets.now ≡ None }
     ensures some { IfSome result (λ r. Holds sets.now 0 r × (r.asleep ≡ false)) }
 {
@@ -109,7 +109,7 @@ pub fn current(sets: &[Option<Record>]) -> Option<Record>
 }
 
 /// Whether a job owns this area.
-pub fn has_area(sets: &[Option<Record>], area: u8) -> bool
+pub(crate) fn has_area(sets: &[Option<Record>], area: u8) -> bool
     ensures { result ≡ owned_in area sets.now }
 {
     for set in sets {
@@ -123,7 +123,7 @@ pub fn has_area(sets: &[Option<Record>], area: u8) -> bool
 }
 
 /// The least area that nobody owns.
-pub fn free_area(sets: &[Option<Record>]) -> Option<u8>
+pub(crate) fn free_area(sets: &[Option<Record>]) -> Option<u8>
     requires { IsLawful sets.now }
     ensures area { result ≡ least_unowned 5 1 (slots_of sets.now) }
     ensures free { IfSome result (λ area. (area ≤ 5) × IsUnowned sets.now area) }
@@ -163,7 +163,7 @@ fn earlier<'a>(
 }
 
 /// The least-numbered sleeper of this address, with its core set.
-pub fn sleeper(sets: &[Option<Record>], at: Address) -> Option<(usize, &Record)>
+pub(crate) fn sleeper(sets: &[Option<Record>], at: Address) -> Option<(usize, &Record)>
     ensures { FirstBelow sets.now at (length sets.now) (option_map (λ p. (p.0, p.1.now)) result) }
 {
     let mut found: Option<(usize, &Record)> = None;

@@ -11,7 +11,7 @@ use agc_plan::{Address, Alarm, Entry, JobNo, Place, Priority, Reply};
 use agc_word::Word;
 
 /// Exchanges the best job into set 0.
-pub fn bring_best(sets: &mut [Option<Record>])
+pub(crate) fn bring_best(sets: &mut [Option<Record>])
     requires { IsLawful sets.old }
     ensures { BringsBest sets.old sets.new }
 {
@@ -33,7 +33,12 @@ fn take_over(sets: &mut [Option<Record>], runner: Option<JobNo>)
 }
 
 /// One more job, if there is room.
-pub fn establish(sets: &mut [Option<Record>], priority: Priority, entry: Entry, area: u8) -> Reply
+pub(crate) fn establish(
+    sets: &mut [Option<Record>],
+    priority: Priority,
+    entry: Entry,
+    area: u8,
+) -> Reply
     requires standing { IsStanding sets.old }
     requires seven { length sets.old ≡ 7 }
     requires five { area ≤ 5 }
@@ -53,7 +58,7 @@ pub fn establish(sets: &mut [Option<Record>], priority: Priority, entry: Entry, 
 }
 
 /// Removes the running job.
-pub fn end_of_job(sets: &mut [Option<Record>]) -> Reply
+pub(crate) fn end_of_job(sets: &mut [Option<Record>]) -> Reply
     requires { IsStanding sets.old }
     ensures { Gives (plain.end_of_job (jobs_of sets.old)) (placed_end (running_in sets.old) (running_in sets.new) (entries_of sets.old)) sets.new result }
 {
@@ -68,7 +73,7 @@ pub fn end_of_job(sets: &mut [Option<Record>]) -> Reply
 }
 
 /// Puts the running job to sleep.
-pub fn sleep(sets: &mut [Option<Record>], at: Address) -> Reply
+pub(crate) fn sleep(sets: &mut [Option<Record>], at: Address) -> Reply
     requires { IsStanding sets.old }
     ensures { Gives (plain.sleep at (jobs_of sets.old)) (fronted (running_in sets.new) (entries_of sets.old)) sets.new result }
 {
@@ -103,7 +108,7 @@ fn give_way(sets: &mut [Option<Record>], job: Record) -> JobNo
 }
 
 /// Changes to a strictly more urgent job.
-pub fn change(sets: &mut [Option<Record>]) -> Reply
+pub(crate) fn change(sets: &mut [Option<Record>]) -> Reply
     requires { IsStanding sets.old }
     ensures { Gives (plain.change (jobs_of sets.old)) (fronted (running_in sets.new) (entries_of sets.old)) sets.new result }
 {
@@ -114,7 +119,7 @@ pub fn change(sets: &mut [Option<Record>]) -> Reply
 }
 
 /// Sets the running job's priority.
-pub fn prio(sets: &mut [Option<Record>], priority: Priority) -> Reply
+pub(crate) fn prio(sets: &mut [Option<Record>], priority: Priority) -> Reply
     requires { IsStanding sets.old }
     ensures { Gives (plain.prio priority (jobs_of sets.old)) (fronted (running_in sets.new) (entries_of sets.old)) sets.new result }
 {
@@ -128,7 +133,7 @@ pub fn prio(sets: &mut [Option<Record>], priority: Priority) -> Reply
 }
 
 /// Sets a work word of the running job.
-pub fn store(sets: &mut [Option<Record>], place: Place, word: Word) -> Reply
+pub(crate) fn store(sets: &mut [Option<Record>], place: Place, word: Word) -> Reply
     requires { IsStanding sets.old }
     ensures { Gives (plain.store place word (jobs_of sets.old)) (entries_of sets.old) sets.new result }
 {
@@ -142,7 +147,7 @@ pub fn store(sets: &mut [Option<Record>], place: Place, word: Word) -> Reply
 }
 
 /// Wakes the least-numbered sleeper of this address.
-pub fn rouse(sets: &mut [Option<Record>], at: Address) -> Reply
+pub(crate) fn rouse(sets: &mut [Option<Record>], at: Address) -> Reply
     requires { IsStanding sets.old }
     ensures { Gives (plain.rouse at (jobs_of sets.old)) (fronted (running_in sets.new) (entries_of sets.old)) sets.new result }
 {

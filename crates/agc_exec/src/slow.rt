@@ -30,7 +30,7 @@ pub struct Slow {
 }
 
 impl Slow {
-    pub fn new() -> Slow {
+    pub(crate) fn new() -> Slow {
         Slow {
             jobs: [None; 7],
             running: None,
@@ -38,7 +38,7 @@ impl Slow {
     }
 
     /// The job of this number.
-    pub fn job(&self, number: u8) -> Option<Job> {
+    pub(crate) fn job(&self, number: u8) -> Option<Job> {
         for (k, job) in self.jobs.iter().enumerate() {
             if k + 1 == number as usize {
                 return *job;
@@ -48,7 +48,7 @@ impl Slow {
     }
 
     /// How many jobs live.
-    pub fn count(&self) -> usize {
+    pub(crate) fn count(&self) -> usize {
         let mut count = 0usize;
         for number in 1..8u8 {
             if self.job(number).is_some() {
@@ -59,7 +59,7 @@ impl Slow {
     }
 
     /// Whether a job owns this area.
-    pub fn is_owned(&self, area: u8) -> bool {
+    pub(crate) fn is_owned(&self, area: u8) -> bool {
         for number in 1..8u8 {
             match self.job(number) {
                 None => {}
@@ -232,7 +232,7 @@ impl Slow {
     }
 
     /// Answers a request.
-    pub fn ask(&mut self, asked: Ask) -> Told {
+    pub(crate) fn ask(&mut self, asked: Ask) -> Told {
         match asked {
             Ask::Novac(priority, at) => self.establish(priority, at, 0),
             Ask::Findvac(priority, at) => match self.unowned() {
@@ -258,7 +258,7 @@ pub struct Random {
 }
 
 impl Random {
-    pub fn new() -> Random {
+    pub(crate) fn new() -> Random {
         Random { state: 1202 }
     }
 
@@ -280,7 +280,7 @@ impl Random {
     }
 
     /// A request: of few priorities and addresses, so that they are often equal.
-    pub fn ask(&mut self) -> Ask {
+    pub(crate) fn ask(&mut self) -> Ask {
         match self.below(11) {
             0 | 1 | 2 => Ask::Novac(self.priority(), self.address()),
             3 | 4 => Ask::Findvac(self.priority(), self.address()),
