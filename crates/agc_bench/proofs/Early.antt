@@ -11,5 +11,5 @@ pub early_writes : {T : Type 0} (may_stop : ℕ → ℕ → Type 0) (bench : Ben
 early_writes may_stop bench written fault (Ok x) early is same = absurd cc
 early_writes may_stop bench written fault (Err NoMemory) early is same = refl
 early_writes may_stop bench written fault (Err NoThread) early is same = refl
-early_writes may_stop bench written fault (Err Lost) early is same = refl
+early_writes may_stop bench written fault (Err Lost) early is same = absurd (subst IsEarly (sym same) early)
 early_writes may_stop bench written fault (Err Output) early is same = absurd (subst IsEarly (sym same) early)

@@ -5,7 +5,7 @@ use Rattle.std.specs.Prelude.{IsErr}
 use Rattle.std.specs.List.{fold, flat_map}
 use Rattle.std.proofs.lemmas.List.Concat.{flat_map-cons}
 use Rattle.std.proofs.lemmas.List.Folds.{flat_map-map}
-use Rattle.std.proofs.lemmas.List.Sums.{fold-append}
+use Rattle.agc_machine.proofs.Leading.{after_append}
 use Rattle.std.proofs.lemmas.List.{nil_from_length}
 use Rattle.agc_plan.specs.declared.request.Request.{Request}
 use Rattle.agc_machine.specs.Image.{IsImage}
@@ -14,7 +14,8 @@ use Rattle.agc_bench.specs.Benches.{Benched}
 use Rattle.agc_bench.specs.Runs.{repeated, device_requests, bench_requests}
 use Rattle.agc_bench.specs.Report.{report_text}
 use Rattle.agc_bench.specs.Writing.{AppendsUpTo, AppendsFront, Writes}
-use Rattle.agc_bench.specs.Session.{after_all, line_for, answer_lines, IsSession, AppendsSessionFront}
+use Rattle.agc_machine.specs.Machines.{after_all}
+use Rattle.agc_bench.specs.Session.{line_for, answer_lines, IsSession, AppendsSessionFront}
 use Rattle.agc_bench.proofs.Steps.{up_to_end, appends_none, appends_both, up_to_more_front, writes_first, writes_second}
 
 -- what is left is the next request, and the rest
@@ -41,11 +42,6 @@ line_next o n text m rs i r l is h = subst (λ (xs : List Request). AppendsUpTo 
 pub line_last : (o n : Option (List ℕ)) (text : List ℕ) (m : Machined) (rs : List Request) (i : ℕ) → length rs ≤ i → AppendsUpTo o n text (answer_lines m (drop i rs)) → Appends o n text
 unfolding answer_lines
 line_last o n text m rs i l h = up_to_end o n text (subst (λ (xs : List Request). AppendsUpTo o n text (answer_lines m xs)) (nothing_left rs i l) h)
-
--- one request list after another
-after_append : (m : Machined) (a b : List Request) → after_all m (a ++ b) ≡ after_all (after_all m a) b
-unfolding after_all
-after_append m a b = fold-append after m a b
 
 lines_append : (m : Machined) (a b : List Request) → answer_lines m (a ++ b) ≡ answer_lines m a ++ answer_lines (after_all m a) b
 unfolding answer_lines after_all

@@ -1,19 +1,14 @@
 -- A session: requests asked of a machine in order, and what is written of it.
 use Rattle.std.specs.Prelude.{◌≡◌, ℕ, List, [], ◌∷◌, ◌++◌, ◌⊎◌, Option, Result, Ok, Err}
-use Rattle.std.specs.List.{fold}
 use Rattle.std.specs.Io.KnownBytes.{Appends}
 use Rattle.agc_plan.specs.declared.request.Request.{Request}
 use Rattle.agc_machine.specs.Image.{IsImage}
-use Rattle.agc_machine.specs.Machines.{Machined, after, answer_of}
+use Rattle.agc_machine.specs.Machines.{Machined, after, after_all, answer_of}
 use Rattle.agc_bench.specs.declared.run_fault.RunFault.{RunFault}
 use Rattle.agc_bench.specs.declared.run_fault.RunFault.TheVariants.{NoMemory, Output, NoThread, Lost}
 use Rattle.agc_bench.specs.Replies.{answer_line}
 use Rattle.agc_bench.specs.Report.{report_text}
 use Rattle.agc_bench.specs.Writing.{AppendsFront, Writes}
-
--- the machine after all of these requests
-unfoldable pub after_all : Machined → List Request → Machined
-after_all machine requests = fold after machine requests
 
 -- the line of the answer that this machine gives
 unfoldable pub line_for : Machined → Request → List ℕ

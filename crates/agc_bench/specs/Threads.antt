@@ -5,14 +5,14 @@ use Rattle.std.specs.Io.KnownBytes.{Appends}
 use Rattle.agc_plan.specs.declared.request.Request.{Request}
 use Rattle.agc_machine.specs.declared.totals.Totals.{Totals}
 use Rattle.agc_machine.specs.Image.{IsImage}
-use Rattle.agc_machine.specs.Machines.{Machined}
+use Rattle.agc_machine.specs.Machines.{Machined, LeadsTo}
 use Rattle.agc_machine.specs.Told.{nothing}
 use Rattle.agc_desk.specs.Accounts.{told_to}
 use Rattle.agc_desk.specs.Runs.{Asks, Reached, Worked}
 use Rattle.agc_bench.specs.declared.run_fault.RunFault.{RunFault}
 use Rattle.agc_bench.specs.declared.run_fault.RunFault.TheVariants.{NoMemory, Output, NoThread, Lost}
 use Rattle.agc_bench.specs.Benches.{Benched}
-use Rattle.agc_bench.specs.Runs.{device_requests}
+use Rattle.agc_bench.specs.Runs.{bench_machine, device_requests}
 use Rattle.agc_bench.specs.Report.{report_text}
 use Rattle.agc_bench.specs.Writing.{AppendsFront}
 
@@ -46,47 +46,52 @@ askers_of bench = some_or_idle (workers_of bench ++ devices_of bench)
 abbrev pub asker_at : Benched → ℕ → Asker
 asker_at bench thread = slice_index_or (askers_of bench) thread idle
 
--- the holder of a share was told old, asked what is its own, and was then told new: a device asks it all, a worker as far
--- as its gate lets it
-abbrev pub AsksOwn : (ℕ → ℕ → Type 0) → Asker → Totals → Totals → Type 0
-AsksOwn may_stop (Worker worker requests) old new = (n : ℕ) × Worked Asks (may_stop worker) requests n old new
-AsksOwn may_stop (Device requests) old new = Reached Asks old requests new
+-- the holder of a share was told old, asked machines to which requests lead from the first for what is its own, and was
+-- then told new: a device asks it all, a worker as far as its gate lets it
+abbrev pub AsksOwn : Machined → (ℕ → ℕ → Type 0) → Asker → Totals → Totals → Type 0
+AsksOwn first may_stop (Worker worker requests) old new = (n : ℕ) × Worked (Asks first) (may_stop worker) requests n old new
+AsksOwn first may_stop (Device requests) old new = Reached (Asks first) old requests new
 
 -- in each thread what is its own was asked with the share at its place
-abbrev pub EachAsks : (ℕ → ℕ → Type 0) → Benched → List Totals → List Totals → Type 0
-EachAsks may_stop bench old new =
-    (i : ℕ) (s t : Totals) → i < length new → AsksOwn may_stop (asker_at bench i) (slice_index_or old i s) (slice_index_or new i t)
+abbrev pub EachAsks : Machined → (ℕ → ℕ → Type 0) → Benched → List Totals → List Totals → Type 0
+EachAsks first may_stop bench old new =
+    (i : ℕ) (s t : Totals) → i < length new → AsksOwn first may_stop (asker_at bench i) (slice_index_or old i s) (slice_index_or new i t)
 
 -- the totals of a run: the script was asked with the first share; then each asked what is its own, the first with that
 -- share, each other with one that was told nothing; and the totals are what the shares were told together
 pub record IsGathered (may_stop : ℕ → ℕ → Type 0) (bench : Benched) (totals : Totals) : Type 0 where
   pub first : Totals
   pub shares : List Totals
-  pub script : Reached Asks nothing bench.script first
+  pub script : Reached (Asks (bench_machine bench)) nothing bench.script first
   pub for_each : length shares ≡ length (askers_of bench)
-  pub asked : EachAsks may_stop bench (first ∷ replicate (length (askers_of bench) - 1) nothing) shares
+  pub asked : EachAsks (bench_machine bench) may_stop bench (first ∷ replicate (length (askers_of bench) - 1) nothing) shares
   pub together : totals ≡ told_to shares
 
--- the report of words that are some machine's, and of the totals of a run
+-- the machine that a run leaves: requests lead to it from the bench's, and its totals are those of the run
+pub record IsRun (may_stop : ℕ → ℕ → Type 0) (bench : Benched) (machine : Machined) : Type 0 where
+  pub leads : LeadsTo (bench_machine bench) machine
+  pub gathered : IsGathered may_stop bench machine.totals
+
+-- the report of the machine that a run leaves
 pub record IsRunReport (may_stop : ℕ → ℕ → Type 0) (bench : Benched) (text : List ℕ) : Type 0 where
   pub machine : Machined
+  pub run : IsRun may_stop bench machine
   pub words : List ℕ
-  pub totals : Totals
   pub words_are : IsImage machine words
-  pub gathered : IsGathered may_stop bench totals
-  pub text_is : text ≡ report_text words totals
+  pub text_is : text ≡ report_text words machine.totals
 
--- a fault that comes before the first write
+-- a fault that comes before the first write: no share is ever lost
 abbrev pub IsEarly : RunFault → Type 0
 IsEarly NoMemory = Unit {0}
 IsEarly NoThread = Unit {0}
-IsEarly Lost = Unit {0}
+IsEarly Lost = ⊥
 IsEarly Output = ⊥
 
--- what a run of threads wrote: the report and nothing else; a front of it where a write failed; nothing at any other fault
+-- what a run of threads wrote: the report and nothing else; a front of it where a write failed; nothing where there was no
+-- memory or no thread; no share is ever lost
 abbrev pub WritesRun : {T : Type 0} → (ℕ → ℕ → Type 0) → Benched → Option (List ℕ) → Option (List ℕ) → Result T RunFault → Type 0
 WritesRun may_stop bench old new (Ok _) = (text : List ℕ) × IsRunReport may_stop bench text × Appends old new text
 WritesRun may_stop bench old new (Err Output) = (text : List ℕ) × IsRunReport may_stop bench text × AppendsFront old new text
 WritesRun may_stop bench old new (Err NoMemory) = new ≡ old
 WritesRun may_stop bench old new (Err NoThread) = new ≡ old
-WritesRun may_stop bench old new (Err Lost) = new ≡ old
+WritesRun may_stop bench old new (Err Lost) = ⊥

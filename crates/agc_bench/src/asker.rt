@@ -1,4 +1,4 @@
-ghost use Rattle.std.specs.Prelude.{◌≡◌, length, replicate};
+ghost use Rattle.std.specs.Prelude.{◌≡◌, ◌≤◌, length, replicate};
 ghost use Rattle.agc_desk.specs.Runs.{Asks, Reached};
 ghost use Rattle.agc_bench.specs.Runs.{device_requests};
 ghost use Rattle.agc_bench.specs.Threads.{AsksOwn, askers_of, asker_at};
@@ -6,19 +6,19 @@ ghost use Rattle.agc_bench.specs.Threads.{AsksOwn, askers_of, asker_at};
 use crate::bench::Bench;
 use crate::bench_session::pulse_request;
 use crate::device::Line;
-use agc_desk::{Gate, Names, OpenGate, Share, Shared, ask, work};
+use agc_desk::{Gate, OpenGate, Share, Shared, Sharing, ask, work};
 use agc_plan::Request;
 use std::sync::Wait;
 
 /// Asks a request so many times.
-fn ask_times<N: Names, W: Wait>(
+fn ask_times<N: Sharing, W: Wait>(
     rt: &W,
     shared: &Shared<N>,
     share: Share<N>,
     request: &Request,
     times: u32,
 ) -> Share<N>
-    ensures { Reached Asks share (replicate times request.now) result }
+    ensures { Reached (Asks N.first) share (replicate times request.now) result }
 {
     let mut share = share;
     for _pulse in 0..times {
@@ -28,14 +28,14 @@ fn ask_times<N: Names, W: Wait>(
 }
 
 /// Asks a device's requests, one for each of its pulses. No gate is passed.
-fn ask_device<N: Names, W: Wait>(
+fn ask_device<N: Sharing, W: Wait>(
     rt: &W,
     shared: &Shared<N>,
     share: Share<N>,
     bench: &Bench,
     device: (Line, u32),
 ) -> Share<N>
-    ensures { Reached Asks share (device_requests bench.now device) result }
+    ensures { Reached (Asks N.first) share (device_requests bench.now device) result }
 {
     match pulse_request(bench, device.0) {
         Some(request) => ask_times(rt, shared, share, &request, device.1),
@@ -44,20 +44,22 @@ fn ask_device<N: Names, W: Wait>(
 }
 
 /// Asks a whole script.
-pub(crate) fn ask_script<N: Names, W: Wait>(
+pub(crate) fn ask_script<N: Sharing, W: Wait>(
     rt: &W,
     shared: &Shared<N>,
     share: Share<N>,
     script: &[Request],
 ) -> Share<N>
-    ensures { Reached Asks share script.now result }
+    ensures { Reached (Asks N.first) share script.now result }
 {
     work(rt, shared, share, 0, script, &OpenGate)
 }
 
 /// How many threads ask: one for each worker and each device of the bench, and one at least.
 pub(crate) fn count_askers(bench: &Bench) -> usize
-    ensures { result ≡ length (askers_of bench.now) }
+    ensures count { result ≡ length (askers_of bench.now) }
+    ensures least { 1 ≤ result }
+    ensures most { result ≤ 64 }
 {
     let count = bench.workers().len() + bench.devices().len();
     count.max(1)
@@ -65,7 +67,7 @@ pub(crate) fn count_askers(bench: &Bench) -> usize
 
 /// Asks what the thread of this number asks: the workers' requests come first, each as far as the gate lets it, then those
 /// of the devices.
-pub(crate) fn ask_own<N: Names, G: Gate, W: Wait>(
+pub(crate) fn ask_own<N: Sharing, G: Gate, W: Wait>(
     rt: &W,
     shared: &Shared<N>,
     share: Share<N>,
@@ -73,7 +75,7 @@ pub(crate) fn ask_own<N: Names, G: Gate, W: Wait>(
     thread: usize,
     gate: &G,
 ) -> Share<N>
-    ensures { AsksOwn (λ n call. G.may_stop gate.now n call) (asker_at bench.now thread) share result }
+    ensures { AsksOwn N.first (λ n call. G.may_stop gate.now n call) (asker_at bench.now thread) share result }
 {
     let workers = bench.workers();
     match workers.get(thread) {

@@ -52,14 +52,14 @@ impl Model for Bench {
 }
 
 impl Bench {
-    /// How many requests the log may hold, 1 to 1,000,000.
+    /// How many requests the log may hold, 1 to 1,000,000. Source: profile.
     pub fn limit(&self) -> Limit
         ensures { result ≡ self.now.limit }
     {
         self.parts.limit
     }
 
-    /// How many calls the machine may serve, below 2 to the 63rd.
+    /// How many calls the machine may serve, below 2 to the 63rd. Source: profile.
     pub fn allowance(&self) -> u64
         ensures value { result ≡ self.now.allowance }
         ensures range { result ≤ 9223372036854775807 }
@@ -67,7 +67,7 @@ impl Bench {
         self.parts.allowance
     }
 
-    /// A number from 0 to 1000. Read and kept; nothing uses it yet.
+    /// A number from 0 to 1000. Read and kept; nothing uses it yet. Source: profile.
     pub fn attends(&self) -> u32
         ensures value { result ≡ self.now.attends }
         ensures range { result ≤ 1000 }
@@ -75,35 +75,35 @@ impl Bench {
         self.parts.attends
     }
 
-    /// What is done for a key pulse.
+    /// What is done for a key pulse. Source: profile.
     pub fn key(&self) -> Action
         ensures { result ≡ self.now.key }
     {
         self.parts.key
     }
 
-    /// What is done for a radar pulse.
+    /// What is done for a radar pulse. Source: profile.
     pub fn radar(&self) -> Action
         ensures { result ≡ self.now.radar }
     {
         self.parts.radar
     }
 
-    /// The twelve phase words of a power-up, -PHASE1 first. None for a fresh start.
+    /// The twelve phase words of a power-up, -PHASE1 first. None for a fresh start. Source: profile.
     pub fn power(&self) -> Option<[Word; 12]>
         ensures { result ≡ self.now.power }
     {
         self.parts.power
     }
 
-    /// The requests that are asked first, in order.
+    /// The requests that are asked first, in order. Source: profile.
     pub fn script(&self) -> &[Request]
         ensures { result.now ≡ self.now.script }
     {
         self.parts.script.as_slice()
     }
 
-    /// The action of each task that has one. With `entries` these rows make a plan, want of memory aside.
+    /// The action of each task that has one. With `entries` these rows make a plan, want of memory aside. Source: profile.
     pub fn rows(&self) -> &[(Task, Action)]
         ensures value { result.now ≡ self.now.rows }
         ensures planned { fault_of self.now.rows self.now.entries ≡ None }
@@ -111,7 +111,7 @@ impl Bench {
         self.parts.rows.as_slice()
     }
 
-    /// What begins again with a restart, by group and phase.
+    /// What begins with each era while its group stands in its phase. Source: profile.
     pub fn entries(&self) -> &[PhaseEntry]
         ensures value { result.now ≡ self.now.entries }
         ensures planned { fault_of self.now.rows self.now.entries ≡ None }
@@ -119,7 +119,7 @@ impl Bench {
         self.parts.entries.as_slice()
     }
 
-    /// The requests of each worker, in order; at most 32 workers.
+    /// The requests of each worker, in order; at most 32 workers. Source: profile.
     pub fn workers(&self) -> &[Vec<Request>]
         ensures value { map (λ w. w.items) result.now ≡ self.now.workers }
         ensures few { length result.now ≤ 32 }
@@ -127,7 +127,7 @@ impl Bench {
         self.parts.workers.as_slice()
     }
 
-    /// The line of each device, and how many pulses it sends, 0 to 1,000,000; at most 32 devices.
+    /// The line of each device, and how many pulses it sends, 0 to 1,000,000; at most 32 devices. Source: profile.
     pub fn devices(&self) -> &[(Line, u32)]
         ensures value { result.now ≡ self.now.devices }
         ensures few { length result.now ≤ 32 }

@@ -1,7 +1,8 @@
 ghost use Rattle.std.specs.Prelude.{◌≡◌, OnOk, replicate};
 ghost use Rattle.std.specs.List.{flat_map};
 ghost use Rattle.agc_bench.specs.Writing.{Writes};
-ghost use Rattle.agc_bench.specs.Session.{after_all, answer_lines};
+ghost use Rattle.agc_machine.specs.Machines.{after_all};
+ghost use Rattle.agc_bench.specs.Session.{answer_lines};
 ghost use Rattle.agc_bench.specs.Runs.{action_request, pulse_request, device_requests, bench_requests};
 
 use crate::bench::Bench;

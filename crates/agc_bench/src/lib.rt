@@ -1,4 +1,5 @@
-//! Scripts and benches: what a text asks of the machine, and why a text is refused.
+//! Scripts and benches: what a text asks of the machine and why it is refused, runs by one caller or by threads, and the
+//! lines and the report that are written.
 #![tactic(auto)]
 
 mod asker;

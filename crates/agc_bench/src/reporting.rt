@@ -189,7 +189,8 @@ fn put_lines<W: Write>(words: &[Word], totals: &Totals, writer: &mut W) -> Resul
 }
 
 /// Writes the report of a machine's words and totals: a line for each core set, the VAC areas' use words, NEWJOB, TIME3,
-/// LST1, LST2, the phase words, FAILREG, and the counts. Words are five octal digits, counts are decimal. Source: profile.
+/// LST1, LST2, the phase words, FAILREG, and the counts. A set whose PRIORITY is 77777 is written as `FREE`. Words are five
+/// octal digits, counts are decimal. The writer is not flushed. Source: profile.
 ///
 /// # Errors
 ///

@@ -5,7 +5,7 @@ use agc_machine::NoMemory;
 use std::alloc::{AllocError, AllocFailed};
 use thiserror::Error;
 
-/// A write failed, or took nothing of what was left.
+/// A write failed, or took nothing of what was left. Source: profile.
 #[derive(Clone, Copy, PartialEq, Eq, Debug, Error)]
 #[error("output")]
 pub struct Output;
@@ -16,13 +16,13 @@ pub enum RunFault {
     /// Nothing was written.
     #[error("no memory")]
     NoMemory,
-    /// A write failed, after a part of the text.
+    /// A write failed, or took nothing of what was left; a front of the text, perhaps empty, was written, and not all.
     #[error("output")]
     Output,
     /// A thread couldn't be started. Nothing was written.
     #[error("no thread")]
     NoThread,
-    /// The parts of a run didn't come together again. Nothing was written.
+    /// Shares are missing. Nothing was written. It is proved that no run comes to this.
     #[error("lost")]
     Lost,
 }

@@ -535,5 +535,14 @@ fn texts_of_faults(rt: HostRuntime) -> Result<(), Fail> {
     for (fault, want) in benches {
         assert_eq!(rt; format!(in rt.alloc(); "{fault}")?.as_str(), want);
     }
+    let runs = [
+        (RunFault::NoMemory, "no memory"),
+        (RunFault::Output, "output"),
+        (RunFault::NoThread, "no thread"),
+        (RunFault::Lost, "lost"),
+    ];
+    for (fault, want) in runs {
+        assert_eq!(rt; format!(in rt.alloc(); "{fault}")?.as_str(), want);
+    }
     Ok(())
 }

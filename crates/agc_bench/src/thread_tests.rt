@@ -48,11 +48,12 @@ fn report_ending(alloc: Global, ending: [&str; 2]) -> Result<Vec<u8>, Fail> {
     Ok(text)
 }
 
-/// Worker 0's first call comes after worker 1's first, and worker 1's second after worker 0's first.
+/// Of 32 workers, 0 to 31: worker 0's first call comes after worker 31's first, and worker 31's second after worker 0's
+/// first.
 #[derive(Drop)]
 struct Crossed {
     first_of_0: AtomicBool,
-    first_of_1: AtomicBool,
+    first_of_31: AtomicBool,
 }
 
 fn came(call: &AtomicBool) -> bool {
@@ -69,8 +70,8 @@ impl Gate for Crossed {
 
     fn before(&self, worker: usize, call: usize) -> bool {
         match (worker, call) {
-            (0, 0) => came(&self.first_of_1),
-            (1, 1) => came(&self.first_of_0),
+            (0, 0) => came(&self.first_of_31),
+            (31, 1) => came(&self.first_of_0),
             _ => true,
         }
     }
@@ -78,7 +79,7 @@ impl Gate for Crossed {
     fn after(&self, worker: usize, call: usize) {
         match (worker, call) {
             (0, 0) => self.first_of_0.store(true, Ordering::SeqCst),
-            (1, 0) => self.first_of_1.store(true, Ordering::SeqCst),
+            (31, 0) => self.first_of_31.store(true, Ordering::SeqCst),
             _ => {}
         }
     }
@@ -88,13 +89,18 @@ impl Gate for Crossed {
 fn workers_run_at_the_same_time(rt: HostRuntime) -> Result<(), Fail> {
     let gate = Crossed {
         first_of_0: AtomicBool::new(false),
-        first_of_1: AtomicBool::new(false),
+        first_of_31: AtomicBool::new(false),
     };
-    let (text, ended) = run(&rt, rt.alloc(), TWO_WORKERS, &gate, 1000)?;
+    let mut document = Vec::new(rt.alloc());
+    for _pair in 0..16 {
+        document.extend_from_slice(TWO_WORKERS.as_bytes())?;
+    }
+    let document = str::from_utf8(document.as_slice()).map_err(|_| "text")?;
+    let (text, ended) = run(&rt, rt.alloc(), document, &gate, 1000)?;
     assert_eq!(rt; ended, Ok(()));
     let wanted = report_ending(
         rt.alloc(),
-        [NO_ALARMS, "SERVED 4\nALARMS 0 0 0\nRESTARTS 0\n"],
+        [NO_ALARMS, "SERVED 64\nALARMS 0 0 0\nRESTARTS 0\n"],
     )?;
     assert_eq!(rt; text.as_slice(), wanted.as_slice());
     Ok(())

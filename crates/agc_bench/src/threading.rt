@@ -1,14 +1,15 @@
-ghost use Rattle.std.specs.Prelude.{◌≡◌, ◌+◌, ◌-◌, ◌<◌, ◌∷◌, IfOk, IfErr, length, replicate, vec_len};
+ghost use Rattle.std.specs.Prelude.{◌≡◌, ◌⊎◌, ◌+◌, ◌<◌, IfOk, IfErr, OnOk, length, replicate, vec_len};
 ghost use Rattle.agc_machine.specs.Told.{nothing};
 ghost use Rattle.agc_desk.specs.Opening.{names_of};
-ghost use Rattle.agc_bench.specs.Threads.{AsksOwn, EachAsks, IsEarly, IsGathered, WritesRun, asker_at, askers_of};
+ghost use Rattle.agc_bench.specs.Runs.{bench_machine};
+ghost use Rattle.agc_bench.specs.Threads.{AsksOwn, EachAsks, IsEarly, IsRun, WritesRun, asker_at, askers_of};
 
 use crate::asker::{ask_own, ask_script, count_askers};
 use crate::bench::Bench;
 use crate::reporting::report;
 use crate::run::machine_of;
 use crate::run_fault::RunFault;
-use agc_desk::{Blanks, Desk, Gate, Held, Names, Share, Shared, gather};
+use agc_desk::{Blanks, Desk, Gate, Held, Names, Share, Shared, Sharing, gather};
 use agc_machine::{Machine, Totals};
 use std::alloc::Global;
 use std::io::Write;
@@ -27,7 +28,7 @@ struct Pledge<'b, 'g, G: Gate> {
 }
 
 impl<'b, 'g, N: Names, G: Gate> Promise<Share<N>> for Pledge<'b, 'g, G> {
-    ghost kept_by = { λ pledge told. AsksOwn (λ n call. G.may_stop pledge.gate.now n call) (asker_at pledge.bench.now pledge.thread) pledge.start told };
+    ghost kept_by = { λ pledge told. AsksOwn N.first (λ n call. G.may_stop pledge.gate.now n call) (asker_at pledge.bench.now pledge.thread) pledge.start told };
 }
 
 /// The pledge of the thread of this number, which starts with this share.
@@ -54,8 +55,8 @@ fn shares_of<N: Names>(
     count: usize,
 ) -> Result<Vec<Share<N>>, RunFault>
     ensures told { IfOk result (λ v. v.items ≡ replicate count nothing) }
-    ensures early { IfErr result (λ fault. IsEarly fault) }
-    ensures lost { IfErr result (λ fault. fault ≡ RunFault.Lost → 64 < desk.old.given + count) }
+    ensures given { OnOk result (desk.new ≡ record desk.old { given = desk.old.given + count }) }
+    ensures early { IfErr result (λ fault. (fault ≡ RunFault.NoMemory) ⊎ ((fault ≡ RunFault.Lost) × (64 < desk.old.given + count))) }
 {
     let mut shares = Vec::new(alloc);
     for _given in 0..count {
@@ -68,7 +69,7 @@ fn shares_of<N: Names>(
 }
 
 /// Has all workers and devices ask at once, each in a thread of its own with the share at its place, and joins them.
-fn ask_at_once<N: Names + Send + Sync, G: Gate + Sync, W: Threads + Wait + Sync>(
+fn ask_at_once<N: Sharing + Send + Sync, G: Gate + Sync, W: Threads + Wait + Sync>(
     rt: &W,
     alloc: Global,
     shared: &Shared<N>,
@@ -77,7 +78,7 @@ fn ask_at_once<N: Names + Send + Sync, G: Gate + Sync, W: Threads + Wait + Sync>
     gate: &G,
 ) -> Result<Vec<Share<N>>, RunFault>
     ensures len { IfOk result (λ v. vec_len v ≡ vec_len shares) }
-    ensures each { IfOk result (λ v. EachAsks (λ n call. G.may_stop gate.now n call) bench.now shares.items v.items) }
+    ensures each { IfOk result (λ v. EachAsks N.first (λ n call. G.may_stop gate.now n call) bench.now shares.items v.items) }
     ensures early { IfErr result (λ fault. IsEarly fault) }
 {
     thread::scope(
@@ -85,7 +86,7 @@ fn ask_at_once<N: Names + Send + Sync, G: Gate + Sync, W: Threads + Wait + Sync>
         rt,
         move |scope| -> Result<Vec<Share<N>>, RunFault>
             ensures len { IfOk result (λ v. vec_len v ≡ vec_len shares) }
-            ensures each { IfOk result (λ v. EachAsks (λ n call. G.may_stop gate.entry.now n call) bench.entry.now shares.items v.items) }
+            ensures each { IfOk result (λ v. EachAsks N.first (λ n call. G.may_stop gate.entry.now n call) bench.entry.now shares.items v.items) }
             ensures early { IfErr result (λ fault. IsEarly fault) }
         {
             let mut running = Vec::new(alloc);
@@ -93,7 +94,7 @@ fn ask_at_once<N: Names + Send + Sync, G: Gate + Sync, W: Threads + Wait + Sync>
                 let thread = running.len();
                 let pledge = pledge_of(&share, bench, thread, gate);
                 let own = move || -> Share<N>
-                    ensures { AsksOwn (λ n call. G.may_stop gate.entry.now n call) (asker_at bench.entry.now thread) share result }
+                    ensures { AsksOwn N.first (λ n call. G.may_stop gate.entry.now n call) (asker_at bench.entry.now thread) share result }
                 { ask_own(rt, shared, share, bench, thread, gate) };
                 match scope.spawn_with(pledge, own) {
                     Ok(thread) => running.push(thread)?,
@@ -109,7 +110,7 @@ fn ask_at_once<N: Names + Send + Sync, G: Gate + Sync, W: Threads + Wait + Sync>
 }
 
 /// Asks the script with the first share, then all workers and devices at once, and gathers the shares.
-fn gathered<N: Names + Send + Sync, G: Gate + Sync, W: Threads + Wait + Sync>(
+fn gathered<N: Sharing + Send + Sync, G: Gate + Sync, W: Threads + Wait + Sync>(
     rt: &W,
     alloc: Global,
     machine: Machine,
@@ -117,8 +118,12 @@ fn gathered<N: Names + Send + Sync, G: Gate + Sync, W: Threads + Wait + Sync>(
     bench: &Bench,
     gate: &G,
 ) -> Result<(Machine, Totals), RunFault>
-    requires { names_of blanks ≡ N.names }
-    ensures gathered { IfOk result (λ r. IsGathered (λ n call. G.may_stop gate.now n call) bench.now r.1) }
+    requires names { names_of blanks ≡ N.names }
+    requires first { machine ≡ N.first }
+    requires bench { machine ≡ bench_machine bench.now }
+    requires shares { N.shares ≡ length (askers_of bench.now) }
+    ensures run { IfOk result (λ r. IsRun (λ n call. G.may_stop gate.now n call) bench.now r.0) }
+    ensures totals { IfOk result (λ r. r.1 ≡ r.0.totals) }
     ensures early { IfErr result (λ fault. IsEarly fault) }
 {
     let mut desk: Desk<N> = Desk::new(machine, blanks);
@@ -137,13 +142,14 @@ fn gathered<N: Names + Send + Sync, G: Gate + Sync, W: Threads + Wait + Sync>(
 /// Runs a bench with threads: its machine, under a lock, is asked for the requests of the script, and then by all workers
 /// and devices at once, each in a thread of its own. A worker passes the gate before and after each call, under its number
 /// in the order of the bench from 0; a device passes no gate. When all have ended, their shares are gathered, and the report
-/// is written. It may wait for the lock and for the threads. Source: profile.
+/// is written: of the machine, whose totals are what all were told together. The writer is not flushed. It may wait for the
+/// lock and for the threads. Source: profile.
 ///
 /// # Errors
 ///
-/// `NoMemory`, `NoThread` where a thread couldn't be started, and `Lost` where shares are missing: nothing was written, and
-/// the threads that were started are joined. `Output`, where a write failed, or took nothing of what was left; a front of
-/// the text was then written.
+/// `NoMemory`, and `NoThread` where a thread couldn't be started: nothing was written, and the threads that were started are
+/// joined. `Output`, where a write failed, or took nothing of what was left; a front of the text was then written. `Lost`
+/// never comes.
 pub fn threads<R: Threads + Wait + Sync, W: Write, G: Gate + Sync>(
     rt: &R,
     alloc: Global,

@@ -3,16 +3,17 @@ use Rattle.std.specs.Prelude.{◌≡◌, ℕ, ◌≤◌, ◌⊎◌, List, [], �
 use Rattle.agc_plan.specs.declared.request.Request.{Request}
 use Rattle.agc_machine.specs.declared.totals.Totals.{Totals}
 use Rattle.agc_machine.specs.Said.{Said}
-use Rattle.agc_machine.specs.Machines.{Machined, IsLawful, answer_of}
+use Rattle.agc_machine.specs.Machines.{Machined, IsLawful, LeadsTo, answer_of}
 use Rattle.agc_machine.specs.Told.{add, told}
 
--- the answer holds this request, and its result is the one that the machine step gives to it on some lawful machine
-abbrev pub IsAnswerTo : Request → Said → Type 0
-IsAnswerTo asked said = (said.request ≡ asked) × ((m : Machined) × (IsLawful m × (said.outcome ≡ answer_of m asked)))
+-- the answer holds this request, and its result is the one that the machine's step gives to it on some lawful machine to
+-- which requests lead from the first
+abbrev pub IsAnswerTo : Machined → Request → Said → Type 0
+IsAnswerTo first asked said = (said.request ≡ asked) × ((m : Machined) × (LeadsTo first m × IsLawful m × (said.outcome ≡ answer_of m asked)))
 
 -- a holder that was told old asks, gets this answer, and was then told new
-abbrev pub Asks : Totals → Request → Said → Totals → Type 0
-Asks old asked said new = IsAnswerTo asked said × (new ≡ add old (told said.outcome))
+abbrev pub Asks : Machined → Totals → Request → Said → Totals → Type 0
+Asks first old asked said new = IsAnswerTo first asked said × (new ≡ add old (told said.outcome))
 
 -- these requests, each answered as the relation says, lead in this order from the first state to the last
 abbrev pub Reached : {State : Type 0} → (State → Request → Said → State → Type 0) → State → List Request → State → Type 0

@@ -5,16 +5,18 @@ ghost use Rattle.agc_desk.specs.Runs.{Asks, IsAnswerTo, Worked};
 use crate::console::{Console, Gate, drive};
 use crate::desk::Desk;
 use crate::ledgers::Share;
-use crate::names::Names;
+use crate::names::Sharing;
 use agc_machine::Answer;
 use agc_plan::Request;
 use std::sync::{Mutex, Wait};
 
-/// What lies under the lock. Source: profile.
+/// What lies under the lock. Whenever the lock is free, as many of the desk's shares are given out as when it came there.
+/// Source: profile.
 #[derive(Drop)]
-pub struct Held<N: Names> {
+pub struct Held<N: Sharing> {
     /// The desk that is asked. Source: profile.
     pub desk: Desk<N>,
+    ghost given: { desk.given ≡ N.shares },
 }
 
 /// A desk that several threads share, under a lock. Source: profile.
@@ -22,13 +24,13 @@ pub type Shared<N> = Mutex<Held<N>>;
 
 /// Asks the machine of the locked desk, and books in the share what its answer tells. A refusal is the answer's result.
 /// It may wait for the lock. Source: profile.
-pub fn ask<N: Names, W: Wait>(
+pub fn ask<N: Sharing, W: Wait>(
     rt: &W,
     shared: &Shared<N>,
     share: &mut Share<N>,
     request: Request,
 ) -> Answer
-    ensures answer { IsAnswerTo request result }
+    ensures answer { IsAnswerTo N.first request result }
     ensures told { share.new ≡ add share.old (told result.outcome) }
 {
     shared.lock(rt).desk.serve(share, request)
@@ -36,15 +38,15 @@ pub fn ask<N: Names, W: Wait>(
 
 /// A shared desk with the share of one who asks: a [`Console`]. Source: profile.
 #[derive(Drop)]
-pub struct Caller<'a, N: Names> {
+pub struct Caller<'a, N: Sharing> {
     /// The desk that is asked. Source: profile.
     pub shared: &'a Shared<N>,
     /// What was told so far. Source: profile.
     pub share: Share<N>,
 }
 
-impl<N: Names> Console for Caller<'_, N> {
-    ghost leads = { λ old asked said new. Asks old.share asked said new.share };
+impl<N: Sharing> Console for Caller<'_, N> {
+    ghost leads = { λ old asked said new. Asks N.first old.share asked said new.share };
 
     fn ask(&mut self, rt: &impl Wait, request: Request) -> Answer {
         ask(rt, self.shared, &mut self.share, request)
@@ -53,7 +55,7 @@ impl<N: Names> Console for Caller<'_, N> {
 
 /// Asks the requests in order at the shared desk, all or up to a call at which the gate may stop, and hands back the
 /// share. `worker` is the number that the gate is told. It may wait for the lock, and as its gate does. Source: profile.
-pub fn work<N: Names, G: Gate, W: Wait>(
+pub fn work<N: Sharing, G: Gate, W: Wait>(
     rt: &W,
     shared: &Shared<N>,
     share: Share<N>,
@@ -61,7 +63,7 @@ pub fn work<N: Names, G: Gate, W: Wait>(
     requests: &[Request],
     gate: &G,
 ) -> Share<N>
-    ensures { (n : ℕ) × Worked Asks (λ call. G.may_stop gate.now worker call) requests.now n share result }
+    ensures { (n : ℕ) × Worked (Asks N.first) (λ call. G.may_stop gate.now worker call) requests.now n share result }
 {
     let mut caller = Caller { shared, share };
     drive(rt, &mut caller, worker, requests, gate);

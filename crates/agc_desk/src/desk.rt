@@ -1,5 +1,5 @@
 ghost use Rattle.std.specs.Prelude.{◌≡◌, ◌+◌, ◌↔◌, IsOk, IsNone, IfOk, IfErr, IfSome, IfNone, vec_len};
-ghost use Rattle.agc_machine.specs.Machines.{IsLawful, after, answer_of};
+ghost use Rattle.agc_machine.specs.Machines.{IsLawful, LeadsTo, after, answer_of};
 ghost use Rattle.agc_machine.specs.Told.{add, nothing, told};
 ghost use Rattle.agc_desk.specs.Accounts.{told_to};
 ghost use Rattle.agc_desk.specs.Opening.{names_of};
@@ -13,10 +13,11 @@ use std::marker::Model;
 /// How many shares a desk gives out.
 const SHARES: u64 = 64;
 
-/// A machine, with a book for each of its totals. Contracts see it as its machine, the machine's totals as the desk was
-/// made (`since`), the books, and how many shares were given out.
+/// A machine, with a book for each of its totals. Contracts see it as its machine, the books, and how many shares were
+/// given out.
 ///
-/// Of every desk it holds that each book is the machine's total less its value as the desk was made. Source: profile.
+/// Of every desk it holds that requests led to its machine from the one with which it was made, and that each book is the
+/// machine's total less that one's. Source: profile.
 #[derive(Drop)]
 pub struct Desk<N: Names> {
     machine: Machine,
@@ -30,16 +31,17 @@ impl<N: Names> Model for Desk<N> {
 
     ghost Value = { Desked };
 
-    ghost view = { λ d. record { machine = d.machine; since = d.since; booked = d.ledgers.total; given = d.given } };
+    ghost view = { λ d. record { machine = d.machine; booked = d.ledgers.total; given = d.given } };
 
-    ghost invariant = { λ d. IsBooked d.machine d.since d.given d.ledgers };
+    ghost invariant = { λ d. IsBooked N.first d.machine d.since d.given d.ledgers };
 }
 
 impl<N: Names> Desk<N> {
     /// A desk that gave out no share, and booked nothing. Source: profile.
     pub fn new(machine: Machine, blanks: Blanks) -> Desk<N>
-        requires { names_of blanks ≡ N.names }
-        ensures { result ≡ record { machine = machine; since = machine.totals; booked = nothing; given = 0 } }
+        requires names { names_of blanks ≡ N.names }
+        requires first { machine ≡ N.first }
+        ensures { result ≡ record { machine = machine; booked = nothing; given = 0 } }
     {
         let since = machine.totals();
         let ledgers = Ledgers::open(blanks);
@@ -54,7 +56,8 @@ impl<N: Names> Desk<N> {
     /// The machine. Source: profile.
     pub fn machine(&self) -> &Machine
         ensures machine { result.now ≡ self.now.machine }
-        ensures booked { add self.now.booked self.now.since ≡ result.now.totals }
+        ensures leads { LeadsTo N.first result.now }
+        ensures booked { add self.now.booked N.first.totals ≡ result.now.totals }
     {
         &self.machine
     }
@@ -79,6 +82,7 @@ impl<N: Names> Desk<N> {
         ensures request { result.request ≡ request }
         ensures outcome { result.outcome ≡ answer_of self.old.machine request }
         ensures lawful { IsLawful self.old.machine }
+        ensures leads { LeadsTo N.first self.old.machine }
         ensures told { share.new ≡ add share.old (told result.outcome) }
         ensures desk { self.new ≡ record self.old { machine = after self.old.machine request; booked = add self.old.booked (told result.outcome) } }
     {
@@ -99,8 +103,8 @@ pub struct Ungathered<N: Names> {
     pub shares: Vec<Share<N>>,
 }
 
-/// Ends a desk: gives its machine, unchanged, and what the holders of all its shares were told together, which is what
-/// the machine's totals grew by since the desk was made. Source: profile.
+/// Ends a desk: gives its machine, unchanged, to which requests led from the one with which the desk was made, and what
+/// the holders of all its shares were told together, which is what the machine's totals grew by. Source: profile.
 ///
 /// # Errors
 ///
@@ -113,7 +117,8 @@ pub fn gather<N: Names>(
     ensures machine { IfOk result (λ r. r.0 ≡ desk.machine) }
     ensures told { IfOk result (λ r. r.1 ≡ told_to shares.items) }
     ensures booked { IfOk result (λ r. r.1 ≡ desk.booked) }
-    ensures grown { IfOk result (λ r. add r.1 desk.since ≡ desk.machine.totals) }
+    ensures leads { IfOk result (λ r. LeadsTo N.first r.0) }
+    ensures grown { IfOk result (λ r. add r.1 N.first.totals ≡ r.0.totals) }
     ensures back { IfErr result (λ u. (u.desk ≡ desk) × (u.shares ≡ shares)) }
 {
     if shares.len() as u64 != desk.given {

@@ -149,6 +149,7 @@ impl<N: Names> Ledgers<N> {
     /// With all shares back, what came back is what was booked.
     pub(crate) fn audit(&mut self)
         requires all { self.old.left ≡ 65 }
+        ensures same { self.new ≡ self.old }
         ensures whole { self.old.back ≡ self.old.total }
     {
         self.served.audit();

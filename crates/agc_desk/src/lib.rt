@@ -17,7 +17,7 @@ pub use caller::{Caller, Held, Shared, ask, work};
 pub use console::{Console, Gate, OpenGate, drive};
 pub use desk::{Desk, Ungathered, gather};
 pub use ledgers::Share;
-pub use names::{Blanks, Names};
+pub use names::{Blanks, Names, Sharing};
 
 #[cfg(test)]
 mod tests;

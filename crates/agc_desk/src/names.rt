@@ -1,5 +1,7 @@
 ghost use Rattle.std.specs.Prelude.{◌≡◌};
-ghost use Rattle.agc_desk.specs.Naming.{FiveNames, no_names};
+ghost use Rattle.std.specs.Prelude.{ℕ};
+ghost use Rattle.agc_machine.specs.Machines.{Machined};
+ghost use Rattle.agc_desk.specs.Naming.{FiveNames, no_names, no_machine};
 
 use std::marker::{Brand, PhantomData};
 use std::sync::ledger::{Blank, Ledger};
@@ -7,16 +9,33 @@ use std::sync::ledger::{Blank, Ledger};
 /// Into how many parts each ledger is cut: one for each of 64 shares, and one that stays with the desk.
 const PARTS: u64 = 65;
 
-/// Which five ledgers a desk has, one for each number of [`Totals`]. Source: profile.
+/// What the type of a desk says of it: which five ledgers it has, one for each number of [`Totals`], and with which machine
+/// it was made. Source: profile.
 ///
-/// A function that is generic over it is called with `Brand`, and the call picks the names.
+/// A function that is generic over it is called with `Brand`, and the call picks names and machine.
 pub trait Names {
-    /// The name of each of the five. Source: profile.
+    /// The name of each of the five ledgers. Source: profile.
     ghost names: { FiveNames };
+
+    /// The machine with which the desk is made. Source: profile.
+    ghost first: { Machined };
 }
 
 impl Names for Brand {
     ghost names = { no_names };
+
+    ghost first = { no_machine };
+}
+
+/// What the type of a desk under a lock says besides: how many of its shares are given out. A call with `Brand` picks it
+/// too. Source: profile.
+pub trait Sharing: Names {
+    /// How many shares are given out while the desk is under the lock. Source: profile.
+    ghost shares: { ℕ };
+}
+
+impl Sharing for Brand {
+    ghost shares = { 0 };
 }
 
 /// The ledger of `served`.

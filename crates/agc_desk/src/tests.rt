@@ -2,8 +2,8 @@ ghost use Rattle.std.specs.Prelude.{◌≡◌};
 ghost use Rattle.agc_desk.specs.Opening.{names_of};
 
 use crate::{
-    Blanks, Caller, Console, Desk, Gate, Held, Names, OpenGate, Share, Shared, Ungathered, drive,
-    gather, work,
+    Blanks, Caller, Console, Desk, Gate, Held, Names, OpenGate, Share, Shared, Sharing, Ungathered,
+    drive, gather, work,
 };
 use agc_machine::{Answer, Machine, Totals};
 use agc_plan::{Action, Address, Delay, Entry, Limit, Place, Plan, Priority, Reply, Request, Task};
@@ -70,7 +70,7 @@ struct Outcome {
     machine: Machine,
 }
 
-fn ask_all<N: Names, W: Wait>(
+fn ask_all<N: Sharing, W: Wait>(
     rt: &W,
     alloc: Global,
     shared: &Shared<N>,
@@ -86,14 +86,16 @@ fn ask_all<N: Names, W: Wait>(
     Ok((answers, share))
 }
 
-fn ask_through<N: Names, W: Wait>(
+fn ask_through<N: Sharing, W: Wait>(
     rt: &W,
     alloc: Global,
     machine: Machine,
     blanks: Blanks,
     requests: &[Request],
 ) -> Result<Outcome, Fault>
-    requires { names_of blanks ≡ N.names }
+    requires names { names_of blanks ≡ N.names }
+    requires first { machine ≡ N.first }
+    requires shares { N.shares ≡ 1 }
 {
     let mut desk: Desk<N> = Desk::new(machine, blanks);
     let share = desk.share().ok_or(Fault::NoShare)?;
@@ -201,14 +203,16 @@ fn a_caller_gets_the_machines_answers(rt: HostRuntime) -> Result<(), Fail> {
 }
 
 // Asks through `work`, with the gate that stops no call.
-fn worked_through<N: Names, W: Wait>(
+fn worked_through<N: Sharing, W: Wait>(
     rt: &W,
     alloc: Global,
     machine: Machine,
     blanks: Blanks,
     requests: &[Request],
 ) -> Result<(Machine, Totals), Fault>
-    requires { names_of blanks ≡ N.names }
+    requires names { names_of blanks ≡ N.names }
+    requires first { machine ≡ N.first }
+    requires shares { N.shares ≡ 1 }
 {
     let mut desk: Desk<N> = Desk::new(machine, blanks);
     let share = desk.share().ok_or(Fault::NoShare)?;
@@ -266,7 +270,8 @@ fn a_worker_asks_just_its_requests(rt: HostRuntime) -> Result<(), Fail> {
 
 // How many shares a desk gives out.
 fn shares_given<N: Names>(machine: Machine, blanks: Blanks) -> u64
-    requires { names_of blanks ≡ N.names }
+    requires names { names_of blanks ≡ N.names }
+    requires first { machine ≡ N.first }
 {
     let mut desk: Desk<N> = Desk::new(machine, blanks);
     for given in 0..100 {
@@ -291,7 +296,8 @@ fn gathered_late<N: Names>(
     machine: Machine,
     blanks: Blanks,
 ) -> Result<(usize, usize, Totals), Fault>
-    requires { names_of blanks ≡ N.names }
+    requires names { names_of blanks ≡ N.names }
+    requires first { machine ≡ N.first }
 {
     let mut desk: Desk<N> = Desk::new(machine, blanks);
     let mut first = desk.share().ok_or(Fault::NoShare)?;

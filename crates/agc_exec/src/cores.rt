@@ -59,7 +59,8 @@ impl Cores {
 
     /// NOVAC: establishes a job without a VAC area, with work words 00000, which runs if nobody did. `Established`
     /// with its number, the least unused one, or `Alarmed` 1202 where seven jobs live, and then nothing changes.
-    /// Source: the listings' EXECUTIVE section; which number and set: profile.
+    /// Source: the listings' EXECUTIVE section; which number and set, work words 00000, and that it runs at once where
+    /// nobody did: profile.
     pub fn novac(&mut self, priority: Priority, entry: Entry) -> Reply
         ensures outcome { record { jobs = jobs_of self.new; reply = result } ≡ plain.novac priority entry (jobs_of self.old) }
         ensures placed { entries_of self.new ≡ placed_new (established result) (running_in self.new) (entries_of self.old) }
@@ -69,7 +70,7 @@ impl Cores {
 
     /// FINDVAC: as NOVAC, with the least free VAC area. `Established` with its number, or `Alarmed` 1201 where all
     /// five areas are owned, else 1202 where seven jobs live, and then nothing changes. Source: the listings'
-    /// EXECUTIVE section; which number, set and area: profile.
+    /// EXECUTIVE section; which number, set and area, and the rest as NOVAC's: profile.
     pub fn findvac(&mut self, priority: Priority, entry: Entry) -> Reply
         ensures outcome { record { jobs = jobs_of self.new; reply = result } ≡ plain.findvac priority entry (jobs_of self.old) }
         ensures placed { entries_of self.new ≡ placed_new (established result) (running_in self.new) (entries_of self.old) }
@@ -81,7 +82,8 @@ impl Cores {
     }
 
     /// End of job: frees the running job's set and area; the best job takes set 0. `Left` with who runs then, or
-    /// `NoJob` where nobody ran, and then nothing changes. Source: the listings' EXECUTIVE section.
+    /// `NoJob` where nobody ran, and then nothing changes. Source: the listings' EXECUTIVE section; of equal priorities
+    /// the least number: profile.
     pub fn end_of_job(&mut self) -> Reply
         ensures outcome { record { jobs = jobs_of self.new; reply = result } ≡ plain.end_of_job (jobs_of self.old) }
         ensures placed { entries_of self.new ≡ placed_end (running_in self.old) (running_in self.new) (entries_of self.old) }
@@ -90,7 +92,8 @@ impl Cores {
     }
 
     /// JOBSLEEP: the running job sleeps until this address is called; the best job takes set 0. `Left` with who runs
-    /// then, or `NoJob` where nobody ran, and then nothing changes. Source: the listings' EXECUTIVE section.
+    /// then, or `NoJob` where nobody ran, and then nothing changes. Source: the listings' EXECUTIVE section; of equal
+    /// priorities the least number: profile.
     pub fn job_sleep(&mut self, at: Address) -> Reply
         ensures outcome { record { jobs = jobs_of self.new; reply = result } ≡ plain.sleep at (jobs_of self.old) }
         ensures placed { entries_of self.new ≡ fronted (running_in self.new) (entries_of self.old) }
@@ -99,8 +102,8 @@ impl Cores {
     }
 
     /// JOBWAKE: awakens the least-numbered sleeper of this address, which runs if nobody did. `Roused` with its
-    /// number, or `NoSleeper`, and then nothing changes. Source: the listings' EXECUTIVE section; least number:
-    /// profile.
+    /// number, or `NoSleeper`, and then nothing changes. Source: the listings' EXECUTIVE section; least number, and that
+    /// it runs at once where nobody did: profile.
     pub fn job_wake(&mut self, at: Address) -> Reply
         ensures outcome { record { jobs = jobs_of self.new; reply = result } ≡ plain.rouse at (jobs_of self.old) }
         ensures placed { entries_of self.new ≡ fronted (running_in self.new) (entries_of self.old) }
@@ -110,7 +113,7 @@ impl Cores {
 
     /// PRIOCHNG: sets the running job's priority; where an awake job is then strictly more urgent, the best takes set
     /// 0. `Runs` with who runs then, or `NoJob` where nobody ran, and then nothing changes. Source: the listings'
-    /// EXECUTIVE section; the change at once: profile.
+    /// EXECUTIVE section; the change at once, and of equal priorities the least number: profile.
     pub fn prio_change(&mut self, priority: Priority) -> Reply
         ensures outcome { record { jobs = jobs_of self.new; reply = result } ≡ plain.prio priority (jobs_of self.old) }
         ensures placed { entries_of self.new ≡ fronted (running_in self.new) (entries_of self.old) }
@@ -120,7 +123,7 @@ impl Cores {
 
     /// Change of job: where an awake job is strictly more urgent than the running one, the best takes set 0. `Runs`
     /// with who runs then, or `NoJob` where nobody ran, and then nothing changes. Source: the listings' EXECUTIVE
-    /// section.
+    /// section; of equal priorities the least number: profile.
     pub fn change_job(&mut self) -> Reply
         ensures outcome { record { jobs = jobs_of self.new; reply = result } ≡ plain.change (jobs_of self.old) }
         ensures placed { entries_of self.new ≡ fronted (running_in self.new) (entries_of self.old) }
@@ -140,8 +143,11 @@ impl Cores {
     /// Writes the core sets, use words and NEWJOB into places 0 to 89 of the erasable words, and no others. A set is
     /// twelve words: MPAC, which holds the job's number and its six work words, MODE, LOC, its address, BANKSET,
     /// PUSHLOC and PRIORITY, which is 77777 in a free set, 512 times the priority plus the area's address in that of
-    /// an awake job, and the complement of that in a sleeper's. Source: the listings' EXECUTIVE section; numbers, use
-    /// words and 77777 in NEWJOB: profile.
+    /// an awake job, and the complement of that in a sleeper's. MODE and PUSHLOC of a job are 00000; of a free set's
+    /// other words nothing is said. A use word is its area's address where nobody owns the area, else 00000. NEWJOB is
+    /// 77777 where no job is awake, 12 times the best job's set where that job is strictly more urgent than the one in
+    /// set 0, else 00000. Source: the listings' EXECUTIVE section; numbers, area addresses, use words, 00000 in MODE and
+    /// PUSHLOC, and 77777 in NEWJOB: profile.
     pub fn encode(&self, e: &mut Erasable)
         ensures { IsEncoded self.now e.old e.new }
     {

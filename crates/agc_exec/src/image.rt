@@ -11,17 +11,6 @@ use agc_word::{Erasable, Word};
 /// How many words a core set has.
 const SET_WORDS: usize = 12;
 
-/// A word of these bits.
-fn word(bits: u16) -> Word
-    requires { bits < 32768 }
-    ensures { result ≡ bits }
-{
-    match Word::new(bits) {
-        Some(word) => word,
-        None => unreachable!(),
-    }
-}
-
 /// The address of an area, 0 for none.
 fn address_at(area: u8) -> u16
     requires { area ≤ 5 }
@@ -37,7 +26,7 @@ impl Record {
         ensures priority { (1 ≤ self.now.priority) × (self.now.priority ≤ 31) }
         ensures area { self.now.area ≤ 5 }
     {
-        let urgency = word(512 * self.priority.get() as u16 + address_at(self.area));
+        let urgency = Word::of_bits(512 * self.priority.get() as u16 + address_at(self.area));
         if self.asleep { urgency.neg() } else { urgency }
     }
 
@@ -47,10 +36,10 @@ impl Record {
         ensures lawful { IsLawfulBlock result }
         ensures tidy { IsTidyBlock result }
     {
-        let number = word(self.number.get() as u16);
+        let number = Word::of_bits(self.number.get() as u16);
         let [first, second, third, fourth, fifth, sixth] = self.work;
         let mode = Word::zero();
-        let loc = word(self.at.get());
+        let loc = Word::of_bits(self.at.get());
         let pushloc = Word::zero();
         [
             number,
@@ -69,7 +58,7 @@ impl Record {
     }
 }
 
-/// The twelve words of a set: a job's, or 00000 but for PRIORITY, which is minus zero.
+/// The twelve words of a set: a job's, or a free set's, of which PRIORITY alone is said, minus zero.
 fn words_of(set: Option<Record>) -> [Word; 12]
     ensures held { held_of result ≡ set }
     ensures lawful { IsLawfulBlock result }
@@ -80,7 +69,7 @@ fn words_of(set: Option<Record>) -> [Word; 12]
         Some(job) => job.words(),
         None => {
             let mut words = [Word::zero(); 12];
-            words[11] = word(32767);
+            words[11] = Word::of_bits(32767);
             words
         }
     }
@@ -123,7 +112,7 @@ fn use_word(sets: &[Option<Record>], area: u8) -> Word
     if has_area(sets, area) {
         Word::zero()
     } else {
-        word(address_at(area))
+        Word::of_bits(address_at(area))
     }
 }
 
@@ -147,7 +136,7 @@ fn newjob_with(k: usize, best: &Record, front: &Record) -> Word
     ensures { result ≡ (if nat_lt front.now.priority best.now.priority then 12 * k else 0) }
 {
     if best.is_more_urgent(front) {
-        word(12 * k as u16)
+        Word::of_bits(12 * k as u16)
     } else {
         Word::zero()
     }
@@ -161,7 +150,7 @@ fn newjob(sets: &[Option<Record>]) -> Word
     ensures { result ≡ newjob_of sets.now }
 {
     match best_set(sets) {
-        None => word(32767),
+        None => Word::of_bits(32767),
         Some(first) => match current(sets) {
             None => unreachable!(),
             Some(front) => newjob_with(first.0, first.1, &front),

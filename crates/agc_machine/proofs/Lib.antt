@@ -2,3 +2,4 @@ pub mod Fires
 pub mod Stepping
 pub mod Serving
 pub mod Frames
+pub mod Leading

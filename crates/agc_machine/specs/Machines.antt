@@ -1,5 +1,6 @@
 -- The machine's step over base, log and totals.
 use Rattle.std.specs.Prelude.{◌≡◌, ℕ, ◌+◌, ◌≤◌, ◌<◌, ◌^◌, ◌==◌, ◌&&◌, Bool, true, false, not, if◌then◌else◌, List, [], ◌∷◌, ◌++◌, length, replicate, Option, Some, None, Result, Ok, Err}
+use Rattle.std.specs.List.{fold}
 use Rattle.agc_plan.specs.declared.request.Request.{Request}
 use Rattle.agc_plan.specs.declared.request.Request.TheVariants.{Restart, Fresh}
 use Rattle.agc_plan.specs.declared.reply.Reply.{Reply}
@@ -89,6 +90,14 @@ after_unless None m asked = served (stepped m asked) asked m
 -- the machine after a request: a refused one changes nothing
 abbrev pub after : Machined → Request → Machined
 after m asked = after_unless (refusal_of m asked) m asked
+
+-- the machine after all of these requests, in order
+unfoldable pub after_all : Machined → List Request → Machined
+after_all m requests = fold after m requests
+
+-- some requests lead from the first machine to the last
+abbrev pub LeadsTo : Machined → Machined → Type 0
+LeadsTo first last = (requests : List Request) × (last ≡ after_all first requests)
 
 -- an era has just begun, and nothing was served
 abbrev pub begun_with : Planned → ℕ → ℕ → Base → Machined

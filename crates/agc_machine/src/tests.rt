@@ -1,5 +1,5 @@
 // Worked examples, each through `apply`, and the words that they leave.
-use crate::{Machine, Refusal, Totals};
+use crate::{Machine, NoMemory, Refusal, Totals};
 use agc_plan::{
     Action, Address, Alarm, Delay, Entry, Group, JobStart, Limit, Phase, PhaseEntry, Plan,
     Priority, Reply, Request, Task,
@@ -74,6 +74,44 @@ fn planned(alloc: Global) -> Result<Plan, Fail> {
     let start = Some(JobStart::Findvac(priority, entry));
     let entry = PhaseEntry::new(group, phase, start, listed).ok_or("entry")?;
     Ok(Plan::new(alloc, &[], &[entry], Action::Nothing, Action::Nothing)?)
+}
+
+#[test]
+fn the_greatest_log_has_room(rt: HostRuntime) -> Result<(), Fail> {
+    let plan = planned(rt.alloc())?;
+    let mut machine = Machine::new(
+        rt.alloc(),
+        plan,
+        limit(1_000_000)?,
+        18_446_744_073_709_551_615,
+    )?;
+    assert!(rt; matches!(reply(&mut machine, Request::Tick)?, Reply::Ticked(_, None)));
+    assert_eq!(rt; machine.log_len(), 1);
+    let plan = planned(rt.alloc())?;
+    let words = [Word::zero(); 12];
+    let (machine, recovered) = Machine::power_up(
+        rt.alloc(),
+        plan,
+        limit(1_000_000)?,
+        18_446_744_073_709_551_615,
+        &words,
+    )?;
+    assert!(rt; !recovered);
+    assert_eq!(rt; bits(&machine, 129), 0o1107);
+    Ok(())
+}
+
+#[test]
+fn texts_of_refusals(rt: HostRuntime) -> Result<(), Fail> {
+    let texts = [
+        (Refusal::Spent, "refused spent"),
+        (Refusal::LogFull, "refused log full"),
+    ];
+    for (refusal, want) in texts {
+        assert_eq!(rt; format!(in rt.alloc(); "{refusal}")?.as_str(), want);
+    }
+    assert_eq!(rt; format!(in rt.alloc(); "{NoMemory}")?.as_str(), "no memory");
+    Ok(())
 }
 
 #[test]

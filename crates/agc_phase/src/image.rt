@@ -22,27 +22,16 @@ pub(crate) fn inactive() -> Phase
     }
 }
 
-/// The word of these bits.
-fn word(bits: u16) -> Word
-    requires { bits < 32768 }
-    ensures { result ≡ bits }
-{
-    match Word::new(bits) {
-        Some(word) => word,
-        None => unreachable!(),
-    }
-}
-
 /// The word of a code: its digits in octal, or 00000 for none.
 pub(crate) fn code_word(code: Option<Code>) -> Word
     ensures { result ≡ code_word code }
 {
     match code {
         None => Word::zero(),
-        Some(Code::C1107) => word(0o1107),
-        Some(Code::C1201) => word(0o1201),
-        Some(Code::C1202) => word(0o1202),
-        Some(Code::C1203) => word(0o1203),
+        Some(Code::C1107) => Word::of_bits(0o1107),
+        Some(Code::C1201) => Word::of_bits(0o1201),
+        Some(Code::C1202) => Word::of_bits(0o1202),
+        Some(Code::C1203) => Word::of_bits(0o1203),
     }
 }
 
@@ -79,7 +68,7 @@ pub(crate) fn write_pairs(phases: &Phases, e: &mut Erasable)
     ensures { PairsWritten phases.now e.old 6 e.new }
 {
     for k in 0..6usize {
-        let phase = word(u16::from(phases[k].get()));
+        let phase = Word::of_bits(u16::from(phases[k].get()));
         e.set(PHASES + 2 * k, phase.neg());
         e.set(PHASES + 2 * k + 1, phase);
     }

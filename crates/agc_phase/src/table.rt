@@ -34,7 +34,8 @@ impl Model for PhaseTable {
 }
 
 impl PhaseTable {
-    /// A fresh start: all groups inactive, and no codes. Source: the listings' FRESH START AND RESTART section.
+    /// A fresh start: all groups inactive, and no codes. Source: the listings' FRESH START AND RESTART section; codes:
+    /// profile.
     pub fn new() -> PhaseTable
         ensures { result ≡ fresh_base }
     {
@@ -42,7 +43,7 @@ impl PhaseTable {
     }
 
     /// These phases, and no codes, as power-up begins with what it recovered. Source: the listings' FRESH START AND
-    /// RESTART section.
+    /// RESTART section; codes: profile.
     pub fn with_phases(phases: Phases) -> PhaseTable
         ensures { result ≡ record { phases = phases; codes = replicate 3 None } }
     {
@@ -59,7 +60,7 @@ impl PhaseTable {
         self.phases[group.get() as usize - 1] = phase;
     }
 
-    /// The phases of groups 1 to 6.
+    /// The phases of groups 1 to 6. Source: the listings' PHASE TABLE MAINTENANCE section.
     pub fn phases(&self) -> Phases
         ensures phases { result ≡ self.now.phases }
         ensures six { length self.now.phases ≡ 6 }
@@ -93,7 +94,8 @@ impl PhaseTable {
         ]
     }
 
-    /// Makes all groups inactive and drops the codes. Source: the listings' FRESH START AND RESTART section.
+    /// Makes all groups inactive and drops the codes. Source: the listings' FRESH START AND RESTART section; codes:
+    /// profile.
     pub fn clear(&mut self)
         ensures { self.new ≡ fresh_base }
     {

@@ -151,7 +151,8 @@ pub fn nothing_is_due_between_requests()
 {}
 
 /// Where nothing was due, the tasks that fire in a tick are all due at the same time, which is the present, and fire in
-/// order of arrival: all of them, or up to an alarm. To take the first of the tasks in order is the same.
+/// order of arrival: all of them, or up to an alarm. The same fire where those due at that time are read off the tasks in
+/// order.
 pub fn due_tasks_fire_in_order_of_arrival()
     ensures arrival { (rows : List (Task × Action)) (work : Work) → AreActionsDelayed rows → IsNothingDue work.agenda → FiresThese (due_at (work.agenda.time + 1) work.agenda.tasks) (tick_fires rows work) }
     ensures in_order { (rows : List (Task × Action)) (work : Work) (ordered : List Pending) → AreActionsDelayed rows → IsNothingDue work.agenda → InOrder work.agenda.tasks ordered → FiresThese (due_at (work.agenda.time + 1) ordered) (tick_fires rows work) }

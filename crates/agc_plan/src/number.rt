@@ -42,7 +42,8 @@ impl Priority {
     }
 }
 
-/// An address, 1 to 16383: where a job or a task begins, or at which a sleeper is to be awakened. Source: profile.
+/// An address, 1 to 16383: where a job or a task begins, or at which a sleeper is to be awakened. Source: the
+/// listings' EXECUTIVE and WAITLIST sections.
 #[derive(Clone, Copy, PartialEq, Eq, Debug)]
 pub struct Address {
     value: u16,

@@ -1,7 +1,8 @@
 use crate::fired::Fired;
 use crate::number::JobNo;
 
-/// An alarm, by which a request is answered whose table is full. Source: the listings' EXECUTIVE and WAITLIST sections.
+/// An alarm: which table a request, or the action of a task in a tick, found full. Source: the listings' EXECUTIVE and
+/// WAITLIST sections.
 #[derive(Clone, Copy, PartialEq, Eq, Debug)]
 pub enum Alarm {
     /// No VAC area is free: all five are owned.
@@ -16,7 +17,7 @@ pub enum Alarm {
 /// section.
 #[derive(Clone, Copy, PartialEq, Eq, Debug)]
 pub enum Code {
-    /// The phase words that were found at power-up don't agree.
+    /// The phase words that were found at power-up don't agree, or a phase is above 127.
     C1107,
     /// No VAC area was free.
     C1201,
@@ -51,6 +52,6 @@ pub enum Reply {
     Phased,
     /// An era began, by restart or fresh start.
     Restarted,
-    /// The table was full, and an era began.
+    /// The table was full. In a machine's answer: and an era began.
     Alarmed(Alarm),
 }

@@ -58,9 +58,9 @@ pub enum Request {
     EndOfJob,
     /// Put the running job to sleep, to be awakened at this address.
     Sleep(Address),
-    /// Awaken the least-numbered sleeper of this address.
+    /// Awaken the least-numbered sleeper of this address. Which of several: profile.
     Rouse(Address),
-    /// Set the running job's priority.
+    /// Set the running job's priority. That a more urgent job then runs at once: profile.
     Prio(Priority),
     /// Change to a strictly more urgent job, if one is awake.
     Change,
@@ -68,7 +68,8 @@ pub enum Request {
     Store(Place, Word),
     /// List a task, due this many centiseconds from now. Source: the listings' WAITLIST section.
     List(Delay, Task),
-    /// A centisecond passes: TIME3 counts up. Source: the listings' WAITLIST section.
+    /// A centisecond passes: TIME3 counts up, and while a task is due it fires and the plan's action for it is done, up to
+    /// an alarm. Source: the listings' WAITLIST section; actions: profile.
     Tick,
     /// Set the phase of a restart group, 0 for inactive. Source: the listings' PHASE TABLE MAINTENANCE section.
     SetPhase(Group, Phase),
@@ -135,7 +136,8 @@ impl PhaseEntry {
 
     /// The phase, which isn't 0.
     pub fn phase(&self) -> Phase
-        ensures { result ≡ self.now.phase }
+        ensures value { result ≡ self.now.phase }
+        ensures active { 0 < result }
     {
         self.phase
     }

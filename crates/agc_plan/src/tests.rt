@@ -210,6 +210,20 @@ fn five_groups_may_want_an_area(rt: HostRuntime) -> Result<(), Fail> {
     Ok(())
 }
 
+#[test]
+fn texts_of_plan_faults(rt: HostRuntime) -> Result<(), Fail> {
+    let texts = [
+        (PlanFault::NoMemory, "no memory"),
+        (PlanFault::TaskTwice, "task twice"),
+        (PlanFault::PhaseTwice, "phase twice"),
+        (PlanFault::TooManyAreas, "too many areas"),
+    ];
+    for (fault, want) in texts {
+        assert_eq!(rt; format!(in rt.alloc(); "{fault}")?.as_str(), want);
+    }
+    Ok(())
+}
+
 /// An action that establishes a job with a VAC area.
 fn establishes() -> Result<Action, Fail> {
     let priority = Priority::new(8).ok_or("priority")?;
@@ -239,6 +253,29 @@ fn what_a_plan_says(rt: HostRuntime) -> Result<(), Fail> {
     assert_eq!(rt; plan.key(), Action::Rouse(address(1025)?));
     assert_eq!(rt; plan.radar(), lists()?);
     plan.begins_quietly();
+    Ok(())
+}
+
+#[test]
+fn a_great_plan_is_kept_whole(rt: HostRuntime) -> Result<(), Fail> {
+    let mut rows = Vec::new(rt.alloc());
+    for at in 1..=1000u16 {
+        rows.push((task(at, 5)?, Action::Rouse(address(at)?)))?;
+    }
+    let mut entries = Vec::new(rt.alloc());
+    for group in 1..=6u8 {
+        for phase in 1..=127u8 {
+            entries.push(begins(group, phase, Some(plain_job()?))?)?;
+        }
+    }
+    let (rows, entries) = (rows.as_slice(), entries.as_slice());
+    let plan = Plan::new(rt.alloc(), rows, entries, Action::Nothing, Action::Nothing)?;
+    for row in rows {
+        assert_eq!(rt; plan.action(&row.0), row.1);
+    }
+    for entry in entries {
+        assert!(rt; plan.entry(entry.group(), entry.phase()) == Some(entry));
+    }
     Ok(())
 }
 

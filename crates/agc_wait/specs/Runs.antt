@@ -27,7 +27,7 @@ abbrev pub run_listed : ℕ → Task → Run → Run
 run_listed delay task run =
     record run { work = record run.work { agenda = listed delay task run.work.agenda }; accepted = run.accepted ++ record { task = task; due = run.work.agenda.time + delay } ∷ [] }
 
--- one more move, where no task has an action; a tenth task is not listed
+-- one more move, where no task has an action, and a tenth listing is passed over, where the machine would lose all tasks
 abbrev pub moved : Run → Move → Run
 moved run (Listing delay task) = if has_room run.work.agenda then run_listed delay task run else run
 moved run Ticking =

@@ -25,26 +25,15 @@ const PAIRS: usize = 9;
 /// The word 57777, for no gap.
 const NO_GAP: u16 = 24575;
 
-/// The word of these bits.
-fn word(bits: u16) -> Word
-    requires { bits < 32768 }
-    ensures { result ≡ bits }
-{
-    match Word::new(bits) {
-        Some(word) => word,
-        None => unreachable!(),
-    }
-}
-
 /// The word of LST1 for a gap.
 fn gap_word(gap: u16) -> Word
     requires { gap ≤ 16383 }
     ensures { result ≡ gap_word gap }
 {
     if gap < 2 {
-        word(1 - gap)
+        Word::of_bits(1 - gap)
     } else {
-        word(32768 - gap)
+        Word::of_bits(32768 - gap)
     }
 }
 
@@ -56,7 +45,7 @@ fn counter_at(distance: u16) -> Word
     if distance == 0 {
         Word::zero()
     } else {
-        word(16384 - distance)
+        Word::of_bits(16384 - distance)
     }
 }
 
@@ -66,7 +55,7 @@ fn address_word(at: Address) -> Word
     ensures low { 1 ≤ at }
     ensures high { at ≤ 16383 }
 {
-    word(at.get())
+    Word::of_bits(at.get())
 }
 
 /// A bank word, which is below 32768.
@@ -74,7 +63,7 @@ fn bank_word(bank: Word) -> Word
     ensures value { result ≡ bank }
     ensures word { bank < 32768 }
 {
-    word(bank.bits())
+    Word::of_bits(bank.bits())
 }
 
 /// The words of a place: its task, or zeros.
@@ -101,7 +90,7 @@ fn lst1_word(records: &[Record], k: usize) -> Word
         let next = records[k + 1];
         gap_word(next.distance - here.distance)
     } else {
-        word(NO_GAP)
+        Word::of_bits(NO_GAP)
     }
 }
 

@@ -194,6 +194,10 @@ fn a_tenth_task_is_refused(rt: HostRuntime) -> Result<(), Fail> {
     let nine = table(0o37773, &[1, 1, 1, 1, 1, 1, 1, 1], &[0o2000; 9]);
     assert_eq!(rt; words_of(&waits), nine);
     assert_eq!(rt; list(&mut waits, 1, 0o2010)?, Err(Full));
+    assert_eq!(rt;
+        format!(in rt.alloc(); "{Full}")?.as_str(),
+        "nine tasks wait already"
+    );
     assert_eq!(rt; words_of(&waits), nine);
     waits.clear();
     assert_eq!(rt; words_of(&waits), table(0, &[], &[]));

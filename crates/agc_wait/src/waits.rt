@@ -18,7 +18,8 @@ use thiserror::Error;
 pub struct Full;
 
 /// The Waitlist over records: at most nine tasks, in the order in which they are due, each with its distance from now
-/// in centiseconds, 0 to 16250. Contracts see it as a list of these. Source: the listings' WAITLIST section.
+/// in centiseconds, 0 to 16250. Contracts see it as a list of these. Source: the listings' WAITLIST section; the greatest
+/// distance is profile.
 #[derive(Drop)]
 pub struct Waits {
     records: ArrayVec<Record, 9>,
@@ -57,8 +58,12 @@ impl Waits {
         self.records.clear();
     }
 
-    /// Lists a task, due this many centiseconds from now: after all that are due no later. `Full` with nine tasks,
-    /// and then nothing changes. Source: the listings' WAITLIST section.
+    /// Lists a task, due this many centiseconds from now: after all that are due no later. Source: the listings' WAITLIST
+    /// section.
+    ///
+    /// # Errors
+    ///
+    /// `Full` exactly where nine tasks wait; nothing then changes.
     pub fn list(&mut self, delay: Delay, task: Task) -> Result<(), Full>
         ensures stands { (agenda : Agenda) × StandsFor self.old agenda }
         ensures full { (agenda : Agenda) → StandsFor self.old agenda → IsErr result ↔ (length agenda.tasks ≡ 9) }

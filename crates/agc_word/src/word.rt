@@ -35,6 +35,14 @@ impl Word {
         }
     }
 
+    /// The word of these bits, which are below 32768: for a number that is known to be. Source: the listings' words.
+    pub fn of_bits(bits: u16) -> Word
+        requires { bits < 32768 }
+        ensures { result ≡ bits }
+    {
+        Word { bits }
+    }
+
     /// Plus zero, 00000. Source: the listings' words.
     pub fn zero() -> Word
         ensures { result ≡ 0 }

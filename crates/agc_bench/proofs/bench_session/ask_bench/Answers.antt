@@ -3,7 +3,8 @@ use Rattle.std.specs.Prelude.{OnOk}
 use Rattle.std.specs.List.{flat_map}
 use Rattle.std.proofs.lemmas.Result.{on_ok_weaker}
 use Rattle.agc_plan.specs.declared.request.Request.{Request}
-use Rattle.agc_bench.specs.Session.{after_all, answer_lines}
+use Rattle.agc_machine.specs.Machines.{after_all}
+use Rattle.agc_bench.specs.Session.{answer_lines}
 use Rattle.agc_bench.specs.Writing.{Writes}
 use Rattle.agc_bench.specs.Runs.{device_requests, bench_requests}
 use Rattle.agc_bench.proofs.Sessions.{after_both, writes_both, writes_front, bench_is}

@@ -4,7 +4,8 @@ use Rattle.std.specs.Io.KnownBytes.{Appends}
 use Rattle.std.proofs.lemmas.List.{get_or_default}
 use Rattle.agc_bench.specs.declared.device.Line.{Line}
 use Rattle.agc_bench.specs.declared.device.Line.TheVariants.{Timer}
-use Rattle.agc_bench.specs.Session.{after_all, answer_lines}
+use Rattle.agc_machine.specs.Machines.{after_all}
+use Rattle.agc_bench.specs.Session.{answer_lines}
 use Rattle.agc_bench.specs.Writing.{Writes}
 use Rattle.agc_bench.specs.Runs.{device_requests}
 use Rattle.agc_bench.proofs.Steps.{up_to_more, fails_next}

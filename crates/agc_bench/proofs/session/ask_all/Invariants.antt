@@ -1,6 +1,7 @@
 use Rattle.std.proofs.Common.{◌≡◌, drop}
 use Rattle.agc_bench.specs.Writing.{AppendsUpTo}
-use Rattle.agc_bench.specs.Session.{after_all, answer_lines}
+use Rattle.agc_machine.specs.Machines.{after_all}
+use Rattle.agc_bench.specs.Session.{answer_lines}
 use Rattle.agc_bench.proofs.session.ask_all.Given as goal
 
 abbrev pub invariant-loop-request : goal.invariant-loop-request

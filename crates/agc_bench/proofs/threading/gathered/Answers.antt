@@ -1,24 +1,54 @@
-use Rattle.std.proofs.Common.{rules, arith, ◌≡◌, ◌-◌, ◌∷◌, List, ap, length, replicate, subst, ◌∙◌}
+use Rattle.std.proofs.Common.{rules, arith, ◌≡◌, ◌-◌, ◌∷◌, List, ap, length, replicate, refl, sym, subst, vec_len, ◌∙◌}
 use Rattle.agc_plan.specs.declared.request.Request.{Request}
 use Rattle.agc_machine.specs.declared.totals.Totals.{Totals}
-use Rattle.agc_machine.specs.Told.{nothing}
+use Rattle.agc_machine.specs.Machines.{Machined, LeadsTo}
+use Rattle.agc_machine.specs.Told.{add, nothing}
 use Rattle.agc_desk.specs.Runs.{Asks, Reached}
-use Rattle.agc_bench.specs.Threads.{EachAsks, askers_of}
+use Rattle.agc_bench.specs.Benches.{Benched}
+use Rattle.agc_bench.specs.Runs.{bench_machine}
+use Rattle.agc_bench.specs.Threads.{EachAsks, IsGathered, askers_of}
 use Rattle.agc_bench.proofs.Askers.{share_for_each}
 use Rattle.agc_bench.proofs.threading.gathered.Goals as goal
 
-pub returns-in-Ok-clause-gathered : goal.returns-in-Ok-clause-gathered
-returns-in-Ok-clause-gathered g c =
+-- nothing more was told
+with_nothing : (t : Totals) → add t nothing ≡ t
+with_nothing t = search rules
+
+-- nothing was told before the run
+none_before : (bench : Benched) (first : Machined) (told total : Totals) → first ≡ bench_machine bench → add told first.totals ≡ total → told ≡ total
+unfolding bench_machine
+none_before bench first told total is grown = sym (with_nothing told) ∙ (sym (ap (λ m. add told m.totals) is) ∙ grown)
+
+pub returns-in-Ok-clause-totals : goal.returns-in-Ok-clause-totals
+returns-in-Ok-clause-totals g c =
+    none_before c.args.bench.now g.N.Names.first c.in-Ok.all.1 c.in-Ok.all.0.totals (sym c.requires.first ∙ c.requires.bench) c.in-Ok.ensures.grown
+
+pub returns-in-Ok-clause-run : goal.returns-in-Ok-clause-run
+returns-in-Ok-clause-run g c =
     let bench = c.args.bench.now in
     let told = c.ask_script.result in
+    let is : g.N.Names.first ≡ bench_machine bench = sym c.requires.first ∙ c.requires.bench in
     let fresh : c.in_ok-first.first ≡ nothing = search rules in
     let starts : c.insert.new.self.items ≡ told ∷ replicate (length (askers_of bench) - 1) nothing = search rules in
     let as_many : length c.insert.new.self.items ≡ length (askers_of bench) = ap length starts ∙ share_for_each bench told nothing in
-    record {
+    let gathered : IsGathered (λ n call. g.G.Gate.may_stop c.args.gate.now n call) bench c.in-Ok.all.1 = record {
       first = told;
       shares = c.in_ok-back.back.items;
-      script = subst (λ (rs : List Request). Reached Asks nothing rs told) c.script.ensures (subst (λ (s : Totals). Reached Asks s c.script.result.now told) fresh c.ask_script.ensures);
+      script = subst (λ m. Reached (Asks m) nothing bench.script told) is (subst (λ (rs : List Request). Reached (Asks g.N.Names.first) nothing rs told) c.script.ensures (subst (λ (s : Totals). Reached (Asks g.N.Names.first) s c.script.result.now told) fresh c.ask_script.ensures));
       for_each = omega (arith, c.in_ok-back.ensures.len, as_many);
-      asked = subst (λ ss. EachAsks (λ n call. g.G.Gate.may_stop c.args.gate.now n call) bench ss c.in_ok-back.back.items) starts c.in_ok-back.ensures.each;
+      asked = subst (λ m. EachAsks m (λ n call. g.G.Gate.may_stop c.args.gate.now n call) bench (told ∷ replicate (length (askers_of bench) - 1) nothing) c.in_ok-back.back.items) is (subst (λ ss. EachAsks g.N.Names.first (λ n call. g.G.Gate.may_stop c.args.gate.now n call) bench ss c.in_ok-back.back.items) starts c.in_ok-back.ensures.each);
       together = c.in-Ok.ensures.told;
+    } in
+    record {
+      leads = subst (λ m. LeadsTo m c.in-Ok.all.0) is c.in-Ok.ensures.leads;
+      gathered = subst (λ t. IsGathered (λ n call. g.G.Gate.may_stop c.args.gate.now n call) bench t) (returns-in-Ok-clause-totals g c) gathered;
     }
+
+pub returns-in-Err-clause-early : goal.returns-in-Err-clause-early
+returns-in-Err-clause-early g c =
+    let bench = c.args.bench.now in
+    let starts : c.insert.new.self.items ≡ c.ask_script.result ∷ replicate (length (askers_of bench) - 1) nothing = search rules in
+    let as_many : length c.insert.new.self.items ≡ length (askers_of bench) = ap length starts ∙ share_for_each bench c.ask_script.result nothing in
+    let all : vec_len c.in_ok-back.back ≡ c.into_inner-desk.result.desk.given = omega (arith, c.in_ok-back.ensures.len, as_many, c.requires.shares, c.into_inner-desk.result.given) in
+    let no = c.in-Err.ensures.ok.1 all in
+    cc

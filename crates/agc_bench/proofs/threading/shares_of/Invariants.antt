@@ -5,5 +5,5 @@ use Rattle.agc_bench.proofs.threading.shares_of.Given as goal
 abbrev pub invariant-loop-given : goal.invariant-loop-given
 invariant-loop-given g l = record {
   told : l.shares.items ≡ replicate l._given nothing;
-  given : l.desk.given ≡ l.initial.desk.given + l._given;
+  given : l.desk ≡ record l.initial.desk { given = l.initial.desk.given + l._given };
 }

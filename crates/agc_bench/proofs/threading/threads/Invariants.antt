@@ -1,5 +1,10 @@
+use Rattle.std.proofs.Common.{length}
 use Rattle.agc_desk.specs.Opening.{names_of}
+use Rattle.agc_bench.specs.Threads.{askers_of}
 use Rattle.agc_bench.proofs.threading.threads.Given as goal
 
-abbrev pub ghosts-gathered : goal.ghosts-gathered
-ghosts-gathered g a = record { names = names_of a.blanks }
+abbrev pub ghosts-gathered-N-Names : goal.ghosts-gathered-N-Names
+ghosts-gathered-N-Names g a = record { names = names_of a.blanks; first = a.machine }
+
+abbrev pub ghosts-gathered-N-Sharing : goal.ghosts-gathered-N-Sharing
+ghosts-gathered-N-Sharing g a = record { shares = length (askers_of a.bench.now) }

@@ -1,5 +1,8 @@
 use Rattle.agc_desk.specs.Opening.{names_of}
 use Rattle.agc_desk.proofs.tests.worked.Given as goal
 
-abbrev pub ghosts-worked_through : goal.ghosts-worked_through
-ghosts-worked_through g a = record { names = names_of a.blanks }
+abbrev pub ghosts-worked_through-N-Names : goal.ghosts-worked_through-N-Names
+ghosts-worked_through-N-Names g a = record { names = names_of a.blanks; first = a.machine }
+
+abbrev pub ghosts-worked_through-N-Sharing : goal.ghosts-worked_through-N-Sharing
+ghosts-worked_through-N-Sharing g a = record { shares = 1 }

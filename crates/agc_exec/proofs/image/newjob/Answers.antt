@@ -4,7 +4,7 @@ use Rattle.agc_exec.proofs.Writing.{newjob_of-none, newjob_of-best}
 use Rattle.agc_exec.proofs.image.newjob.Goals as goal
 
 pub returns-in-None : goal.returns-in-None
-returns-in-None c = c.word.ensures ∙ sym (newjob_of-none c.args.sets.now c.requires.standing.lawful c.in-None.ensures)
+returns-in-None c = c.of_bits.ensures ∙ sym (newjob_of-none c.args.sets.now c.requires.standing.lawful c.in-None.ensures)
 
 pub newjob_with-requires : goal.newjob_with-requires
 newjob_with-requires c =
