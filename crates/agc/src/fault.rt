@@ -1,4 +1,7 @@
 //! Why the program ended.
+ghost use Rattle.std.specs.Prelude.{◌≡◌};
+ghost use Rattle.agc.specs.Statuses.{status_of};
+
 use agc_bench::{BenchFault, ReadFault, RunFault, ScriptFault};
 use std::alloc::AllocError;
 use thiserror::Error;
@@ -26,7 +29,9 @@ pub enum Fault {
 impl Fault {
     /// The exit status: 1 for input that is refused, 2 for the words, 3 for want of memory or a thread, 4 for a read or
     /// write that failed, 5 where shares were lost.
-    pub fn status(self) -> u8 {
+    pub fn status(self) -> u8
+        ensures { result ≡ status_of self }
+    {
         match self {
             Fault::Words => 2,
             Fault::NoMemory => 3,

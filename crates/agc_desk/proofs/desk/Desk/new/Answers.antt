@@ -1,4 +1,4 @@
-use Rattle.std.proofs.Common.{rules, arith, ◌≡◌, ap, subst, ◌∙◌}
+use Rattle.std.proofs.Common.{rules, ap, subst, ◌∙◌}
 use Rattle.agc_machine.specs.Machines.{LeadsTo}
 use Rattle.agc_machine.proofs.Leading.{leads_nowhere}
 use Rattle.agc_desk.proofs.desk.Desk.new.Goals as goal

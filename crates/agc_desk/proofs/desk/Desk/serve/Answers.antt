@@ -1,5 +1,5 @@
-use Rattle.std.proofs.Common.{rules, arith, ◌≡◌, ap, sym, subst, ◌∙◌}
-use Rattle.agc_machine.specs.Machines.{LeadsTo, after}
+use Rattle.std.proofs.Common.{rules, sym, subst}
+use Rattle.agc_machine.specs.Machines.{LeadsTo}
 use Rattle.agc_machine.proofs.Leading.{leads_on}
 use Rattle.agc_desk.proofs.desk.Desk.serve.Goals as goal
 

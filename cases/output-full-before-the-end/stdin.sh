@@ -1,0 +1,1 @@
+yes end | head -c 1000000
