@@ -1,4 +1,4 @@
-use Rattle.std.proofs.Common.{rules, arith, ◌≡◌, ◌-◌, ◌∷◌, List, ap, length, replicate, refl, sym, subst, vec_len, ◌∙◌}
+use Rattle.std.proofs.Common.{rules, arith, ◌≡◌, ◌-◌, ◌∷◌, List, ap, length, replicate, sym, subst, vec_len, ◌∙◌}
 use Rattle.agc_plan.specs.declared.request.Request.{Request}
 use Rattle.agc_machine.specs.declared.totals.Totals.{Totals}
 use Rattle.agc_machine.specs.Machines.{Machined, LeadsTo}
