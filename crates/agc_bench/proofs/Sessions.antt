@@ -9,12 +9,11 @@ use Rattle.agc_machine.proofs.Leading.{after_append}
 use Rattle.std.proofs.lemmas.List.{nil_from_length}
 use Rattle.agc_plan.specs.declared.request.Request.{Request}
 use Rattle.agc_machine.specs.Image.{IsImage}
-use Rattle.agc_machine.specs.Machines.{Machined, after}
+use Rattle.agc_machine.specs.Machines.{Machined, after, after_all}
 use Rattle.agc_bench.specs.Benches.{Benched}
 use Rattle.agc_bench.specs.Runs.{repeated, device_requests, bench_requests}
 use Rattle.agc_bench.specs.Report.{report_text}
 use Rattle.agc_bench.specs.Writing.{AppendsUpTo, AppendsFront, Writes}
-use Rattle.agc_machine.specs.Machines.{after_all}
 use Rattle.agc_bench.specs.Session.{line_for, answer_lines, IsSession, AppendsSessionFront}
 use Rattle.agc_bench.proofs.Steps.{up_to_end, appends_none, appends_both, up_to_more_front, writes_first, writes_second}
 

@@ -5,7 +5,7 @@ use Rattle.std.specs.Io.KnownBytes.{Appends}
 use Rattle.agc_plan.specs.declared.request.Request.{Request}
 use Rattle.agc_machine.specs.declared.totals.Totals.{Totals}
 use Rattle.agc_machine.specs.Image.{IsImage}
-use Rattle.agc_machine.specs.Machines.{Machined, LeadsTo}
+use Rattle.agc_machine.specs.Machines.{Machined, LeadsTo, after_all}
 use Rattle.agc_machine.specs.Told.{nothing}
 use Rattle.agc_desk.specs.Accounts.{told_to}
 use Rattle.agc_desk.specs.Runs.{Asks, Reached, Worked}
@@ -57,12 +57,13 @@ abbrev pub EachAsks : Machined → (ℕ → ℕ → Type 0) → Benched → List
 EachAsks first may_stop bench old new =
     (i : ℕ) (s t : Totals) → i < length new → AsksOwn first may_stop (asker_at bench i) (slice_index_or old i s) (slice_index_or new i t)
 
--- the totals of a run: the script was asked with the first share; then each asked what is its own, the first with that
--- share, each other with one that was told nothing; and the totals are what the shares were told together
+-- the totals of a run: the first share was told all that the bench's machine, asked for its script, tells; then each asked
+-- what is its own, the first with that share, each other with one that was told nothing; and the totals are what the
+-- shares were told together
 pub record IsGathered (may_stop : ℕ → ℕ → Type 0) (bench : Benched) (totals : Totals) : Type 0 where
   pub first : Totals
   pub shares : List Totals
-  pub script : Reached (Asks (bench_machine bench)) nothing bench.script first
+  pub script : first ≡ (after_all (bench_machine bench) bench.script).totals
   pub for_each : length shares ≡ length (askers_of bench)
   pub asked : EachAsks (bench_machine bench) may_stop bench (first ∷ replicate (length (askers_of bench) - 1) nothing) shares
   pub together : totals ≡ told_to shares

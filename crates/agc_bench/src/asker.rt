@@ -1,4 +1,5 @@
 ghost use Rattle.std.specs.Prelude.{◌≡◌, ◌≤◌, length, replicate};
+ghost use Rattle.agc_machine.specs.Machines.{after_all};
 ghost use Rattle.agc_desk.specs.Runs.{Asks, Reached};
 ghost use Rattle.agc_bench.specs.Runs.{device_requests};
 ghost use Rattle.agc_bench.specs.Threads.{AsksOwn, askers_of, asker_at};
@@ -6,7 +7,7 @@ ghost use Rattle.agc_bench.specs.Threads.{AsksOwn, askers_of, asker_at};
 use crate::bench::Bench;
 use crate::bench_session::pulse_request;
 use crate::device::Line;
-use agc_desk::{Gate, OpenGate, Share, Shared, Sharing, ask, work};
+use agc_desk::{Desk, Gate, Names, Share, Shared, Sharing, ask, work};
 use agc_plan::Request;
 use std::sync::Wait;
 
@@ -43,16 +44,15 @@ fn ask_device<N: Sharing, W: Wait>(
     }
 }
 
-/// Asks a whole script.
-pub(crate) fn ask_script<N: Sharing, W: Wait>(
-    rt: &W,
-    shared: &Shared<N>,
-    share: Share<N>,
-    script: &[Request],
-) -> Share<N>
-    ensures { Reached (Asks N.first) share script.now result }
+/// Asks a whole script of a desk that is under no lock.
+pub(crate) fn ask_script<N: Names>(desk: &mut Desk<N>, share: &mut Share<N>, script: &[Request])
+    ensures machine { desk.new.machine ≡ after_all desk.old.machine script.now }
+    ensures told { share.old ≡ desk.old.booked → share.new ≡ desk.new.booked }
+    ensures given { desk.new.given ≡ desk.old.given }
 {
-    work(rt, shared, share, 0, script, &OpenGate)
+    for request in script {
+        desk.serve(share, *request);
+    }
 }
 
 /// How many threads ask: one for each worker and each device of the bench, and one at least.

@@ -1,7 +1,6 @@
 ghost use Rattle.std.specs.Prelude.{◌≡◌, OnOk};
-ghost use Rattle.agc_machine.specs.Machines.{after};
+ghost use Rattle.agc_machine.specs.Machines.{after, after_all};
 ghost use Rattle.agc_bench.specs.Writing.{Writes};
-ghost use Rattle.agc_machine.specs.Machines.{after_all};
 ghost use Rattle.agc_bench.specs.Session.{line_for, answer_lines};
 
 use crate::replies::put_answer;

@@ -109,7 +109,7 @@ fn ask_at_once<N: Sharing + Send + Sync, G: Gate + Sync, W: Threads + Wait + Syn
     )
 }
 
-/// Asks the script with the first share, then all workers and devices at once, and gathers the shares.
+/// Asks the script with the first share, then, under a lock, all workers and devices at once, and gathers the shares.
 fn gathered<N: Sharing + Send + Sync, G: Gate + Sync, W: Threads + Wait + Sync>(
     rt: &W,
     alloc: Global,
@@ -127,10 +127,11 @@ fn gathered<N: Sharing + Send + Sync, G: Gate + Sync, W: Threads + Wait + Sync>(
     ensures early { IfErr result (λ fault. IsEarly fault) }
 {
     let mut desk: Desk<N> = Desk::new(machine, blanks);
-    let first = desk.share().ok_or(RunFault::Lost)?;
+    let mut first = desk.share().ok_or(RunFault::Lost)?;
     let mut shares = shares_of(alloc, &mut desk, count_askers(bench) - 1)?;
+    ask_script(&mut desk, &mut first, bench.script());
+    shares.insert(0, first)?;
     let shared: Shared<N> = Mutex::new(Held { desk });
-    shares.insert(0, ask_script(rt, &shared, first, bench.script()))?;
     let back = ask_at_once(rt, alloc, &shared, shares, bench, gate)?;
     let Held { desk } = shared.into_inner();
     match gather(desk, back) {
@@ -139,7 +140,7 @@ fn gathered<N: Sharing + Send + Sync, G: Gate + Sync, W: Threads + Wait + Sync>(
     }
 }
 
-/// Runs a bench with threads: its machine, under a lock, is asked for the requests of the script, and then by all workers
+/// Runs a bench with threads: its machine is asked for the requests of the script, and then, under a lock, by all workers
 /// and devices at once, each in a thread of its own. A worker passes the gate before and after each call, under its number
 /// in the order of the bench from 0; a device passes no gate. When all have ended, their shares are gathered, and the report
 /// is written: of the machine, whose totals are what all were told together. The writer is not flushed. It may wait for the

@@ -1,5 +1,4 @@
-ghost use Rattle.std.specs.Prelude.{◌≡◌};
-ghost use Rattle.std.specs.Prelude.{ℕ};
+ghost use Rattle.std.specs.Prelude.{◌≡◌, ℕ};
 ghost use Rattle.agc_machine.specs.Machines.{Machined};
 ghost use Rattle.agc_desk.specs.Naming.{FiveNames, no_names, no_machine};
 

@@ -1,14 +1,16 @@
-use Rattle.std.proofs.Common.{rules, arith, ◌≡◌, ◌-◌, ◌∷◌, List, ap, length, replicate, sym, subst, vec_len, ◌∙◌}
-use Rattle.agc_plan.specs.declared.request.Request.{Request}
+use Rattle.std.proofs.Common.{rules, arith, true, false, ◌≡◌, ◌-◌, ◌∷◌, ap, length, replicate, sym, subst, vec_len, ◌∙◌}
 use Rattle.agc_machine.specs.declared.totals.Totals.{Totals}
-use Rattle.agc_machine.specs.Machines.{Machined, LeadsTo}
+use Rattle.agc_machine.specs.Machines.{Machined, LeadsTo, after_all}
 use Rattle.agc_machine.specs.Told.{add, nothing}
-use Rattle.agc_desk.specs.Runs.{Asks, Reached}
 use Rattle.agc_bench.specs.Benches.{Benched}
 use Rattle.agc_bench.specs.Runs.{bench_machine}
 use Rattle.agc_bench.specs.Threads.{EachAsks, IsGathered, askers_of}
 use Rattle.agc_bench.proofs.Askers.{share_for_each}
 use Rattle.agc_bench.proofs.threading.gathered.Goals as goal
+
+-- an error is no success
+unlike : false ≡ true → ⊥
+unlike e = cc
 
 -- nothing more was told
 with_nothing : (t : Totals) → add t nothing ≡ t
@@ -26,15 +28,23 @@ returns-in-Ok-clause-totals g c =
 pub returns-in-Ok-clause-run : goal.returns-in-Ok-clause-run
 returns-in-Ok-clause-run g c =
     let bench = c.args.bench.now in
-    let told = c.ask_script.result in
+    let told = c.ask_script.new.share in
+    let desk = c.ask_script.new.desk in
     let is : g.N.Names.first ≡ bench_machine bench = sym c.requires.first ∙ c.requires.bench in
-    let fresh : c.in_ok-first.first ≡ nothing = search rules in
+    let script : told ≡ (after_all (bench_machine bench) bench.script).totals =
+        let fresh : c.in_ok-first.first ≡ c.shares_of.new.desk.booked = search rules in
+        let begins : c.shares_of.new.desk.machine ≡ c.args.machine = search rules in
+        let books : add desk.booked g.N.Names.first.totals ≡ desk.machine.totals =
+            subst (λ d. add d.booked g.N.Names.first.totals ≡ d.machine.totals) c.desk-3.view_is
+            (subst (λ s. add c.desk-3.inside.ledgers.total s ≡ c.desk-3.inside.machine.totals) c.desk-3.invariant.since_is c.desk-3.invariant.grown) in
+        c.ask_script.ensures.told fresh ∙ none_before bench g.N.Names.first desk.booked desk.machine.totals is books
+        ∙ ap (λ m. m.totals) (c.ask_script.ensures.machine ∙ ap (λ m. after_all m c.script.result.now) (begins ∙ c.requires.bench) ∙ ap (λ rs. after_all (bench_machine bench) rs) c.script.ensures) in
     let starts : c.insert.new.self.items ≡ told ∷ replicate (length (askers_of bench) - 1) nothing = search rules in
     let as_many : length c.insert.new.self.items ≡ length (askers_of bench) = ap length starts ∙ share_for_each bench told nothing in
     let gathered : IsGathered (λ n call. g.G.Gate.may_stop c.args.gate.now n call) bench c.in-Ok.all.1 = record {
       first = told;
       shares = c.in_ok-back.back.items;
-      script = subst (λ m. Reached (Asks m) nothing bench.script told) is (subst (λ (rs : List Request). Reached (Asks g.N.Names.first) nothing rs told) c.script.ensures (subst (λ (s : Totals). Reached (Asks g.N.Names.first) s c.script.result.now told) fresh c.ask_script.ensures));
+      script = script;
       for_each = omega (arith, c.in_ok-back.ensures.len, as_many);
       asked = subst (λ m. EachAsks m (λ n call. g.G.Gate.may_stop c.args.gate.now n call) bench (told ∷ replicate (length (askers_of bench) - 1) nothing) c.in_ok-back.back.items) is (subst (λ ss. EachAsks g.N.Names.first (λ n call. g.G.Gate.may_stop c.args.gate.now n call) bench ss c.in_ok-back.back.items) starts c.in_ok-back.ensures.each);
       together = c.in-Ok.ensures.told;
@@ -47,8 +57,7 @@ returns-in-Ok-clause-run g c =
 pub returns-in-Err-clause-early : goal.returns-in-Err-clause-early
 returns-in-Err-clause-early g c =
     let bench = c.args.bench.now in
-    let starts : c.insert.new.self.items ≡ c.ask_script.result ∷ replicate (length (askers_of bench) - 1) nothing = search rules in
-    let as_many : length c.insert.new.self.items ≡ length (askers_of bench) = ap length starts ∙ share_for_each bench c.ask_script.result nothing in
+    let starts : c.insert.new.self.items ≡ c.ask_script.new.share ∷ replicate (length (askers_of bench) - 1) nothing = search rules in
+    let as_many : length c.insert.new.self.items ≡ length (askers_of bench) = ap length starts ∙ share_for_each bench c.ask_script.new.share nothing in
     let all : vec_len c.in_ok-back.back ≡ c.into_inner-desk.result.desk.given = omega (arith, c.in_ok-back.ensures.len, as_many, c.requires.shares, c.into_inner-desk.result.given) in
-    let no = c.in-Err.ensures.ok.1 all in
-    cc
+    unlike (c.in-Err.ensures.ok.1 all)
