@@ -52,7 +52,7 @@ abbrev pub AsksOwn : Machined → (ℕ → ℕ → Type 0) → Asker → Totals 
 AsksOwn first may_stop (Worker worker requests) old new = (n : ℕ) × Worked (Asks first) (may_stop worker) requests n old new
 AsksOwn first may_stop (Device requests) old new = Reached (Asks first) old requests new
 
--- in each thread what is its own was asked with the share at its place
+-- in each thread what is its own was asked with the share at its place; s and t stand in where a list has no such place
 abbrev pub EachAsks : Machined → (ℕ → ℕ → Type 0) → Benched → List Totals → List Totals → Type 0
 EachAsks first may_stop bench old new =
     (i : ℕ) (s t : Totals) → i < length new → AsksOwn first may_stop (asker_at bench i) (slice_index_or old i s) (slice_index_or new i t)
@@ -61,11 +61,11 @@ EachAsks first may_stop bench old new =
 -- what is its own, the first with that share, each other with one that was told nothing; and the totals are what the
 -- shares were told together
 pub record IsGathered (may_stop : ℕ → ℕ → Type 0) (bench : Benched) (totals : Totals) : Type 0 where
-  pub first : Totals
+  pub scripted : Totals
   pub shares : List Totals
-  pub script : first ≡ (after_all (bench_machine bench) bench.script).totals
+  pub script : scripted ≡ (after_all (bench_machine bench) bench.script).totals
   pub for_each : length shares ≡ length (askers_of bench)
-  pub asked : EachAsks (bench_machine bench) may_stop bench (first ∷ replicate (length (askers_of bench) - 1) nothing) shares
+  pub asked : EachAsks (bench_machine bench) may_stop bench (scripted ∷ replicate (length (askers_of bench) - 1) nothing) shares
   pub together : totals ≡ told_to shares
 
 -- the machine that a run leaves: requests lead to it from the bench's, and its totals are those of the run
@@ -81,7 +81,7 @@ pub record IsRunReport (may_stop : ℕ → ℕ → Type 0) (bench : Benched) (te
   pub words_are : IsImage machine words
   pub text_is : text ≡ report_text words machine.totals
 
--- a fault that comes before the first write: no share is ever lost
+-- a fault that comes before the first write; Lost is never answered
 abbrev pub IsEarly : RunFault → Type 0
 IsEarly NoMemory = Unit {0}
 IsEarly NoThread = Unit {0}
@@ -89,7 +89,7 @@ IsEarly Lost = ⊥
 IsEarly Output = ⊥
 
 -- what a run of threads wrote: the report and nothing else; a front of it where a write failed; nothing where there was no
--- memory or no thread; no share is ever lost
+-- memory or no thread; Lost is never answered
 abbrev pub WritesRun : {T : Type 0} → (ℕ → ℕ → Type 0) → Benched → Option (List ℕ) → Option (List ℕ) → Result T RunFault → Type 0
 WritesRun may_stop bench old new (Ok _) = (text : List ℕ) × IsRunReport may_stop bench text × Appends old new text
 WritesRun may_stop bench old new (Err Output) = (text : List ℕ) × IsRunReport may_stop bench text × AppendsFront old new text
