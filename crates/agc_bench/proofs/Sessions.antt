@@ -18,12 +18,12 @@ use Rattle.agc_bench.specs.Session.{line_for, answer_lines, IsSession, AppendsSe
 use Rattle.agc_bench.proofs.Steps.{up_to_end, appends_none, appends_both, up_to_more_front, writes_first, writes_second}
 
 -- what is left is the next request, and the rest
-rest_is : (rs : List Request) (i : ℕ) (r : Request) → i < length rs → r ≡ get_or rs i r → drop i rs ≡ r ∷ drop (i + 1) rs
+pub rest_is : (rs : List Request) (i : ℕ) (r : Request) → i < length rs → r ≡ get_or rs i r → drop i rs ≡ r ∷ drop (i + 1) rs
 rest_is rs i r l is =
     let e : drop i rs ≡ get_or rs i r ∷ drop (i + 1) rs = rw (drop-cons rs i r l, add-one i) refl in
     subst (λ (s : Request). drop i rs ≡ s ∷ drop (i + 1) rs) (sym is) e
 
-nothing_left : (rs : List Request) (i : ℕ) → length rs ≤ i → drop i rs ≡ []
+pub nothing_left : (rs : List Request) (i : ℕ) → length rs ≤ i → drop i rs ≡ []
 nothing_left rs i l = nil_from_length _ (simp length-drop (omega arith))
 
 pub after_next : (goal m : Machined) (rs : List Request) (i : ℕ) (r : Request) → i < length rs → r ≡ get_or rs i r → goal ≡ after_all m (drop i rs) → goal ≡ after_all (after m r) (drop (i + 1) rs)

@@ -4,9 +4,10 @@ use Rattle.std.specs.List.{enumerate_from}
 use Rattle.std.specs.Io.KnownBytes.{Appends}
 use Rattle.agc_plan.specs.declared.request.Request.{Request}
 use Rattle.agc_machine.specs.declared.totals.Totals.{Totals}
+use Rattle.agc_desk.specs.declared.heard.Heard.{Heard}
 use Rattle.agc_machine.specs.Image.{IsImage}
-use Rattle.agc_machine.specs.Machines.{Machined, LeadsTo, after_all}
-use Rattle.agc_machine.specs.Told.{nothing}
+use Rattle.agc_machine.specs.Machines.{Machined, LeadsTo, after, answer_of}
+use Rattle.agc_desk.specs.Hearing.{hears, unheard}
 use Rattle.agc_desk.specs.Accounts.{told_to}
 use Rattle.agc_desk.specs.Runs.{Asks, Reached, Worked}
 use Rattle.agc_bench.specs.declared.run_fault.RunFault.{RunFault}
@@ -46,26 +47,31 @@ askers_of bench = some_or_idle (workers_of bench ++ devices_of bench)
 abbrev pub asker_at : Benched → ℕ → Asker
 asker_at bench thread = slice_index_or (askers_of bench) thread idle
 
--- the holder of a share was told old, asked machines to which requests lead from the first for what is its own, and was
--- then told new: a device asks it all, a worker as far as its gate lets it
-abbrev pub AsksOwn : Machined → (ℕ → ℕ → Type 0) → Asker → Totals → Totals → Type 0
+-- what a holder has heard who asks this machine for all of these requests, in order
+unfoldable pub hears_all : Machined → Heard → List Request → Heard
+hears_all m heard [] = heard
+hears_all m heard (asked ∷ more) = hears_all (after m asked) (hears heard (answer_of m asked)) more
+
+-- the holder of a share heard old, asked machines to which requests lead from the first for what is its own, and has then
+-- heard new: a device asks it all, a worker as far as its gate lets it
+abbrev pub AsksOwn : Machined → (ℕ → ℕ → Type 0) → Asker → Heard → Heard → Type 0
 AsksOwn first may_stop (Worker worker requests) old new = (n : ℕ) × Worked (Asks first) (may_stop worker) requests n old new
 AsksOwn first may_stop (Device requests) old new = Reached (Asks first) old requests new
 
 -- in each thread what is its own was asked with the share at its place; s and t stand in where a list has no such place
-abbrev pub EachAsks : Machined → (ℕ → ℕ → Type 0) → Benched → List Totals → List Totals → Type 0
+abbrev pub EachAsks : Machined → (ℕ → ℕ → Type 0) → Benched → List Heard → List Heard → Type 0
 EachAsks first may_stop bench old new =
-    (i : ℕ) (s t : Totals) → i < length new → AsksOwn first may_stop (asker_at bench i) (slice_index_or old i s) (slice_index_or new i t)
+    (i : ℕ) (s t : Heard) → i < length new → AsksOwn first may_stop (asker_at bench i) (slice_index_or old i s) (slice_index_or new i t)
 
--- the totals of a run: the first share was told all that the bench's machine, asked for its script, tells; then each asked
--- what is its own, the first with that share, each other with one that was told nothing; and the totals are what the
--- shares were told together
+-- the totals of a run: the holder of the first share heard what the bench's machine answers to its script; then each asked
+-- what is its own, the first with that share, each other with one that heard nothing; and the totals are what the shares
+-- were told together
 pub record IsGathered (may_stop : ℕ → ℕ → Type 0) (bench : Benched) (totals : Totals) : Type 0 where
-  pub scripted : Totals
-  pub shares : List Totals
-  pub script : scripted ≡ (after_all (bench_machine bench) bench.script).totals
+  pub scripted : Heard
+  pub shares : List Heard
+  pub script : scripted ≡ hears_all (bench_machine bench) unheard bench.script
   pub for_each : length shares ≡ length (askers_of bench)
-  pub asked : EachAsks (bench_machine bench) may_stop bench (scripted ∷ replicate (length (askers_of bench) - 1) nothing) shares
+  pub asked : EachAsks (bench_machine bench) may_stop bench (scripted ∷ replicate (length (askers_of bench) - 1) unheard) shares
   pub together : totals ≡ told_to shares
 
 -- the machine that a run leaves: requests lead to it from the bench's, and its totals are those of the run

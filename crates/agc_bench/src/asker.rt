@@ -2,7 +2,7 @@ ghost use Rattle.std.specs.Prelude.{◌≡◌, ◌≤◌, length, replicate};
 ghost use Rattle.agc_machine.specs.Machines.{after_all};
 ghost use Rattle.agc_desk.specs.Runs.{Asks, Reached};
 ghost use Rattle.agc_bench.specs.Runs.{device_requests};
-ghost use Rattle.agc_bench.specs.Threads.{AsksOwn, askers_of, asker_at};
+ghost use Rattle.agc_bench.specs.Threads.{AsksOwn, askers_of, asker_at, hears_all};
 
 use crate::bench::Bench;
 use crate::bench_session::pulse_request;
@@ -47,7 +47,7 @@ fn ask_device<N: Sharing, W: Wait>(
 /// Asks a whole script of a desk that is under no lock.
 pub(crate) fn ask_script<N: Names>(desk: &mut Desk<N>, share: &mut Share<N>, script: &[Request])
     ensures machine { desk.new.machine ≡ after_all desk.old.machine script.now }
-    ensures told { share.old ≡ desk.old.booked → share.new ≡ desk.new.booked }
+    ensures heard { share.new ≡ hears_all desk.old.machine share.old script.now }
     ensures given { desk.new.given ≡ desk.old.given }
 {
     for request in script {

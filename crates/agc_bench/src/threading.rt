@@ -1,5 +1,5 @@
 ghost use Rattle.std.specs.Prelude.{◌≡◌, ◌⊎◌, ◌+◌, ◌<◌, IfOk, IfErr, OnOk, length, replicate, vec_len};
-ghost use Rattle.agc_machine.specs.Told.{nothing};
+ghost use Rattle.agc_desk.specs.Hearing.{unheard};
 ghost use Rattle.agc_desk.specs.Opening.{names_of};
 ghost use Rattle.agc_bench.specs.Runs.{bench_machine};
 ghost use Rattle.agc_bench.specs.Threads.{AsksOwn, EachAsks, IsEarly, IsRun, WritesRun, asker_at, askers_of};
@@ -9,7 +9,7 @@ use crate::bench::Bench;
 use crate::reporting::report;
 use crate::run::machine_of;
 use crate::run_fault::RunFault;
-use agc_desk::{Blanks, Desk, Gate, Held, Names, Share, Shared, Sharing, gather};
+use agc_desk::{Blanks, Desk, Gate, Heard, Held, Names, Share, Shared, Sharing, gather};
 use agc_machine::{Machine, Totals};
 use std::alloc::Global;
 use std::io::Write;
@@ -21,7 +21,7 @@ use std::thread::{Promise, Threads};
 /// What a thread promises of its share: that it asks what is its own, through this gate.
 #[derive(Drop)]
 struct Pledge<'b, 'g, G: Gate> {
-    start: Totals,
+    start: Heard,
     bench: &'b Bench,
     thread: usize,
     gate: &'g G,
@@ -41,7 +41,7 @@ fn pledge_of<'b, 'g, N: Names, G: Gate>(
     ensures { result ≡ record { start = share.now; bench = bench.entry; thread = thread; gate = gate.entry } }
 {
     Pledge {
-        start: share.told(),
+        start: share.heard(),
         bench,
         thread,
         gate,
@@ -54,7 +54,7 @@ fn shares_of<N: Names>(
     desk: &mut Desk<N>,
     count: usize,
 ) -> Result<Vec<Share<N>>, RunFault>
-    ensures told { IfOk result (λ v. v.items ≡ replicate count nothing) }
+    ensures heard { IfOk result (λ v. v.items ≡ replicate count unheard) }
     ensures given { OnOk result (desk.new ≡ record desk.old { given = desk.old.given + count }) }
     ensures early { IfErr result (λ fault. (fault ≡ RunFault.NoMemory) ⊎ ((fault ≡ RunFault.Lost) × (64 < desk.old.given + count))) }
 {

@@ -1,6 +1,7 @@
 -- Ledgers, as the desk holds them.
 use Rattle.std.specs.Prelude.{ℕ, ◌≤◌, List, sum_by}
 use Rattle.agc_machine.specs.declared.totals.Totals.{Totals}
+use Rattle.agc_desk.specs.declared.heard.Heard.{Heard}
 
 -- a ledger: what was booked, how many of its parts were not given out, and what came back with the others
 pub record Account : Type 0 where
@@ -15,13 +16,13 @@ pub record Accounts : Type 0 where
   pub back : Totals
 
 -- what the holders of all these shares were told together
-abbrev pub told_to : List Totals → Totals
+abbrev pub told_to : List Heard → Totals
 told_to shares = record {
-  served = sum_by (λ (t : Totals). t.served) shares;
-  a1201 = sum_by (λ (t : Totals). t.a1201) shares;
-  a1202 = sum_by (λ (t : Totals). t.a1202) shares;
-  a1203 = sum_by (λ (t : Totals). t.a1203) shares;
-  restarts = sum_by (λ (t : Totals). t.restarts) shares;
+  served = sum_by (λ (h : Heard). h.told.served) shares;
+  a1201 = sum_by (λ (h : Heard). h.told.a1201) shares;
+  a1202 = sum_by (λ (h : Heard). h.told.a1202) shares;
+  a1203 = sum_by (λ (h : Heard). h.told.a1203) shares;
+  restarts = sum_by (λ (h : Heard). h.told.restarts) shares;
 }
 
 -- no number of the totals fell

@@ -1,19 +1,19 @@
 -- What callers ask, and what they are told.
 use Rattle.std.specs.Prelude.{◌≡◌, ℕ, ◌≤◌, ◌⊎◌, List, [], ◌∷◌, length, take}
 use Rattle.agc_plan.specs.declared.request.Request.{Request}
-use Rattle.agc_machine.specs.declared.totals.Totals.{Totals}
 use Rattle.agc_machine.specs.Said.{Said}
 use Rattle.agc_machine.specs.Machines.{Machined, IsLawful, LeadsTo, answer_of}
-use Rattle.agc_machine.specs.Told.{add, told}
+use Rattle.agc_desk.specs.declared.heard.Heard.{Heard}
+use Rattle.agc_desk.specs.Hearing.{hears}
 
 -- the answer holds this request, and its result is the one that the machine's step gives to it on some lawful machine to
 -- which requests lead from the first
 abbrev pub IsAnswerTo : Machined → Request → Said → Type 0
 IsAnswerTo first asked said = (said.request ≡ asked) × ((m : Machined) × (LeadsTo first m × IsLawful m × (said.outcome ≡ answer_of m asked)))
 
--- a holder that was told old asks, gets this answer, and was then told new
-abbrev pub Asks : Machined → Totals → Request → Said → Totals → Type 0
-Asks first old asked said new = IsAnswerTo first asked said × (new ≡ add old (told said.outcome))
+-- a holder that heard old asks, gets this answer, and has then heard new
+abbrev pub Asks : Machined → Heard → Request → Said → Heard → Type 0
+Asks first old asked said new = IsAnswerTo first asked said × (new ≡ hears old said.outcome)
 
 -- these requests, each answered as the relation says, lead in this order from the first state to the last
 abbrev pub Reached : {State : Type 0} → (State → Request → Said → State → Type 0) → State → List Request → State → Type 0

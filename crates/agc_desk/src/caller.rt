@@ -1,5 +1,5 @@
 ghost use Rattle.std.specs.Prelude.{◌≡◌, ℕ};
-ghost use Rattle.agc_machine.specs.Told.{add, told};
+ghost use Rattle.agc_desk.specs.Hearing.{hears};
 ghost use Rattle.agc_desk.specs.Runs.{Asks, IsAnswerTo, Worked};
 
 use crate::console::{Console, Gate, drive};
@@ -22,8 +22,8 @@ pub struct Held<N: Sharing> {
 /// A desk that several threads share, under a lock. Source: profile.
 pub type Shared<N> = Mutex<Held<N>>;
 
-/// Asks the machine of the locked desk, and books in the share what its answer tells. A refusal is the answer's result.
-/// It may wait for the lock. Source: profile.
+/// Asks the machine of the locked desk, and books in the share what its answer tells. A refusal is the answer's result, and
+/// the share knows of it. It may wait for the lock. Source: profile.
 pub fn ask<N: Sharing, W: Wait>(
     rt: &W,
     shared: &Shared<N>,
@@ -31,7 +31,7 @@ pub fn ask<N: Sharing, W: Wait>(
     request: Request,
 ) -> Answer
     ensures answer { IsAnswerTo N.first request result }
-    ensures told { share.new ≡ add share.old (told result.outcome) }
+    ensures heard { share.new ≡ hears share.old result.outcome }
 {
     shared.lock(rt).desk.serve(share, request)
 }
@@ -41,7 +41,7 @@ pub fn ask<N: Sharing, W: Wait>(
 pub struct Caller<'a, N: Sharing> {
     /// The desk that is asked. Source: profile.
     pub shared: &'a Shared<N>,
-    /// What was told so far. Source: profile.
+    /// What was heard so far. Source: profile.
     pub share: Share<N>,
 }
 

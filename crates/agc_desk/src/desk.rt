@@ -2,6 +2,7 @@ ghost use Rattle.std.specs.Prelude.{◌≡◌, ◌+◌, ◌↔◌, IsOk, IsNone,
 ghost use Rattle.agc_machine.specs.Machines.{IsLawful, LeadsTo, after, answer_of};
 ghost use Rattle.agc_machine.specs.Told.{add, nothing, told};
 ghost use Rattle.agc_desk.specs.Accounts.{told_to};
+ghost use Rattle.agc_desk.specs.Hearing.{hears, unheard};
 ghost use Rattle.agc_desk.specs.Opening.{names_of};
 
 use crate::ledgers::{Ledgers, Share, growth};
@@ -62,10 +63,10 @@ impl<N: Names> Desk<N> {
         &self.machine
     }
 
-    /// A share whose holder was told nothing; none where 64 were given out. Source: profile.
+    /// A share whose holder heard nothing; none where 64 were given out. Source: profile.
     pub fn share(&mut self) -> Option<Share<N>>
         ensures none { IsNone result ↔ (self.old.given ≡ 64) }
-        ensures told { IfSome result (λ s. s ≡ nothing) }
+        ensures heard { IfSome result (λ s. s ≡ unheard) }
         ensures given { IfSome result (λ s. self.new ≡ record self.old { given = self.old.given + 1 }) }
         ensures same { IfNone result (self.new ≡ self.old) }
     {
@@ -77,19 +78,20 @@ impl<N: Names> Desk<N> {
     }
 
     /// Asks the machine, and books what its answer tells in the share and in the desk's books. A refusal is the answer's
-    /// result, and books nothing. Source: profile.
+    /// result; it books nothing, but the share knows of it. Source: profile.
     pub fn serve(&mut self, share: &mut Share<N>, request: Request) -> Answer
         ensures request { result.request ≡ request }
         ensures outcome { result.outcome ≡ answer_of self.old.machine request }
         ensures lawful { IsLawful self.old.machine }
         ensures leads { LeadsTo N.first self.old.machine }
-        ensures told { share.new ≡ add share.old (told result.outcome) }
+        ensures heard { share.new ≡ hears share.old result.outcome }
         ensures desk { self.new ≡ record self.old { machine = after self.old.machine request; booked = add self.old.booked (told result.outcome) } }
     {
         let before = self.machine.totals();
         let answer = self.machine.apply(request);
         let told = growth(before, self.machine.totals());
         self.ledgers.add(share, told);
+        share.note(answer.is_refused());
         answer
     }
 }

@@ -1,14 +1,17 @@
-ghost use Rattle.std.specs.Prelude.{◌≡◌, ◌+◌, ◌<◌, ◌^◌};
+ghost use Rattle.std.specs.Prelude.{◌≡◌, ◌+◌, ◌<◌, ◌^◌, ◌||◌};
 ghost use Rattle.agc_machine.specs.Told.{add, nothing};
 ghost use Rattle.agc_desk.specs.Accounts.{NoneFell};
+ghost use Rattle.agc_desk.specs.Hearing.{unheard};
 ghost use Rattle.agc_desk.specs.Opening.{names_of};
 
 use crate::column::{Column, Told};
+use crate::heard::Heard;
 use crate::names::{A1201, A1202, A1203, Blanks, Names, Restarts, Served};
 use agc_machine::Totals;
 use std::marker::Model;
 
-/// What its holder was told by one desk. Contracts see it as these five numbers. Source: profile.
+/// What its holder heard from one desk: five numbers that were told, and whether an answer was a refusal. Contracts see it
+/// as these. Source: profile.
 ///
 /// It can't be copied, and a share of another desk's ledgers has another type.
 #[derive(Drop)]
@@ -18,20 +21,21 @@ pub struct Share<N: Names> {
     a1202: Told<A1202<N>>,
     a1203: Told<A1203<N>>,
     restarts: Told<Restarts<N>>,
+    refused: bool,
 }
 
 impl<N: Names> Model for Share<N> {
-    ghost use Rattle.agc_machine.specs.declared.totals.Totals.{Totals};
+    ghost use Rattle.agc_desk.specs.declared.heard.Heard.{Heard};
 
-    ghost Value = { Totals };
+    ghost Value = { Heard };
 
-    ghost view = { λ s. record { served = s.served; a1201 = s.a1201; a1202 = s.a1202; a1203 = s.a1203; restarts = s.restarts } };
+    ghost view = { λ s. record { told = record { served = s.served; a1201 = s.a1201; a1202 = s.a1202; a1203 = s.a1203; restarts = s.restarts }; refused = s.refused } };
 }
 
 impl<N: Names> Share<N> {
     /// What its holder was told so far. Source: profile.
     pub fn told(&self) -> Totals
-        ensures { result ≡ self.now }
+        ensures { result ≡ self.now.told }
     {
         Totals {
             served: self.served.get(),
@@ -40,6 +44,23 @@ impl<N: Names> Share<N> {
             a1203: self.a1203.get(),
             restarts: self.restarts.get(),
         }
+    }
+
+    /// What its holder heard so far. Source: profile.
+    pub fn heard(&self) -> Heard
+        ensures { result ≡ self.now }
+    {
+        Heard {
+            told: self.told(),
+            refused: self.refused,
+        }
+    }
+
+    /// One more answer came, which was a refusal or not.
+    pub(crate) fn note(&mut self, refused: bool)
+        ensures { self.new ≡ record self.old { refused = self.old.refused || refused } }
+    {
+        self.refused = self.refused || refused;
     }
 }
 
@@ -90,10 +111,10 @@ impl<N: Names> Ledgers<N> {
         }
     }
 
-    /// A share whose holder was told nothing.
+    /// A share whose holder heard nothing.
     pub(crate) fn part(&mut self) -> Share<N>
         requires left { 1 < self.old.left }
-        ensures told { result ≡ nothing }
+        ensures heard { result ≡ unheard }
         ensures left { self.new.left + 1 ≡ self.old.left }
         ensures total { self.new.total ≡ self.old.total }
         ensures back { self.new.back ≡ self.old.back }
@@ -104,6 +125,7 @@ impl<N: Names> Ledgers<N> {
             a1202: self.a1202.part(),
             a1203: self.a1203.part(),
             restarts: self.restarts.part(),
+            refused: false,
         }
     }
 
@@ -114,7 +136,7 @@ impl<N: Names> Ledgers<N> {
         requires a1202 { self.old.total.a1202 + told.a1202 < 2 ^ 64 }
         requires a1203 { self.old.total.a1203 + told.a1203 < 2 ^ 64 }
         requires restarts { self.old.total.restarts + told.restarts < 2 ^ 64 }
-        ensures told { share.new ≡ add share.old told }
+        ensures told { share.new ≡ record share.old { told = add share.old.told told } }
         ensures total { self.new.total ≡ add self.old.total told }
         ensures left { self.new.left ≡ self.old.left }
         ensures back { self.new.back ≡ self.old.back }
@@ -128,7 +150,7 @@ impl<N: Names> Ledgers<N> {
 
     /// Takes a share back.
     pub(crate) fn merge(&mut self, share: Share<N>)
-        ensures back { self.new.back ≡ add self.old.back share }
+        ensures back { self.new.back ≡ add self.old.back share.told }
         ensures total { self.new.total ≡ self.old.total }
         ensures left { self.new.left ≡ self.old.left + 1 }
     {
@@ -138,6 +160,7 @@ impl<N: Names> Ledgers<N> {
             a1202,
             a1203,
             restarts,
+            refused: _,
         } = share;
         self.served.merge(served);
         self.a1201.merge(a1201);

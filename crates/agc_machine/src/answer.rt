@@ -1,4 +1,4 @@
-ghost use Rattle.std.specs.Prelude.{◌≡◌, Ok, Err};
+ghost use Rattle.std.specs.Prelude.{◌≡◌, Ok, Err, is_err};
 
 use agc_plan::{Reply, Request};
 use std::marker::Model;
@@ -59,6 +59,13 @@ impl Answer {
         ensures { result ≡ self.now.request }
     {
         self.request
+    }
+
+    /// Whether the request was refused. Source: profile.
+    pub fn is_refused(&self) -> bool
+        ensures { result ≡ is_err self.now.outcome }
+    {
+        self.result.is_err()
     }
 
     /// The reply, or why there is none. Source: profile.

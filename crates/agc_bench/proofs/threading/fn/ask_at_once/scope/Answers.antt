@@ -1,12 +1,12 @@
 use Rattle.std.proofs.Common.{◌≡◌, ◌+◌, ◌∷◌, [], ◌++◌, List, length, get_or, arith, length-append, sym, ap, ◌∙◌}
 use Rattle.std.proofs.Math.Seq.{get_or-append_seam}
-use Rattle.agc_machine.specs.declared.totals.Totals.{Totals}
+use Rattle.agc_desk.specs.declared.heard.Heard.{Heard}
 use Rattle.agc_bench.proofs.Pledges.{IsPledge, each_push, pledge_kept}
 use Rattle.agc_bench.proofs.threading.fn.ask_at_once.scope.Goals as goal
 
 pub loop-share-preserved : goal.loop-share-preserved
 loop-share-preserved g c =
-    let starts : List Totals = c.loop-share.yielded ++ c.in-Some.share ∷ [] in
+    let starts : List Heard = c.loop-share.yielded ++ c.in-Some.share ∷ [] in
     let e = c.in-Ok.ensures.ok ∙ c.pledge_of-pledge.ensures in
     let n : length c.loop-share.running.items ≡ length c.loop-share.yielded = omega (arith, c.loop-share.invariant.len) in
     let m : c.len-thread.result ≡ length c.loop-share.running.items = omega (arith, c.len-thread.ensures) in
