@@ -2,29 +2,51 @@ ghost use Rattle.std.specs.Prelude.{◌≡◌, ◌⊎◌, Some, None, IfOk, IfEr
 ghost use Rattle.agc_plan.specs.Plans.{Planned, same_task, has_task, task_twice, has_entry, phase_twice, wants_area, group_wants, all_want, fault_of, action_in, entry_at, is_for};
 ghost use Rattle.std.specs.Option.{option_copied};
 ghost use Rattle.agc_plan.specs.Eras.{BeginsQuietly};
+ghost use Rattle.agc_plan.specs.Texts.{text_of};
 
 use crate::number::{Group, Phase};
 use crate::request::{Action, JobStart, PhaseEntry, Task};
 use std::alloc::Global;
+use std::error::Error;
+use std::fmt;
 use std::marker::Model;
-use thiserror::Error;
 
 /// Why rows and entries make no plan. Of several faults the first in this order is answered. Source: profile.
-#[derive(Clone, Copy, PartialEq, Eq, Debug, Error)]
+#[derive(Clone, Copy, PartialEq, Eq, Debug)]
 pub enum PlanFault {
     /// The allocator refused room for the rows or for the entries. It may come in place of each other fault.
-    #[error("no memory")]
     NoMemory,
     /// One task, of one address and bank, has two rows.
-    #[error("task twice")]
     TaskTwice,
     /// One group and phase has two entries.
-    #[error("phase twice")]
     PhaseTwice,
     /// Each of the six groups has an entry whose job wants a VAC area, and there are five areas.
-    #[error("too many areas")]
     TooManyAreas,
 }
+
+impl PlanFault {
+    /// What the fault is printed as. Source: profile.
+    pub fn text(self) -> &'static str
+        ensures { result.now ≡ text_of self }
+    {
+        match self {
+            PlanFault::NoMemory => "no memory",
+            PlanFault::TaskTwice => "task twice",
+            PlanFault::PhaseTwice => "phase twice",
+            PlanFault::TooManyAreas => "too many areas",
+        }
+    }
+}
+
+impl fmt::Display for PlanFault {
+    ghost output = { λ fault. Some (text_of fault) };
+
+    fn fmt<W: fmt::Write>(&self, f: &mut fmt::Formatter<W>) -> fmt::Result {
+        f.write_str(self.text())
+    }
+}
+
+impl Error for PlanFault {}
 
 /// What is done when a task fires, when an era begins, and for a key or radar pulse. Contracts see its rows, its entries
 /// and its two actions. Source: profile.

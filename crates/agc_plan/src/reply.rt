@@ -1,3 +1,6 @@
+ghost use Rattle.std.specs.Prelude.{◌≡◌};
+ghost use Rattle.agc_plan.specs.Steps.{alarm_of, begins};
+
 use crate::fired::Fired;
 use crate::number::JobNo;
 
@@ -54,4 +57,47 @@ pub enum Reply {
     Restarted,
     /// The table was full. In a machine's answer: and an era began.
     Alarmed(Alarm),
+}
+
+impl Reply {
+    /// The alarm that the reply tells: of the request itself, or of an action in a tick. None where it tells none.
+    pub fn alarm(&self) -> Option<Alarm>
+        ensures { result ≡ alarm_of self.now }
+    {
+        match self {
+            Reply::Alarmed(alarm) => Some(*alarm),
+            Reply::Ticked(_, alarm) => *alarm,
+            Reply::Established(_) => None,
+            Reply::Left(_) => None,
+            Reply::Roused(_) => None,
+            Reply::NoSleeper => None,
+            Reply::NoJob => None,
+            Reply::Runs(_) => None,
+            Reply::Stored => None,
+            Reply::Listed => None,
+            Reply::Phased => None,
+            Reply::Restarted => None,
+        }
+    }
+
+    /// Whether an era begins with the reply: with every alarm, restart and fresh start.
+    pub fn begins(&self) -> bool
+        ensures { result ≡ begins self.now }
+    {
+        match self {
+            Reply::Alarmed(_) => true,
+            Reply::Ticked(_, Some(_)) => true,
+            Reply::Restarted => true,
+            Reply::Ticked(_, None) => false,
+            Reply::Established(_) => false,
+            Reply::Left(_) => false,
+            Reply::Roused(_) => false,
+            Reply::NoSleeper => false,
+            Reply::NoJob => false,
+            Reply::Runs(_) => false,
+            Reply::Stored => false,
+            Reply::Listed => false,
+            Reply::Phased => false,
+        }
+    }
 }

@@ -1,4 +1,5 @@
 ghost use Rattle.std.specs.Prelude.{◌≡◌, ◌<◌, ◌↔◌, IsSome, IfSome};
+ghost use Rattle.agc_plan.specs.Ranges.{IsEntry, IsRequest, IsTask};
 
 use crate::number::{Address, Delay, Group, Phase, Place, Priority};
 use agc_word::Word;
@@ -79,6 +80,55 @@ pub enum Request {
     /// The fresh start: an era begins with six phases 0 and no codes. Source: the listings' FRESH START AND RESTART
     /// section.
     Fresh,
+}
+
+/// An entry's numbers are in the ranges of their types.
+fn entry_is_in_range(entry: Entry)
+    ensures { IsEntry entry }
+{
+    let _ = (entry.at.get(), entry.bank.bits());
+}
+
+/// A task's numbers are.
+fn task_is_in_range(task: Task)
+    ensures { IsTask task }
+{
+    let _ = (task.at.get(), task.bank.bits());
+}
+
+impl Request {
+    /// A law: the numbers of a request are in the ranges of their types.
+    pub fn is_in_range(&self)
+        ensures { IsRequest self.now }
+    {
+        match *self {
+            Request::Novac(priority, entry) | Request::Findvac(priority, entry) => {
+                let _ = priority.get();
+                entry_is_in_range(entry);
+            }
+            Request::Sleep(at) | Request::Rouse(at) => {
+                let _ = at.get();
+            }
+            Request::Prio(priority) => {
+                let _ = priority.get();
+            }
+            Request::Store(place, word) => {
+                let _ = (place.get(), word.bits());
+            }
+            Request::List(delay, task) => {
+                let _ = delay.get();
+                task_is_in_range(task);
+            }
+            Request::SetPhase(group, phase) => {
+                let _ = (group.get(), phase.get());
+            }
+            Request::EndOfJob => {}
+            Request::Change => {}
+            Request::Tick => {}
+            Request::Restart => {}
+            Request::Fresh => {}
+        }
+    }
 }
 
 /// What begins again with a restart while a group stands in a phase: a job, a task, both or neither. Contracts see its

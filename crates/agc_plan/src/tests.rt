@@ -1,6 +1,6 @@
 use crate::{
-    Action, Address, Delay, Entry, Fired, Group, JobNo, JobStart, Limit, Phase, PhaseEntry, Place,
-    Plan, PlanFault, Priority, Task,
+    Action, Address, Alarm, Delay, Entry, Fired, Group, JobNo, JobStart, Limit, Phase, PhaseEntry,
+    Place, Plan, PlanFault, Priority, Reply, Request, Task,
 };
 use agc_word::Word;
 use std::alloc::Global;
@@ -219,6 +219,7 @@ fn texts_of_plan_faults(rt: HostRuntime) -> Result<(), Fail> {
         (PlanFault::TooManyAreas, "too many areas"),
     ];
     for (fault, want) in texts {
+        assert_eq!(rt; fault.text(), want);
         assert_eq!(rt; format!(in rt.alloc(); "{fault}")?.as_str(), want);
     }
     Ok(())
@@ -256,26 +257,56 @@ fn what_a_plan_says(rt: HostRuntime) -> Result<(), Fail> {
     Ok(())
 }
 
-#[test]
-fn a_great_plan_is_kept_whole(rt: HostRuntime) -> Result<(), Fail> {
-    let mut rows = Vec::new(rt.alloc());
-    for at in 1..=1000u16 {
-        rows.push((task(at, 5)?, Action::Rouse(address(at)?)))?;
+/// So many rows, no two of one task, in which each rouses its own address.
+fn many_rows(alloc: Global, count: u16) -> Result<Vec<(Task, Action)>, Fail> {
+    let mut rows = Vec::new(alloc);
+    for place in 0..count {
+        let at = 1 + place % 16383;
+        rows.push((task(at, 5 + place / 16383)?, Action::Rouse(address(at)?)))?;
     }
-    let mut entries = Vec::new(rt.alloc());
+    Ok(rows)
+}
+
+/// An entry for each of the 762 groups and phases.
+fn each_phase(alloc: Global) -> Result<Vec<PhaseEntry>, Fail> {
+    let mut entries = Vec::new(alloc);
     for group in 1..=6u8 {
         for phase in 1..=127u8 {
             entries.push(begins(group, phase, Some(plain_job()?))?)?;
         }
     }
+    Ok(entries)
+}
+
+#[test]
+fn a_great_plan_is_kept_whole(rt: HostRuntime) -> Result<(), Fail> {
+    let entries = each_phase(rt.alloc())?;
+    let entries = entries.as_slice();
+    for count in [1000u16, 1001, 1500] {
+        let rows = many_rows(rt.alloc(), count)?;
+        let rows = rows.as_slice();
+        let plan = Plan::new(rt.alloc(), rows, entries, Action::Nothing, Action::Nothing)?;
+        for row in rows {
+            assert_eq!(rt; plan.action(&row.0), row.1);
+        }
+        for entry in entries {
+            assert!(rt; plan.entry(entry.group(), entry.phase()) == Some(entry));
+        }
+    }
+    Ok(())
+}
+
+/// A bench of 1,048,576 bytes has fewer rows than these.
+#[test]
+fn a_plan_of_20000_rows(rt: HostRuntime) -> Result<(), Fail> {
+    let rows = many_rows(rt.alloc(), 20000)?;
+    let entries = each_phase(rt.alloc())?;
     let (rows, entries) = (rows.as_slice(), entries.as_slice());
     let plan = Plan::new(rt.alloc(), rows, entries, Action::Nothing, Action::Nothing)?;
-    for row in rows {
-        assert_eq!(rt; plan.action(&row.0), row.1);
+    for (at, bank) in [(1u16, 5u16), (1001, 5), (16383, 5), (1, 6), (3617, 6)] {
+        assert_eq!(rt; plan.action(&task(at, bank)?), Action::Rouse(address(at)?));
     }
-    for entry in entries {
-        assert!(rt; plan.entry(entry.group(), entry.phase()) == Some(entry));
-    }
+    assert_eq!(rt; plan.action(&task(3618, 6)?), Action::Nothing);
     Ok(())
 }
 
@@ -316,5 +347,33 @@ fn fired_tasks_in_order(rt: HostRuntime) -> Result<(), Fail> {
     assert_eq!(rt; fired.get(0), Some(task(1, 5)?));
     assert_eq!(rt; fired.get(8), Some(task(9, 5)?));
     assert_eq!(rt; fired.get(9), None);
+    Ok(())
+}
+
+#[test]
+fn what_a_reply_tells(rt: HostRuntime) -> Result<(), Fail> {
+    let number = JobNo::new(3).ok_or("job number")?;
+    let full = Some(Alarm::A1202);
+    let told = [
+        (Reply::Alarmed(Alarm::A1201), true, Some(Alarm::A1201)),
+        (Reply::Ticked(Fired::new(), full), true, full),
+        (Reply::Ticked(Fired::new(), None), false, None),
+        (Reply::Restarted, true, None),
+        (Reply::Established(number), false, None),
+        (Reply::NoJob, false, None),
+    ];
+    for (reply, begins, alarm) in told {
+        assert_eq!(rt; reply.begins(), begins);
+        assert_eq!(rt; reply.alarm(), alarm);
+    }
+    Ok(())
+}
+
+#[test]
+fn a_request_is_in_range(rt: HostRuntime) -> Result<(), Fail> {
+    let delay = Delay::new(16250).ok_or("delay")?;
+    let asked = Request::List(delay, task(16383, 5)?);
+    asked.is_in_range();
+    assert_eq!(rt; asked, Request::List(delay, task(16383, 5)?));
     Ok(())
 }
