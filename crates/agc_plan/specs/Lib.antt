@@ -9,5 +9,5 @@ pub mod Steps
 pub mod Seats
 pub mod Laws
 pub mod Examples
-pub mod Texts
+pub mod Messages
 pub mod Ranges

@@ -139,20 +139,21 @@ pub fn at_most_nine_tasks_wait()
     ensures { (plan : Planned) (base : Base) (log : List Request) → length (reached plan base log).work.agenda.tasks ≤ 9 }
 {}
 
-/// After a tick nothing is due, unless an alarm came. What an action lists is due later, as a delay is at least 1.
+/// Where each delay in the plan's rows is at least 1, nothing is due after a tick, unless an alarm came: what an action
+/// lists is due later.
 pub fn tick_leaves_nothing_due()
     ensures { (rows : List (Task × Action)) (work : Work) → AreActionsDelayed rows → (tick_fires rows work).alarm ≡ None → IsNothingDue (tick_fires rows work).work.agenda }
 {}
 
-/// In every state that a run of requests reaches nothing is due: it fired in the tick at which its time came. Delays are
-/// at least 1, in the plan and in what was asked.
+/// Where each delay is at least 1, in the plan's rows and entries and in what was asked, in every state that a run of
+/// requests reaches nothing is due: it fired in the tick at which its time came.
 pub fn nothing_is_due_between_requests()
     ensures { (plan : Planned) (base : Base) (log : List Request) → AreActionsDelayed plan.rows → AreListingsDelayed plan.entries → All IsRequestDelayed log → IsNothingDue (reached plan base log).work.agenda }
 {}
 
-/// Where nothing was due, the tasks that fire in a tick are all due at the same time, which is the present, and fire in
-/// order of arrival: all of them, or up to an alarm. The same fire where those due at that time are read off the tasks in
-/// order.
+/// Where nothing was due, and each delay in the plan's rows is at least 1, the tasks that fire in a tick are all due at
+/// the same time, which is the present, and fire in order of arrival: all of them, or up to an alarm. The same fire where
+/// those due at that time are read off the tasks in order.
 pub fn due_tasks_fire_in_order_of_arrival()
     ensures arrival { (rows : List (Task × Action)) (work : Work) → AreActionsDelayed rows → IsNothingDue work.agenda → FiresThese (due_at (work.agenda.time + 1) work.agenda.tasks) (tick_fires rows work) }
     ensures in_order { (rows : List (Task × Action)) (work : Work) (ordered : List Pending) → AreActionsDelayed rows → IsNothingDue work.agenda → InOrder work.agenda.tasks ordered → FiresThese (due_at (work.agenda.time + 1) ordered) (tick_fires rows work) }

@@ -2,7 +2,7 @@ ghost use Rattle.std.specs.Prelude.{◌≡◌, ◌⊎◌, Some, None, IfOk, IfEr
 ghost use Rattle.agc_plan.specs.Plans.{Planned, same_task, has_task, task_twice, has_entry, phase_twice, wants_area, group_wants, all_want, fault_of, action_in, entry_at, is_for};
 ghost use Rattle.std.specs.Option.{option_copied};
 ghost use Rattle.agc_plan.specs.Eras.{BeginsQuietly};
-ghost use Rattle.agc_plan.specs.Texts.{text_of};
+ghost use Rattle.agc_plan.specs.Messages.{plan_fault_text};
 
 use crate::number::{Group, Phase};
 use crate::request::{Action, JobStart, PhaseEntry, Task};
@@ -27,7 +27,7 @@ pub enum PlanFault {
 impl PlanFault {
     /// What the fault is printed as. Source: profile.
     pub fn text(self) -> &'static str
-        ensures { result.now ≡ text_of self }
+        ensures { result.now ≡ plan_fault_text self }
     {
         match self {
             PlanFault::NoMemory => "no memory",
@@ -39,7 +39,7 @@ impl PlanFault {
 }
 
 impl fmt::Display for PlanFault {
-    ghost output = { λ fault. Some (text_of fault) };
+    ghost output = { λ fault. Some (plan_fault_text fault) };
 
     fn fmt<W: fmt::Write>(&self, f: &mut fmt::Formatter<W>) -> fmt::Result {
         f.write_str(self.text())

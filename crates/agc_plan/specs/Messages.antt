@@ -4,8 +4,8 @@ use Rattle.agc_plan.specs.declared.plan.PlanFault.{PlanFault}
 use Rattle.agc_plan.specs.declared.plan.PlanFault.TheVariants.{NoMemory, TaskTwice, PhaseTwice, TooManyAreas}
 
 -- what a fault is printed as
-abbrev pub text_of : PlanFault → List ℕ
-text_of NoMemory = codes "no memory"
-text_of TaskTwice = codes "task twice"
-text_of PhaseTwice = codes "phase twice"
-text_of TooManyAreas = codes "too many areas"
+abbrev pub plan_fault_text : PlanFault → List ℕ
+plan_fault_text NoMemory = codes "no memory"
+plan_fault_text TaskTwice = codes "task twice"
+plan_fault_text PhaseTwice = codes "phase twice"
+plan_fault_text TooManyAreas = codes "too many areas"
