@@ -1,5 +1,5 @@
 -- The exit statuses.
-use Rattle.std.specs.Prelude.{ℕ}
+use Rattle.std.specs.Prelude.{ℕ, Result, Ok, Err}
 use Rattle.agc.specs.declared.fault.Fault.{Fault}
 use Rattle.agc.specs.declared.fault.Fault.TheVariants.{Words, NoMemory, Output, Read, Script, Bench, Run}
 use Rattle.agc_bench.specs.declared.fault.ReadFault.TheVariants as read
@@ -23,3 +23,8 @@ status_of (Run run.NoMemory) = 3
 status_of (Run run.NoThread) = 3
 status_of (Run run.Output) = 4
 status_of (Run run.Lost) = 5
+
+-- 0 where there was no fault
+abbrev pub status_after : Result Unit Fault → ℕ
+status_after (Ok done) = 0
+status_after (Err fault) = status_of fault

@@ -1,29 +1,25 @@
 //! Why the program ended.
 ghost use Rattle.std.specs.Prelude.{◌≡◌};
+ghost use Rattle.agc.specs.declared.fault.Fault.TheVariants.{NoMemory, Read, Script, Bench, Run};
 ghost use Rattle.agc.specs.Statuses.{status_of};
 
 use agc_bench::{BenchFault, ReadFault, RunFault, ScriptFault};
 use std::alloc::AllocError;
-use thiserror::Error;
+use std::error::Error;
+use std::fmt;
 
-/// A fault, whose text stands after `agc: ` on standard error.
-#[derive(Clone, Copy, Debug, Error)]
+/// A fault, whose text stands after `agc: ` on standard error. Source: profile.
+#[derive(Clone, Copy, Debug)]
 pub enum Fault {
-    #[error("use script, serial or threads")]
+    /// The words of the command line are no mode.
     Words,
-    #[error("no memory")]
     NoMemory,
     /// A flush of standard output failed.
-    #[error("output")]
     Output,
-    #[error(transparent)]
-    Read(#[from] ReadFault),
-    #[error(transparent)]
-    Script(#[from] ScriptFault),
-    #[error(transparent)]
-    Bench(#[from] BenchFault),
-    #[error(transparent)]
-    Run(#[from] RunFault),
+    Read(ReadFault),
+    Script(ScriptFault),
+    Bench(BenchFault),
+    Run(RunFault),
 }
 
 impl Fault {
@@ -59,7 +55,57 @@ impl Fault {
 }
 
 impl From<AllocError> for Fault {
-    fn from(_error: AllocError) -> Fault {
-        Fault::NoMemory
+    ghost from_gives = { λ _ e. e ≡ NoMemory };
+
+    fn from(_error: AllocError) -> Self {
+        Self::NoMemory
     }
 }
+
+impl From<ReadFault> for Fault {
+    ghost from_gives = { λ fault e. e ≡ Read fault };
+
+    fn from(fault: ReadFault) -> Self {
+        Self::Read(fault)
+    }
+}
+
+impl From<ScriptFault> for Fault {
+    ghost from_gives = { λ fault e. e ≡ Script fault };
+
+    fn from(fault: ScriptFault) -> Self {
+        Self::Script(fault)
+    }
+}
+
+impl From<BenchFault> for Fault {
+    ghost from_gives = { λ fault e. e ≡ Bench fault };
+
+    fn from(fault: BenchFault) -> Self {
+        Self::Bench(fault)
+    }
+}
+
+impl From<RunFault> for Fault {
+    ghost from_gives = { λ fault e. e ≡ Run fault };
+
+    fn from(fault: RunFault) -> Self {
+        Self::Run(fault)
+    }
+}
+
+impl fmt::Display for Fault {
+    fn fmt<W: fmt::Write>(&self, f: &mut fmt::Formatter<W>) -> fmt::Result {
+        match self {
+            Fault::Words => f.write_str("use script, serial or threads"),
+            Fault::NoMemory => f.write_str("no memory"),
+            Fault::Output => f.write_str("output"),
+            Fault::Read(fault) => fault.fmt(f),
+            Fault::Script(fault) => fault.fmt(f),
+            Fault::Bench(fault) => fault.fmt(f),
+            Fault::Run(fault) => fault.fmt(f),
+        }
+    }
+}
+
+impl Error for Fault {}
