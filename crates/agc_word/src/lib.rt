@@ -2,6 +2,7 @@
 #![tactic(auto)]
 
 mod erasable;
+pub mod layout;
 #[cfg(test)]
 mod tests;
 mod word;
