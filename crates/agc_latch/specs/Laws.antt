@@ -12,7 +12,8 @@ abbrev pub PostKeeps : Type 0
 PostKeeps = (words : List ℕ) (views : List View) (id i : ℕ) (v : View)
     → LineAccount words views → get_elem? views id ≡ some v → v.role ≡ Posts → i < 3
     → sum v.posted < 4294967295
-    → LineAccount (slice_set words i (slice_index words i + 1)) (slice_set views id (after_post i v))
+    → LineAccount (slice_set words i (slice_index words i + 1))
+    (slice_set views id (after_post i v))
 
 -- the taker takes what it finds on line i: the word becomes 0
 abbrev pub TakeKeeps : Type 0

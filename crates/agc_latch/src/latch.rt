@@ -24,7 +24,8 @@ impl Model for Latch {
 
     ghost view = { λ l. l.table.shared.table_id };
 
-    ghost invariant = { λ l. (l.table.shared.table_id.words ≡ 3) × (l.table.shared.table_id.slots ≡ 0) };
+    ghost invariant = { λ l.
+        (l.table.shared.table_id.words ≡ 3) × (l.table.shared.table_id.slots ≡ 0) };
 }
 
 impl Latch {

@@ -131,7 +131,8 @@ impl Model for AttachedTaker {
       given = t.seat.given;
     } };
 
-    ghost invariant = { λ t. (t.seat.given ≡ t.given) × (t.seat.back ≡ 0) × (t.seat.posted ≡ zeros) };
+    ghost invariant = { λ t.
+        (t.seat.given ≡ t.given) × (t.seat.back ≡ 0) × (t.seat.posted ≡ zeros) };
 }
 
 impl AttachedTaker {
@@ -169,8 +170,10 @@ impl AttachedTaker {
         requires latch { self.latch ≡ latch }
         requires devices { All (λ d. d.latch ≡ latch) devices.items }
         requires all { length devices.items ≡ self.given }
-        ensures taken { (line : Line) → on line self.taken + on line result ≡ posted_by line devices.items }
-        ensures bounded { (line : Line) → on line self.taken + on line result ≤ 4294967295 * self.given }
+        ensures taken { (line : Line)
+            → on line self.taken + on line result ≡ posted_by line devices.items }
+        ensures bounded { (line : Line)
+            → on line self.taken + on line result ≤ 4294967295 * self.given }
     {
         let AttachedTaker { mut seat, given: _ } = self;
         seat.join_all(&latch, devices);
