@@ -6,7 +6,7 @@ use Rattle.std.proofs.lemmas.List.{get_or_past, drop_all, drop_more}
 use Rattle.std.proofs.lemmas.List.Elements.{All-get_or, All-from_get_or}
 use Rattle.std.proofs.lemmas.Grind.{common_steps}
 use Rattle.agc_plan.specs.Tasks.{Waiting}
-use Rattle.agc_wait.specs.Table.{InTable, waits_of, waits_from, time3, lst1, at_in, bank_in, distance_of, gap_of, IsLawfulTable}
+use Rattle.agc_wait.specs.Table.{blank_gap, InTable, waits_of, waits_from, time3, lst1, at_in, bank_in, distance_of, gap_of, IsLawfulTable}
 use Rattle.agc_wait.specs.Writing.{place_in, no_task}
 
 -- the words hold these tasks, at most nine and none further than the longest delay, and all else in the table is blank
@@ -22,7 +22,7 @@ pub record Carries (words : List ℕ) (waits : List Waiting) : Type 0 where
   pub first : distance_of (time3 words) ≡ (place_in waits 0).distance
   pub next : (k : ℕ) → k + 1 < length waits → (place_in waits (k + 1)).distance ≡ (place_in waits k).distance + gap_of (lst1 words k)
   pub gaps : (k : ℕ) → k + 1 < length waits → (lst1 words k ≤ 1) ⊎ (16384 ≤ lst1 words k)
-  pub rest : (k : ℕ) → length waits ≤ k + 1 → k < 8 → lst1 words k ≡ 24575
+  pub rest : (k : ℕ) → length waits ≤ k + 1 → k < 8 → lst1 words k ≡ blank_gap
   pub near : (k : ℕ) → (place_in waits k).distance ≤ 16250
 
 -- place k and those after it

@@ -2,6 +2,7 @@
 use Rattle.std.proofs.Common.{◌≡◌, ℕ, ◌+◌, ◌-◌, ◌*◌, ◌<◌, ◌≤◌, List, [], ◌∷◌, length, slice_index, refl, ap, sym, subst, ◌∙◌, inl, inr, arith}
 use Rattle.std.proofs.lemmas.Bool.{cases_eq, cases_lt}
 use Rattle.std.proofs.lemmas.List.Elements.{All-get_or, All-from_get_or}
+use Rattle.agc_word.specs.Layout as layout
 use Rattle.agc_plan.specs.Tasks.{Waiting}
 use Rattle.agc_wait.specs.Table.{IsLawfulTable, waits_of, time3, lst1, at_in, distance_of, gap_of}
 use Rattle.agc_wait.specs.Writing.{no_task, distance_in}
@@ -24,11 +25,11 @@ whole words n is parts = record {
   near = All-from_get_or (λ (w : Waiting). w.distance ≤ 16250) (waits_of words) no_task (λ k lt. parts.tasks.near k (omega arith));
   address = λ k lt. elim (cases_lt k n) [
     | inl some ↦ parts.tasks.address k some
-    | inr none ↦ let at : at_in words k ≡ 0 = parts.blank.1 (99 + 2 * k) (omega arith) (omega arith) in omega arith
+    | inr none ↦ let at : at_in words k ≡ 0 = parts.blank.1 (layout.lst2 + 2 * k) (omega arith) (omega arith) in omega arith
   ];
   gap = λ k lt. parts.tasks.gap k (omega arith) lt;
-  no_gap = λ k le lt. parts.blank.0 (91 + k) (omega arith) (omega arith);
-  no_task = λ k le lt. (parts.blank.1 (99 + 2 * k) (omega arith) (omega arith), parts.blank.1 (100 + 2 * k) (omega arith) (omega arith));
+  no_gap = λ k le lt. parts.blank.0 (layout.lst1 + k) (omega arith) (omega arith);
+  no_task = λ k le lt. (parts.blank.1 (layout.lst2 + 2 * k) (omega arith) (omega arith), parts.blank.1 (layout.lst2 + 1 + 2 * k) (omega arith) (omega arith));
 }
 
 pub parts_of : (words : List ℕ) (n : ℕ) → n ≡ length (waits_of words) → IsLawfulTable words → AreParts words n
@@ -44,10 +45,10 @@ parts_of words n is lawful =
       };
       blank = (
         λ i from to.
-            let place : 91 + (i - 91) ≡ i = omega arith in
-            ap (slice_index words) (sym place) ∙ lawful.no_gap (i - 91) (omega arith) (omega arith),
+            let place : layout.lst1 + (i - layout.lst1) ≡ i = omega arith in
+            ap (slice_index words) (sym place) ∙ lawful.no_gap (i - layout.lst1) (omega arith) (omega arith),
         λ i from to.
-            at_each_place (λ j. 99 + 2 * n ≤ j → slice_index words j ≡ 0)
+            at_each_place (λ j. layout.lst2 + 2 * n ≤ j → slice_index words j ≡ 0)
             (λ le. absurd (omega arith))
             (λ k lt le. absurd (omega arith))
             (λ k lt le. (lawful.no_task k (omega arith) lt).0)

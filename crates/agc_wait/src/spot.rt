@@ -50,9 +50,9 @@ pub(crate) fn count_tasks(e: &Erasable, known: usize) -> usize
     ensures count { result ≡ length (waits_of e.now) }
     ensures nine { result ≤ 9 }
 {
-    for place in known..TASKS {
-        if e.get(LST2 + 2 * place).bits() == 0 {
-            return place;
+    for k in known..TASKS {
+        if e.get(LST2 + 2 * k).bits() == 0 {
+            return k;
         }
     }
     TASKS

@@ -7,26 +7,26 @@ use Rattle.agc_wait.proofs.spot.count_tasks.Goals as goal
 
 pub returns-then-bits-eq0-clause-count : goal.returns-then-bits-eq0-clause-count
 returns-then-bits-eq0-clause-count c =
-    let e : at_in c.args.e.now c.loop-place.place ≡ 0 = grind (arith, common_steps) in
-    let within : c.loop-place.place ≤ length (waits_of c.args.e.now) = c.loop-place.invariant in
-    elim (cases_lt c.loop-place.place (length (waits_of c.args.e.now))) [
-      | inl lt ↦ let some : 1 ≤ at_in c.args.e.now c.loop-place.place = (read_as c.args.e.now).some c.loop-place.place lt in absurd (omega arith)
+    let e : at_in c.args.e.now c.loop-k.k ≡ 0 = grind (arith, common_steps) in
+    let within : c.loop-k.k ≤ length (waits_of c.args.e.now) = c.loop-k.invariant in
+    elim (cases_lt c.loop-k.k (length (waits_of c.args.e.now))) [
+      | inl lt ↦ let some : 1 ≤ at_in c.args.e.now c.loop-k.k = (read_as c.args.e.now).some c.loop-k.k lt in absurd (omega arith)
       | inr ge ↦ omega arith
     ]
 
-pub loop-place-preserved : goal.loop-place-preserved
-loop-place-preserved c =
-    let ne : at_in c.args.e.now c.loop-place.place ≢ 0 = grind (arith, common_steps) in
-    let within : c.loop-place.place ≤ length (waits_of c.args.e.now) = c.loop-place.invariant in
-    elim (cases_lt c.loop-place.place (length (waits_of c.args.e.now))) [
+pub loop-k-preserved : goal.loop-k-preserved
+loop-k-preserved c =
+    let ne : at_in c.args.e.now c.loop-k.k ≢ 0 = grind (arith, common_steps) in
+    let within : c.loop-k.k ≤ length (waits_of c.args.e.now) = c.loop-k.invariant in
+    elim (cases_lt c.loop-k.k (length (waits_of c.args.e.now))) [
       | inl lt ↦ omega arith
       | inr ge ↦
-          let is : c.loop-place.place ≡ length (waits_of c.args.e.now) = omega arith in
+          let is : c.loop-k.k ≡ length (waits_of c.args.e.now) = omega arith in
           absurd (ne (ap (at_in c.args.e.now) is ∙ (read_as c.args.e.now).end (omega arith)))
     ]
 
 pub returns-clause-count : goal.returns-clause-count
 returns-clause-count c =
     let nine : length (waits_of c.args.e.now) ≤ 9 = (read_as c.args.e.now).short in
-    let within : c.loop-place.place ≤ length (waits_of c.args.e.now) = c.loop-place.invariant in
+    let within : c.loop-k.k ≤ length (waits_of c.args.e.now) = c.loop-k.invariant in
     omega arith

@@ -1,5 +1,6 @@
 use Rattle.std.proofs.Common.{◌≡◌, ◌≢◌, ◌≤◌, ◌+◌, ◌∙◌, length, sym, arith}
 use Rattle.std.proofs.lemmas.Grind.{common_steps}
+use Rattle.agc_word.specs.Layout as layout
 use Rattle.agc_wait.specs.Table.{waits_of, at_in}
 use Rattle.agc_wait.proofs.Tables.{Carries-lawful}
 use Rattle.agc_wait.proofs.Writes.{after_set}
@@ -71,7 +72,7 @@ puts c =
     record {
       by_task = c.put_task.ensures.put;
       by_gap = c.put_gap.ensures.put;
-      by_lead = after_set _ _ (90 + c.spot_for-spot.result.place) _ _ c.set.ensures.value c.word_before.ensures c.set.ensures.all (omega arith);
+      by_lead = after_set _ _ (layout.time3 + c.spot_for-spot.result.place) _ _ c.set.ensures.value c.word_before.ensures c.set.ensures.all (omega arith);
     }
 
 pub returns : goal.returns
