@@ -46,13 +46,13 @@ pub(crate) fn spot_for(e: &Erasable, distance: u16) -> Spot
 
 /// How many tasks wait, of which at least so many are known to.
 pub(crate) fn count_tasks(e: &Erasable, known: usize) -> usize
-    requires lawful { IsLawfulTable e.now }
-    requires known { known ≤ length (waits_of e.now) }
-    ensures { result ≡ length (waits_of e.now) }
+    requires { known ≤ length (waits_of e.now) }
+    ensures count { result ≡ length (waits_of e.now) }
+    ensures nine { result ≤ 9 }
 {
-    for place in known..TASKS {
-        if e.get(LST2 + 2 * place).bits() == 0 {
-            return place;
+    for k in known..TASKS {
+        if e.get(LST2 + 2 * k).bits() == 0 {
+            return k;
         }
     }
     TASKS
