@@ -13,7 +13,7 @@ use Rattle.agc_exec.proofs.Swaps.{Fits, IsLawful-set, slots_of-written}
 use Rattle.agc_exec.proofs.Bests.{place_of_number, running_in-awake}
 
 -- what is known of the least unused number
-least_unused-fits : (from : ℕ) (slots : List (Option Job)) (n : ℕ) → least_unused from slots ≡ Some n → (from ≤ n) × (n < from + length slots) × (slice_index_or slots (n - from) None ≡ None)
+pub least_unused-fits : (from : ℕ) (slots : List (Option Job)) (n : ℕ) → least_unused from slots ≡ Some n → (from ≤ n) × (n < from + length slots) × (slice_index_or slots (n - from) None ≡ None)
 least_unused-fits from [] n e = absurd (cc)
 least_unused-fits from (None ∷ slots) n e =
     let same : from ≡ n = cc in
@@ -46,12 +46,12 @@ pub written-lawful : (sets : List (Option Held)) (k : ℕ) (r : Held) → IsLawf
 written-lawful sets k r lawful e five own = IsLawful-set sets k (Some r) lawful (λ s same. let is : r ≡ s = same_Some r s same in rw (← is) (Fits-new sets k r e five own))
 
 -- the jobs and the places after the write
-written-slots : (sets : List (Option Held)) (k : ℕ) (r : Held) → k < length sets → IsFreeAt sets k → least_unused 1 (slots_of sets) ≡ Some r.number → slots_of (slice_set sets k (Some r)) ≡ with_job (slots_of sets) r.number (Some (job_of r))
+pub written-slots : (sets : List (Option Held)) (k : ℕ) (r : Held) → k < length sets → IsFreeAt sets k → least_unused 1 (slots_of sets) ≡ Some r.number → slots_of (slice_set sets k (Some r)) ≡ with_job (slots_of sets) r.number (Some (job_of r))
 written-slots sets k r lt free e =
     let (low, high, unused) = unused_number sets r.number e in
     slots_of-written sets k r lt free low unused
 
-written-entries : (sets : List (Option Held)) (k : ℕ) (r : Held) → k ≡ place_of 0 (entries_of sets) → entries_of (slice_set sets k (Some r)) ≡ with_new r.number (entries_of sets)
+pub written-entries : (sets : List (Option Held)) (k : ℕ) (r : Held) → k ≡ place_of 0 (entries_of sets) → entries_of (slice_set sets k (Some r)) ≡ with_new r.number (entries_of sets)
 written-entries sets k r e = map-set number_in sets k (Some r) ∙ ap (λ i. slice_set (entries_of sets) i r.number) e
 
 pub swap-none : (xs : List ℕ) → swap xs 0 0 ≡ xs
@@ -86,7 +86,7 @@ pub arrived-lawful : (sets : List (Option Held)) (k : ℕ) (r : Held) (job : Job
 arrived-lawful sets k r job a = written-lawful sets k r a.standing.lawful (sym a.number) a.five a.own
 
 -- somebody runs: the new job stays where it came
-Gives-busy : (sets : List (Option Held)) (k n : ℕ) (r : Held) (job : Job) → Arrives sets k r job → running_in sets ≡ Some n → let new = slice_set sets k (Some r) in let number = least_unused 1 (slots_of sets) in Gives (establish_at number job (jobs_of sets)) (placed_new (Some r.number) (running_in new) (entries_of sets)) new (Established r.number)
+pub Gives-busy : (sets : List (Option Held)) (k n : ℕ) (r : Held) (job : Job) → Arrives sets k r job → running_in sets ≡ Some n → let new = slice_set sets k (Some r) in let number = least_unused 1 (slots_of sets) in Gives (establish_at number job (jobs_of sets)) (placed_new (Some r.number) (running_in new) (entries_of sets)) new (Established r.number)
 Gives-busy sets k n r job a runs =
     let (s, at, awake, number) = running_in-found sets n runs in
     let apart : 0 ≢ k = λ e. let none : slice_index_or sets 0 None ≡ None = ap (λ i. slice_index_or sets i None) e ∙ a.free in let no : None ≡ Some s = sym none ∙ at in absurd (cc) in
@@ -103,7 +103,7 @@ Gives-busy sets k n r job a runs =
     }
 
 -- nobody runs: the best comes to set 0
-Gives-idle : (sets new : List (Option Held)) (k : ℕ) (r : Held) (job : Job) → Arrives sets k r job → running_in sets ≡ None → BringsBest (slice_set sets k (Some r)) new → let number = least_unused 1 (slots_of sets) in Gives (establish_at number job (jobs_of sets)) (placed_new (Some r.number) (running_in new) (entries_of sets)) new (Established r.number)
+pub Gives-idle : (sets new : List (Option Held)) (k : ℕ) (r : Held) (job : Job) → Arrives sets k r job → running_in sets ≡ None → BringsBest (slice_set sets k (Some r)) new → let number = least_unused 1 (slots_of sets) in Gives (establish_at number job (jobs_of sets)) (placed_new (Some r.number) (running_in new) (entries_of sets)) new (Established r.number)
 Gives-idle sets new k r job a idle brings =
     let written : slots_of (slice_set sets k (Some r)) ≡ with_job (slots_of sets) r.number (Some (job_of r)) = written-slots sets k r a.within a.free (sym a.number) in
     let slots : slots_of new ≡ with_job (slots_of sets) r.number (Some (job_of r)) = brings.slots ∙ written in

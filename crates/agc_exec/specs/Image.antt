@@ -1,18 +1,25 @@
--- The core sets, use words and NEWJOB as words.
-use Rattle.std.specs.Prelude.{◌≡◌, ℕ, ◌+◌, ◌-◌, ◌*◌, ◌/◌, ◌%◌, ◌<◌, ◌≤◌, ◌==◌, nat_lt, Bool, true, false, if◌then◌else◌, List, [], ◌∷◌, Option, Some, None, map, length, slice_index, slice_index_or}
+-- The core sets, use words and NEWJOB, read from the words, and when these are lawful.
+use Rattle.std.specs.Prelude.{◌≡◌, ℕ, ◌+◌, ◌*◌, ◌/◌, ◌%◌, ◌<◌, ◌≤◌, ◌==◌, nat_lt, Bool, true, false, if◌then◌else◌, List, [], ◌∷◌, Option, Some, None, map, length, slice_index, slice_index_or}
+use Rattle.agc_word.specs.Layout as layout
+use Rattle.agc_word.specs.Layout.{IsSized, use_place, set_size, address_of, area_of}
+use Rattle.agc_word.specs.Words.{complement}
 use Rattle.agc_plan.specs.Jobs.{Jobs, Job, Ready, best_from, is_owned}
 use Rattle.agc_plan.specs.Places.{place_of}
 use Rattle.agc_exec.specs.Held.{Held}
-use Rattle.agc_exec.specs.Blocks.{IsSized, blocks_of}
-use Rattle.agc_exec.specs.Sets.{slots_of, entries_of, jobs_of, IsStanding}
+use Rattle.agc_exec.specs.Blocks.{blocks_of}
+use Rattle.agc_exec.specs.Sets.{slots_of, entries_of, jobs_of, running_in, IsStanding}
 
--- the address of an area, 0 for none
-abbrev pub address_of : ℕ → ℕ
-address_of area = if area == 0 then 0 else (148 + 44 * area)
+-- minus zero: 77777 octal
+abbrev pub minus_zero : ℕ
+minus_zero = 32767
 
--- the area at an address
-abbrev pub area_of : ℕ → ℕ
-area_of address = if address == 0 then 0 else ((address - 148) / 44)
+-- the first word whose sign is set: 40000 octal
+abbrev pub sign : ℕ
+sign = 16384
+
+-- bit 10, the lowest of PRIORITY's priority: 01000 octal
+abbrev pub priority_unit : ℕ
+priority_unit = 512
 
 -- the job of a set, of which the PRIORITY word, with its sign taken off, is this
 abbrev pub record_of : List ℕ → ℕ → Bool → Held
@@ -20,18 +27,18 @@ record_of block priority asleep = record {
   number = slice_index block 0;
   at = slice_index block 8;
   bank = slice_index block 9;
-  priority = priority / 512;
+  priority = priority / priority_unit;
   asleep = asleep;
-  area = area_of (priority % 512);
+  area = area_of (priority % priority_unit);
   work = slice_index block 1 ∷ slice_index block 2 ∷ slice_index block 3 ∷ slice_index block 4 ∷ slice_index block 5 ∷ slice_index block 6 ∷ [];
 }
 
 -- a set with this PRIORITY word: free where it is minus zero, awake where it is positive, else asleep
 abbrev pub held_by : List ℕ → ℕ → Option Held
 held_by block priority =
-    if priority == 32767 then None
-    else if nat_lt priority 16384 then Some (record_of block priority false)
-    else Some (record_of block (32767 - priority) true)
+    if priority == minus_zero then None
+    else if nat_lt priority sign then Some (record_of block priority false)
+    else Some (record_of block (complement priority) true)
 
 -- what the twelve words of a set hold
 unfoldable pub held_of : List ℕ → Option Held
@@ -43,11 +50,11 @@ sets_of words = map held_of (blocks_of words)
 
 -- priority in bits 14 to 10, the area's address in bits 9 to 1
 abbrev pub urgency_word : ℕ → ℕ → ℕ
-urgency_word priority area = 512 * priority + address_of area
+urgency_word priority area = priority_unit * priority + address_of area
 
 -- the PRIORITY word of a job: complemented where it sleeps
 abbrev pub priority_word : ℕ → ℕ → Bool → ℕ
-priority_word priority area asleep = if asleep then 32767 - urgency_word priority area else urgency_word priority area
+priority_word priority area asleep = if asleep then complement (urgency_word priority area) else urgency_word priority area
 
 -- these twelve words are those of this job
 pub record IsCoded (block : List ℕ) (r : Held) : Type 0 where
@@ -87,7 +94,7 @@ use_word area slots = if is_owned area slots then 0 else address_of area
 
 -- each use word says whether its area is owned
 abbrev pub UsesAgree : List ℕ → List (Option Job) → Type 0
-UsesAgree words slots = (area : ℕ) → 1 ≤ area → area ≤ 5 → slice_index words (83 + area) ≡ use_word area slots
+UsesAgree words slots = (area : ℕ) → 1 ≤ area → area ≤ 5 → slice_index words (use_place area) ≡ use_word area slots
 
 -- the priority of the job in set 0
 abbrev pub front_priority : List (Option Held) → ℕ
@@ -97,8 +104,8 @@ front_priority (Some r ∷ sets) = r.priority
 
 -- NEWJOB with this best job: its set's name, where it is strictly more urgent than the job in set 0, else 00000
 abbrev pub newjob_for : Option Ready → List (Option Held) → ℕ
-newjob_for None sets = 32767
-newjob_for (Some first) sets = if nat_lt (front_priority sets) first.priority then 12 * place_of first.number (entries_of sets) else 0
+newjob_for None sets = minus_zero
+newjob_for (Some first) sets = if nat_lt (front_priority sets) first.priority then set_size * place_of first.number (entries_of sets) else 0
 
 -- NEWJOB: 77777 where no job is awake
 abbrev pub newjob_of : List (Option Held) → ℕ
@@ -108,7 +115,7 @@ newjob_of sets = newjob_for (best_from 1 (slots_of sets)) sets
 pub record IsLawfulWords (words : List ℕ) : Type 0 where
   pub sets : IsSet words
   pub uses : UsesAgree words (slots_of (sets_of words))
-  pub newjob : slice_index words 89 ≡ newjob_of (sets_of words)
+  pub newjob : slice_index words layout.newjob ≡ newjob_of (sets_of words)
 
 -- the plain jobs for which the words stand
 abbrev pub jobs_in : List ℕ → Jobs
@@ -118,10 +125,6 @@ jobs_in words = jobs_of (sets_of words)
 abbrev pub entries_in : List ℕ → List ℕ
 entries_in words = entries_of (sets_of words)
 
--- these sets were written into the words, and nothing else was
-pub record IsEncoded (sets : List (Option Held)) (old new : List ℕ) : Type 0 where
-  pub lawful : IsLawfulWords new
-  pub sets_is : sets_of new ≡ sets
-  pub tidy : IsTidy new
-  pub others : (i : ℕ) → 90 ≤ i → slice_index new i ≡ slice_index old i
-  pub same_length : length new ≡ length old
+-- the number of the running job
+abbrev pub runner_in : List ℕ → Option ℕ
+runner_in words = running_in (sets_of words)

@@ -3,3 +3,5 @@ pub mod Sets
 pub mod Best
 pub mod Blocks
 pub mod Image
+pub mod Calls
+pub mod Stages

@@ -2,14 +2,17 @@
 //! EXECUTIVE section.
 #![tactic(auto)]
 
-mod cores;
-mod image;
+mod blocks;
+mod emptied;
+mod exec;
+mod front;
+mod more;
 mod record;
-mod search;
+mod rousing;
 mod sets;
-#[cfg(test)]
-mod slow;
-#[cfg(test)]
-mod tests;
 
-pub use cores::Cores;
+pub use emptied::clear;
+pub use exec::{change_job, end_of_job, novac, running};
+pub use front::{job_sleep, prio_change, store};
+pub use more::findvac;
+pub use rousing::job_wake;

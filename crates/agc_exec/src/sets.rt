@@ -1,164 +1,137 @@
-// What each request does to the core sets.
-ghost use Rattle.std.specs.Prelude.{◌≡◌, false, ◌<◌, ◌≤◌, length};
+// Searches in, and changes of, the core sets.
+ghost use Rattle.std.specs.Prelude.{◌≡◌, ◌+◌, ◌<◌, ◌≤◌, ℕ, true, false, IsTrue, IsSome, IsNone, IfSome, length, is_some, swap, slice_set, slice_index_or, None, Some, option_map};
+ghost use Rattle.agc_word.specs.Layout.{area_of, address_of, IsSized, sets_in, OutsideSets, Keeps};
+ghost use Rattle.agc_exec.specs.Calls.{fronted_blocks};
+ghost use Rattle.agc_exec.specs.Stages.{IsHeldAt};
 ghost use Rattle.agc_plan.specs.Jobs as plain;
-ghost use Rattle.agc_plan.specs.Jobs.{least_unused, establish_at, new_job, established};
-ghost use Rattle.agc_plan.specs.Places.{placed_new, placed_end, fronted};
-ghost use Rattle.agc_exec.specs.Sets.{slots_of, entries_of, running_in, IsLawful, BringsBest, IsStanding, Gives, IsUnowned, jobs_of, Holds, GivesWay, TakesOver};
+ghost use Rattle.agc_plan.specs.Jobs.{least_unused, best, establish_at, new_job, established};
+ghost use Rattle.agc_plan.specs.Places.{place_of, placed_new, placed_end, fronted, with_new};
+ghost use Rattle.agc_exec.specs.Best.{better_of};
+ghost use Rattle.agc_exec.specs.Blocks.{blocks_of};
+ghost use Rattle.agc_exec.specs.Image.{held_of, sets_of, IsSet, Each, IsLawfulBlock, newjob_of};
+ghost use Rattle.agc_exec.specs.Sets.{job_numbered, slots_of, entries_of, IsFreeAt, running_in, IsLawful, BestBelow, BringsBest, IsStanding, Gives, IsUnowned, jobs_of, Holds, owned_in};
 
-use crate::record::Record;
-use crate::search::{best_set, current, free_number, free_set, running, sleeper};
-use agc_plan::{Address, Alarm, Entry, JobNo, Place, Priority, Reply};
-use agc_word::Word;
+use crate::blocks::exchange;
+use crate::record::{Record, better, held};
+use agc_plan::JobNo;
+use agc_word::Erasable;
+use agc_word::layout::set_place;
+
+/// The job's number that a word is.
+pub fn job_no(number: u16) -> JobNo
+    requires { (1 ≤ number) × (number ≤ 7) }
+    ensures { result ≡ number }
+{
+    match JobNo::new(number as u8) {
+        Some(number) => number,
+        None => unreachable!(),
+    }
+}
+
+/// The number of the job in a set.
+pub fn number_in_set(e: &Erasable, k: usize) -> JobNo
+    requires set { IsSet e.now }
+    requires held { IsHeldAt (sets_of e.now) k }
+    ensures { Some result ≡ option_map (λ r. r.number) (slice_index_or (sets_of e.now) k None) }
+{
+    let _all = e.sets();
+    job_no(e.get(set_place(k)).bits())
+}
+
+/// The best job, with its core set.
+pub fn best_set(e: &Erasable) -> Option<(usize, Record)>
+    requires { IsSized e.now }
+    ensures { BestBelow (sets_of e.now) (length (sets_of e.now)) result }
+{
+    let mut best: Option<(usize, Record)> = None;
+    for k in 0..e.sets() {
+        best = better(best, k, held(e, k));
+    }
+    best
+}
+
+/// The least free core set, of which there is one where a number is unused.
+pub fn free_set(e: &Erasable) -> usize
+    requires sized { IsSized e.now }
+    requires lawful { IsLawful (sets_of e.now) }
+    requires room { IsSome (least_unused 1 (slots_of (sets_of e.now))) }
+    ensures free { (result < length (sets_of e.now)) × IsFreeAt (sets_of e.now) result }
+    ensures first { result ≡ place_of 0 (entries_of (sets_of e.now)) }
+{
+    for k in 0..e.sets() {
+        match held(e, k) {
+            None => return k,
+            Some(_) => {}
+        }
+    }
+    unreachable!()
+}
+
+pub fn has_number(e: &Erasable, number: u16) -> bool
+    requires { IsSized e.now }
+    ensures { result ≡ is_some (job_numbered (sets_of e.now) number) }
+{
+    for k in 0..e.sets() {
+        match held(e, k) {
+            None => {}
+            Some(record) => if record.number() == number {
+                return true;
+            },
+        }
+    }
+    false
+}
+
+/// The least number that no job has.
+pub fn free_number(e: &Erasable) -> Option<JobNo>
+    requires { IsSized e.now }
+    ensures { result ≡ least_unused 1 (slots_of (sets_of e.now)) }
+{
+    for n in 0..e.sets() {
+        if !has_number(e, n as u16 + 1) {
+            return Some(job_no(n as u16 + 1));
+        }
+    }
+    None
+}
+
+/// The running job.
+pub fn current(e: &Erasable) -> Option<Record>
+    requires { IsSized e.now }
+    ensures none { IsNone result → running_in (sets_of e.now) ≡ None }
+    ensures some { IfSome result (λ r. Holds (sets_of e.now) 0 r × (r.asleep ≡ false)) }
+{
+    match held(e, 0) {
+        None => None,
+        Some(record) => if record.is_asleep() {
+            None
+        } else {
+            Some(record)
+        },
+    }
+}
+
+/// The number of the job in set 0, if it is awake.
+pub(crate) fn runner(e: &Erasable) -> Option<JobNo>
+    requires { IsSet e.now }
+    ensures { result ≡ running_in (sets_of e.now) }
+{
+    match current(e) {
+        None => None,
+        Some(_) => Some(number_in_set(e, 0)),
+    }
+}
 
 /// Exchanges the best job into set 0.
-pub(crate) fn bring_best(sets: &mut [Option<Record>])
-    requires { IsLawful sets.old }
-    ensures { BringsBest sets.old sets.new }
+pub fn bring_best(e: &mut Erasable)
+    requires sized { IsSized e.old }
+    requires lawful { IsLawful (sets_of e.old) }
+    ensures brings { BringsBest (sets_of e.old) (sets_of e.new) }
+    ensures blocks { blocks_of e.new ≡ fronted_blocks (best (slots_of (sets_of e.old))) (entries_of (sets_of e.old)) (blocks_of e.old) }
+    ensures others { Keeps OutsideSets e.old e.new }
 {
-    match best_set(sets) {
-        Some((k, _)) => sets.swap(0, k),
+    match best_set(e) {
+        Some((k, _)) => exchange(e, k),
         None => {}
-    }
-}
-
-/// Taking over: where nobody ran, the best job takes set 0.
-fn take_over(sets: &mut [Option<Record>], runner: Option<JobNo>)
-    requires { IsLawful sets.old }
-    ensures { TakesOver runner sets.old sets.new }
-{
-    match runner {
-        None => bring_best(sets),
-        Some(_) => {}
-    }
-}
-
-/// One more job, if there is room.
-pub(crate) fn establish(
-    sets: &mut [Option<Record>],
-    priority: Priority,
-    entry: Entry,
-    area: u8,
-) -> Reply
-    requires standing { IsStanding sets.old }
-    requires seven { length sets.old ≡ 7 }
-    requires five { area ≤ 5 }
-    requires own { 0 < area → IsUnowned sets.old area }
-    ensures { Gives (establish_at (least_unused 1 (slots_of sets.old)) (new_job priority entry area) (jobs_of sets.old)) (placed_new (established result) (running_in sets.new) (entries_of sets.old)) sets.new result }
-{
-    match free_number(sets) {
-        None => Reply::Alarmed(Alarm::A1202),
-        Some(number) => {
-            let k = free_set(sets);
-            let runner = running(sets);
-            sets[k] = Some(Record::new(number, priority, entry, area));
-            take_over(sets, runner);
-            Reply::Established(number)
-        }
-    }
-}
-
-/// Removes the running job.
-pub(crate) fn end_of_job(sets: &mut [Option<Record>]) -> Reply
-    requires { IsStanding sets.old }
-    ensures { Gives (plain.end_of_job (jobs_of sets.old)) (placed_end (running_in sets.old) (running_in sets.new) (entries_of sets.old)) sets.new result }
-{
-    match current(sets) {
-        None => Reply::NoJob,
-        Some(_) => {
-            sets[0] = None;
-            bring_best(sets);
-            Reply::Left(running(sets))
-        }
-    }
-}
-
-/// Puts the running job to sleep.
-pub(crate) fn sleep(sets: &mut [Option<Record>], at: Address) -> Reply
-    requires { IsStanding sets.old }
-    ensures { Gives (plain.sleep at (jobs_of sets.old)) (fronted (running_in sets.new) (entries_of sets.old)) sets.new result }
-{
-    match current(sets) {
-        None => Reply::NoJob,
-        Some(job) => {
-            sets[0] = Some(job.sleeping_at(at));
-            bring_best(sets);
-            Reply::Left(running(sets))
-        }
-    }
-}
-
-/// Lets the best job run where it is strictly more urgent than the running one. Answers who runs.
-fn give_way(sets: &mut [Option<Record>], job: Record) -> JobNo
-    requires standing { IsStanding sets.old }
-    requires runs { Holds sets.old 0 job × (job.asleep ≡ false) }
-    ensures { GivesWay job.number sets.old sets.new result }
-{
-    match best_set(sets) {
-        None => job.number(),
-        Some((k, first)) => {
-            let number = first.number();
-            if first.is_more_urgent(&job) {
-                sets.swap(0, k);
-                number
-            } else {
-                job.number()
-            }
-        }
-    }
-}
-
-/// Changes to a strictly more urgent job.
-pub(crate) fn change(sets: &mut [Option<Record>]) -> Reply
-    requires { IsStanding sets.old }
-    ensures { Gives (plain.change (jobs_of sets.old)) (fronted (running_in sets.new) (entries_of sets.old)) sets.new result }
-{
-    match current(sets) {
-        None => Reply::NoJob,
-        Some(job) => Reply::Runs(give_way(sets, job)),
-    }
-}
-
-/// Sets the running job's priority.
-pub(crate) fn prio(sets: &mut [Option<Record>], priority: Priority) -> Reply
-    requires { IsStanding sets.old }
-    ensures { Gives (plain.prio priority (jobs_of sets.old)) (fronted (running_in sets.new) (entries_of sets.old)) sets.new result }
-{
-    match current(sets) {
-        None => Reply::NoJob,
-        Some(job) => {
-            sets[0] = Some(job.with_priority(priority));
-            change(sets)
-        }
-    }
-}
-
-/// Sets a work word of the running job.
-pub(crate) fn store(sets: &mut [Option<Record>], place: Place, word: Word) -> Reply
-    requires { IsStanding sets.old }
-    ensures { Gives (plain.store place word (jobs_of sets.old)) (entries_of sets.old) sets.new result }
-{
-    match current(sets) {
-        None => Reply::NoJob,
-        Some(job) => {
-            sets[0] = Some(job.with_word(place, word));
-            Reply::Stored
-        }
-    }
-}
-
-/// Wakes the least-numbered sleeper of this address.
-pub(crate) fn rouse(sets: &mut [Option<Record>], at: Address) -> Reply
-    requires { IsStanding sets.old }
-    ensures { Gives (plain.rouse at (jobs_of sets.old)) (fronted (running_in sets.new) (entries_of sets.old)) sets.new result }
-{
-    match sleeper(sets, at) {
-        None => Reply::NoSleeper,
-        Some((k, job)) => {
-            let runner = running(sets);
-            let woken = job.woken();
-            sets[k] = Some(woken);
-            take_over(sets, runner);
-            Reply::Roused(woken.number())
-        }
     }
 }

@@ -1,5 +1,5 @@
 -- Where each table stands in the erasable words.
-use Rattle.std.specs.Prelude.{◌≡◌, ◌⊎◌, ℕ, ◌+◌, ◌-◌, ◌*◌, ◌/◌, ◌<◌, ◌≤◌, List, length, slice_index}
+use Rattle.std.specs.Prelude.{◌≡◌, ◌⊎◌, ℕ, ◌+◌, ◌-◌, ◌*◌, ◌/◌, ◌<◌, ◌≤◌, ◌==◌, if◌then◌else◌, List, length, slice_index}
 
 -- how many words a core set has
 abbrev pub set_size : ℕ
@@ -53,9 +53,37 @@ sets_in words = (length words - others_size) / set_size
 abbrev pub set_place : ℕ → ℕ
 set_place k = set_size * k + (last_set - use_words) * (k / 7)
 
+-- the place of the use word of an area, from 1
+abbrev pub use_place : ℕ → ℕ
+use_place area = use_words + (area - 1)
+
+-- the address of VAC area 1: 0300 octal
+abbrev pub first_area : ℕ
+first_area = 192
+
+-- how far an area is from the next: 054 octal
+abbrev pub area_size : ℕ
+area_size = 44
+
+-- the address of an area, 0 for none
+abbrev pub address_of : ℕ → ℕ
+address_of area = if area == 0 then 0 else (first_area + area_size * (area - 1))
+
+-- the area at an address, 0 for none
+abbrev pub area_of : ℕ → ℕ
+area_of address = if address == 0 then 0 else ((address - first_area) / area_size + 1)
+
+-- a place of no core set
+abbrev pub OutsideSets : ℕ → Type 0
+OutsideSets place = (use_words ≤ place) × (place < last_set)
+
 -- a place of the Waitlist, or of phases and FAILREG: no core set, use word or NEWJOB
 abbrev pub OutsideCores : ℕ → Type 0
 OutsideCores place = (time3 ≤ place) × (place < last_set)
+
+-- a place of a core set, a use word or NEWJOB
+abbrev pub InsideCores : ℕ → Type 0
+InsideCores place = (place < time3) ⊎ (last_set ≤ place)
 
 -- no place of TIME3, LST1 and LST2
 abbrev pub OutsideWaitlist : ℕ → Type 0

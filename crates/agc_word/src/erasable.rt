@@ -1,5 +1,7 @@
 ghost use Rattle.std.specs.Prelude.{◌≡◌, ◌<◌, length, replicate, slice_index, slice_set};
+ghost use Rattle.agc_word.specs.Layout.{sets_in};
 
+use crate::layout::{OTHERS_SIZE, SET_SIZE};
 use crate::word::Word;
 use std::marker::Model;
 
@@ -28,6 +30,15 @@ impl Erasable {
         Erasable {
             words: [Word::zero(); 132],
         }
+    }
+
+    /// How many core sets the words have: seven. Source: profile.
+    pub fn sets(&self) -> usize
+        ensures count { result ≡ sets_in self.now }
+        ensures all { length self.now ≡ 132 }
+    {
+        let words = &self.words;
+        (words.len() - OTHERS_SIZE) / SET_SIZE
     }
 
     /// The word at a place, which must be below 132. Source: profile.

@@ -1,9 +1,12 @@
 //! Where each table stands in the erasable words. Source: the listings' erasable assignments; the places: profile.
 ghost use Rattle.std.specs.Prelude.{◌≡◌, ◌<◌, ◌≤◌};
-ghost use Rattle.agc_word.specs.Layout.{set_place};
+ghost use Rattle.agc_word.specs.Layout.{set_place, use_place, address_of, area_of};
 
 /// How many words a core set has: MPAC to MPAC+6, MODE, LOC, BANKSET, PUSHLOC, PRIORITY.
 pub const SET_SIZE: usize = 12;
+
+/// How many words all other tables have together. Source: profile.
+pub const OTHERS_SIZE: usize = 48;
 
 /// The first of the five use words of the VAC areas, after core sets 0 to 6.
 pub const USE_WORDS: usize = 84;
@@ -35,4 +38,37 @@ pub fn set_place(k: usize) -> usize
     ensures { result ≡ set_place k }
 {
     if k < 7 { SET_SIZE * k } else { LAST_SET }
+}
+
+/// The place of the use word of an area, 1 to 5. Source: profile.
+pub fn use_place(area: usize) -> usize
+    requires { (1 ≤ area) × (area ≤ 5) }
+    ensures { result ≡ use_place area }
+{
+    USE_WORDS + area - 1
+}
+
+/// The address of VAC area 1. Source: profile.
+pub const FIRST_AREA: u16 = 0o300;
+
+/// How far a VAC area is from the next. Source: the listings' erasable assignments.
+pub const AREA_SIZE: u16 = 0o54;
+
+/// The address of a VAC area, 1 to 5: 0300, 0354, 0430, 0504 or 0560 octal; 0 for no area. Source: profile.
+pub fn address_of(area: u16) -> u16
+    requires { area ≤ 5 }
+    ensures { result ≡ address_of area }
+{
+    if area == 0 { 0 } else { FIRST_AREA + AREA_SIZE * (area - 1) }
+}
+
+/// The VAC area at an address; 0 for address 0. Source: profile.
+pub fn area_of(address: u16) -> u16
+    ensures { result ≡ area_of address }
+{
+    if address == 0 {
+        0
+    } else {
+        address.saturating_sub(FIRST_AREA) / AREA_SIZE + 1
+    }
 }
