@@ -1,17 +1,17 @@
 -- What words that carry a list of tasks read as.
-use Rattle.std.proofs.Common.{◌≡◌, ◌≢◌, ℕ, zero, suc, ◌+◌, ◌-◌, ◌<◌, ◌≤◌, ◌==◌, cond, List, [], ◌∷◌, drop, length, slice_index, slice_set, refl, ap, sym, subst, ◌⊎◌, ◌∙◌, inl, inr, arith}
+use Rattle.std.proofs.Common.{◌≡◌, ◌≢◌, ℕ, zero, suc, ◌+◌, ◌<◌, ◌≤◌, List, [], ◌∷◌, drop, length, slice_index, refl, ap, sym, subst, ◌⊎◌, ◌∙◌, inl, inr, arith}
 use Rattle.std.specs.List.{All}
 use Rattle.std.proofs.lemmas.Bool.{cases_eq, cases_lt}
-use Rattle.std.proofs.lemmas.List.{get_or_past, drop_all, drop_more, length-set, get_or-set_same, get_or-set_other}
+use Rattle.std.proofs.lemmas.List.{get_or_past, drop_all, drop_more}
 use Rattle.std.proofs.lemmas.List.Elements.{All-get_or, All-from_get_or}
 use Rattle.std.proofs.lemmas.Grind.{common_steps}
 use Rattle.agc_plan.specs.Tasks.{Waiting}
-use Rattle.agc_wait.specs.Table.{waits_of, waits_from, time3, lst1, at_in, bank_in, distance_of, gap_of, IsLawfulTable}
-use Rattle.agc_wait.specs.Writing.{counter_at, place_in, no_task}
+use Rattle.agc_wait.specs.Table.{InTable, waits_of, waits_from, time3, lst1, at_in, bank_in, distance_of, gap_of, IsLawfulTable}
+use Rattle.agc_wait.specs.Writing.{place_in, no_task}
 
 -- the words hold these tasks, at most nine and none further than the longest delay, and all else in the table is blank
 pub record Carries (words : List ℕ) (waits : List Waiting) : Type 0 where
-  pub word : (i : ℕ) → 90 ≤ i → i ≤ 116 → slice_index words i < 32768
+  pub word : (i : ℕ) → InTable i → slice_index words i < 32768
   pub nine : length waits ≤ 9
   pub at : (k : ℕ) → k < 9 → at_in words k ≡ (place_in waits k).task.at
   pub bank : (k : ℕ) → k < 9 → bank_in words k ≡ (place_in waits k).task.bank
@@ -211,40 +211,3 @@ Carries-lawful words lawful =
     first (w ∷ ws) is =
         let long : length (w ∷ ws) ≡ length (waits_of words) = ap (λ (l : List Waiting). length l) is in
         sym ((reads-all words).first (omega arith))
-
-pub distance_of-counter_at : (d : ℕ) → d ≤ 16250 → distance_of (counter_at d) ≡ d
-distance_of-counter_at d le = elim (cases_eq d 0) [
-  | inl e ↦ rw e refl
-  | inr ne ↦
-      let c : counter_at d ≡ 16384 - d = grind (arith, common_steps) in
-      let far : counter_at d ≢ 0 = λ e. omega arith in
-      let open_up : distance_of (counter_at d) ≡ 16384 - counter_at d = grind (arith, common_steps) in
-      omega arith
-]
-
--- a word after a write
-pub get-set : (words : List ℕ) (i v : ℕ) → i < length (slice_set words i v) → (j : ℕ) → slice_index (slice_set words i v) j ≡ cond (j == i) v (slice_index words j)
-get-set words i v lt j =
-    let len : length (slice_set words i v) ≡ length words = length-set words i v in
-    let within : i < length words = omega arith in
-    elim (cases_eq j i) [
-      | inl e ↦
-          let same : slice_index (slice_set words i v) i ≡ v = get_or-set_same words i v 0 within in
-          rw e (same ∙ grind (arith, common_steps))
-      | inr ne ↦
-          let other : slice_index (slice_set words i v) j ≡ slice_index words j = get_or-set_other words i j v 0 ne in
-          other ∙ grind (arith, common_steps)
-    ]
-
-pub other_word : (j i v w : ℕ) → j ≢ i → cond (j == i) v w ≡ w
-other_word j i v w ne = grind (arith, common_steps)
-
-pub same_word : (j i v w : ℕ) → j ≡ i → cond (j == i) v w ≡ v
-same_word j i v w e = grind (arith, common_steps)
-
--- the same in the form of a call's clauses
-pub after_set : (words new : List ℕ) (i w v : ℕ) → new ≡ slice_set words i w → w ≡ v → length new ≡ 132 → i < 132 → (j : ℕ) → slice_index new j ≡ cond (j == i) v (slice_index words j)
-after_set words new i w v e is len lt j =
-    let e2 : new ≡ slice_set words i v = e ∙ ap (slice_set words i) is in
-    let n : length new ≡ length (slice_set words i v) = ap length e2 in
-    ap (λ l. slice_index l j) e2 ∙ get-set words i v (omega arith) j

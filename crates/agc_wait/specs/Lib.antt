@@ -1,4 +1,6 @@
 pub mod Waits
 pub mod Table
 pub mod Writing
+pub mod Calls
+pub mod Moving
 pub mod Runs

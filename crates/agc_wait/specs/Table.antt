@@ -1,23 +1,24 @@
--- How the words of the Waitlist are read: TIME3 at place 90, LST1 at 91 to 98, the nine pairs of LST2 at 99 to 116.
+-- How the words of the Waitlist are read: TIME3, the eight gaps of LST1, and the nine pairs of LST2.
 use Rattle.std.specs.Prelude.{◌≡◌, ◌⊎◌, ℕ, zero, suc, ◌+◌, ◌-◌, ◌*◌, ◌<◌, ◌≤◌, ◌==◌, nat_lt, if◌then◌else◌, List, [], ◌∷◌, length, slice_index}
 use Rattle.std.specs.List.{All}
+use Rattle.agc_word.specs.Layout as layout
 use Rattle.agc_plan.specs.Tasks.{Waiting, Agenda, StandsFor}
 
 -- the counter
 abbrev pub time3 : List ℕ → ℕ
-time3 words = slice_index words 90
+time3 words = slice_index words layout.time3
 
 -- LST1 word k, from 0
 abbrev pub lst1 : List ℕ → ℕ → ℕ
-lst1 words k = slice_index words (91 + k)
+lst1 words k = slice_index words (layout.lst1 + k)
 
 -- the address in place k of LST2
 abbrev pub at_in : List ℕ → ℕ → ℕ
-at_in words k = slice_index words (99 + 2 * k)
+at_in words k = slice_index words (layout.lst2 + 2 * k)
 
 -- the bank word in place k of LST2
 abbrev pub bank_in : List ℕ → ℕ → ℕ
-bank_in words k = slice_index words (100 + 2 * k)
+bank_in words k = slice_index words (layout.lst2 + 1 + 2 * k)
 
 -- how far the first task is, by TIME3
 abbrev pub distance_of : ℕ → ℕ
@@ -32,30 +33,35 @@ abbrev pub waits_from : ℕ → ℕ → ℕ → List ℕ → List Waiting
 waits_from zero k distance words = []
 waits_from (suc left) k distance words =
     if at_in words k == 0 then []
-    else (record { task = record { at = at_in words k; bank = bank_in words k }; distance = distance } ∷ waits_from left (k + 1) (distance + gap_of (lst1 words k)) words)
+    else (record { task = record { at = at_in words k; bank = bank_in words k }; distance = distance }
+    ∷ waits_from left (k + 1) (distance + gap_of (lst1 words k)) words)
 
--- the tasks that are read from the words, up to the first empty place
+-- the tasks that are read from the words, up to the first empty place: which places are occupied is read from LST2 alone
 unfoldable pub waits_of : List ℕ → List Waiting
 waits_of words = waits_from 9 0 (distance_of (time3 words)) words
 
+-- a place of the table
+abbrev pub InTable : ℕ → Type 0
+InTable i = (layout.time3 ≤ i) × (i < layout.phase_words)
+
+-- the word of LST1 where no gap is
+abbrev pub blank_gap : ℕ
+blank_gap = 0o57777
+
 -- the table is in order: no word has more than fifteen bits, what is read is within its range, and all else is blank
 pub record IsLawfulTable (words : List ℕ) : Type 0 where
-  pub word : (i : ℕ) → 90 ≤ i → i ≤ 116 → slice_index words i < 32768
+  pub word : (i : ℕ) → InTable i → slice_index words i < 32768
   pub counter : time3 words < 16384
   pub idle : waits_of words ≡ [] → time3 words ≡ 0
   pub near : All (λ w. w.distance ≤ 16250) (waits_of words)
   pub address : (k : ℕ) → k < 9 → at_in words k < 16384
   pub gap : (k : ℕ) → k + 1 < length (waits_of words) → (lst1 words k ≤ 1) ⊎ (16384 ≤ lst1 words k)
-  pub no_gap : (k : ℕ) → length (waits_of words) ≤ k + 1 → k < 8 → lst1 words k ≡ 24575
+  pub no_gap : (k : ℕ) → length (waits_of words) ≤ k + 1 → k < 8 → lst1 words k ≡ blank_gap
   pub no_task : (k : ℕ) → length (waits_of words) ≤ k → k < 9 → (at_in words k ≡ 0) × (bank_in words k ≡ 0)
-
--- outside the table, nothing changed
-abbrev pub SameOutside : List ℕ → List ℕ → Type 0
-SameOutside old new = (i : ℕ) → (i < 90) ⊎ (116 < i) → slice_index new i ≡ slice_index old i
 
 -- no gap is written as minus zero
 abbrev pub IsTidy : List ℕ → Type 0
-IsTidy words = (k : ℕ) → k < 8 → (lst1 words k ≡ 32767) → ⊥
+IsTidy words = (k : ℕ) → k < 8 → (lst1 words k ≡ 0o77777) → ⊥
 
 -- the table is in order and tidy, and its tasks stand for this agenda
 pub record Shows (words : List ℕ) (agenda : Agenda) : Type 0 where
@@ -65,4 +71,4 @@ pub record Shows (words : List ℕ) (agenda : Agenda) : Type 0 where
 
 -- in the table, the same words
 abbrev pub SameTable : List ℕ → List ℕ → Type 0
-SameTable these those = (i : ℕ) → 90 ≤ i → i ≤ 116 → slice_index these i ≡ slice_index those i
+SameTable these those = (i : ℕ) → InTable i → slice_index these i ≡ slice_index those i

@@ -1,12 +1,11 @@
-//! The Waitlist: at most nine tasks, each with its distance from now, and the words TIME3, LST1 and LST2 that show them.
+//! The Waitlist: at most nine tasks, in the words TIME3, LST1 and LST2 of the erasable memory.
 #![tactic(auto)]
 
-mod encode;
+mod coding;
 mod laws;
-mod record;
-#[cfg(test)]
-mod tests;
-mod waits;
+mod moving;
+mod spot;
+mod table;
 
 pub use laws::{earliest_arrival_is_first_in_order, one_table_of_an_agenda, tasks_fire_when_due};
-pub use waits::{Full, Waits};
+pub use table::{Full, clear, count_time3, dispatch, due, list};

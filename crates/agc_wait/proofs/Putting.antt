@@ -1,0 +1,357 @@
+-- The words after a task is put in.
+use Rattle.std.proofs.Common.{◌≡◌, ◌≢◌, ◌⊎◌, ℕ, ◌+◌, ◌-◌, ◌*◌, ◌<◌, ◌≤◌, ◌==◌, nat_lt, Bool, true, false, cond, List, length, slice_index, refl, ap, sym, subst, ◌∙◌, inl, inr, arith}
+use Rattle.std.specs.List.{insert}
+use Rattle.std.proofs.lemmas.Bool.{cases_eq, cases_lt}
+use Rattle.std.proofs.lemmas.List.Edits.{length-insert, get_or-insert_below, get_or-insert_at, get_or-insert_above}
+use Rattle.std.proofs.lemmas.Grind.{common_steps}
+use Rattle.agc_word.specs.Layout.{OutsideWaitlist}
+use Rattle.agc_plan.specs.declared.request.Task.{Task}
+use Rattle.agc_plan.specs.Tasks.{Waiting}
+use Rattle.agc_wait.specs.Waits.{place_for}
+use Rattle.agc_wait.specs.Table.{IsLawfulTable, IsTidy, waits_of, time3, at_in, bank_in, lst1, gap_of, distance_of}
+use Rattle.agc_wait.specs.Writing.{place_in, distance_in, no_task, gap_word, gap_to_next, counter_at, IsPut}
+use Rattle.agc_wait.specs.Moving.{IsSpot, moved_down, task_put, gap_put}
+use Rattle.agc_wait.proofs.Gaps.{gap_of-gap_word, gap_word-legal, gap_word-tidy, gap_word-word, counter_at-low, distance_of-counter_at}
+use Rattle.agc_wait.proofs.Places.{at_each_place}
+use Rattle.agc_wait.proofs.Tables.{Carries, Carries-lawful}
+use Rattle.agc_wait.proofs.Writes.{other_word, same_word, moved_down-in, moved_down-below, moved_down-above}
+use Rattle.agc_wait.proofs.Spots.{place_for-passed, place_for-next, place_for-within}
+
+gap_put-then : (words : List ℕ) (p n word j : ℕ) → p < n → gap_put words p n word j ≡ cond (j == 91 + p) word (moved_down words (91 + p) (91 + n - 1) 1 j)
+gap_put-then words p n word j lt = pick (nat_lt p n) _ _ (grind (arith, common_steps))
+  where
+    pick : (b : Bool) (x y : ℕ) → b ≡ true → cond b x y ≡ x
+    pick b x y e = rw e refl
+
+gap_put-else : (words : List ℕ) (p n word j : ℕ) → n ≤ p → gap_put words p n word j ≡ slice_index words j
+gap_put-else words p n word j le = pass (nat_lt p n) _ _ (grind (arith, common_steps))
+  where
+    pass : (b : Bool) (x y : ℕ) → b ≡ false → cond b x y ≡ y
+    pass b x y e = rw e refl
+
+gap_to_next-is : (words : List ℕ) (p d : ℕ) → p < length (waits_of words) → gap_to_next words p d ≡ gap_word (distance_in words p - d)
+gap_to_next-is words p d lt = pick (nat_lt p (length (waits_of words))) _ _ (grind (arith, common_steps))
+  where
+    pick : (b : Bool) (x y : ℕ) → b ≡ true → cond b x y ≡ x
+    pick b x y e = rw e refl
+
+gap_to_next-none : (words : List ℕ) (p d : ℕ) → length (waits_of words) ≤ p → gap_to_next words p d ≡ 24575
+gap_to_next-none words p d le = pass (nat_lt p (length (waits_of words))) _ _ (grind (arith, common_steps))
+  where
+    pass : (b : Bool) (x y : ℕ) → b ≡ false → cond b x y ≡ y
+    pass b x y e = rw e refl
+
+-- the word before place p, for a new task of distance d and one of distance b before it
+abbrev pub lead_word : ℕ → ℕ → ℕ → ℕ
+lead_word p b d = cond (p == 0) (counter_at d) (gap_word (d - b))
+
+-- the writes of a listing, one after another
+pub record Puts (old put e new : List ℕ) (task : Task) (p n d b a : ℕ) : Type 0 where
+  pub by_task : (j : ℕ) → slice_index put j ≡ task_put old p n task.at task.bank j
+  pub by_gap : (j : ℕ) → slice_index e j ≡ gap_put put p n (gap_word (a - d)) j
+  pub by_lead : (j : ℕ) → slice_index new j ≡ cond (j == 90 + p) (lead_word p b d) (slice_index e j)
+
+module _ (old put e new : List ℕ) (task : Task) (p n d b a : ℕ) (by : Puts old put e new task p n d b a) (small : p ≤ n) (room : n ≤ 8) where
+  abbrev lead : ℕ
+  lead = lead_word p b d
+
+  task_low : (j : ℕ) → j < 99 + 2 * p → slice_index put j ≡ slice_index old j
+  task_low j lt =
+      by.by_task j ∙ other_word j (100 + 2 * p) task.bank _ (λ s. omega arith) ∙ other_word j (99 + 2 * p) task.at _ (λ s. omega arith)
+      ∙ moved_down-below old (99 + 2 * p) (99 + 2 * n) 2 j (omega arith)
+
+  task_after : (j : ℕ) → 101 + 2 * p ≤ j → j < 101 + 2 * n → slice_index put j ≡ slice_index old (j - 2)
+  task_after j le lt =
+      by.by_task j ∙ other_word j (100 + 2 * p) task.bank _ (λ s. omega arith) ∙ other_word j (99 + 2 * p) task.at _ (λ s. omega arith)
+      ∙ moved_down-in old (99 + 2 * p) (99 + 2 * n) 2 j (omega arith) (omega arith)
+
+  task_past : (j : ℕ) → 101 + 2 * n ≤ j → slice_index put j ≡ slice_index old j
+  task_past j le =
+      by.by_task j ∙ other_word j (100 + 2 * p) task.bank _ (λ s. omega arith) ∙ other_word j (99 + 2 * p) task.at _ (λ s. omega arith)
+      ∙ moved_down-above old (99 + 2 * p) (99 + 2 * n) 2 j (omega arith)
+
+  gap_outside : (j : ℕ) → (j < 91 + p) ⊎ (91 + n ≤ j) → slice_index e j ≡ slice_index put j
+  gap_outside j out = elim (cases_lt p n) [
+    | inl lt ↦ by.by_gap j ∙ gap_put-then put p n _ j lt ∙ other_word j (91 + p) _ _ (apart out lt) ∙ still out lt
+    | inr le ↦ by.by_gap j ∙ gap_put-else put p n _ j le
+  ]
+    where
+      apart : (j < 91 + p) ⊎ (91 + n ≤ j) → p < n → j ≢ 91 + p
+      apart (inl low) lt s = omega arith
+      apart (inr high) lt s = omega arith
+
+      still : (j < 91 + p) ⊎ (91 + n ≤ j) → p < n → moved_down put (91 + p) (91 + n - 1) 1 j ≡ slice_index put j
+      still (inl low) lt = moved_down-below put (91 + p) (91 + n - 1) 1 j (omega arith)
+      still (inr high) lt = moved_down-above put (91 + p) (91 + n - 1) 1 j (omega arith)
+
+  pairs : (j : ℕ) → 99 ≤ j → slice_index new j ≡ slice_index put j
+  pairs j le = by.by_lead j ∙ other_word j (90 + p) lead _ (λ s. omega arith) ∙ gap_outside j (inr (omega arith))
+
+  pub put-outside : (j : ℕ) → OutsideWaitlist j → slice_index new j ≡ slice_index old j
+  put-outside j (inl lt) =
+      by.by_lead j ∙ other_word j (90 + p) lead _ (λ s. omega arith) ∙ gap_outside j (inl (omega arith)) ∙ task_low j (omega arith)
+  put-outside j (inr le) = pairs j (omega arith) ∙ task_past j (omega arith)
+
+  gap_at : p < n → lst1 new p ≡ gap_word (a - d)
+  gap_at lt =
+      by.by_lead (91 + p) ∙ other_word (91 + p) (90 + p) lead _ (λ s. omega arith) ∙ by.by_gap (91 + p) ∙ gap_put-then put p n _ (91 + p) lt ∙ same_word (91 + p) (91 + p) _ _ refl
+
+  gap_past : (k : ℕ) → p ≤ k → k + 1 < n → lst1 new (k + 1) ≡ lst1 old k
+  gap_past k le lt =
+      by.by_lead (91 + (k + 1)) ∙ other_word (91 + (k + 1)) (90 + p) lead _ (λ s. omega arith) ∙ by.by_gap (91 + (k + 1)) ∙ gap_put-then put p n _ (91 + (k + 1)) (omega arith)
+      ∙ other_word (91 + (k + 1)) (91 + p) _ _ (λ s. omega arith) ∙ moved_down-in put (91 + p) (91 + n - 1) 1 (91 + (k + 1)) (omega arith) (omega arith)
+      ∙ ap (slice_index put) (let s : 91 + (k + 1) - 1 ≡ 91 + k = omega arith in s) ∙ task_low (91 + k) (omega arith)
+
+  gap_same : (k : ℕ) → n ≤ k → k < 8 → lst1 new k ≡ lst1 old k
+  gap_same k le lt =
+      by.by_lead (91 + k) ∙ other_word (91 + k) (90 + p) lead _ (λ s. omega arith) ∙ gap_outside (91 + k) (inr (omega arith)) ∙ task_low (91 + k) (omega arith)
+
+  gap_low : (j : ℕ) → j < 90 + p → slice_index new j ≡ slice_index old j
+  gap_low j lt =
+      by.by_lead j ∙ other_word j (90 + p) lead _ (λ s. omega arith) ∙ gap_outside j (inl (omega arith)) ∙ task_low j (omega arith)
+
+  -- a word of a pair that is moved: those from place n on are 00000 before and after
+  moved : (first k : ℕ) → 99 ≤ first → first ≤ 100 → p ≤ k → k < 8 → ((i : ℕ) → n ≤ i → i < 9 → slice_index old (first + 2 * i) ≡ 0) → slice_index new (first + 2 * (k + 1)) ≡ slice_index old (first + 2 * k)
+  moved first k from to le lt none = elim (cases_lt k n) [
+    | inl less ↦
+        pairs (first + 2 * (k + 1)) (omega arith) ∙ task_after (first + 2 * (k + 1)) (omega arith) (omega arith)
+        ∙ ap (slice_index old) (let s : first + 2 * (k + 1) - 2 ≡ first + 2 * k = omega arith in s)
+    | inr more ↦
+        pairs (first + 2 * (k + 1)) (omega arith) ∙ task_past (first + 2 * (k + 1)) (omega arith) ∙ none (k + 1) (omega arith) (omega arith) ∙ sym (none k more (omega arith))
+  ]
+
+  pub put-is : IsLawfulTable old → n ≡ length (waits_of old) → IsSpot (waits_of old) d p b a → IsPut p d task old new
+  put-is lawful n_is spot = record {
+    counter = elim (cases_eq p 0) [
+      | inl is ↦
+          by.by_lead 90 ∙ same_word 90 (90 + p) lead _ (omega arith) ∙ same_word p 0 _ _ is ∙ sym (same_word p 0 _ _ is)
+      | inr not ↦ gap_low 90 (omega arith) ∙ sym (other_word p 0 _ _ not)
+    ];
+    gap_kept = λ k lt. gap_low (91 + k) (omega arith);
+    gap_before = λ k e.
+        by.by_lead (91 + k) ∙ same_word (91 + k) (90 + p) lead _ (omega arith) ∙ other_word p 0 (counter_at d) (gap_word (d - b)) (λ z. omega arith)
+        ∙ ap (λ x. gap_word (d - x)) (spot.before_is k (omega arith));
+    gap_after = λ lt. elim (cases_lt p n) [
+      | inl less ↦ gap_at less ∙ ap (λ x. gap_word (x - d)) (spot.after_is (omega arith)) ∙ sym (gap_to_next-is old p d (omega arith))
+      | inr end ↦ gap_same p end lt ∙ lawful.no_gap p (omega arith) lt ∙ sym (gap_to_next-none old p d (omega arith))
+    ];
+    gap_moved = λ k le lt. elim (cases_lt (k + 1) n) [
+      | inl less ↦ gap_past k le less
+      | inr end ↦ gap_same (k + 1) end (omega arith) ∙ lawful.no_gap (k + 1) (omega arith) (omega arith) ∙ sym (lawful.no_gap k (omega arith) (omega arith))
+    ];
+    at_kept = λ k lt. pairs (99 + 2 * k) (omega arith) ∙ task_low (99 + 2 * k) (omega arith);
+    at =
+        pairs (99 + 2 * p) (omega arith) ∙ by.by_task (99 + 2 * p) ∙ other_word (99 + 2 * p) (100 + 2 * p) task.bank _ (λ s. omega arith)
+        ∙ same_word (99 + 2 * p) (99 + 2 * p) task.at _ refl;
+    at_moved = λ k le lt. moved 99 k (omega arith) (omega arith) le lt (λ i from to. (lawful.no_task i (omega arith) to).0);
+    bank_kept = λ k lt. pairs (100 + 2 * k) (omega arith) ∙ task_low (100 + 2 * k) (omega arith);
+    bank = pairs (100 + 2 * p) (omega arith) ∙ by.by_task (100 + 2 * p) ∙ same_word (100 + 2 * p) (100 + 2 * p) task.bank _ refl;
+    bank_moved = λ k le lt. moved 100 k (omega arith) (omega arith) le lt (λ i from to. (lawful.no_task i (omega arith) to).1);
+  }
+
+-- where k stands to p
+cases_place : (k p : ℕ) → (k < p) ⊎ ((k ≡ p) ⊎ ((m : ℕ) × (p ≤ m) × (k ≡ m + 1)))
+cases_place k p = elim (cases_lt k p) [
+  | inl lt ↦ inl lt
+  | inr ge ↦ elim (cases_eq k p) [ inl e ↦ inr (inl e) | inr ne ↦ inr (inr (k - 1, omega arith, omega arith)) ]
+]
+
+module _ (old new : List ℕ) (w : Waiting) (p : ℕ) (lawful : IsLawfulTable old) (room : length (waits_of old) ≤ 8) (place : p ≡ place_for w.distance (waits_of old)) (near_w : w.distance ≤ 16250) (put : IsPut p w.distance w.task old new) where
+  carries : Carries old (waits_of old)
+  carries = Carries-lawful old lawful
+
+  within : p ≤ length (waits_of old)
+  within = let le : place_for w.distance (waits_of old) ≤ length (waits_of old) = place_for-within w.distance (waits_of old) in omega arith
+
+  below : (k : ℕ) → k < p → place_in (insert (waits_of old) p w) k ≡ place_in (waits_of old) k
+  below k lt = get_or-insert_below (waits_of old) p w no_task k lt within
+
+  here : (k : ℕ) → k ≡ p → place_in (insert (waits_of old) p w) k ≡ w
+  here k e = ap (place_in (insert (waits_of old) p w)) e ∙ get_or-insert_at (waits_of old) p w no_task within
+
+  above : (m k : ℕ) → p ≤ m → k ≡ m + 1 → place_in (insert (waits_of old) p w) k ≡ place_in (waits_of old) m
+  above m k le e = ap (place_in (insert (waits_of old) p w)) e ∙ get_or-insert_above (waits_of old) p w no_task m le within
+
+  len : length (insert (waits_of old) p w) ≡ length (waits_of old) + 1
+  len = length-insert (waits_of old) p w within
+
+  -- a fact of each task
+  each : (P : Waiting → Type 0) → P w → ((m : ℕ) → P (place_in (waits_of old) m)) → (k : ℕ) → P (place_in (insert (waits_of old) p w) k)
+  each P one all k = elim (cases_place k p) [
+    | inl lt ↦ rw (below k lt) (all k)
+    | inr (inl e) ↦ rw (here k e) one
+    | inr (inr more) ↦ rw (above more.0 k more.1 more.2) (all more.0)
+  ]
+
+  each_within : (P : Waiting → Type 0) → P w → ((m : ℕ) → m < length (waits_of old) → P (place_in (waits_of old) m)) → (k : ℕ) → k < length (insert (waits_of old) p w) → P (place_in (insert (waits_of old) p w) k)
+  each_within P one all k lt_k = elim (cases_place k p) [
+    | inl lt ↦ rw (below k lt) (all k (let i : p ≤ length (waits_of old) = within in omega arith))
+    | inr (inl e) ↦ rw (here k e) one
+    | inr (inr more) ↦ rw (above more.0 k more.1 more.2) (all more.0 (let n : length (insert (waits_of old) p w) ≡ length (waits_of old) + 1 = len in let e : k ≡ more.0 + 1 = more.2 in omega arith))
+  ]
+
+  at_is : (k : ℕ) → k < 9 → at_in new k ≡ (place_in (insert (waits_of old) p w) k).task.at
+  at_is k lt_k = elim (cases_place k p) [
+    | inl lt ↦ put.at_kept k lt ∙ carries.at k lt_k ∙ sym (ap (λ (v : Waiting). v.task.at) (below k lt))
+    | inr (inl e) ↦ ap (at_in new) e ∙ put.at ∙ sym (ap (λ (v : Waiting). v.task.at) (here k e))
+    | inr (inr more) ↦
+        let e : k ≡ more.0 + 1 = more.2 in
+        ap (at_in new) e ∙ put.at_moved more.0 more.1 (omega arith) ∙ carries.at more.0 (omega arith) ∙ sym (ap (λ (v : Waiting). v.task.at) (above more.0 k more.1 e))
+  ]
+
+  bank_is : (k : ℕ) → k < 9 → bank_in new k ≡ (place_in (insert (waits_of old) p w) k).task.bank
+  bank_is k lt_k = elim (cases_place k p) [
+    | inl lt ↦ put.bank_kept k lt ∙ carries.bank k lt_k ∙ sym (ap (λ (v : Waiting). v.task.bank) (below k lt))
+    | inr (inl e) ↦ ap (bank_in new) e ∙ put.bank ∙ sym (ap (λ (v : Waiting). v.task.bank) (here k e))
+    | inr (inr more) ↦
+        let e : k ≡ more.0 + 1 = more.2 in
+        ap (bank_in new) e ∙ put.bank_moved more.0 more.1 (omega arith) ∙ carries.bank more.0 (omega arith) ∙ sym (ap (λ (v : Waiting). v.task.bank) (above more.0 k more.1 e))
+  ]
+
+  bank_word : w.task.bank < 32768 → (k : ℕ) → k < 9 → bank_in new k < 32768
+  bank_word low k lt_k = elim (cases_place k p) [
+    | inl lt ↦ subst (λ (n : ℕ). n < 32768) (sym (put.bank_kept k lt)) (lawful.word (100 + 2 * k) (omega arith, omega arith))
+    | inr (inl e) ↦ subst (λ (n : ℕ). n < 32768) (sym (ap (bank_in new) e ∙ put.bank)) low
+    | inr (inr more) ↦
+        let e : k ≡ more.0 + 1 = more.2 in
+        let le : p ≤ more.0 = more.1 in
+        subst (λ (n : ℕ). n < 32768) (sym (ap (bank_in new) e ∙ put.bank_moved more.0 le (omega arith))) (lawful.word (100 + 2 * more.0) (omega arith, omega arith))
+  ]
+
+  -- the gap after the new task
+  next_is : p < length (waits_of old) → lst1 new p ≡ gap_word ((place_in (waits_of old) p).distance - w.distance)
+  next_is lt = put.gap_after (omega arith) ∙ gap_to_next-is old p w.distance lt
+
+  -- the task before it is due no later, the one after it later
+  passed : (k : ℕ) → k < p → (place_in (waits_of old) k).distance ≤ w.distance
+  passed k lt = place_for-passed w.distance (waits_of old) k (omega arith)
+
+  later_than : p < length (waits_of old) → w.distance ≤ (place_in (waits_of old) p).distance
+  later_than lt =
+      let more : w.distance < (place_in (waits_of old) (place_for w.distance (waits_of old))).distance = place_for-next w.distance (waits_of old) (omega arith) in
+      let same : (place_in (waits_of old) p).distance ≡ (place_in (waits_of old) (place_for w.distance (waits_of old))).distance = ap (λ i. (place_in (waits_of old) i).distance) place in
+      omega arith
+
+  abbrev dist : ℕ → ℕ
+  dist k = (place_in (insert (waits_of old) p w) k).distance
+
+  next_gap : (k : ℕ) → k < length (waits_of old) → (dist (k + 1) ≡ dist k + gap_of (lst1 new k)) × ((lst1 new k ≤ 1) ⊎ (16384 ≤ lst1 new k))
+  next_gap k lt_k =
+      let small : p ≤ length (waits_of old) = within in
+      elim (cases_place (k + 1) p) [
+        | inl lt ↦
+            let there : dist (k + 1) ≡ (place_in (waits_of old) (k + 1)).distance = ap (λ (v : Waiting). v.distance) (below (k + 1) lt) in
+            let this : dist k ≡ (place_in (waits_of old) k).distance = ap (λ (v : Waiting). v.distance) (below k (omega arith)) in
+            let word : lst1 new k ≡ lst1 old k = put.gap_kept k lt in
+            let gap : gap_of (lst1 new k) ≡ gap_of (lst1 old k) = ap gap_of word in
+            let step : (place_in (waits_of old) (k + 1)).distance ≡ (place_in (waits_of old) k).distance + gap_of (lst1 old k) = carries.next k (omega arith) in
+            (omega arith, rw word (carries.gaps k (omega arith)))
+        | inr (inl e) ↦
+            let there : dist (k + 1) ≡ w.distance = ap (λ (v : Waiting). v.distance) (here (k + 1) e) in
+            let this : dist k ≡ (place_in (waits_of old) k).distance = ap (λ (v : Waiting). v.distance) (below k (omega arith)) in
+            let le : (place_in (waits_of old) k).distance ≤ w.distance = passed k (omega arith) in
+            let word : lst1 new k ≡ gap_word (w.distance - (place_in (waits_of old) k).distance) = put.gap_before k e in
+            let gap : gap_of (lst1 new k) ≡ w.distance - (place_in (waits_of old) k).distance = ap gap_of word ∙ gap_of-gap_word (w.distance - (place_in (waits_of old) k).distance) (omega arith) in
+            (omega arith, rw word (gap_word-legal (w.distance - (place_in (waits_of old) k).distance) (omega arith)))
+        | inr (inr more) ↦
+            let at_k : k + 1 ≡ more.0 + 1 = more.2 in
+            let le_k : p ≤ more.0 = more.1 in
+            let there : dist (k + 1) ≡ (place_in (waits_of old) k).distance = ap (λ (v : Waiting). v.distance) (above k (k + 1) (omega arith) refl) in
+            elim (cases_place k p) [
+              | inl lt ↦ absurd (omega arith)
+              | inr (inl e) ↦
+                  let this : dist k ≡ w.distance = ap (λ (v : Waiting). v.distance) (here k e) in
+                  let near : (place_in (waits_of old) k).distance ≤ 16250 = carries.near k in
+                  let same : (place_in (waits_of old) p).distance ≡ (place_in (waits_of old) k).distance = ap (λ j. (place_in (waits_of old) j).distance) (sym e) in
+                  let le : w.distance ≤ (place_in (waits_of old) p).distance = later_than (omega arith) in
+                  let word : lst1 new k ≡ gap_word ((place_in (waits_of old) p).distance - w.distance) = ap (lst1 new) e ∙ next_is (omega arith) in
+                  let gap : gap_of (lst1 new k) ≡ (place_in (waits_of old) p).distance - w.distance = ap gap_of word ∙ gap_of-gap_word ((place_in (waits_of old) p).distance - w.distance) (omega arith) in
+                  (omega arith, rw word (gap_word-legal ((place_in (waits_of old) p).distance - w.distance) (omega arith)))
+              | inr (inr far) ↦
+                  let e : k ≡ far.0 + 1 = far.2 in
+                  let le : p ≤ far.0 = far.1 in
+                  let this : dist k ≡ (place_in (waits_of old) far.0).distance = ap (λ (v : Waiting). v.distance) (above far.0 k le e) in
+                  let same : (place_in (waits_of old) (far.0 + 1)).distance ≡ (place_in (waits_of old) k).distance = ap (λ j. (place_in (waits_of old) j).distance) (sym e) in
+                  let word : lst1 new k ≡ lst1 old far.0 = ap (lst1 new) e ∙ put.gap_moved far.0 le (omega arith) in
+                  let gap : gap_of (lst1 new k) ≡ gap_of (lst1 old far.0) = ap gap_of word in
+                  let step : (place_in (waits_of old) (far.0 + 1)).distance ≡ (place_in (waits_of old) far.0).distance + gap_of (lst1 old far.0) = carries.next far.0 (omega arith) in
+                  (omega arith, rw word (carries.gaps far.0 (omega arith)))
+            ]
+      ]
+
+  rest_is : (k : ℕ) → length (waits_of old) ≤ k → k < 8 → lst1 new k ≡ 24575
+  rest_is k le lt = elim (cases_place k p) [
+    | inl less ↦ absurd (let i : p ≤ length (waits_of old) = within in omega arith)
+    | inr (inl e) ↦ ap (lst1 new) e ∙ put.gap_after (omega arith) ∙ gap_to_next-none old p w.distance (omega arith)
+    | inr (inr more) ↦
+        let e : k ≡ more.0 + 1 = more.2 in
+        ap (lst1 new) e ∙ put.gap_moved more.0 more.1 (omega arith) ∙ carries.rest more.0 (omega arith) (omega arith)
+  ]
+
+  first_is : (distance_of (time3 new) ≡ dist 0) × (time3 new < 16384)
+  first_is = elim (cases_eq p 0) [
+    | inl e ↦
+        let t : time3 new ≡ counter_at w.distance = put.counter ∙ same_word p 0 _ _ e in
+        let d : dist 0 ≡ w.distance = ap (λ (v : Waiting). v.distance) (here 0 (sym e)) in
+        (ap distance_of t ∙ distance_of-counter_at w.distance near_w ∙ sym d, rw t (counter_at-low w.distance))
+    | inr ne ↦
+        let t : time3 new ≡ time3 old = put.counter ∙ other_word p 0 _ _ ne in
+        let d : dist 0 ≡ (place_in (waits_of old) 0).distance = ap (λ (v : Waiting). v.distance) (below 0 (omega arith)) in
+        (ap distance_of t ∙ carries.first ∙ sym d, rw t carries.counter)
+  ]
+
+  gap_is : (k : ℕ) → k < 8 → lst1 new k < 32768
+  gap_is k lt = elim (cases_place (k + 1) p) [
+    | inl less ↦ subst (λ (n : ℕ). n < 32768) (sym (put.gap_kept k less)) (lawful.word (91 + k) (omega arith, omega arith))
+    | inr (inl e) ↦ subst (λ (n : ℕ). n < 32768) (sym (put.gap_before k e)) (gap_word-word _)
+    | inr (inr more) ↦ elim (cases_place k p) [
+      | inl less ↦ absurd (let at_k : k + 1 ≡ more.0 + 1 = more.2 in let le_k : p ≤ more.0 = more.1 in omega arith)
+      | inr (inl e) ↦ elim (cases_lt p (length (waits_of old))) [
+        | inl some ↦ subst (λ (n : ℕ). n < 32768) (sym (ap (lst1 new) e ∙ next_is some)) (gap_word-word _)
+        | inr none ↦ let is : lst1 new k ≡ 24575 = rest_is k (omega arith) lt in omega arith
+      ]
+      | inr (inr far) ↦
+          let e : k ≡ far.0 + 1 = far.2 in
+          subst (λ (n : ℕ). n < 32768) (sym (ap (lst1 new) e ∙ put.gap_moved far.0 far.1 (omega arith))) (lawful.word (91 + far.0) (omega arith, omega arith))
+    ]
+  ]
+
+  pub Carries-put : 1 ≤ w.task.at → w.task.at ≤ 16383 → w.task.bank < 32768 → Carries new (insert (waits_of old) p w)
+  Carries-put low high word =
+      let n : length (insert (waits_of old) p w) ≡ length (waits_of old) + 1 = len in
+      let high_all : (k : ℕ) → (place_in (insert (waits_of old) p w) k).task.at < 16384 = each (λ v. v.task.at < 16384) (omega arith) carries.high in
+      record {
+        word = at_each_place (λ i. slice_index new i < 32768)
+            (let c : time3 new < 16384 = first_is.1 in omega arith)
+            gap_is
+            (λ k lt. let is : at_in new k ≡ (place_in (insert (waits_of old) p w) k).task.at = at_is k lt in let h : (place_in (insert (waits_of old) p w) k).task.at < 16384 = high_all k in omega arith)
+            (bank_word word);
+        nine = omega arith;
+        at = at_is;
+        bank = bank_is;
+        low = each_within (λ v. 1 ≤ v.task.at) low carries.low;
+        high = high_all;
+        counter = first_is.1;
+        idle = λ none. absurd (let zero_is : length (insert (waits_of old) p w) ≡ 0 = ap (λ (l : List Waiting). length l) none in omega arith);
+        first = first_is.0;
+        next = λ k lt. (next_gap k (omega arith)).0;
+        gaps = λ k lt. (next_gap k (omega arith)).1;
+        rest = λ k le lt. rest_is k (omega arith) lt;
+        near = each (λ v. v.distance ≤ 16250) near_w carries.near;
+      }
+
+  pub IsTidy-put : IsTidy old → IsTidy new
+  IsTidy-put tidy k lt e = elim (cases_place (k + 1) p) [
+    | inl before ↦ tidy k lt (sym (put.gap_kept k before) ∙ e)
+    | inr (inl is) ↦ gap_word-tidy _ (sym (put.gap_before k is) ∙ e)
+    | inr (inr more) ↦ elim (cases_place k p) [
+      | inl less ↦ absurd (let at_k : k + 1 ≡ more.0 + 1 = more.2 in let le_k : p ≤ more.0 = more.1 in omega arith)
+      | inr (inl is) ↦ elim (cases_lt p (length (waits_of old))) [
+        | inl some ↦ gap_word-tidy _ (sym (ap (lst1 new) is ∙ next_is some) ∙ e)
+        | inr none ↦ let blank : lst1 new k ≡ 24575 = rest_is k (omega arith) lt in omega arith
+      ]
+      | inr (inr far) ↦
+          let is : k ≡ far.0 + 1 = far.2 in
+          tidy far.0 (omega arith) (sym (ap (lst1 new) is ∙ put.gap_moved far.0 far.1 (omega arith)) ∙ e)
+    ]
+  ]
