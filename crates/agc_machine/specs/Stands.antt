@@ -1,4 +1,4 @@
--- The words stand for plain lists, and what each call does to both.
+-- For the proofs: how the words stand for plain lists, and what the private functions do to both.
 use Rattle.std.specs.Prelude.{◌≡◌, ℕ, List, [], length, Option, None}
 use Rattle.agc_plan.specs.declared.reply.Alarm.{Alarm}
 use Rattle.agc_plan.specs.declared.reply.Reply.{Reply}
@@ -23,11 +23,11 @@ use Rattle.agc_phase.specs.Image as phases
 -- lawful and tidy words, also where a task is due
 pub record IsSound (words : List ℕ) : Type 0 where
   pub size : length words ≡ 132
+  pub tidy_cores : cores.IsTidy words
+  pub tidy_waits : table.IsTidy words
   pub cores : cores.IsLawfulWords words
   pub waits : table.IsLawfulTable words
   pub phases : phases.IsLawfulTable words
-  pub tidy_cores : cores.IsTidy words
-  pub tidy_waits : table.IsTidy words
 
 -- and no task is due
 pub record IsReady (words : List ℕ) : Type 0 where

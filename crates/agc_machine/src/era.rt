@@ -48,8 +48,8 @@ fn begin_task(task: Option<(Delay, Task)>, e: &mut Erasable)
 {
     match task {
         None => {}
-        Some((delay, task)) => {
-            let _ = list(e, delay, task);
+        Some(listing) => {
+            let _ = list(e, listing.0, listing.1);
         }
     }
 }
