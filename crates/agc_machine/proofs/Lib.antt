@@ -1,5 +1,7 @@
 pub mod Fires
+pub mod Frames
+pub mod Acting
+pub mod Beginning
 pub mod Stepping
 pub mod Serving
-pub mod Frames
 pub mod Leading

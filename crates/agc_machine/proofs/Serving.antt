@@ -12,17 +12,20 @@ use Rattle.agc_plan.specs.declared.request.Request.{Request}
 use Rattle.agc_plan.specs.declared.request.Request.TheVariants.{Restart, Fresh}
 use Rattle.agc_plan.specs.Plans.{Planned, fault_of}
 use Rattle.agc_plan.specs.Base.{Base}
-use Rattle.agc_plan.specs.Eras.{begun}
 use Rattle.agc_plan.specs.Seats.{Placed, placed, placed_step, places_after, era_places}
 use Rattle.agc_machine.specs.declared.totals.Totals.{Totals}
 use Rattle.agc_machine.specs.declared.answer.Refusal.TheVariants.{Spent, LogFull}
 use Rattle.agc_plan.specs.Steps.{Plain, Stepped, acted, step, reached, begins, ended, era}
-use Rattle.agc_plan.specs.Tasks.{Waiting}
-use Rattle.agc_exec.specs.Held.{Held}
-use Rattle.agc_wait.specs.Waits.{due_now}
 use Rattle.agc_machine.specs.Told.{add, nothing, reply_told, alarm_told}
-use Rattle.agc_machine.specs.Machines.{Machined, IsLawful, IsKept, plain_of, places_of, stepped, served, refusal_of, starts_over}
-use Rattle.agc_machine.specs.Stands.{Stands, StandsFor, Steps}
+use Rattle.agc_wait.specs.Table.{waits_of}
+use Rattle.agc_wait.proofs.Dues.{is_due-none}
+use Rattle.agc_phase.specs.Image.{base_of, IsLawfulBase}
+use Rattle.agc_phase.specs.Image as phases
+use Rattle.agc_phase.proofs.Reading.{IsLawfulBase-read}
+use Rattle.agc_machine.specs.Image.{IsImage, IsKept}
+use Rattle.agc_machine.specs.Machines.{Machined, IsLawful, plain_of, places_of, stepped, served, refusal_of, starts_over}
+use Rattle.agc_machine.specs.Stands.{IsReady, StandsFor, Steps, BeginsEra}
+use Rattle.agc_machine.proofs.Frames.{none_counted}
 use Rattle.agc_machine.proofs.Stepping.{places_began}
 
 bool_cases : (b : Bool) → (b ≡ true) ⊎ (b ≡ false)
@@ -109,20 +112,20 @@ served_by over now asked m = record {
   totals = add m.totals (reply_told now.reply);
 }
 
-kept_by : (over : Bool) (m : Machined) (asked : Request) (now : Stepped) → IsLawful m → m.totals.served ≢ m.allowance → (over ≡ false → length m.log < m.limit) → (over ≡ true → now.plain ≡ era m.plan now.plain.base) → now.plain ≡ reached m.plan m.base (m.log ++ asked ∷ []) → IsLawful (served_by over now asked m) × (now.plain ≡ plain_of (served_by over now asked m))
-kept_by true m asked now l unspent short begun goes =
+kept_by : (over : Bool) (m : Machined) (asked : Request) (now : Stepped) → IsLawful m → m.totals.served ≢ m.allowance → IsLawfulBase now.plain.base → (over ≡ false → length m.log < m.limit) → (over ≡ true → now.plain ≡ era m.plan now.plain.base) → now.plain ≡ reached m.plan m.base (m.log ++ asked ∷ []) → IsLawful (served_by over now asked m) × (now.plain ≡ plain_of (served_by over now asked m))
+kept_by true m asked now l unspent based short begun goes =
     let t : Tells (reply_told now.reply) = tells now.reply in
     let one : (reply_told now.reply).served ≡ 1 = t.one in
     let few : (reply_told now.reply).restarts ≤ 1 = t.few in
     let most : (reply_told now.reply).a1201 + (reply_told now.reply).a1202 + (reply_told now.reply).a1203 ≤ (reply_told now.reply).restarts = t.alarms in
-    (record { accepted = l.accepted; least = l.least; short = omega arith; most = l.most; allowed = omega arith; fits = l.fits; restarts = omega arith; alarms = omega arith }, begun refl)
-kept_by false m asked now l unspent short begun goes =
+    (record { accepted = l.accepted; base = based; least = l.least; short = omega arith; most = l.most; allowed = omega arith; fits = l.fits; restarts = omega arith; alarms = omega arith }, begun refl)
+kept_by false m asked now l unspent based short begun goes =
     let t : Tells (reply_told now.reply) = tells now.reply in
     let one : (reply_told now.reply).served ≡ 1 = t.one in
     let few : (reply_told now.reply).restarts ≤ 1 = t.few in
     let most : (reply_told now.reply).a1201 + (reply_told now.reply).a1202 + (reply_told now.reply).a1203 ≤ (reply_told now.reply).restarts = t.alarms in
     let left : length m.log < m.limit = short refl in
-    (record { accepted = l.accepted; least = l.least; short = rw length-append (omega arith); most = l.most; allowed = omega arith; fits = l.fits; restarts = omega arith; alarms = omega arith }, goes)
+    (record { accepted = l.accepted; base = l.base; least = l.least; short = rw length-append (omega arith); most = l.most; allowed = omega arith; fits = l.fits; restarts = omega arith; alarms = omega arith }, goes)
 
 places_by : (over : Bool) (m : Machined) (asked : Request) (now : Stepped) (places : List ℕ) → (over ≡ true → places ≡ era_places m.plan now.plain.base) → places ≡ (placed m.plan m.base (m.log ++ asked ∷ [])).places → places ≡ places_of (served_by over now asked m)
 places_by true m asked now places begun goes = begun refl
@@ -131,46 +134,84 @@ places_by false m asked now places begun goes = goes
 same_served : (m : Machined) (asked : Request) (now : Stepped) (over : Bool) (base : Base) (log : List Request) (totals : Totals) → over ≡ begins now.reply → base ≡ (if over then now.plain.base else m.base) → log ≡ (if over then [] else m.log ++ asked ∷ []) → totals ≡ add m.totals (reply_told now.reply) → ◌≡◌ {A = Machined} (record { plan = m.plan; limit = m.limit; allowance = m.allowance; base = base; log = log; totals = totals }) (served now asked m)
 same_served m asked now over base log totals over_is base_is log_is totals_is = rw (base_is, log_is, totals_is, over_is) refl
 
+-- the words of a machine are sound, with no task due, and stand for what base and log reach
+pub ready_of : (m : Machined) (words : List ℕ) → IsImage m words → IsReady words
+ready_of m words image = record {
+  sound = record {
+    size = image.lawful.size;
+    cores = image.lawful.cores;
+    waits = image.lawful.waits;
+    phases = image.lawful.phases;
+    tidy_cores = image.tidy.cores;
+    tidy_waits = image.tidy.waits;
+  };
+  none_due = none_counted words image.lawful.waits image.lawful.none_due;
+}
+
+pub stands_of : (m : Machined) (words : List ℕ) → IsImage m words → StandsFor words (plain_of m) (places_of m)
+stands_of m words image = record {
+  work = record { jobs_is = sym image.stands.jobs; places_is = sym image.placed; agenda = image.stands.tasks };
+  base_is = sym image.stands.base;
+}
+
+-- and such words are a lawful machine's
+image_of : (m : Machined) (words : List ℕ) → IsLawful m → IsReady words → StandsFor words (plain_of m) (places_of m) → IsImage m words
+image_of m words lawful ready stands = record {
+  machine = lawful;
+  lawful = record {
+    size = ready.sound.size;
+    cores = ready.sound.cores;
+    waits = ready.sound.waits;
+    none_due = is_due-none (waits_of words) ready.none_due;
+    phases = ready.sound.phases;
+  };
+  tidy = record { cores = ready.sound.tidy_cores; waits = ready.sound.tidy_waits };
+  placed = sym stands.work.places_is;
+  stands = record { jobs = sym stands.work.jobs_is; tasks = stands.work.agenda; base = sym stands.base_is };
+}
+
 -- what is kept after a request that is served
-kept_served : (m : Machined) (asked : Request) (sets : List (Option Held)) (waits : List Waiting) (table : Base) (reply : Reply) (room more : ℕ) → IsLawful m → m.limit ≤ room → refusal_of m asked ≡ None → Steps sets waits table reply (stepped m asked) (places_after m.plan asked (plain_of m) (places_of m)) → due_now waits ≡ 0 → room ≤ more → IsKept (served (stepped m asked) asked m) sets waits table more
-kept_served m asked sets waits table reply room more lawful holds e steps none_due le =
-    let both = kept_by (begins (stepped m asked).reply) m asked (stepped m asked) lawful (served_if m asked e).unspent
+kept_served : (m : Machined) (asked : Request) (words : List ℕ) (reply : Reply) (room : ℕ) → IsLawful m → room ≡ m.limit → refusal_of m asked ≡ None → IsReady words → Steps words reply (stepped m asked) (places_after m.plan asked (plain_of m) (places_of m)) → IsKept (served (stepped m asked) asked m) words room
+kept_served m asked words reply room lawful reserved e ready steps =
+    let based : IsLawfulBase (stepped m asked).plain.base = subst IsLawfulBase (sym steps.state.base_is) (IsLawfulBase-read words ready.sound.phases) in
+    let both = kept_by (begins (stepped m asked).reply) m asked (stepped m asked) lawful (served_if m asked e).unspent based
     (room_left m asked (plain_of m) lawful.short e)
     (era_began m.plan (acted m.plan asked (plain_of m)))
     (sym (reached_more m.plan m.base m.log asked)) in
     let seats = places_by (begins (stepped m asked).reply) m asked (stepped m asked) (places_after m.plan asked (plain_of m) (places_of m))
     (places_began m.plan asked (plain_of m) (places_of m))
     (sym (places_more m.plan m.base m.log asked)) in
-    record {
-      lawful = both.0;
-      stands = subst (λ (p : Plain). StandsFor sets waits table p (places_of (served (stepped m asked) asked m))) both.1 (subst (λ (l : List ℕ). StandsFor sets waits table (stepped m asked).plain l) seats steps.state);
-      none_due = none_due;
-      holds = omega arith;
-    }
+    let stands : StandsFor words (plain_of (served (stepped m asked) asked m)) (places_of (served (stepped m asked) asked m)) = subst (λ (p : Plain). StandsFor words p (places_of (served (stepped m asked) asked m))) both.1 (subst (λ (l : List ℕ). StandsFor words (stepped m asked).plain l) seats steps.state) in
+    record { image = image_of (served (stepped m asked) asked m) words both.0 ready stands; reserved = reserved }
 
 -- a request that begins no era has room in the log
-pub store_room : (m : Machined) (asked : Request) (reply : Reply) (room : ℕ) → IsLawful m → m.limit ≤ room → refusal_of m asked ≡ None → reply ≡ (stepped m asked).reply → begins reply ≡ false → length m.log < room
-store_room m asked reply room lawful holds e reply_is goes =
+pub store_room : (m : Machined) (asked : Request) (reply : Reply) (room : ℕ) → IsLawful m → room ≡ m.limit → refusal_of m asked ≡ None → reply ≡ (stepped m asked).reply → begins reply ≡ false → length m.log < room
+store_room m asked reply room lawful reserved e reply_is goes =
     let off : begins (stepped m asked).reply ≡ false = ap begins (sym reply_is) ∙ goes in
     let left : length m.log < m.limit = room_left m asked (plain_of m) lawful.short e off in
     omega arith
 
 -- what is kept, with what was stored
-pub kept_stored : (m : Machined) (asked : Request) (sets : List (Option Held)) (waits : List Waiting) (table : Base) (reply : Reply) (room more : ℕ) (over : Bool) (base : Base) (log : List Request) (totals : Totals) → IsLawful m → m.limit ≤ room → refusal_of m asked ≡ None → Steps sets waits table reply (stepped m asked) (places_after m.plan asked (plain_of m) (places_of m)) → due_now waits ≡ 0 → room ≤ more → over ≡ begins reply → base ≡ (if over then table else m.base) → log ≡ (if over then [] else m.log ++ asked ∷ []) → totals ≡ add m.totals (reply_told reply) → IsKept (record { plan = m.plan; limit = m.limit; allowance = m.allowance; base = base; log = log; totals = totals }) sets waits table more × (◌≡◌ {A = Machined} (record { plan = m.plan; limit = m.limit; allowance = m.allowance; base = base; log = log; totals = totals }) (served (stepped m asked) asked m))
-kept_stored m asked sets waits table reply room more over base log totals lawful holds e steps none_due le over_is base_is log_is totals_is =
+pub kept_stored : (m : Machined) (asked : Request) (words : List ℕ) (reply : Reply) (room : ℕ) (over : Bool) (base : Base) (log : List Request) (totals : Totals) → IsLawful m → room ≡ m.limit → refusal_of m asked ≡ None → IsReady words → Steps words reply (stepped m asked) (places_after m.plan asked (plain_of m) (places_of m)) → over ≡ begins reply → base ≡ (if over then base_of words else m.base) → log ≡ (if over then [] else m.log ++ asked ∷ []) → totals ≡ add m.totals (reply_told reply) → IsKept (record { plan = m.plan; limit = m.limit; allowance = m.allowance; base = base; log = log; totals = totals }) words room × (◌≡◌ {A = Machined} (record { plan = m.plan; limit = m.limit; allowance = m.allowance; base = base; log = log; totals = totals }) (served (stepped m asked) asked m))
+kept_stored m asked words reply room over base log totals lawful reserved e ready steps over_is base_is log_is totals_is =
     let reply_is : reply ≡ (stepped m asked).reply = steps.reply_is in
-    let base_now : (stepped m asked).plain.base ≡ table = steps.state.base_is in
+    let base_now : (stepped m asked).plain.base ≡ base_of words = steps.state.base_is in
     let here : ◌≡◌ {A = Machined} (record { plan = m.plan; limit = m.limit; allowance = m.allowance; base = base; log = log; totals = totals }) (served (stepped m asked) asked m) =
     same_served m asked (stepped m asked) over base log totals (over_is ∙ ap begins reply_is) (base_is ∙ ap (λ (b : Base). if over then b else m.base) (sym base_now)) log_is (totals_is ∙ ap (λ (r : Reply). add m.totals (reply_told r)) reply_is) in
-    (subst (λ (x : Machined). IsKept x sets waits table more) (sym here) (kept_served m asked sets waits table reply room more lawful holds e steps none_due le), here)
+    (subst (λ (x : Machined). IsKept x words room) (sym here) (kept_served m asked words reply room lawful reserved e ready steps), here)
 
 -- what is kept where an era has just begun
-pub kept_begun : (plan : Planned) (limit allowance : ℕ) (base : Base) (log : List Request) (totals : Totals) (sets : List (Option Held)) (waits : List Waiting) (room : ℕ) → fault_of plan.rows plan.entries ≡ None → 1 ≤ limit → limit ≤ 1000000 → limit ≤ room → allowance < 2 ^ 64 → log ≡ [] → totals ≡ nothing → Stands sets waits (begun plan base.phases) (era_places plan base) → due_now waits ≡ 0 → IsKept (record { plan = plan; limit = limit; allowance = allowance; base = base; log = log; totals = totals }) sets waits base room
-kept_begun plan limit allowance base log totals sets waits room accepted least most le fits empty zero_is is none_due =
-    subst (λ (l : List Request). IsKept (record { plan = plan; limit = limit; allowance = allowance; base = base; log = l; totals = totals }) sets waits base room) (sym empty)
-    (subst (λ (t : Totals). IsKept (record { plan = plan; limit = limit; allowance = allowance; base = base; log = []; totals = t }) sets waits base room) (sym zero_is) (record {
-      lawful = record { accepted = accepted; least = least; short = omega arith; most = most; allowed = omega arith; fits = fits; restarts = omega arith; alarms = omega arith };
-      stands = record { work = is; base_is = refl };
-      none_due = none_due;
-      holds = le;
-    }))
+pub kept_begun : (plan : Planned) (limit allowance : ℕ) (base : Base) (log : List Request) (totals : Totals) (start words : List ℕ) (room : ℕ) → fault_of plan.rows plan.entries ≡ None → 1 ≤ limit → limit ≤ 1000000 → room ≡ limit → allowance < 2 ^ 64 → log ≡ [] → totals ≡ nothing → phases.IsLawfulTable start → base ≡ base_of start → BeginsEra plan start words → IsKept (record { plan = plan; limit = limit; allowance = allowance; base = base; log = log; totals = totals }) words room
+kept_begun plan limit allowance base log totals start words room accepted least most reserved fits empty zero_is lawful base_is begins_era =
+    subst (λ (b : Base). IsKept (record { plan = plan; limit = limit; allowance = allowance; base = b; log = log; totals = totals }) words room) (sym base_is)
+    (subst (λ (l : List Request). IsKept (record { plan = plan; limit = limit; allowance = allowance; base = base_of start; log = l; totals = totals }) words room) (sym empty)
+    (subst (λ (t : Totals). IsKept (record { plan = plan; limit = limit; allowance = allowance; base = base_of start; log = []; totals = t }) words room) (sym zero_is)
+    (let m : Machined = record { plan = plan; limit = limit; allowance = allowance; base = base_of start; log = []; totals = nothing } in
+    record {
+      image = image_of m words (record { accepted = accepted; base = IsLawfulBase-read start lawful; least = least; short = omega arith; most = most; allowed = omega arith; fits = fits; restarts = omega arith; alarms = omega arith }) begins_era.ready (record { work = begins_era.stands; base_is = sym begins_era.same_base });
+      reserved = reserved;
+    })))
+
+-- words that are read are the machine's
+pub image_read : (m : Machined) (words read : List ℕ) → IsImage m words → read ≡ words → IsImage m read
+image_read m words read image is = subst (IsImage m) (sym is) image

@@ -9,14 +9,10 @@ use Rattle.agc_plan.specs.Base.{Base, fresh_base, with_code}
 use Rattle.agc_plan.specs.Plans.{Planned, fault_of}
 use Rattle.agc_plan.specs.Seats.{placed}
 use Rattle.agc_plan.specs.Steps.{Plain, Stepped, step, reached, begins}
-use Rattle.agc_plan.specs.Tasks.{Waiting}
-use Rattle.agc_exec.specs.Held.{Held}
-use Rattle.agc_wait.specs.Waits.{due_now}
-use Rattle.agc_phase.specs.Image.{phases_in}
+use Rattle.agc_phase.specs.Image.{phases_in, IsLawfulBase}
 use Rattle.agc_machine.specs.declared.answer.Refusal.{Refusal}
 use Rattle.agc_machine.specs.declared.answer.Refusal.TheVariants.{Spent, LogFull}
 use Rattle.agc_machine.specs.declared.totals.Totals.{Totals}
-use Rattle.agc_machine.specs.Stands.{StandsFor}
 use Rattle.agc_machine.specs.Told.{add, reply_told, nothing}
 
 -- a machine: its plan, limit and allowance, with what the last era began, the requests stored since, and the totals
@@ -39,6 +35,7 @@ places_of m = (placed m.plan m.base m.log).places
 -- what holds of every machine
 pub record IsLawful (m : Machined) : Type 0 where
   pub accepted : fault_of m.plan.rows m.plan.entries ≡ None
+  pub base : IsLawfulBase m.base
   pub least : 1 ≤ m.limit
   pub short : length m.log ≤ m.limit
   pub most : m.limit ≤ 1000000
@@ -107,10 +104,3 @@ begun_with plan limit allowance base = record { plan = plan; limit = limit; allo
 abbrev pub power_base : Bool → List ℕ → Base
 power_base true words = record { phases = phases_in words; codes = replicate 3 None }
 power_base false words = with_code C1107 fresh_base
-
--- what a machine keeps: its tables stand for what the log reaches, nothing is due, and the whole log has room
-pub record IsKept (m : Machined) (sets : List (Option Held)) (waits : List Waiting) (table : Base) (room : ℕ) : Type 0 where
-  pub lawful : IsLawful m
-  pub stands : StandsFor sets waits table (plain_of m) (places_of m)
-  pub none_due : due_now waits ≡ 0
-  pub holds : m.limit ≤ room

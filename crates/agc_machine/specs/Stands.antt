@@ -1,41 +1,132 @@
--- The tables, over records, stand for plain lists.
-use Rattle.std.specs.Prelude.{◌≡◌, ℕ, List, Option}
+-- For the proofs: how the words stand for plain lists, and what the private functions do to both.
+use Rattle.std.specs.Prelude.{◌≡◌, ℕ, List, [], length, Option, None}
 use Rattle.agc_plan.specs.declared.reply.Alarm.{Alarm}
 use Rattle.agc_plan.specs.declared.reply.Reply.{Reply}
+use Rattle.agc_plan.specs.declared.request.Action.{Action}
+use Rattle.agc_plan.specs.declared.request.JobStart.{JobStart}
+use Rattle.agc_plan.specs.declared.request.Request.{Request}
 use Rattle.agc_plan.specs.declared.request.Task.{Task}
-use Rattle.agc_plan.specs.Base.{Base}
-use Rattle.agc_plan.specs.Eras.{Work}
-use Rattle.agc_plan.specs.Seats.{Seated}
-use Rattle.agc_plan.specs.Steps.{Plain, Stepped, Did, Fires}
-use Rattle.agc_plan.specs.Tasks.{Waiting}
+use Rattle.agc_plan.specs.Begins.{Begins}
+use Rattle.agc_plan.specs.Eras.{Work, begun, jobs_begun, agenda_begun}
+use Rattle.agc_plan.specs.Plans.{Planned}
+use Rattle.agc_plan.specs.Seats.{Seated, seated_action, seated_fired, places_begun, job_of_entry, places_acted, places_after, era_places}
+use Rattle.agc_plan.specs.Steps.{Plain, Stepped, Acted, done, acted, step, fire_all, tick_fires}
 use Rattle.agc_plan.specs.Tasks as tasks
-use Rattle.agc_exec.specs.Held.{Held}
-use Rattle.agc_exec.specs.Sets.{jobs_of, entries_of}
+use Rattle.agc_exec.specs.Image.{jobs_in, entries_in}
+use Rattle.agc_exec.specs.Image as cores
+use Rattle.agc_wait.specs.Table.{waits_of}
+use Rattle.agc_wait.specs.Table as table
+use Rattle.agc_wait.specs.Waits.{due_now}
+use Rattle.agc_phase.specs.Image.{base_of}
+use Rattle.agc_phase.specs.Image as phases
+
+-- lawful and tidy words, also where a task is due
+pub record IsSound (words : List ℕ) : Type 0 where
+  pub size : length words ≡ 132
+  pub tidy_cores : cores.IsTidy words
+  pub tidy_waits : table.IsTidy words
+  pub cores : cores.IsLawfulWords words
+  pub waits : table.IsLawfulTable words
+  pub phases : phases.IsLawfulTable words
+
+-- and no task is due
+pub record IsReady (words : List ℕ) : Type 0 where
+  pub sound : IsSound words
+  pub none_due : due_now (waits_of words) ≡ 0
 
 -- the core sets hold these jobs in these places, and the Waitlist these tasks
-pub record Stands (sets : List (Option Held)) (waits : List Waiting) (work : Work) (places : List ℕ) : Type 0 where
-  pub jobs_is : work.jobs ≡ jobs_of sets
-  pub places_is : places ≡ entries_of sets
-  pub agenda : tasks.StandsFor waits work.agenda
+pub record Stands (words : List ℕ) (work : Work) (places : List ℕ) : Type 0 where
+  pub jobs_is : work.jobs ≡ jobs_in words
+  pub places_is : places ≡ entries_in words
+  pub agenda : tasks.StandsFor (waits_of words) work.agenda
 
 -- and phases and codes are these
-pub record StandsFor (sets : List (Option Held)) (waits : List Waiting) (base : Base) (plain : Plain) (places : List ℕ) : Type 0 where
-  pub work : Stands sets waits plain.work places
-  pub base_is : plain.base ≡ base
+pub record StandsFor (words : List ℕ) (plain : Plain) (places : List ℕ) : Type 0 where
+  pub work : Stands words plain.work places
+  pub base_is : plain.base ≡ base_of words
 
--- after an action, and with its alarm
-pub record Does (sets : List (Option Held)) (waits : List Waiting) (alarm : Option Alarm) (did : Did) (seated : Seated) : Type 0 where
-  pub stands : Stands sets waits did.work seated.places
-  pub jobs_is : seated.jobs ≡ did.work.jobs
-  pub alarm_is : alarm ≡ did.alarm
+-- jobs and tasks change: whatever the old words stand for, the new ones stand for this change of it, and are sound;
+-- phases and codes stay
+pub record Changes (change : Work → Work) (seat : Work → List ℕ → List ℕ) (old new : List ℕ) : Type 0 where
+  pub sound : IsSound new
+  pub same_base : base_of new ≡ base_of old
+  pub stands : (work : Work) (places : List ℕ) → Stands old work places → Stands new (change work) (seat work places)
 
--- after all that was due fired
-pub record Fired (sets : List (Option Held)) (waits : List Waiting) (fired : List Task) (alarm : Option Alarm) (fires : Fires) (seated : Seated) : Type 0 where
-  pub stands : Stands sets waits fires.work seated.places
-  pub fired_is : fired ≡ fires.fired
-  pub alarm_is : alarm ≡ fires.alarm
+-- as many tasks are due as before
+abbrev pub SameDue : List ℕ → List ℕ → Type 0
+SameDue old new = due_now (waits_of new) ≡ due_now (waits_of old)
+
+-- jobs and tasks change by a request, with this reply
+pub record Works (change : Work → Acted) (seat : Work → List ℕ → List ℕ) (old : List ℕ) (reply : Reply) (new : List ℕ) : Type 0 where
+  pub changes : Changes (λ work. (change work).work) seat old new
+  pub reply_is : (work : Work) (places : List ℕ) → Stands old work places → reply ≡ (change work).reply
+
+-- every job stays in its core set
+abbrev pub same_places : Work → List ℕ → List ℕ
+same_places work places = places
+
+-- the jobs, and the core sets that hold them
+abbrev pub seated_in : Work → List ℕ → Seated
+seated_in work places = record { jobs = work.jobs; places = places }
+
+-- the core sets after an action
+abbrev pub places_done : Action → Work → List ℕ → List ℕ
+places_done action work places = (seated_action action (seated_in work places)).places
+
+-- an action of the plan is done, with this alarm
+pub record Performs (action : Action) (old : List ℕ) (alarm : Option Alarm) (new : List ℕ) : Type 0 where
+  pub changes : Changes (λ work. (done action work).work) (places_done action) old new
+  pub alarm_is : (work : Work) (places : List ℕ) → Stands old work places → alarm ≡ (done action work).alarm
+  pub same_due : SameDue old new
+
+-- the core sets after the actions of these tasks
+abbrev pub places_fired : List (Task × Action) → List Task → Work → List ℕ → List ℕ
+places_fired rows fired work places = (seated_fired rows (seated_in work places) fired).places
+
+-- what is due fires, until an action raises an alarm
+pub record FiresDue (rows : List (Task × Action)) (old : List ℕ) (fired : List Task) (alarm : Option Alarm) (new : List ℕ) : Type 0 where
+  pub changes : Changes (λ work. (fire_all rows work []).work) (places_fired rows fired) old new
+  pub fired_is : (work : Work) (places : List ℕ) → Stands old work places → fired ≡ (fire_all rows work []).fired
+  pub alarm_is : (work : Work) (places : List ℕ) → Stands old work places → alarm ≡ (fire_all rows work []).alarm
+  pub none_due : alarm ≡ None → due_now (waits_of new) ≡ 0
+
+-- the core sets after a tick
+abbrev pub places_ticked : List (Task × Action) → Work → List ℕ → List ℕ
+places_ticked rows work places = places_fired rows (tick_fires rows work).fired work places
+
+-- a phase's job is established, if it has one
+abbrev pub with_job : Option JobStart → Work → Work
+with_job job work = record work { jobs = jobs_begun job work.jobs }
+
+-- and comes to the first free set
+abbrev pub places_with_job : Option JobStart → Work → List ℕ → List ℕ
+places_with_job job work places = places_begun job work.jobs places
+
+-- a phase's task is listed, if it has one
+abbrev pub with_task : Option (ℕ × Task) → Work → Work
+with_task task work = record work { agenda = agenda_begun task work.agenda }
+
+-- the core sets after a group began
+abbrev pub places_group : Option Begins → Work → List ℕ → List ℕ
+places_group entry work places = places_begun (job_of_entry entry) work.jobs places
+
+-- an era begins with the phases in the words: all jobs and tasks are gone but those of the plan's entries
+pub record BeginsEra (plan : Planned) (old new : List ℕ) : Type 0 where
+  pub ready : IsReady new
+  pub same_base : base_of new ≡ base_of old
+  pub stands : Stands new (begun plan (base_of old).phases) (era_places plan (base_of old))
 
 -- after a request, and with its reply
-pub record Steps (sets : List (Option Held)) (waits : List Waiting) (base : Base) (reply : Reply) (stepped : Stepped) (places : List ℕ) : Type 0 where
-  pub state : StandsFor sets waits base stepped.plain places
+pub record Steps (words : List ℕ) (reply : Reply) (stepped : Stepped) (places : List ℕ) : Type 0 where
+  pub state : StandsFor words stepped.plain places
   pub reply_is : reply ≡ stepped.reply
+
+-- what a request does, before an era begins with it
+pub record Acts (plan : Planned) (asked : Request) (old : List ℕ) (reply : Reply) (new : List ℕ) : Type 0 where
+  pub sound : IsSound new
+  pub steps : (plain : Plain) (places : List ℕ) → StandsFor old plain places → Steps new reply (acted plan asked plain) (places_acted plan asked plain places)
+
+-- one step: what the request does, and the beginning of an era, if one begins with it
+pub record StepsTo (plan : Planned) (asked : Request) (old : List ℕ) (reply : Reply) (new : List ℕ) : Type 0 where
+  pub ready : IsReady new
+  pub steps : (plain : Plain) (places : List ℕ) → StandsFor old plain places → Steps new reply (step plan asked plain) (places_after plan asked plain places)

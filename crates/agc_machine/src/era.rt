@@ -1,52 +1,55 @@
 // The beginning of an era.
-ghost use Rattle.std.specs.Prelude.{◌≡◌, ℕ, List, length, Some};
-ghost use Rattle.agc_plan.specs.Eras.{Work, jobs_begun, agenda_begun, active, group_begun, begun, no_work};
-ghost use Rattle.agc_plan.specs.Seats.{places_begun, places_from, job_of_entry, era_places, no_places};
-ghost use Rattle.agc_plan.specs.Tasks.{Agenda, StandsFor};
-ghost use Rattle.agc_exec.specs.Sets.{jobs_of, entries_of};
-ghost use Rattle.agc_wait.specs.Waits.{due_now};
-ghost use Rattle.agc_machine.specs.Stands.{Stands};
+ghost use Rattle.std.specs.Prelude.{◌≡◌, length, Some};
+ghost use Rattle.agc_plan.specs.Eras.{active, group_begun, begun, no_work};
+ghost use Rattle.agc_plan.specs.Seats.{places_from, no_places};
+ghost use Rattle.agc_phase.specs.Image as phases;
+ghost use Rattle.agc_phase.specs.Image.{base_of};
+ghost use Rattle.agc_machine.specs.Stands.{IsSound, Stands, Changes, SameDue, with_job, with_task, places_with_job, same_places, places_group, BeginsEra};
 
-use agc_exec::Cores;
-use agc_phase::PhaseTable;
+use crate::tick::list;
+use agc_exec::{findvac, novac};
+use agc_phase::phases;
 use agc_plan::{Delay, Group, JobStart, Phase, PhaseEntry, Plan, Task};
-use agc_wait::Waits;
+use agc_word::Erasable;
 
 /// Establishes the job of a phase.
-fn start(job: JobStart, cores: &mut Cores)
-    ensures jobs { jobs_of cores.new ≡ jobs_begun (Some job) (jobs_of cores.old) }
-    ensures places { entries_of cores.new ≡ places_begun (Some job) (jobs_of cores.old) (entries_of cores.old) }
+fn start(job: JobStart, e: &mut Erasable)
+    requires { IsSound e.old }
+    ensures changes { Changes (with_job (Some job)) (places_with_job (Some job)) e.old e.new }
+    ensures due { SameDue e.old e.new }
 {
     match job {
         JobStart::Novac(priority, entry) => {
-            let _ = cores.novac(priority, entry);
+            let _ = novac(e, priority, entry);
         }
         JobStart::Findvac(priority, entry) => {
-            let _ = cores.findvac(priority, entry);
+            let _ = findvac(e, priority, entry);
         }
     }
 }
 
 /// Establishes a phase's job, if it has one.
-fn begin_job(job: Option<JobStart>, cores: &mut Cores)
-    ensures jobs { jobs_of cores.new ≡ jobs_begun job (jobs_of cores.old) }
-    ensures places { entries_of cores.new ≡ places_begun job (jobs_of cores.old) (entries_of cores.old) }
+fn begin_job(job: Option<JobStart>, e: &mut Erasable)
+    requires { IsSound e.old }
+    ensures changes { Changes (with_job job) (places_with_job job) e.old e.new }
+    ensures due { SameDue e.old e.new }
 {
     match job {
         None => {}
-        Some(job) => start(job, cores),
+        Some(job) => start(job, e),
     }
 }
 
 /// Lists a phase's task, if it has one.
-fn begin_task(task: Option<(Delay, Task)>, waits: &mut Waits)
-    ensures agenda { (a : Agenda) → StandsFor waits.old a → StandsFor waits.new (agenda_begun task a) }
-    ensures due { due_now waits.new ≡ due_now waits.old }
+fn begin_task(task: Option<(Delay, Task)>, e: &mut Erasable)
+    requires { IsSound e.old }
+    ensures changes { Changes (with_task task) same_places e.old e.new }
+    ensures due { SameDue e.old e.new }
 {
     match task {
         None => {}
-        Some((delay, task)) => {
-            let _ = waits.list(delay, task);
+        Some(listing) => {
+            let _ = list(e, listing.0, listing.1);
         }
     }
 }
@@ -63,38 +66,43 @@ fn active(plan: &Plan, group: Group, phase: Phase) -> Option<PhaseEntry>
 }
 
 /// One group begins, where it has an entry.
-fn begin_group(entry: Option<PhaseEntry>, cores: &mut Cores, waits: &mut Waits)
-    ensures stands { (w : Work) (places : List ℕ) → Stands cores.old waits.old w places → Stands cores.new waits.new (group_begun entry w) (places_begun (job_of_entry entry) w.jobs places) }
-    ensures due { due_now waits.new ≡ due_now waits.old }
+fn begin_group(entry: Option<PhaseEntry>, e: &mut Erasable)
+    requires { IsSound e.old }
+    ensures changes { Changes (group_begun entry) (places_group entry) e.old e.new }
+    ensures due { SameDue e.old e.new }
 {
     match entry {
         None => {}
         Some(entry) => {
-            begin_job(entry.job(), cores);
-            begin_task(entry.task(), waits);
+            begin_job(entry.job(), e);
+            begin_task(entry.task(), e);
         }
     }
 }
 
 /// The six groups begin, in order.
-fn begin_groups(plan: &Plan, phases: &[Phase], cores: &mut Cores, waits: &mut Waits)
+fn begin_groups(plan: &Plan, phases: &[Phase], e: &mut Erasable)
     requires six { length phases.now ≡ 6 }
-    requires clear { Stands cores.old waits.old no_work no_places }
-    ensures stands { Stands cores.new waits.new (begun plan.now phases.now) (places_from plan.now.entries 1 phases.now no_work no_places) }
-    ensures due { due_now waits.new ≡ due_now waits.old }
+    requires clear { Stands e.old no_work no_places }
+    requires sound { IsSound e.old }
+    ensures sound { IsSound e.new }
+    ensures base { base_of e.new ≡ base_of e.old }
+    ensures stands { Stands e.new (begun plan.now phases.now) (places_from plan.now.entries 1 phases.now no_work no_places) }
+    ensures due { SameDue e.old e.new }
 {
     for (k, phase) in phases.iter().enumerate() {
         let group = Group::new(k as u8 + 1).unwrap();
-        begin_group(active(plan, group, *phase), cores, waits);
+        begin_group(active(plan, group, *phase), e);
     }
 }
 
-/// An era begins with the phases of this table: all jobs and tasks are gone but those of the plan's entries.
-pub(crate) fn begin(plan: &Plan, table: &PhaseTable, cores: &mut Cores, waits: &mut Waits)
-    ensures stands { Stands cores.new waits.new (begun plan.now table.now.phases) (era_places plan.now table.now) }
-    ensures none_due { due_now waits.new ≡ 0 }
+/// An era begins with the phases in these words: all jobs and tasks are gone but those of the plan's entries.
+pub(crate) fn begin(plan: &Plan, e: &mut Erasable)
+    requires { phases.IsLawfulTable e.old }
+    ensures { BeginsEra plan.now e.old e.new }
 {
-    cores.clear();
-    waits.clear();
-    begin_groups(plan, &table.phases(), cores, waits);
+    let phases = phases(e);
+    agc_exec::clear(e);
+    agc_wait::clear(e);
+    begin_groups(plan, &phases, e);
 }

@@ -1,25 +1,22 @@
 // A tick: the Waitlist counts, and what is due fires.
-ghost use Rattle.std.specs.Prelude.{◌≡◌, ◌≤◌, ℕ, List, [], None, if◌then◌else◌};
-ghost use Rattle.agc_plan.specs.declared.reply.Alarm.{Alarm};
-ghost use Rattle.agc_plan.specs.declared.reply.Reply.{Reply};
-ghost use Rattle.agc_plan.specs.Eras.{Work};
-ghost use Rattle.agc_plan.specs.Seats.{seated_action, seated_fired};
-ghost use Rattle.agc_plan.specs.Steps.{done, alarm_of, fire_all, tick_fires, ticked};
-ghost use Rattle.agc_plan.specs.Tasks.{Agenda, StandsFor, has_room, listed_if_room};
+ghost use Rattle.std.specs.Prelude.{◌≡◌, ◌≤◌, None};
+ghost use Rattle.agc_plan.specs.Steps.{alarm_of, with_listed, ticked};
+ghost use Rattle.agc_wait.specs.Table.{waits_of};
 ghost use Rattle.agc_wait.specs.Waits.{due_now};
-ghost use Rattle.agc_machine.specs.Stands.{Stands, Does, Fired as FiredTo};
+ghost use Rattle.agc_machine.specs.Stands.{IsSound, IsReady, Works, SameDue, same_places, Performs, FiresDue, places_ticked};
 
-use agc_exec::Cores;
+use agc_exec::{findvac, job_wake, novac};
 use agc_plan::{Action, Alarm, Delay, Fired, Plan, Reply, Task};
-use agc_wait::Waits;
+use agc_wait::{count_time3, dispatch, due};
+use agc_word::Erasable;
 
 /// Lists a task, if there is room.
-pub(crate) fn list(waits: &mut Waits, delay: Delay, task: Task) -> Reply
-    ensures reply { (a : Agenda) → StandsFor waits.old a → result ≡ (if has_room a then Reply.Listed else Reply.Alarmed Alarm.A1203) }
-    ensures after { (a : Agenda) → StandsFor waits.old a → StandsFor waits.new (listed_if_room delay task a) }
-    ensures due { due_now waits.new ≡ due_now waits.old }
+pub(crate) fn list(e: &mut Erasable, delay: Delay, task: Task) -> Reply
+    requires { IsSound e.old }
+    ensures works { Works (with_listed delay task) same_places e.old result e.new }
+    ensures due { SameDue e.old e.new }
 {
-    match waits.list(delay, task) {
+    match agc_wait::list(e, delay, task) {
         Ok(()) => Reply::Listed,
         Err(_full) => Reply::Alarmed(Alarm::A1203),
     }
@@ -46,30 +43,30 @@ fn alarm_of(reply: Reply) -> Option<Alarm>
 }
 
 /// Does an action of the plan. Answers the alarm that it raised, if it did.
-fn perform(action: Action, cores: &mut Cores, waits: &mut Waits) -> Option<Alarm>
-    ensures did { (w : Work) (places : List ℕ) → Stands cores.old waits.old w places → Does cores.new waits.new result (done action w) (seated_action action (record { jobs = w.jobs; places = places })) }
-    ensures due { due_now waits.new ≡ due_now waits.old }
+fn perform(action: Action, e: &mut Erasable) -> Option<Alarm>
+    requires { IsSound e.old }
+    ensures { Performs action e.old result e.new }
 {
     match action {
         Action::Nothing => None,
-        Action::Novac(priority, entry) => alarm_of(cores.novac(priority, entry)),
-        Action::Findvac(priority, entry) => alarm_of(cores.findvac(priority, entry)),
-        Action::Rouse(at) => alarm_of(cores.job_wake(at)),
-        Action::List(delay, task) => alarm_of(list(waits, delay, task)),
+        Action::Novac(priority, entry) => alarm_of(novac(e, priority, entry)),
+        Action::Findvac(priority, entry) => alarm_of(findvac(e, priority, entry)),
+        Action::Rouse(at) => alarm_of(job_wake(e, at)),
+        Action::List(delay, task) => alarm_of(list(e, delay, task)),
     }
 }
 
 /// Fires the tasks that are due, until an action raises an alarm.
-fn fire(plan: &Plan, cores: &mut Cores, waits: &mut Waits) -> (Fired, Option<Alarm>)
-    requires { due_now waits.old ≤ 9 }
-    ensures fires { (w : Work) (places : List ℕ) → Stands cores.old waits.old w places → FiredTo cores.new waits.new result.0 result.1 (fire_all plan.now.rows w []) (seated_fired plan.now.rows (record { jobs = w.jobs; places = places }) result.0) }
-    ensures none_due { result.1 ≡ None → due_now waits.new ≡ 0 }
+fn fire(plan: &Plan, e: &mut Erasable) -> (Fired, Option<Alarm>)
+    requires sound { IsSound e.old }
+    requires few { due_now (waits_of e.old) ≤ 9 }
+    ensures { FiresDue plan.now.rows e.old result.0 result.1 e.new }
 {
     let mut fired = Fired::new();
-    while waits.due() {
-        let task = waits.dispatch();
+    while due(e) {
+        let task = dispatch(e);
         fired.push(task);
-        match perform(plan.action(&task), cores, waits) {
+        match perform(plan.action(&task), e) {
             Some(alarm) => return (fired, Some(alarm)),
             None => {}
         }
@@ -78,13 +75,12 @@ fn fire(plan: &Plan, cores: &mut Cores, waits: &mut Waits) -> (Fired, Option<Ala
 }
 
 /// A centisecond passes, and what is due fires.
-pub(crate) fn tick(plan: &Plan, cores: &mut Cores, waits: &mut Waits) -> Reply
-    requires { due_now waits.old ≡ 0 }
-    ensures work { (w : Work) (places : List ℕ) → Stands cores.old waits.old w places → Stands cores.new waits.new (ticked plan.now.rows w).work (seated_fired plan.now.rows (record { jobs = w.jobs; places = places }) (tick_fires plan.now.rows w).fired).places }
-    ensures reply { (w : Work) (places : List ℕ) → Stands cores.old waits.old w places → result ≡ (ticked plan.now.rows w).reply }
-    ensures none_due { alarm_of result ≡ None → due_now waits.new ≡ 0 }
+pub(crate) fn tick(plan: &Plan, e: &mut Erasable) -> Reply
+    requires { IsReady e.old }
+    ensures works { Works (ticked plan.now.rows) (places_ticked plan.now.rows) e.old result e.new }
+    ensures none_due { alarm_of result ≡ None → due_now (waits_of e.new) ≡ 0 }
 {
-    let _ = waits.count_time3();
-    let (fired, alarm) = fire(plan, cores, waits);
+    let _ = count_time3(e);
+    let (fired, alarm) = fire(plan, e);
     Reply::Ticked(fired, alarm)
 }

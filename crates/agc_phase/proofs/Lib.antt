@@ -1,1 +1,5 @@
-pub mod Encodes
+pub mod Reading
+pub mod Kept
+pub mod Writes
+pub mod Records
+pub mod OneTable

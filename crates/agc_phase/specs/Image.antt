@@ -1,6 +1,8 @@
--- The words of the phases and of FAILREG: the pairs -PHASE1, PHASE1 to -PHASE6, PHASE6 at places 117 to 128, FAILREG at
--- 129 to 131.
-use Rattle.std.specs.Prelude.{◌≡◌, ◌⊎◌, ℕ, ◌+◌, ◌*◌, ◌<◌, ◌≤◌, ◌==◌, if◌then◌else◌, List, [], ◌∷◌, length, take, drop, slice_index, slice_index_or, Option, Some, None, IsSome}
+-- The words of the phases and of FAILREG: the pairs -PHASE1, PHASE1 to -PHASE6, PHASE6, and after
+-- them FAILREG.
+use Rattle.std.specs.Prelude.{◌≡◌, ℕ, ◌+◌, ◌*◌, ◌<◌, ◌≤◌, ◌==◌, if◌then◌else◌, List, [], ◌∷◌, length, take, drop, slice_index, slice_index_or, Option, Some, None, IsSome}
+use Rattle.agc_word.specs.Layout.{Keeps, OutsidePhases}
+use Rattle.agc_word.specs.Layout as layout
 use Rattle.agc_word.specs.Words.{complement}
 use Rattle.agc_plan.specs.declared.reply.Code.{Code}
 use Rattle.agc_plan.specs.declared.reply.Code.TheVariants.{C1107, C1201, C1202, C1203}
@@ -30,25 +32,26 @@ phases_in words =
 -- the word of a code: its digits in octal, or 00000 where there is none
 abbrev pub code_word : Option Code → ℕ
 code_word None = 0
-code_word (Some C1107) = 583
-code_word (Some C1201) = 641
-code_word (Some C1202) = 642
-code_word (Some C1203) = 643
+code_word (Some C1107) = 0o1107
+code_word (Some C1201) = 0o1201
+code_word (Some C1202) = 0o1202
+code_word (Some C1203) = 0o1203
 
 -- the code that a word is read as: none, where it is no code's word
 abbrev pub code_of_word : ℕ → Option Code
 code_of_word word =
-    if word == 583 then Some C1107
-    else if word == 641 then Some C1201
-    else if word == 642 then Some C1202
-    else if word == 643 then Some C1203
+    if word == 0o1107 then Some C1107
+    else if word == 0o1201 then Some C1201
+    else if word == 0o1202 then Some C1202
+    else if word == 0o1203 then Some C1203
     else None
 
 -- a word of FAILREG is 00000 or a code's word: it is the word of what it is read as
 abbrev pub IsCodeWord : ℕ → Type 0
 IsCodeWord word = word ≡ code_word (code_of_word word)
 
--- the first, the second and the latest code: none at all, one that is both first and latest, or two and a latest
+-- the first, the second and the latest code: none at all, one that is both first and latest, or two
+-- and a latest
 abbrev pub AreFirstSecondLatest : Option Code → Option Code → Option Code → Type 0
 AreFirstSecondLatest None second latest = (second ≡ None) × (latest ≡ None)
 AreFirstSecondLatest (Some first) None latest = latest ≡ Some first
@@ -56,15 +59,23 @@ AreFirstSecondLatest (Some first) (Some second) latest = IsSome latest
 
 -- three codes as FAILREG may hold them
 abbrev pub IsFailreg : List (Option Code) → Type 0
-IsFailreg codes = AreFirstSecondLatest (slice_index_or codes 0 None) (slice_index_or codes 1 None) (slice_index_or codes 2 None)
+IsFailreg codes =
+    AreFirstSecondLatest (slice_index_or codes 0 None) (slice_index_or codes 1 None) (slice_index_or codes 2 None)
+
+-- six phases of at most 127, and three codes as FAILREG may hold them
+pub record IsLawfulBase (base : Base) : Type 0 where
+  pub six : length base.phases ≡ 6
+  pub range : (k : ℕ) → k < 6 → slice_index base.phases k ≤ 127
+  pub three : length base.codes ≡ 3
+  pub failreg : IsFailreg base.codes
 
 -- the twelve phase words of the memory
 abbrev pub phase_words : List ℕ → List ℕ
-phase_words words = take 12 (drop 117 words)
+phase_words words = take 12 (drop layout.phase_words words)
 
 -- a word of FAILREG, counted from 0
 abbrev pub failreg_word : List ℕ → ℕ → ℕ
-failreg_word words k = slice_index words (129 + k)
+failreg_word words k = slice_index words (layout.failreg + k)
 
 -- the codes in FAILREG
 abbrev pub codes_in : List ℕ → List (Option Code)
@@ -81,20 +92,23 @@ pub record IsLawfulTable (words : List ℕ) : Type 0 where
   pub spelled : (k : ℕ) → k < 3 → IsCodeWord (failreg_word words k)
   pub failreg : IsFailreg (codes_in words)
 
--- outside the table, nothing changed
-abbrev pub SameOutside : List ℕ → List ℕ → Type 0
-SameOutside old new = (place : ℕ) → (place < 117) ⊎ (131 < place) → slice_index new place ≡ slice_index old place
+-- the words are read as this base and are lawful, and nothing outside the table changed
+pub record Becomes (base : Base) (old new : List ℕ) : Type 0 where
+  pub lawful : IsLawfulTable new
+  pub base_is : base_of new ≡ base
+  pub others : Keeps OutsidePhases old new
 
--- so many pairs were written with these phases, and nothing but phase words changed
-pub record PairsWritten (phases : List ℕ) (old : List ℕ) (n : ℕ) (new : List ℕ) : Type 0 where
-  pub minus : (k : ℕ) → k < n → slice_index new (117 + 2 * k) ≡ complement (slice_index phases k)
-  pub phase : (k : ℕ) → k < n → slice_index new (118 + 2 * k) ≡ slice_index phases k
-  pub range : (k : ℕ) → k < n → slice_index phases k ≤ 127
-  pub size : length new ≡ length old
-  pub same : (place : ℕ) → (place < 117) ⊎ (128 < place) → slice_index new place ≡ slice_index old place
+-- the three words of FAILREG
+abbrev pub failreg_words : List ℕ → List ℕ
+failreg_words words = failreg_word words 0 ∷ failreg_word words 1 ∷ failreg_word words 2 ∷ []
 
--- so many words of FAILREG were written with these codes, and nothing but FAILREG changed
-pub record CodesWritten (codes : List (Option Code)) (old : List ℕ) (n : ℕ) (new : List ℕ) : Type 0 where
-  pub word : (k : ℕ) → k < n → failreg_word new k ≡ code_word (slice_index_or codes k None)
-  pub size : length new ≡ length old
-  pub same : (place : ℕ) → (place < 129) ⊎ (131 < place) → slice_index new place ≡ slice_index old place
+-- both are lawful, and are read as one base
+pub record ShowSameBase (these those : List ℕ) : Type 0 where
+  pub lawful : IsLawfulTable these
+  pub lawful_too : IsLawfulTable those
+  pub same : base_of these ≡ base_of those
+
+-- in the table, the same words
+abbrev pub SameTable : List ℕ → List ℕ → Type 0
+SameTable these those =
+    (place : ℕ) → layout.phase_words ≤ place → place < layout.last_set → slice_index these place ≡ slice_index those place

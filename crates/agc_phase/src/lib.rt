@@ -1,11 +1,15 @@
-//! The phases of the six restart groups, and FAILREG, which keeps the codes of alarms.
+//! The phases of the six restart groups, and FAILREG, which keeps the codes of alarms, in the
+//! erasable words.
 #![tactic(auto)]
 
+mod bases;
 mod image;
+pub mod laws;
 mod table;
 #[cfg(test)]
 mod tests;
 
 pub use agc_plan::Code;
+pub use bases::{Base, Phases};
 pub use image::recover;
-pub use table::{PhaseTable, Phases};
+pub use table::{clear, failreg, is_lawful, phases, record_alarm, set_phase};

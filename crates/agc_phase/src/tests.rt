@@ -1,4 +1,6 @@
-use crate::{Code, PhaseTable, recover};
+use crate::{
+    Base, Code, clear, failreg, is_lawful, laws, phases, record_alarm, recover, set_phase,
+};
 use agc_plan::{Group, Phase};
 use agc_word::{Erasable, Word};
 use std::test::Fail;
@@ -13,6 +15,24 @@ fn twelve(bits: [u16; 12]) -> Result<[Word; 12], Fail> {
         words[place] = word(bits[place])?;
     }
     Ok(words)
+}
+
+fn group(number: u8) -> Result<Group, Fail> {
+    Ok(Group::new(number).ok_or("group")?)
+}
+
+fn phase(number: u8) -> Result<Phase, Fail> {
+    Ok(Phase::new(number).ok_or("phase")?)
+}
+
+/// All words 12345, and then a cleared table.
+fn cleared() -> Result<Erasable, Fail> {
+    let mut e = Erasable::new();
+    for place in 0..132usize {
+        e.set(place, word(0o12345)?);
+    }
+    clear(&mut e);
+    Ok(e)
 }
 
 // Group 4 in phase 5, all others inactive.
@@ -68,32 +88,24 @@ fn each_single_bit_breaks_its_pair(rt: HostRuntime) -> Result<(), Fail> {
 
 #[test]
 fn failreg_keeps_the_first_two(rt: HostRuntime) -> Result<(), Fail> {
-    let mut table = PhaseTable::new();
-    table.record_alarm(Code::C1201);
-    assert_eq!(rt; table.failreg(), [word(0o1201)?, word(0)?, word(0o1201)?]);
-    table.record_alarm(Code::C1202);
-    table.record_alarm(Code::C1203);
-    assert_eq!(rt;
-        table.failreg(),
-        [word(0o1201)?, word(0o1202)?, word(0o1203)?]
-    );
-    table.record_alarm(Code::C1201);
-    assert_eq!(rt;
-        table.failreg(),
-        [word(0o1201)?, word(0o1202)?, word(0o1201)?]
-    );
-    table.clear();
-    assert_eq!(rt; table.failreg(), [word(0)?; 3]);
-    table.record_alarm(Code::C1107);
-    assert_eq!(rt; table.failreg(), [word(0o1107)?, word(0)?, word(0o1107)?]);
+    let mut e = cleared()?;
+    record_alarm(&mut e, Code::C1201);
+    assert_eq!(rt; failreg(&e), [word(0o1201)?, word(0)?, word(0o1201)?]);
+    record_alarm(&mut e, Code::C1202);
+    record_alarm(&mut e, Code::C1203);
+    assert_eq!(rt; failreg(&e), [word(0o1201)?, word(0o1202)?, word(0o1203)?]);
+    record_alarm(&mut e, Code::C1201);
+    assert_eq!(rt; failreg(&e), [word(0o1201)?, word(0o1202)?, word(0o1201)?]);
+    clear(&mut e);
+    assert_eq!(rt; failreg(&e), [word(0)?; 3]);
+    record_alarm(&mut e, Code::C1107);
+    assert_eq!(rt; failreg(&e), [word(0o1107)?, word(0)?, word(0o1107)?]);
     Ok(())
 }
 
 #[test]
-fn a_fresh_table_as_words(rt: HostRuntime) -> Result<(), Fail> {
-    let mut e = Erasable::new();
-    e.set(116, word(0o12345)?);
-    PhaseTable::new().encode(&mut e);
+fn a_cleared_table(rt: HostRuntime) -> Result<(), Fail> {
+    let e = cleared()?;
     assert_eq!(rt; e.get(116).bits(), 0o12345);
     for group in 0..6usize {
         assert_eq!(rt; e.get(117 + 2 * group).bits(), 0o77777);
@@ -102,42 +114,109 @@ fn a_fresh_table_as_words(rt: HostRuntime) -> Result<(), Fail> {
     for place in 129..132usize {
         assert_eq!(rt; e.get(place).bits(), 0);
     }
+    assert!(rt; is_lawful(&e));
+    laws::one_table_of_a_base();
     Ok(())
 }
 
 #[test]
-fn a_set_phase_as_words(rt: HostRuntime) -> Result<(), Fail> {
-    let mut table = PhaseTable::new();
-    table.set_phase(Group::new(2).ok_or("group")?, Phase::new(3).ok_or("phase")?);
-    table.record_alarm(Code::C1203);
-    let mut e = Erasable::new();
-    table.encode(&mut e);
+fn a_set_phase_and_an_alarm(rt: HostRuntime) -> Result<(), Fail> {
+    let mut e = cleared()?;
+    set_phase(&mut e, group(2)?, phase(3)?);
+    record_alarm(&mut e, Code::C1203);
     let want = [
         0o77777, 0, 0o77774, 3, 0o77777, 0, 0o77777, 0, 0o77777, 0, 0o77777, 0, 0o1203, 0, 0o1203,
     ];
     for k in 0..15usize {
         assert_eq!(rt; e.get(117 + k).bits(), want[k]);
     }
-    let kept = PhaseTable::with_phases(table.phases());
+    assert_eq!(rt; phases(&e)[1].get(), 3);
+    let kept = Base::read(&e);
     assert_eq!(rt; kept.phases()[1].get(), 3);
-    assert_eq!(rt; kept.failreg(), [word(0)?; 3]);
+    clear(&mut e);
+    assert!(rt; Base::read(&e) == Base::fresh());
+    kept.restore(&mut e);
+    for k in 0..15usize {
+        assert_eq!(rt; e.get(117 + k).bits(), want[k]);
+    }
+    Base::with_phases(phases(&e)).restore(&mut e);
+    assert_eq!(rt; e.get(120).bits(), 3);
+    assert_eq!(rt; failreg(&e), [word(0)?; 3]);
+    assert_eq!(rt; e.get(116).bits(), 0o12345);
     Ok(())
 }
 
 #[test]
-fn a_cleared_table_as_words(rt: HostRuntime) -> Result<(), Fail> {
-    let mut table = PhaseTable::new();
-    table.set_phase(
-        Group::new(4).ok_or("group")?,
-        Phase::new(127).ok_or("phase")?,
-    );
-    let mut e = Erasable::new();
-    table.encode(&mut e);
+fn the_greatest_phase_as_words(rt: HostRuntime) -> Result<(), Fail> {
+    let mut e = cleared()?;
+    set_phase(&mut e, group(4)?, phase(127)?);
     assert_eq!(rt; e.get(123).bits(), 0o77600);
     assert_eq!(rt; e.get(124).bits(), 0o177);
-    table.clear();
-    table.encode(&mut e);
+    set_phase(&mut e, group(4)?, phase(0)?);
     assert_eq!(rt; e.get(123).bits(), 0o77777);
     assert_eq!(rt; e.get(124).bits(), 0);
+    Ok(())
+}
+
+// Words of a pair, or of FAILREG, that make a lawful table unlawful: each list by itself.
+const BROKEN: [[(usize, u16); 3]; 24] = [
+    // one word of a pair was written, the other not
+    [(117, 0o77776), (129, 0), (129, 0)],
+    [(118, 1), (129, 0), (129, 0)],
+    [(121, 0o77770), (129, 0), (129, 0)],
+    [(122, 0o7), (129, 0), (129, 0)],
+    [(127, 0), (129, 0), (129, 0)],
+    [(128, 0o77777), (129, 0), (129, 0)],
+    // a pair the wrong way round
+    [(123, 5), (124, 0o77772), (129, 0)],
+    [(117, 0), (118, 0o77777), (129, 0)],
+    // both words alike
+    [(119, 3), (120, 3), (129, 0)],
+    [(125, 0o77774), (126, 0o77774), (129, 0)],
+    // a phase above 127
+    [(117, 0o77577), (118, 0o200), (129, 0)],
+    [(127, 0o40000), (128, 0o37777), (129, 0)],
+    // no code's word
+    [(129, 1), (130, 0), (131, 1)],
+    [(129, 0o1201), (130, 0o1200), (131, 0o1201)],
+    [(129, 0o1201), (130, 0), (131, 0o1204)],
+    [(129, 0o77777), (130, 0), (131, 0)],
+    [(129, 0o1107), (130, 0o1201), (131, 0o77777)],
+    // none first, and yet a second or a latest
+    [(129, 0), (130, 0o1201), (131, 0o1201)],
+    [(129, 0), (130, 0), (131, 0o1201)],
+    [(129, 0), (130, 0o1201), (131, 0)],
+    // one code, and another or none latest
+    [(129, 0o1201), (130, 0), (131, 0)],
+    [(129, 0o1201), (130, 0), (131, 0o1202)],
+    // two codes, and none latest
+    [(129, 0o1201), (130, 0o1202), (131, 0)],
+    [(129, 0o1107), (130, 0o1107), (131, 0)],
+];
+
+#[test]
+fn unlawful_words(rt: HostRuntime) -> Result<(), Fail> {
+    for (k, broken) in BROKEN.iter().enumerate() {
+        let mut e = cleared()?;
+        for (place, bits) in broken {
+            e.set(*place, word(*bits)?);
+        }
+        assert!(rt; !is_lawful(&e), "image {k}");
+    }
+    Ok(())
+}
+
+#[test]
+fn lawful_words(rt: HostRuntime) -> Result<(), Fail> {
+    let mut e = cleared()?;
+    for number in 1..7u8 {
+        set_phase(&mut e, group(number)?, phase(20 * number)?);
+        assert!(rt; is_lawful(&e), "group {number}");
+    }
+    for code in [Code::C1107, Code::C1201, Code::C1202, Code::C1203] {
+        record_alarm(&mut e, code);
+        assert!(rt; is_lawful(&e));
+    }
+    assert!(rt; !is_lawful(&Erasable::new()));
     Ok(())
 }

@@ -1,44 +1,52 @@
-use Rattle.std.proofs.Common.{◌≡◌, ℕ, [], List, Some, nat_lt, arith, sym, ◌∙◌, subst, false}
-use Rattle.std.proofs.lemmas.Grind.{common_steps}
+use Rattle.std.proofs.Common.{◌≡◌, ◌+◌, ◌≤◌, [], List, Some, None, length, arith, refl, sym, ◌∙◌, subst}
 use Rattle.std.proofs.lemmas.List.{length-append}
 use Rattle.agc_plan.specs.declared.request.Task.{Task}
 use Rattle.agc_plan.specs.Seats.{seated_fired}
 use Rattle.agc_plan.specs.Steps.{fire_all}
+use Rattle.agc_wait.specs.Table.{waits_of}
 use Rattle.agc_wait.specs.Waits.{due_now}
-use Rattle.agc_machine.specs.Stands.{Fired}
-use Rattle.agc_machine.proofs.Fires.{GoesOn, begins_firing, onward, stopped, finished}
+use Rattle.agc_machine.specs.Stands.{seated_in, places_fired}
+use Rattle.agc_machine.proofs.Fires.{GoesOn, Ends, begins_firing, onward, stopped, finished, fires_by}
+use Rattle.agc_machine.proofs.Frames.{sound_by_waits, base_by_waits, none_counted}
 use Rattle.agc_machine.proofs.tick.fire.Goals as goal
 
-pub loop-waits-init : goal.loop-waits-init
-loop-waits-init c = record {
-  goes_on = λ w places stands.
-      subst (λ (x : List Task). GoesOn c.args.plan.now.rows c.args.cores.now c.args.waits.now x (record { jobs = w.jobs; places = places }) (fire_all c.args.plan.now.rows w [])) (sym c.new-fired.ensures)
-      (begins_firing c.args.plan.now.rows c.args.cores.now c.args.waits.now w places stands);
-  few = rw c.new-fired.ensures (let h = c.requires in omega arith);
+pub loop-e-init : goal.loop-e-init
+loop-e-init c = record {
+  sound = c.requires.sound;
+  same_base = refl;
+  goes_on = λ work places stands.
+      subst (λ (x : List Task). GoesOn c.args.plan.now.rows c.args.e.now x (seated_in work places) (fire_all c.args.plan.now.rows work [])) (sym c.new-fired.ensures)
+      (begins_firing c.args.plan.now.rows c.args.e.now work places stands);
+  few = rw c.new-fired.ensures (let h = c.requires.few in omega arith);
 }
 
-pub loop-waits-preserved : goal.loop-waits-preserved
-loop-waits-preserved c = record {
-  goes_on = λ w places stands.
-      subst (λ (x : List Task). GoesOn c.args.plan.now.rows c.perform.new.cores c.perform.new.waits x (record { jobs = w.jobs; places = places }) (fire_all c.args.plan.now.rows w [])) (sym c.push.ensures)
-      (onward c.args.plan.now.rows (record { jobs = w.jobs; places = places }) (fire_all c.args.plan.now.rows w []) c.loop-waits.fired c.dispatch-task.result c.action.result c.loop-waits.cores c.perform.new.cores c.loop-waits.waits c.dispatch-task.new.self c.perform.new.waits
-      (c.loop-waits.invariant.goes_on w places stands) c.dispatch-task.ensures.first c.dispatch-task.ensures.dispatched c.dispatch-task.ensures.fewer c.perform.ensures.due c.action.ensures c.in-None.ensures.did);
-  few = rw c.push.ensures (rw length-append (let few = c.loop-waits.invariant.few in let a = c.dispatch-task.ensures.fewer in let b = c.perform.ensures.due in omega arith));
+pub perform-requires : goal.perform-requires
+perform-requires c =
+    sound_by_waits c.loop-e.e c.dispatch-task.new.e c.dispatch-task.ensures.others c.loop-e.invariant.sound c.dispatch-task.ensures.lawful (c.dispatch-task.ensures.tidy c.loop-e.invariant.sound.tidy_waits)
+
+pub loop-e-preserved : goal.loop-e-preserved
+loop-e-preserved c = record {
+  sound = c.perform.ensures.changes.sound;
+  same_base = c.perform.ensures.changes.same_base ∙ base_by_waits c.loop-e.e c.dispatch-task.new.e c.dispatch-task.ensures.others ∙ c.loop-e.invariant.same_base;
+  goes_on = λ work places stands.
+      subst (λ (x : List Task). GoesOn c.args.plan.now.rows c.perform.new.e x (seated_in work places) (fire_all c.args.plan.now.rows work [])) (sym c.push.ensures)
+      (onward c.args.plan.now.rows (seated_in work places) (fire_all c.args.plan.now.rows work []) c.loop-e.fired c.dispatch-task.result c.action.result c.loop-e.e c.dispatch-task.new.e c.perform.new.e
+      (c.loop-e.invariant.goes_on work places stands) c.dispatch-task.ensures c.action.ensures (rw c.in-None.is at c.perform.ensures));
+  few = rw c.push.ensures (rw length-append (let few = c.loop-e.invariant.few in let a = c.dispatch-task.ensures.fewer_due in let b = c.perform.ensures.same_due in omega arith));
 }
 
-pub returns-in-Some-clause-fires : goal.returns-in-Some-clause-fires
-returns-in-Some-clause-fires c = λ w places stands.
-    subst (λ (x : List Task). Fired c.perform.new.cores c.perform.new.waits x (Some c.in-Some.alarm) (fire_all c.args.plan.now.rows w []) (seated_fired c.args.plan.now.rows (record { jobs = w.jobs; places = places }) x)) (sym c.push.ensures)
-    (stopped c.args.plan.now.rows (record { jobs = w.jobs; places = places }) (fire_all c.args.plan.now.rows w []) c.loop-waits.fired c.dispatch-task.result c.action.result c.loop-waits.cores c.perform.new.cores c.loop-waits.waits c.dispatch-task.new.self c.perform.new.waits c.in-Some.alarm
-    (c.loop-waits.invariant.goes_on w places stands) c.dispatch-task.ensures.first c.dispatch-task.ensures.dispatched c.dispatch-task.ensures.fewer c.action.ensures c.in-Some.ensures.did)
+pub returns-in-Some : goal.returns-in-Some
+returns-in-Some c =
+    fires_by c.args.plan.now.rows c.args.e.now c.push.new.self (Some c.in-Some.alarm) c.perform.new.e c.perform.ensures.changes.sound
+    (c.perform.ensures.changes.same_base ∙ base_by_waits c.loop-e.e c.dispatch-task.new.e c.dispatch-task.ensures.others ∙ c.loop-e.invariant.same_base)
+    (λ empty. absurd (cc))
+    (λ work places stands.
+    subst (λ (x : List Task). Ends c.perform.new.e x (Some c.in-Some.alarm) (fire_all c.args.plan.now.rows work []) (places_fired c.args.plan.now.rows x work places)) (sym c.push.ensures)
+    (stopped c.args.plan.now.rows (seated_in work places) (fire_all c.args.plan.now.rows work []) c.loop-e.fired c.dispatch-task.result c.action.result c.loop-e.e c.dispatch-task.new.e c.perform.new.e c.in-Some.alarm
+    (c.loop-e.invariant.goes_on work places stands) c.dispatch-task.ensures c.action.ensures (rw c.in-Some.is at c.perform.ensures)))
 
-none_left : (n : ℕ) → nat_lt 0 n ≡ false → n ≡ 0
-none_left n off = grind (arith, common_steps)
-
-pub returns-clause-fires : goal.returns-clause-fires
-returns-clause-fires c = λ w places stands.
-    finished c.args.plan.now.rows (record { jobs = w.jobs; places = places }) (fire_all c.args.plan.now.rows w []) c.loop-waits.fired c.loop-waits.cores c.loop-waits.waits
-    (c.loop-waits.invariant.goes_on w places stands) (none_left (due_now c.loop-waits.waits) (sym c.due.ensures.count ∙ c.loop-waits-test.false))
-
-pub returns-clause-none_due : goal.returns-clause-none_due
-returns-clause-none_due c = λ none. none_left (due_now c.loop-waits.waits) (sym c.due.ensures.count ∙ c.loop-waits-test.false)
+pub returns : goal.returns
+returns c =
+    let none_due = none_counted c.loop-e.e c.loop-e.invariant.sound.waits (sym c.due.ensures.value ∙ c.loop-e-test.false) in
+    fires_by c.args.plan.now.rows c.args.e.now c.loop-e.fired None c.loop-e.e c.loop-e.invariant.sound c.loop-e.invariant.same_base (λ empty. none_due)
+    (λ work places stands. finished c.args.plan.now.rows (seated_in work places) (fire_all c.args.plan.now.rows work []) c.loop-e.fired c.loop-e.e (c.loop-e.invariant.goes_on work places stands) none_due)

@@ -1,16 +1,20 @@
-use Rattle.std.proofs.Common.{ℕ, ◌+◌, ◌≤◌, List, [], length}
+use Rattle.std.proofs.Common.{◌≡◌, ℕ, ◌+◌, ◌≤◌, List, [], length}
 use Rattle.agc_plan.specs.Eras.{Work}
 use Rattle.agc_plan.specs.Steps.{fire_all}
+use Rattle.agc_wait.specs.Table.{waits_of}
 use Rattle.agc_wait.specs.Waits.{due_now}
-use Rattle.agc_machine.specs.Stands.{Stands}
+use Rattle.agc_phase.specs.Image.{base_of}
+use Rattle.agc_machine.specs.Stands.{IsSound, Stands, seated_in}
 use Rattle.agc_machine.proofs.Fires.{GoesOn}
 use Rattle.agc_machine.proofs.tick.fire.Given as goal
 
-abbrev pub invariant-loop-waits : goal.invariant-loop-waits
-invariant-loop-waits l = record {
-  goes_on : (w : Work) (places : List ℕ) → Stands l.fn.cores l.fn.waits w places → GoesOn l.plan.rows l.cores l.waits l.fired (record { jobs = w.jobs; places = places }) (fire_all l.plan.rows w []);
-  few : length l.fired + due_now l.waits ≤ 9;
+abbrev pub invariant-loop-e : goal.invariant-loop-e
+invariant-loop-e l = record {
+  sound : IsSound l.e;
+  same_base : base_of l.e ≡ base_of l.fn.e;
+  goes_on : (work : Work) (places : List ℕ) → Stands l.fn.e work places → GoesOn l.plan.rows l.e l.fired (seated_in work places) (fire_all l.plan.rows work []);
+  few : length l.fired + due_now (waits_of l.e) ≤ 9;
 }
 
-abbrev pub decreases-loop-waits : goal.decreases-loop-waits
-decreases-loop-waits l = due_now l.waits
+abbrev pub decreases-loop-e : goal.decreases-loop-e
+decreases-loop-e l = due_now (waits_of l.e)

@@ -1,4 +1,4 @@
-use Rattle.agc_phase.specs.Image.{CodesWritten}
+use Rattle.agc_phase.specs.Writing.{CodesWritten}
 use Rattle.agc_phase.proofs.image.write_codes.Given as goal
 
 abbrev pub invariant-loop-k : goal.invariant-loop-k

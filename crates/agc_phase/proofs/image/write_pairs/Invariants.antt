@@ -1,4 +1,4 @@
-use Rattle.agc_phase.specs.Image.{PairsWritten}
+use Rattle.agc_phase.specs.Writing.{PairsWritten}
 use Rattle.agc_phase.proofs.image.write_pairs.Given as goal
 
 abbrev pub invariant-loop-k : goal.invariant-loop-k

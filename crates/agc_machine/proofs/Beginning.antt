@@ -1,0 +1,60 @@
+-- Words whose core sets and Waitlist were cleared.
+use Rattle.std.proofs.Common.{◌≡◌, ℕ, ◌+◌, ◌-◌, ◌/◌, ◌<◌, List, [], ◌∷◌, Option, length, drop, get_or, replicate, add-one, drop-cons, refl, ap, sym, ◌∙◌}
+use Rattle.agc_word.specs.Layout.{sets_in, others_size, set_size}
+use Rattle.agc_plan.specs.Begins.{Begins}
+use Rattle.agc_plan.specs.Eras.{Work, no_work, active, begun_from, group_begun}
+use Rattle.agc_plan.specs.Jobs.{no_jobs}
+use Rattle.agc_plan.specs.Seats.{no_places, places_from}
+use Rattle.agc_exec.specs.Calls as cores
+use Rattle.agc_exec.specs.Image.{jobs_in, entries_in}
+use Rattle.agc_exec.proofs.Agreeing.{kept_by_waitlist, jobs_in-agrees, entries_in-agrees, IsTidy-agrees, IsLawfulWords-agrees}
+use Rattle.agc_wait.specs.Calls as table
+use Rattle.agc_wait.specs.Table.{waits_of}
+use Rattle.agc_wait.specs.Waits.{due_now}
+use Rattle.agc_phase.specs.Image.{base_of, IsLawfulTable}
+use Rattle.agc_phase.proofs.Kept.{IsLawfulTable-kept}
+use Rattle.agc_machine.specs.Stands.{IsSound, Stands, places_group}
+use Rattle.agc_machine.proofs.Frames.{phases_by_cores, phases_by_waits, base_by_cores, base_by_waits}
+
+-- one group more begins
+pub record OneMore (entries : List Begins) (group : ℕ) (phases rest : List ℕ) (entry : Option Begins) (work : Work) (places : List ℕ) : Type 0 where
+  pub works : begun_from entries group phases work ≡ begun_from entries (group + 1) rest (group_begun entry work)
+  pub seats : places_from entries group phases work places ≡ places_from entries (group + 1) rest (group_begun entry work) (places_group entry work places)
+
+one_more_is : (entries : List Begins) (group : ℕ) (phases rest : List ℕ) (phase : ℕ) (entry : Option Begins) (work : Work) (places : List ℕ) → phases ≡ phase ∷ rest → entry ≡ active entries group phase → OneMore entries group phases rest entry work places
+one_more_is entries group phases rest phase entry work places phases_is entry_is = rw (phases_is, entry_is) (record { works = refl; seats = refl })
+
+-- what the groups so far left, and one more
+pub one_more : (entries : List Begins) (phases : List ℕ) (k phase group : ℕ) (entry : Option Begins) (work : Work) (places : List ℕ) → k < length phases → phase ≡ get_or phases k phase → group ≡ k + 1 → entry ≡ active entries group phase → OneMore entries (k + 1) (drop k phases) (drop (k + 1) phases) entry work places
+one_more entries phases k phase group entry work places lt phase_is group_is entry_is =
+    one_more_is entries (k + 1) (drop k phases) (drop (k + 1) phases) phase entry work places
+    (rw (add-one) (drop-cons phases k phase lt) ∙ ap (λ (p : ℕ). p ∷ drop (k + 1) phases) (sym phase_is)) (entry_is ∙ ap (λ (g : ℕ). active entries g phase) group_is)
+
+-- nobody lives, nothing waits, and phases and codes stay
+pub record Cleared (old new : List ℕ) : Type 0 where
+  pub sound : IsSound new
+  pub clear : Stands new no_work no_places
+  pub same_base : base_of new ≡ base_of old
+  pub none_due : due_now (waits_of new) ≡ 0
+
+seven : (words : List ℕ) → length words ≡ 132 → sets_in words ≡ 7
+seven words size = ap (λ (n : ℕ). (n - others_size) / set_size) size
+
+pub cleared : (old mid new : List ℕ) → IsLawfulTable old → cores.Clears old mid → length mid ≡ 132 → table.Clears mid new → Cleared old new
+cleared old mid new lawful exec size wait = record {
+  sound = record {
+    size = wait.others.same_length ∙ size;
+    tidy_cores = IsTidy-agrees mid new (kept_by_waitlist mid new wait.others) exec.tidy;
+    tidy_waits = wait.tidy;
+    cores = IsLawfulWords-agrees mid new (kept_by_waitlist mid new wait.others) exec.lawful;
+    waits = wait.lawful;
+    phases = IsLawfulTable-kept mid new (phases_by_waits mid new wait.others) (IsLawfulTable-kept old mid (phases_by_cores old mid exec.others) lawful);
+  };
+  clear = record {
+    jobs_is = sym (jobs_in-agrees mid new (kept_by_waitlist mid new wait.others) ∙ exec.jobs ∙ ap no_jobs (seven mid size));
+    places_is = sym (entries_in-agrees mid new (kept_by_waitlist mid new wait.others) ∙ exec.placed ∙ ap (λ (n : ℕ). replicate n 0) (seven mid size));
+    agenda = wait.stands 0;
+  };
+  same_base = base_by_waits mid new wait.others ∙ base_by_cores old mid exec.others;
+  none_due = wait.none_due;
+}
