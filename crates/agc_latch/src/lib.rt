@@ -22,3 +22,6 @@ pub use latch::Latch;
 pub use laws::steps_keep_the_line_account;
 pub use line::Line;
 pub use taker::Taker;
+
+#[cfg(test)]
+mod tests;
