@@ -1,9 +1,11 @@
 -- Helpers of proofs: what the steps of a call do, one after the other.
-use Rattle.std.specs.Prelude.{◌≡◌, ◌⊎◌, ℕ, ◌+◌, ◌-◌, ◌*◌, ◌<◌, ◌≤◌, Bool, true, false, if◌then◌else◌, List, [], Option, None, Some, length, slice_index_or}
+use Rattle.std.specs.Prelude.{◌≡◌, ◌≢◌, ◌⊎◌, ◌%◌, nat_lt, slice_index, ℕ, ◌+◌, ◌-◌, ◌*◌, ◌<◌, ◌≤◌, Bool, true, false, if◌then◌else◌, List, [], Option, None, Some, length, slice_index_or}
+use Rattle.agc_word.specs.Layout.{set_place, address_of, area_of}
+use Rattle.agc_word.specs.Words.{complement}
 use Rattle.agc_plan.specs.Jobs.{Job, best, is_owned, is_sleeper}
 use Rattle.agc_exec.specs.Held.{Held}
 use Rattle.agc_exec.specs.Blocks.{blocks_of}
-use Rattle.agc_exec.specs.Image.{held_of, sets_of}
+use Rattle.agc_exec.specs.Image.{minus_zero, sign, held_of, sets_of}
 use Rattle.agc_exec.specs.Calls.{fronted_blocks}
 use Rattle.agc_exec.specs.Sets.{job_of, number_in, IsBestBelow, IsFirstBelow, Holds, GivesWay, BringsBest, slots_of, entries_of, running_in}
 
@@ -80,3 +82,53 @@ pub record TookOver (ran : Bool) (old new : List ℕ) : Type 0 where
 pub record Tells (ran : Bool) (words : List ℕ) : Type 0 where
   pub runs : ran ≡ true → FrontRuns (sets_of words)
   pub idle : ran ≡ false → running_in (sets_of words) ≡ None
+
+-- PRIORITY with its sign taken off
+abbrev pub unsigned : ℕ → ℕ
+unsigned word = if nat_lt word sign then word else complement word
+
+-- these words of a set are a job's: its number, its LOC, and PRIORITY with its sign taken off
+pub record AreSound (number at urgency : ℕ) : Type 0 where
+  pub number_low : 1 ≤ number
+  pub number_high : number ≤ 7
+  pub at_low : 1 ≤ at
+  pub at_high : at ≤ 16383
+  pub low : 512 ≤ urgency
+  pub five : area_of (urgency % 512) ≤ 5
+  pub address : urgency % 512 ≡ address_of (area_of (urgency % 512))
+
+-- set k is free, or its words are a job's
+abbrev pub IsSoundAt : List ℕ → ℕ → Type 0
+IsSoundAt words k =
+    slice_index words (set_place k + 11) ≢ minus_zero
+    → AreSound (slice_index words (set_place k + 0)) (slice_index words (set_place k + 8)) (unsigned (slice_index words (set_place k + 11)))
+
+-- each set is
+abbrev pub AreSoundSets : List ℕ → Type 0
+AreSoundSets words = (k : ℕ) → k < 7 → IsSoundAt words k
+
+-- the area of a set's job, 0 for none
+abbrev pub area_held : Option Held → ℕ
+area_held None = 0
+area_held (Some r) = r.area
+
+-- 0, or another
+abbrev pub Differs : ℕ → ℕ → Type 0
+Differs x y = 0 < x → x ≢ y
+
+-- two sets share no number and no area
+pub record AreApart (sets : List (Option Held)) (j k : ℕ) : Type 0 where
+  pub numbers : Differs (number_in (slice_index_or sets j None)) (number_in (slice_index_or sets k None))
+  pub areas : Differs (area_held (slice_index_or sets j None)) (area_held (slice_index_or sets k None))
+
+-- set k shares none with those before it
+abbrev pub IsApart : List (Option Held) → ℕ → Type 0
+IsApart sets k = (j : ℕ) → j < k → AreApart sets j k
+
+-- no two sets share any
+abbrev pub AllApart : List (Option Held) → Type 0
+AllApart sets = (k : ℕ) → k < 7 → IsApart sets k
+
+-- no PRIORITY word is an awake job's
+abbrev pub NobodyAwake : List ℕ → Type 0
+NobodyAwake words = (k : ℕ) → k < 7 → sign ≤ slice_index words (set_place k + 11)
