@@ -87,8 +87,9 @@ fn is_blank_behind(e: &Erasable, count: usize) -> bool
         && are_all(e, LST2 + 2 * count, PHASE_WORDS, 0)
 }
 
-/// Whether TIME3, LST1 and LST2 are in order, between requests or inside a tick: what is read is within its range, and
-/// all else is blank. Source: the listings' WAITLIST section; the coding: profile.
+/// Whether TIME3, LST1 and LST2 are in order, between requests or inside a tick: what is read is
+/// within its range, and all else is blank. Source: the listings' WAITLIST section; the coding:
+/// profile.
 pub fn is_lawful(e: &Erasable) -> bool
     ensures { IsTrue result ↔ IsLawfulTable e.now }
 {

@@ -256,230 +256,100 @@ fn a_gap_of_one_as_minus_zero(rt: HostRuntime) -> Result<(), Fail> {
     Ok(())
 }
 
-/// Words changed on those of three tasks that are due in 5, 5 and 12 centiseconds, and whether they are in order then.
-struct Image {
-    name: &'static str,
-    changes: &'static [(usize, u16)],
-    lawful: bool,
-}
-
-const IMAGES: [Image; 34] = [
-    Image {
-        name: "as it was",
-        changes: &[],
-        lawful: true,
-    },
-    Image {
-        name: "the first two are due now",
-        changes: &[(TIME3, 0)],
-        lawful: true,
-    },
-    Image {
-        name: "a gap of one as 77777",
-        changes: &[(LST1 + 1, 0o77777)],
-        lawful: true,
-    },
-    Image {
-        name: "a gap of 8193",
-        changes: &[(LST1, 0o57777)],
-        lawful: true,
-    },
-    Image {
-        name: "the last is due in 16250",
-        changes: &[(LST1 + 1, 0o40213)],
-        lawful: true,
-    },
-    Image {
-        name: "the last is due in 16251",
-        changes: &[(LST1 + 1, 0o40212)],
-        lawful: false,
-    },
-    Image {
-        name: "the second is due in 16251",
-        changes: &[(LST1, 0o40212), (LST1 + 1, 1)],
-        lawful: false,
-    },
-    Image {
-        name: "the first is due in 16250",
-        changes: &[(TIME3, 0o206), (LST1 + 1, 1)],
-        lawful: true,
-    },
-    Image {
-        name: "the first is due in 16251",
-        changes: &[(TIME3, 0o205), (LST1 + 1, 1)],
-        lawful: false,
-    },
-    Image {
-        name: "TIME3 is 40000",
-        changes: &[(TIME3, 0o40000)],
-        lawful: false,
-    },
-    Image {
-        name: "TIME3 is 77777",
-        changes: &[(TIME3, 0o77777)],
-        lawful: false,
-    },
-    Image {
-        name: "a gap of value 2",
-        changes: &[(LST1, 2)],
-        lawful: false,
-    },
-    Image {
-        name: "a gap of value 16383",
-        changes: &[(LST1 + 1, 0o37777)],
-        lawful: false,
-    },
-    Image {
-        name: "a gap of 16384",
-        changes: &[(LST1, 0o40000)],
-        lawful: false,
-    },
-    Image {
-        name: "a gap behind the last task",
-        changes: &[(LST1 + 2, 0)],
-        lawful: false,
-    },
-    Image {
-        name: "57776 behind the last task",
-        changes: &[(LST1 + 2, 0o57776)],
-        lawful: false,
-    },
-    Image {
-        name: "a gap further on",
-        changes: &[(LST1 + 5, 1)],
-        lawful: false,
-    },
-    Image {
-        name: "a gap in the last word of LST1",
-        changes: &[(LST2 - 1, 1)],
-        lawful: false,
-    },
-    Image {
-        name: "an address of fifteen bits",
-        changes: &[(LST2, 0o40000)],
-        lawful: false,
-    },
-    Image {
-        name: "an address of minus zero",
-        changes: &[(LST2 + 4, 0o77777)],
-        lawful: false,
-    },
-    Image {
-        name: "a bank word without its task",
-        changes: &[(LST2 + 7, 5)],
-        lawful: false,
-    },
-    Image {
-        name: "a bank word in the last place",
-        changes: &[(PHASE_WORDS - 1, 5)],
-        lawful: false,
-    },
-    Image {
-        name: "a task in the last place",
-        changes: &[(PHASE_WORDS - 2, 0o2000)],
-        lawful: false,
-    },
-    Image {
-        name: "an empty place before a task",
-        changes: &[(LST2 + 2, 0), (LST2 + 3, 0)],
-        lawful: false,
-    },
-    Image {
-        name: "no address in the last task's place",
-        changes: &[(LST2 + 4, 0)],
-        lawful: false,
-    },
-    Image {
-        name: "the last task is gone, its gap is not",
-        changes: &[(LST2 + 4, 0), (LST2 + 5, 0)],
-        lawful: false,
-    },
-    Image {
-        name: "the last task is gone",
-        changes: &[(LST2 + 4, 0), (LST2 + 5, 0), (LST1 + 1, 0o57777)],
-        lawful: true,
-    },
-    Image {
-        name: "two gaps of 8193",
-        changes: &[(LST1 + 1, 0o57777), (LST1, 0o57777)],
-        lawful: false,
-    },
-    Image {
-        name: "a task more, due in 16392",
-        changes: &[(LST2 + 6, 0o2030), (LST2 + 7, 5), (TIME3, 0o20000)],
-        lawful: false,
-    },
-    Image {
-        name: "a task more, 8193 behind",
-        changes: &[(LST2 + 6, 0o2030), (LST2 + 7, 5)],
-        lawful: true,
-    },
-    Image {
-        name: "no task, but TIME3",
-        changes: &[
-            (LST2, 0),
-            (LST2 + 1, 0),
-            (LST2 + 2, 0),
-            (LST2 + 3, 0),
-            (LST2 + 4, 0),
-            (LST2 + 5, 0),
-            (LST1, 0o57777),
-            (LST1 + 1, 0o57777),
-        ],
-        lawful: false,
-    },
-    Image {
-        name: "no task",
-        changes: &[
-            (LST2, 0),
-            (LST2 + 1, 0),
-            (LST2 + 2, 0),
-            (LST2 + 3, 0),
-            (LST2 + 4, 0),
-            (LST2 + 5, 0),
-            (LST1, 0o57777),
-            (LST1 + 1, 0o57777),
-            (TIME3, 0),
-        ],
-        lawful: true,
-    },
-    Image {
-        name: "no task, but a gap",
-        changes: &[
-            (LST2, 0),
-            (LST2 + 1, 0),
-            (LST2 + 2, 0),
-            (LST2 + 3, 0),
-            (LST2 + 4, 0),
-            (LST2 + 5, 0),
-            (LST1 + 1, 0o57777),
-            (TIME3, 0),
-        ],
-        lawful: false,
-    },
-    Image {
-        name: "the first place is empty",
-        changes: &[(LST2, 0)],
-        lawful: false,
-    },
+/// Words that are in order: two changes each on those of three tasks, due in 5, 5 and 12 centiseconds.
+const IN_ORDER: [[(usize, u16); 2]; 6] = [
+    // the first two are due now
+    [(TIME3, 0), (TIME3, 0)],
+    // a gap of one as 77777, and one of 8193
+    [(LST1 + 1, 0o77777), (LST1 + 1, 0o77777)],
+    [(LST1, 0o57777), (LST1 + 1, 1)],
+    // the last is due in 16250, then all three
+    [(LST1 + 1, 0o40213), (LST1 + 1, 0o40213)],
+    [(TIME3, 0o206), (LST1 + 1, 1)],
+    // a fourth task, 8193 behind
+    [(LST2 + 6, 0o2030), (LST2 + 7, 5)],
 ];
 
-#[test]
-fn words_in_order_and_not(rt: HostRuntime) -> Result<(), Fail> {
-    assert!(rt; is_lawful(&blank()));
-    assert!(rt; !is_lawful(&Erasable::new()));
-    for image in &IMAGES {
-        let mut e = blank();
-        list_task(&mut e, 5, 0o2000)??;
-        list_task(&mut e, 12, 0o2010)??;
-        list_task(&mut e, 5, 0o2020)??;
-        for (place, bits) in image.changes {
-            if *place >= PHASE_WORDS {
-                return Err("place".into());
-            }
-            e.set(*place, word(*bits)?);
+/// Words that are not: two changes each on the same.
+const BROKEN: [[(usize, u16); 2]; 21] = [
+    // the last, the second or the first is due in 16251
+    [(LST1 + 1, 0o40212), (LST1 + 1, 0o40212)],
+    [(LST1, 0o40212), (LST1 + 1, 1)],
+    [(TIME3, 0o205), (LST1 + 1, 1)],
+    // TIME3 is negative
+    [(TIME3, 0o40000), (TIME3, 0o40000)],
+    [(TIME3, 0o77777), (TIME3, 0o77777)],
+    // a word of LST1 of value 2 or more, or a gap of 16384, or two of 8193
+    [(LST1, 2), (LST1, 2)],
+    [(LST1 + 1, 0o37777), (LST1 + 1, 0o37777)],
+    [(LST1, 0o40000), (LST1, 0o40000)],
+    [(LST1, 0o57777), (LST1 + 1, 0o57777)],
+    // LST1 is not 57777 behind the last task
+    [(LST1 + 2, 0), (LST1 + 2, 0)],
+    [(LST1 + 2, 0o57776), (LST1 + 2, 0o57776)],
+    [(LST1 + 5, 1), (LST1 + 5, 1)],
+    [(LST2 - 1, 1), (LST2 - 1, 1)],
+    // an address of fifteen bits
+    [(LST2, 0o40000), (LST2, 0o40000)],
+    [(LST2 + 4, 0o77777), (LST2 + 4, 0o77777)],
+    // a bank word or an address behind an empty place
+    [(LST2 + 7, 5), (LST2 + 7, 5)],
+    [(PHASE_WORDS - 1, 5), (PHASE_WORDS - 1, 5)],
+    [(PHASE_WORDS - 2, 0o2000), (PHASE_WORDS - 1, 5)],
+    [(LST2 + 2, 0), (LST2 + 3, 0)],
+    // the last task is gone, but its bank word, or the gap to it
+    [(LST2 + 4, 0), (LST1 + 1, 0o57777)],
+    [(LST2 + 4, 0), (LST2 + 5, 0)],
+];
+
+/// Words that are not: a change each on those of no task.
+const BROKEN_BLANK: [(usize, u16); 5] = [
+    (TIME3, 1),
+    (TIME3, 0o37773),
+    (LST1, 1),
+    (LST2 - 1, 0),
+    (LST2 + 1, 5),
+];
+
+/// Words of three tasks, with these changes.
+fn changed(changes: &[(usize, u16); 2]) -> Result<Erasable, Fail> {
+    let mut e = blank();
+    list_task(&mut e, 5, 0o2000)??;
+    list_task(&mut e, 12, 0o2010)??;
+    list_task(&mut e, 5, 0o2020)??;
+    for (place, bits) in changes {
+        if *place >= PHASE_WORDS {
+            return Err("place".into());
         }
-        assert_eq!(rt; is_lawful(&e), image.lawful, "{}", image.name);
+        e.set(*place, word(*bits)?);
+    }
+    Ok(e)
+}
+
+#[test]
+fn words_in_order(rt: HostRuntime) -> Result<(), Fail> {
+    assert!(rt; is_lawful(&blank()));
+    for (k, changes) in IN_ORDER.iter().enumerate() {
+        let e = changed(changes)?;
+        assert!(rt; is_lawful(&e), "image {k}");
+    }
+    Ok(())
+}
+
+#[test]
+fn words_out_of_order(rt: HostRuntime) -> Result<(), Fail> {
+    assert!(rt; !is_lawful(&Erasable::new()));
+    for (k, changes) in BROKEN.iter().enumerate() {
+        let e = changed(changes)?;
+        assert!(rt; !is_lawful(&e), "image {k}");
+    }
+    for (k, (place, bits)) in BROKEN_BLANK.iter().enumerate() {
+        let mut e = blank();
+        if *place >= PHASE_WORDS {
+            return Err("place".into());
+        }
+        e.set(*place, word(*bits)?);
+        assert!(rt; !is_lawful(&e), "blank image {k}");
     }
     Ok(())
 }
