@@ -1,4 +1,5 @@
--- What a request does before an era begins with it, and an action of the plan, by what they do to jobs and tasks.
+-- What a request does before an era begins with it, and an action of the plan, by what they do to
+-- jobs and tasks.
 use Rattle.std.proofs.Common.{◌≡◌, ℕ, List, Option, None, refl, ap, sym, subst, ◌∙◌}
 use Rattle.agc_plan.specs.declared.reply.Alarm.{Alarm}
 use Rattle.agc_plan.specs.declared.reply.Reply.{Reply}

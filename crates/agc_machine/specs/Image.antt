@@ -30,8 +30,8 @@ pub record WordsStandFor (words : List ℕ) (plain : Plain) : Type 0 where
   pub tasks : StandsFor (waits_of words) plain.work.agenda
   pub base : base_of words ≡ plain.base
 
--- the words of this machine, which is lawful: they stand for what its base and log reach, with the jobs in the core sets
--- of their placement
+-- the words of this machine, which is lawful: they stand for what its base and log reach, with the
+-- jobs in the core sets of their placement
 pub record IsImage (m : Machined) (words : List ℕ) : Type 0 where
   pub machine : IsLawful m
   pub lawful : IsLawfulImage words

@@ -15,7 +15,8 @@ use Rattle.agc_machine.specs.declared.answer.Refusal.TheVariants.{Spent, LogFull
 use Rattle.agc_machine.specs.declared.totals.Totals.{Totals}
 use Rattle.agc_machine.specs.Told.{add, reply_told, nothing}
 
--- a machine: its plan, limit and allowance, with what the last era began, the requests stored since, and the totals
+-- a machine: its plan, limit and allowance, with what the last era began, the requests stored
+-- since, and the totals
 pub record Machined : Type 0 where
   pub plan : Planned
   pub limit : ℕ
@@ -69,7 +70,8 @@ result_of (Some refusal) reply = Err refusal
 abbrev pub answer_of : Machined → Request → Result Reply Refusal
 answer_of m asked = result_of (refusal_of m asked) (stepped m asked).reply
 
--- the machine after a request that is served: an era began with what is now the base, or the request is stored
+-- the machine after a request that is served: an era began with what is now the base, or the
+-- request is stored
 abbrev pub served : Stepped → Request → Machined → Machined
 served now asked m = record {
   plan = m.plan;
@@ -100,7 +102,8 @@ LeadsTo first last = (requests : List Request) × (last ≡ after_all first requ
 abbrev pub begun_with : Planned → ℕ → ℕ → Base → Machined
 begun_with plan limit allowance base = record { plan = plan; limit = limit; allowance = allowance; base = base; log = []; totals = nothing }
 
--- the base after power came back: the phases in these words where they agree, else a fresh start's with code 01107
+-- the base after power came back: the phases in these words where they agree, else a fresh start's
+-- with code 01107
 abbrev pub power_base : Bool → List ℕ → Base
 power_base true words = record { phases = phases_in words; codes = replicate 3 None }
 power_base false words = with_code C1107 fresh_base

@@ -7,9 +7,9 @@ use Rattle.agc_plan.specs.declared.request.JobStart.{JobStart}
 use Rattle.agc_plan.specs.declared.request.Request.{Request}
 use Rattle.agc_plan.specs.declared.request.Task.{Task}
 use Rattle.agc_plan.specs.Begins.{Begins}
-use Rattle.agc_plan.specs.Eras.{Work, begun, jobs_begun, agenda_begun}
+use Rattle.agc_plan.specs.Eras.{Work, begun, no_work, jobs_begun, agenda_begun}
 use Rattle.agc_plan.specs.Plans.{Planned}
-use Rattle.agc_plan.specs.Seats.{Seated, seated_action, seated_fired, places_begun, job_of_entry, places_acted, places_after, era_places}
+use Rattle.agc_plan.specs.Seats.{Seated, no_places, places_from, seated_action, seated_fired, places_begun, job_of_entry, places_acted, places_after, era_places}
 use Rattle.agc_plan.specs.Steps.{Plain, Stepped, Acted, done, acted, step, fire_all, tick_fires}
 use Rattle.agc_plan.specs.Tasks as tasks
 use Rattle.agc_exec.specs.Image.{jobs_in, entries_in}
@@ -45,8 +45,8 @@ pub record StandsFor (words : List ℕ) (plain : Plain) (places : List ℕ) : Ty
   pub work : Stands words plain.work places
   pub base_is : plain.base ≡ base_of words
 
--- jobs and tasks change: whatever the old words stand for, the new ones stand for this change of it, and are sound;
--- phases and codes stay
+-- jobs and tasks change: whatever the old words stand for, the new ones stand for this change of
+-- it, and are sound; phases and codes stay
 pub record Changes (change : Work → Work) (seat : Work → List ℕ → List ℕ) (old new : List ℕ) : Type 0 where
   pub sound : IsSound new
   pub same_base : base_of new ≡ base_of old
@@ -110,7 +110,15 @@ with_task task work = record work { agenda = agenda_begun task work.agenda }
 abbrev pub places_group : Option Begins → Work → List ℕ → List ℕ
 places_group entry work places = places_begun (job_of_entry entry) work.jobs places
 
--- an era begins with the phases in the words: all jobs and tasks are gone but those of the plan's entries
+-- the six groups begin, in order, with these phases, where nobody lived and nothing waited
+pub record BeginsGroups (plan : Planned) (phases : List ℕ) (old new : List ℕ) : Type 0 where
+  pub sound : IsSound new
+  pub same_base : base_of new ≡ base_of old
+  pub same_due : SameDue old new
+  pub stands : Stands new (begun plan phases) (places_from plan.entries 1 phases no_work no_places)
+
+-- an era begins with the phases in the words: all jobs and tasks are gone but those of the plan's
+-- entries
 pub record BeginsEra (plan : Planned) (old new : List ℕ) : Type 0 where
   pub ready : IsReady new
   pub same_base : base_of new ≡ base_of old

@@ -15,8 +15,9 @@ pub enum Refusal {
     LogFull,
 }
 
-/// What `Machine::apply` answers, which alone makes one: the request, and the reply to it or a refusal. It can't be
-/// copied or cloned. Contracts see it as its request and its result. Source: profile.
+/// What `Machine::apply` answers, which alone makes one: the request, and the reply to it or a
+/// refusal. It can't be copied or cloned. Contracts see it as its request and its result. Source:
+/// profile.
 #[derive(Drop)]
 pub struct Answer {
     request: Request,

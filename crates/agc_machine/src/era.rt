@@ -1,10 +1,9 @@
 // The beginning of an era.
 ghost use Rattle.std.specs.Prelude.{◌≡◌, length, Some};
-ghost use Rattle.agc_plan.specs.Eras.{active, group_begun, begun, no_work};
-ghost use Rattle.agc_plan.specs.Seats.{places_from, no_places};
+ghost use Rattle.agc_plan.specs.Eras.{active, group_begun, no_work};
+ghost use Rattle.agc_plan.specs.Seats.{no_places};
 ghost use Rattle.agc_phase.specs.Image as phases;
-ghost use Rattle.agc_phase.specs.Image.{base_of};
-ghost use Rattle.agc_machine.specs.Stands.{IsSound, Stands, Changes, SameDue, with_job, with_task, places_with_job, same_places, places_group, BeginsEra};
+ghost use Rattle.agc_machine.specs.Stands.{IsSound, Stands, Changes, SameDue, with_job, with_task, places_with_job, same_places, places_group, BeginsGroups, BeginsEra};
 
 use crate::tick::list;
 use agc_exec::{findvac, novac};
@@ -85,10 +84,7 @@ fn begin_groups(plan: &Plan, phases: &[Phase], e: &mut Erasable)
     requires six { length phases.now ≡ 6 }
     requires clear { Stands e.old no_work no_places }
     requires sound { IsSound e.old }
-    ensures sound { IsSound e.new }
-    ensures base { base_of e.new ≡ base_of e.old }
-    ensures stands { Stands e.new (begun plan.now phases.now) (places_from plan.now.entries 1 phases.now no_work no_places) }
-    ensures due { SameDue e.old e.new }
+    ensures { BeginsGroups plan.now phases.now e.old e.new }
 {
     for (k, phase) in phases.iter().enumerate() {
         let group = Group::new(k as u8 + 1).unwrap();
@@ -96,7 +92,8 @@ fn begin_groups(plan: &Plan, phases: &[Phase], e: &mut Erasable)
     }
 }
 
-/// An era begins with the phases in these words: all jobs and tasks are gone but those of the plan's entries.
+/// An era begins with the phases in these words: all jobs and tasks are gone but those of the
+/// plan's entries.
 pub(crate) fn begin(plan: &Plan, e: &mut Erasable)
     requires { phases.IsLawfulTable e.old }
     ensures { BeginsEra plan.now e.old e.new }

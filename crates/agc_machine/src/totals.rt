@@ -3,8 +3,8 @@ ghost use Rattle.agc_machine.specs.Told.{nothing, add, reply_told};
 
 use agc_plan::{Alarm, Reply};
 
-/// Counts of served requests: a machine's since it was made, or those whose answers the holder of a share was told; each
-/// at most the allowance. Source: profile.
+/// Counts of served requests: a machine's since it was made, or those whose answers the holder of a
+/// share was told; each at most the allowance. Source: profile.
 #[derive(Clone, Copy, PartialEq, Eq, Debug)]
 pub struct Totals {
     /// All requests that were served. Refused ones are not counted.
