@@ -3,23 +3,10 @@ use Rattle.std.specs.List.{enumerate_from}
 use Rattle.std.proofs.lemmas.List.{length-replicate, get_or_append_left, get_or-append_right, get_or_past, get_or-map, length-map, replicate-append-replicate}
 use Rattle.std.proofs.lemmas.List.FromFn.{get_or-enumerate_from, length-enumerate_from}
 use Rattle.agc_plan.specs.declared.request.Request.{Request}
-use Rattle.agc_desk.specs.declared.heard.Heard.{Heard}
-use Rattle.agc_machine.specs.Said.{Said}
-use Rattle.agc_machine.specs.Machines.{Machined, after, answer_of}
-use Rattle.agc_desk.specs.Hearing.{hears}
-use Rattle.agc_desk.specs.Runs.{Reached}
-use Rattle.agc_desk.proofs.Runs.{reached_more}
 use Rattle.agc_bench.specs.declared.device.Line.{Line}
 use Rattle.agc_bench.specs.Benches.{Benched}
 use Rattle.agc_bench.specs.Runs.{device_requests}
-use Rattle.agc_text.proofs.Sessions.{rest_is, nothing_left}
-use Rattle.agc_bench.specs.Threads.{hears_all, Asker, Worker, Device, idle, workers_of, devices_of, some_or_idle, askers_of, asker_at}
-
--- the same request once more
-pub reached_again : {S : Type 0} (R : S → Request → Said → S → Type 0) (s : S) (n : ℕ) (q : Request) (t : S) (a : Said) (u : S)
-    → Reached R s (replicate n q) t → R t q a u → Reached R s (replicate (n + 1) q) u
-reached_again {S} R s n q t a u before now =
-    subst (λ qs. Reached R s qs u) (replicate-append-replicate n 1 q) (reached_more R s (replicate n q) t q a u before now)
+use Rattle.agc_bench.specs.Threads.{Asker, Worker, Device, idle, workers_of, devices_of, some_or_idle, askers_of, asker_at}
 
 -- the idle one is the same as nobody
 some_at : (askers : List Asker) (k : ℕ) → get_or (some_or_idle askers) k idle ≡ get_or askers k idle
@@ -104,20 +91,3 @@ pub askers_held : {W : Type 0} (bench : Benched) (ws : List W) (items : W → Li
     → map items ws ≡ bench.workers → ds ≡ bench.devices → length (askers_of bench) ≡ max (length ws + length ds) 1
 askers_held bench ws items ds same all =
     askers_length bench ∙ ap (λ n. max n 1) (omega (arith, workers_length bench ws items same, ap length all))
-
--- a share for each that asks: the first, and the others
-pub share_for_each : (bench : Benched) (first other : Heard) → length (first ∷ replicate (length (askers_of bench) - 1) other) ≡ length (askers_of bench)
-share_for_each bench first other =
-    let many = length (askers_of bench) in
-    omega (arith, length-replicate (many - 1) other, askers_length bench)
-
--- what was heard of the next request, and what will be of those after it
-pub heard_next : (goal : Heard) (m : Machined) (heard : Heard) (rs : List Request) (i : ℕ) (r : Request) → i < length rs → r ≡ get_or rs i r
-    → goal ≡ hears_all m heard (drop i rs) → goal ≡ hears_all (after m r) (hears heard (answer_of m r)) (drop (i + 1) rs)
-unfolding hears_all
-heard_next goal m heard rs i r below is so_far = subst (λ xs. goal ≡ hears_all m heard xs) (rest_is rs i r below is) so_far
-
--- and after the last
-pub heard_last : (goal : Heard) (m : Machined) (heard : Heard) (rs : List Request) (i : ℕ) → length rs ≤ i → goal ≡ hears_all m heard (drop i rs) → heard ≡ goal
-unfolding hears_all
-heard_last goal m heard rs i past so_far = sym (subst (λ xs. goal ≡ hears_all m heard xs) (nothing_left rs i past) so_far)

@@ -6,5 +6,6 @@ pub mod Refusals
 pub mod Sessions
 pub mod Pairs
 pub mod Askers
+pub mod Histories
 pub mod Pledges
 pub mod Early

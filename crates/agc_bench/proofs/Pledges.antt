@@ -1,6 +1,6 @@
 use Rattle.std.proofs.Common.{◌≡◌, ℕ, ◌+◌, ◌<◌, zero, suc, List, [], ◌∷◌, ◌++◌, length, get_or, arith, sym, ◌∙◌}
 use Rattle.std.proofs.lemmas.List.{get_or_append_left}
-use Rattle.agc_desk.specs.declared.heard.Heard.{Heard}
+use Rattle.agc_desk.specs.History.{Holder}
 use Rattle.agc_bench.specs.Benches.{Benched}
 
 -- one element more
@@ -14,14 +14,14 @@ each_push P (y ∷ ys) x old here (suc k) d lt =
     each_push (λ j. P (suc j)) ys x (λ j e l. old (suc j) e (omega arith)) here k d (omega arith)
 
 -- the pledge of a thread: its number, its bench and its gate, and what its share was told as it starts
-pub record IsPledge {G : Type 0} (bench : Benched) (starts : List Heard) (gate : G) (k : ℕ) (start : Heard) (its_bench : Benched) (thread : ℕ) (its_gate : G) : Type 0 where
-  pub start_is : (s : Heard) → start ≡ get_or starts k s
+pub record IsPledge {G : Type 0} (bench : Benched) (starts : List Holder) (gate : G) (k : ℕ) (start : Holder) (its_bench : Benched) (thread : ℕ) (its_gate : G) : Type 0 where
+  pub start_is : (s : Holder) → start ≡ get_or starts k s
   pub bench_is : its_bench ≡ bench
   pub thread_is : thread ≡ k
   pub gate_is : its_gate ≡ gate
 
 -- a pledge stays what it is as one more start is known
-pub pledge_kept : {G : Type 0} (bench : Benched) (starts : List Heard) (x : Heard) (gate : G) (k : ℕ) (start : Heard) (its_bench : Benched) (thread : ℕ) (its_gate : G)
+pub pledge_kept : {G : Type 0} (bench : Benched) (starts : List Holder) (x : Holder) (gate : G) (k : ℕ) (start : Holder) (its_bench : Benched) (thread : ℕ) (its_gate : G)
     → k < length starts → IsPledge bench starts gate k start its_bench thread its_gate → IsPledge bench (starts ++ x ∷ []) gate k start its_bench thread its_gate
 pledge_kept bench starts x gate k start its_bench thread its_gate below pledge = record {
   start_is = λ s. pledge.start_is s ∙ sym (get_or_append_left starts (x ∷ []) s k below);

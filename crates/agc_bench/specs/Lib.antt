@@ -8,3 +8,4 @@ pub mod Messages
 pub mod Session
 pub mod Runs
 pub mod Threads
+pub mod Sharing

@@ -1,15 +1,13 @@
 -- What the threads of a bench ask, and what a run of them writes.
-use Rattle.std.specs.Prelude.{◌≡◌, ℕ, ◌<◌, ◌-◌, List, [], ◌∷◌, ◌++◌, map, length, replicate, slice_index_or, Option, Result, Ok, Err}
-use Rattle.std.specs.List.{enumerate_from}
+use Rattle.std.specs.Prelude.{◌≡◌, ℕ, ◌<◌, List, [], ◌∷◌, ◌++◌, map, length, slice_index_or, Option, Result, Ok, Err}
+use Rattle.std.specs.List.{All, enumerate_from}
 use Rattle.std.specs.Io.KnownBytes.{Appends}
 use Rattle.agc_plan.specs.declared.request.Request.{Request}
-use Rattle.agc_machine.specs.declared.totals.Totals.{Totals}
-use Rattle.agc_desk.specs.declared.heard.Heard.{Heard}
 use Rattle.agc_machine.specs.Image.{IsImage}
-use Rattle.agc_machine.specs.Machines.{Machined, LeadsTo, after, answer_of}
-use Rattle.agc_desk.specs.Hearing.{hears, unheard}
-use Rattle.agc_desk.specs.Accounts.{told_to}
-use Rattle.agc_desk.specs.Runs.{Asks, Reached, Worked}
+use Rattle.agc_machine.specs.Machines.{Machined, after_all}
+use Rattle.agc_desk.specs.declared.book.Call.{Call}
+use Rattle.agc_desk.specs.History.{Leads, calls_by}
+use Rattle.agc_desk.specs.Runs.{IsFront, requests_of}
 use Rattle.agc_bench.specs.declared.run_fault.RunFault.{RunFault}
 use Rattle.agc_bench.specs.declared.run_fault.RunFault.TheVariants.{NoMemory, Output, NoThread, Lost}
 use Rattle.agc_bench.specs.Benches.{Benched}
@@ -47,37 +45,18 @@ askers_of bench = some_or_idle (workers_of bench ++ devices_of bench)
 abbrev pub asker_at : Benched → ℕ → Asker
 asker_at bench thread = slice_index_or (askers_of bench) thread idle
 
--- what a holder has heard who asks this machine for all of these requests, in order
-unfoldable pub hears_all : Machined → Heard → List Request → Heard
-hears_all m heard [] = heard
-hears_all m heard (asked ∷ more) = hears_all (after m asked) (hears heard (answer_of m asked)) more
+-- one who asks asked just these requests: a device all that are its own, a worker those as far as its gate lets it
+abbrev pub AskedOwn : (ℕ → ℕ → Type 0) → Asker → List Request → Type 0
+AskedOwn may_stop (Worker worker requests) asked = IsFront (may_stop worker) requests asked
+AskedOwn may_stop (Device requests) asked = asked ≡ requests
 
--- the holder of a share heard old, asked machines to which requests lead from the first for what is its own, and has then
--- heard new: a device asks it all, a worker as far as its gate lets it
-abbrev pub AsksOwn : Machined → (ℕ → ℕ → Type 0) → Asker → Heard → Heard → Type 0
-AsksOwn first may_stop (Worker worker requests) old new = (n : ℕ) × Worked (Asks first) (may_stop worker) requests n old new
-AsksOwn first may_stop (Device requests) old new = Reached (Asks first) old requests new
-
--- in each thread what is its own was asked with the share at its place; s and t stand in where a list has no such place
-abbrev pub EachAsks : Machined → (ℕ → ℕ → Type 0) → Benched → List Heard → List Heard → Type 0
-EachAsks first may_stop bench old new =
-    (i : ℕ) (s t : Heard) → i < length new → AsksOwn first may_stop (asker_at bench i) (slice_index_or old i s) (slice_index_or new i t)
-
--- the totals of a run: the holder of the first share heard what the bench's machine answers to its script; then each asked
--- what is its own, the first with that share, each other with one that heard nothing; and the totals are what the shares
--- were told together
-pub record IsGathered (may_stop : ℕ → ℕ → Type 0) (bench : Benched) (totals : Totals) : Type 0 where
-  pub scripted : Heard
-  pub shares : List Heard
-  pub script : scripted ≡ hears_all (bench_machine bench) unheard bench.script
-  pub for_each : length shares ≡ length (askers_of bench)
-  pub asked : EachAsks (bench_machine bench) may_stop bench (scripted ∷ replicate (length (askers_of bench) - 1) unheard) shares
-  pub together : totals ≡ told_to shares
-
--- the machine that a run leaves: requests lead to it from the bench's, and its totals are those of the run
+-- the machine that a run leaves: the script was asked of the bench's machine, and then, in some order, all threads asked it
+-- what is their own, each in its own order, and nothing else was asked
 pub record IsRun (may_stop : ℕ → ℕ → Type 0) (bench : Benched) (machine : Machined) : Type 0 where
-  pub leads : LeadsTo (bench_machine bench) machine
-  pub gathered : IsGathered may_stop bench machine.totals
+  pub calls : List Call
+  pub leads : Leads (after_all (bench_machine bench) bench.script) calls machine
+  pub each : (thread : ℕ) → thread < length (askers_of bench) → AskedOwn may_stop (asker_at bench thread) (requests_of (calls_by thread calls))
+  pub no_other : All (λ call. call.by < length (askers_of bench)) calls
 
 -- the report of the machine that a run leaves
 pub record IsRunReport (may_stop : ℕ → ℕ → Type 0) (bench : Benched) (text : List ℕ) : Type 0 where

@@ -1,8 +1,9 @@
-ghost use Rattle.std.specs.Prelude.{◌≡◌, ◌≤◌, length, replicate};
+ghost use Rattle.std.specs.Prelude.{◌≡◌, ◌≤◌, ◌++◌, length, replicate};
 ghost use Rattle.agc_machine.specs.Machines.{after_all};
-ghost use Rattle.agc_desk.specs.Runs.{Asks, Reached};
+ghost use Rattle.agc_desk.specs.Runs.{AsksAll};
 ghost use Rattle.agc_bench.specs.Runs.{device_requests};
-ghost use Rattle.agc_bench.specs.Threads.{AsksOwn, askers_of, asker_at, hears_all};
+ghost use Rattle.agc_bench.specs.Sharing.{AsksOwn, answers_to, first_calls};
+ghost use Rattle.agc_bench.specs.Threads.{askers_of, asker_at};
 
 use crate::bench::Bench;
 use crate::bench_session::pulse_request;
@@ -19,7 +20,7 @@ fn ask_times<N: Sharing, W: Wait>(
     request: &Request,
     times: u32,
 ) -> Share<N>
-    ensures { Reached (Asks N.first) share (replicate times request.now) result }
+    ensures { AsksAll share (replicate times request.now) result }
 {
     let mut share = share;
     for _pulse in 0..times {
@@ -36,7 +37,7 @@ fn ask_device<N: Sharing, W: Wait>(
     bench: &Bench,
     device: (Line, u32),
 ) -> Share<N>
-    ensures { Reached (Asks N.first) share (device_requests bench.now device) result }
+    ensures { AsksAll share (device_requests bench.now device) result }
 {
     match pulse_request(bench, device.0) {
         Some(request) => ask_times(rt, shared, share, &request, device.1),
@@ -44,10 +45,12 @@ fn ask_device<N: Sharing, W: Wait>(
     }
 }
 
-/// Asks a whole script of a desk that is under no lock.
+/// Asks a whole script of a desk that is under no lock, with the share of number 0.
 pub(crate) fn ask_script<N: Names>(desk: &mut Desk<N>, share: &mut Share<N>, script: &[Request])
+    requires { share.old.number ≡ 0 }
     ensures machine { desk.new.machine ≡ after_all desk.old.machine script.now }
-    ensures heard { share.new ≡ hears_all desk.old.machine share.old script.now }
+    ensures history { desk.new.history ≡ desk.old.history ++ first_calls (answers_to desk.old.machine script.now) }
+    ensures heard { share.new ≡ record share.old { heard = share.old.heard ++ answers_to desk.old.machine script.now } }
     ensures given { desk.new.given ≡ desk.old.given }
 {
     for request in script {
@@ -75,7 +78,7 @@ pub(crate) fn ask_own<N: Sharing, G: Gate, W: Wait>(
     thread: usize,
     gate: &G,
 ) -> Share<N>
-    ensures { AsksOwn N.first (λ n call. G.may_stop gate.now n call) (asker_at bench.now thread) share result }
+    ensures { AsksOwn (λ n call. G.may_stop gate.now n call) (asker_at bench.now thread) share result }
 {
     let workers = bench.workers();
     match workers.get(thread) {

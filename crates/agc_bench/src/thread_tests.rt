@@ -5,7 +5,7 @@ use crate::{RunFault, read_bench, threads};
 use agc_desk::{Gate, OpenGate};
 use std::alloc::Global;
 use std::sync::Wait;
-use std::sync::atomic::{AtomicBool, Ordering};
+use std::sync::atomic::{AtomicBool, AtomicU64, Ordering};
 use std::test::Fail;
 use std::thread::Threads;
 
@@ -48,12 +48,12 @@ fn report_ending(alloc: Global, ending: [&str; 2]) -> Result<Vec<u8>, Fail> {
     Ok(text)
 }
 
-/// Of 32 workers, 0 to 31: worker 0's first call comes after worker 31's first, and worker 31's second after worker 0's
-/// first.
+/// Worker 0's first call comes after the last worker's first, and the last worker's second after worker 0's first.
 #[derive(Drop)]
 struct Crossed {
+    last: usize,
     first_of_0: AtomicBool,
-    first_of_31: AtomicBool,
+    first_of_last: AtomicBool,
 }
 
 fn came(call: &AtomicBool) -> bool {
@@ -69,40 +69,116 @@ impl Gate for Crossed {
     ghost may_stop = { λ _ _ _. Unit {0} };
 
     fn before(&self, worker: usize, call: usize) -> bool {
-        match (worker, call) {
-            (0, 0) => came(&self.first_of_31),
-            (31, 1) => came(&self.first_of_0),
-            _ => true,
+        if worker == 0 && call == 0 {
+            came(&self.first_of_last)
+        } else if worker == self.last && call == 1 {
+            came(&self.first_of_0)
+        } else {
+            true
         }
     }
 
     fn after(&self, worker: usize, call: usize) {
-        match (worker, call) {
-            (0, 0) => self.first_of_0.store(true, Ordering::SeqCst),
-            (31, 0) => self.first_of_31.store(true, Ordering::SeqCst),
-            _ => {}
+        if worker == 0 && call == 0 {
+            self.first_of_0.store(true, Ordering::SeqCst);
+        } else if worker == self.last && call == 0 {
+            self.first_of_last.store(true, Ordering::SeqCst);
         }
     }
 }
 
-#[test]
-fn workers_run_at_the_same_time(rt: HostRuntime) -> Result<(), Fail> {
-    let gate = Crossed {
+fn crossed(last: usize) -> Crossed {
+    Crossed {
+        last,
         first_of_0: AtomicBool::new(false),
-        first_of_31: AtomicBool::new(false),
-    };
+        first_of_last: AtomicBool::new(false),
+    }
+}
+
+#[test]
+fn thirty_two_workers_run_at_the_same_time(rt: HostRuntime) -> Result<(), Fail> {
     let mut document = Vec::new(rt.alloc());
     for _pair in 0..16 {
         document.extend_from_slice(TWO_WORKERS.as_bytes())?;
     }
     let document = str::from_utf8(document.as_slice()).map_err(|_| "text")?;
-    let (text, ended) = run(&rt, rt.alloc(), document, &gate, 1000)?;
+    let (text, ended) = run(&rt, rt.alloc(), document, &crossed(31), 1000)?;
     assert_eq!(rt; ended, Ok(()));
     let wanted = report_ending(
         rt.alloc(),
         [NO_ALARMS, "SERVED 64\nALARMS 0 0 0\nRESTARTS 0\n"],
     )?;
     assert_eq!(rt; text.as_slice(), wanted.as_slice());
+    Ok(())
+}
+
+#[test]
+fn two_workers_run_at_the_same_time(rt: HostRuntime) -> Result<(), Fail> {
+    let (text, ended) = run(&rt, rt.alloc(), TWO_WORKERS, &crossed(1), 1000)?;
+    assert_eq!(rt; ended, Ok(()));
+    let wanted = report_ending(
+        rt.alloc(),
+        [NO_ALARMS, "SERVED 4\nALARMS 0 0 0\nRESTARTS 0\n"],
+    )?;
+    assert_eq!(rt; text.as_slice(), wanted.as_slice());
+    Ok(())
+}
+
+/// Counts the calls of two workers before which it was asked, and those after which it was told, each in order from 0.
+#[derive(Drop)]
+struct Counts {
+    asked: [AtomicU64; 2],
+    told: [AtomicU64; 2],
+}
+
+fn count(counts: &[AtomicU64; 2], worker: usize, call: usize) {
+    if let Some(count) = counts.get(worker) {
+        if count.load(Ordering::SeqCst) == call as u64 {
+            count.fetch_add(1, Ordering::SeqCst);
+        }
+    }
+}
+
+impl Gate for Counts {
+    ghost may_stop = { λ _ _ _. ⊥ };
+
+    fn before(&self, worker: usize, call: usize) -> bool {
+        count(&self.asked, worker, call);
+        true
+    }
+
+    fn after(&self, worker: usize, call: usize) {
+        count(&self.told, worker, call);
+    }
+}
+
+#[test]
+fn a_gate_is_passed_at_each_of_300_calls(rt: HostRuntime) -> Result<(), Fail> {
+    let mut document = Vec::new(rt.alloc());
+    for _worker in 0..2 {
+        document.extend_from_slice(b"[[worker]]\nscript = [")?;
+        for _call in 0..300 {
+            document.extend_from_slice(b"\"tick\",")?;
+        }
+        document.extend_from_slice(b"]\n")?;
+    }
+    let document = str::from_utf8(document.as_slice()).map_err(|_| "text")?;
+    let gate = Counts {
+        asked: [AtomicU64::new(0), AtomicU64::new(0)],
+        told: [AtomicU64::new(0), AtomicU64::new(0)],
+    };
+    let (text, ended) = run(&rt, rt.alloc(), document, &gate, 1000)?;
+    assert_eq!(rt; ended, Ok(()));
+    let wanted = report_ending(
+        rt.alloc(),
+        [NO_ALARMS, "SERVED 600\nALARMS 0 0 0\nRESTARTS 0\n"],
+    )?;
+    assert_eq!(rt; text.as_slice(), wanted.as_slice());
+    for counts in [&gate.asked, &gate.told] {
+        for count in counts {
+            assert_eq!(rt; count.load(Ordering::SeqCst), 300);
+        }
+    }
     Ok(())
 }
 

@@ -1,60 +1,45 @@
-ghost use Rattle.std.specs.Prelude.{◌≡◌, ◌⊎◌, ◌+◌, ◌<◌, IfOk, IfErr, OnOk, length, replicate, vec_len};
-ghost use Rattle.agc_desk.specs.Hearing.{unheard};
+ghost use Rattle.std.specs.Prelude.{◌≡◌, ◌⊎◌, ◌+◌, ◌<◌, ℕ, IfOk, IfErr, OnOk, length, nat_eq, vec_len};
 ghost use Rattle.agc_desk.specs.Opening.{names_of};
 ghost use Rattle.agc_bench.specs.Runs.{bench_machine};
-ghost use Rattle.agc_bench.specs.Threads.{AsksOwn, EachAsks, IsEarly, IsRun, WritesRun, asker_at, askers_of};
+ghost use Rattle.agc_bench.specs.Sharing.{AreFresh, AsksOwn, EachAsks, answers_to, first_calls};
+ghost use Rattle.agc_bench.specs.Threads.{IsEarly, IsRun, WritesRun, asker_at, askers_of};
 
 use crate::asker::{ask_own, ask_script, count_askers};
 use crate::bench::Bench;
 use crate::run::machine_of;
 use crate::run_fault::RunFault;
-use agc_desk::{Blanks, Desk, Gate, Heard, Held, Names, Share, Shared, Sharing, gather};
+use agc_desk::{Blanks, Desk, Gate, Held, Names, Share, Shared, Sharing, gather};
 use agc_machine::{Machine, Totals};
 use agc_text::report;
 use std::alloc::Global;
 use std::io::Write;
 use std::marker::Brand;
+use std::snapshot::Snapshot;
 use std::sync::{Mutex, Wait};
 use std::thread;
 use std::thread::{Promise, Threads};
 
 /// What a thread promises of its share: that it asks what is its own, through this gate.
 #[derive(Drop)]
-struct Pledge<'b, 'g, G: Gate> {
-    start: Heard,
+struct Pledge<'b, 'g, N: Names, G: Gate> {
+    start: Snapshot<Share<N>>,
     bench: &'b Bench,
     thread: usize,
     gate: &'g G,
 }
 
-impl<'b, 'g, N: Names, G: Gate> Promise<Share<N>> for Pledge<'b, 'g, G> {
-    ghost kept_by = { λ pledge told. AsksOwn N.first (λ n call. G.may_stop pledge.gate.now n call) (asker_at pledge.bench.now pledge.thread) pledge.start told };
+impl<'b, 'g, N: Names, G: Gate> Promise<Share<N>> for Pledge<'b, 'g, N, G> {
+    ghost kept_by = { λ pledge told. AsksOwn (λ n call. G.may_stop pledge.gate.now n call) (asker_at pledge.bench.now pledge.thread) pledge.start.value told };
 }
 
-/// The pledge of the thread of this number, which starts with this share.
-fn pledge_of<'b, 'g, N: Names, G: Gate>(
-    share: &Share<N>,
-    bench: &'b Bench,
-    thread: usize,
-    gate: &'g G,
-) -> Pledge<'b, 'g, G>
-    ensures { result ≡ record { start = share.now; bench = bench.entry; thread = thread; gate = gate.entry } }
-{
-    Pledge {
-        start: share.heard(),
-        bench,
-        thread,
-        gate,
-    }
-}
-
-/// So many shares of a desk. `Lost` comes only where the desk has fewer left.
+/// So many new shares of a desk. `Lost` comes only where the desk has fewer left.
 fn shares_of<N: Names>(
     alloc: Global,
     desk: &mut Desk<N>,
     count: usize,
 ) -> Result<Vec<Share<N>>, RunFault>
-    ensures heard { IfOk result (λ v. v.items ≡ replicate count unheard) }
+    ensures count { IfOk result (λ v. vec_len v ≡ count) }
+    ensures fresh { IfOk result (λ v. AreFresh desk.old.given v.items) }
     ensures given { OnOk result (desk.new ≡ record desk.old { given = desk.old.given + count }) }
     ensures early { IfErr result (λ fault. (fault ≡ RunFault.NoMemory) ⊎ ((fault ≡ RunFault.Lost) × (64 < desk.old.given + count))) }
 {
@@ -78,7 +63,7 @@ fn ask_at_once<N: Sharing + Send + Sync, G: Gate + Sync, W: Threads + Wait + Syn
     gate: &G,
 ) -> Result<Vec<Share<N>>, RunFault>
     ensures len { IfOk result (λ v. vec_len v ≡ vec_len shares) }
-    ensures each { IfOk result (λ v. EachAsks N.first (λ n call. G.may_stop gate.now n call) bench.now shares.items v.items) }
+    ensures each { IfOk result (λ v. EachAsks (λ n call. G.may_stop gate.now n call) bench.now shares.items v.items) }
     ensures early { IfErr result (λ fault. IsEarly fault) }
 {
     thread::scope(
@@ -86,15 +71,20 @@ fn ask_at_once<N: Sharing + Send + Sync, G: Gate + Sync, W: Threads + Wait + Syn
         rt,
         move |scope| -> Result<Vec<Share<N>>, RunFault>
             ensures len { IfOk result (λ v. vec_len v ≡ vec_len shares) }
-            ensures each { IfOk result (λ v. EachAsks N.first (λ n call. G.may_stop gate.entry.now n call) bench.entry.now shares.items v.items) }
+            ensures each { IfOk result (λ v. EachAsks (λ n call. G.may_stop gate.entry.now n call) bench.entry.now shares.items v.items) }
             ensures early { IfErr result (λ fault. IsEarly fault) }
         {
             let mut running = Vec::new(alloc);
             for share in shares {
                 let thread = running.len();
-                let pledge = pledge_of(&share, bench, thread, gate);
+                let pledge = Pledge {
+                    start: Snapshot::of(&share),
+                    bench,
+                    thread,
+                    gate,
+                };
                 let own = move || -> Share<N>
-                    ensures { AsksOwn N.first (λ n call. G.may_stop gate.entry.now n call) (asker_at bench.entry.now thread) share result }
+                    ensures { AsksOwn (λ n call. G.may_stop gate.entry.now n call) (asker_at bench.entry.now thread) share result }
                 { ask_own(rt, shared, share, bench, thread, gate) };
                 match scope.spawn_with(pledge, own) {
                     Ok(thread) => running.push(thread)?,
@@ -121,7 +111,8 @@ fn gathered<N: Sharing + Send + Sync, G: Gate + Sync, W: Threads + Wait + Sync>(
     requires names { names_of blanks ≡ N.names }
     requires first { machine ≡ N.first }
     requires bench { machine ≡ bench_machine bench.now }
-    requires shares { N.shares ≡ length (askers_of bench.now) }
+    requires shares { (given : ℕ) → N.may_share given ≡ nat_eq given (length (askers_of bench.now)) }
+    requires begun { N.begun ≡ first_calls (answers_to machine bench.now.script) }
     ensures run { IfOk result (λ r. IsRun (λ n call. G.may_stop gate.now n call) bench.now r.0) }
     ensures totals { IfOk result (λ r. r.1 ≡ r.0.totals) }
     ensures early { IfErr result (λ fault. IsEarly fault) }
@@ -143,8 +134,8 @@ fn gathered<N: Sharing + Send + Sync, G: Gate + Sync, W: Threads + Wait + Sync>(
 /// Runs a bench with threads: its machine is asked for the requests of the script, and then, under a lock, by all workers
 /// and devices at once, each in a thread of its own. A worker passes the gate before and after each call, under its number
 /// in the order of the bench from 0; a device passes no gate. When all have ended, their shares are gathered, and the report
-/// is written: of the machine, whose totals are what all were told together. The writer is not flushed. It may wait for the
-/// lock and for the threads. Source: profile.
+/// is written: of the machine that some order of all these requests reaches, in which each thread's stand in its own order.
+/// The writer is not flushed. It may wait for the lock and for the threads. Source: profile.
 ///
 /// # Errors
 ///
@@ -161,14 +152,8 @@ pub fn threads<R: Threads + Wait + Sync, W: Write, G: Gate + Sync>(
     ensures { WritesRun (λ n call. G.may_stop gate.now n call) bench.now (W.contents writer.old) (W.contents writer.new) result }
 {
     let machine = machine_of(alloc, bench)?;
-    let (machine, totals) = gathered::<Brand, G, R>(
-        rt,
-        alloc,
-        machine,
-        Blanks::new(),
-        bench,
-        gate,
-    )?;
+    let blanks = Blanks::new(alloc)?;
+    let (machine, totals) = gathered::<Brand, G, R>(rt, alloc, machine, blanks, bench, gate)?;
     report(&machine.words(), &totals, writer)?;
     Ok(())
 }

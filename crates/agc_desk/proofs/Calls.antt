@@ -1,9 +1,10 @@
 -- Histories that go on, and those that are whole.
-use Rattle.std.proofs.Common.{◌≡◌, ℕ, ◌+◌, ◌<◌, ◌≤◌, ◌⊎◌, ◌||◌, List, [], ◌∷◌, ◌++◌, length, map, Bool, true, false, Option, Some, None, refl, sym, ap, ◌∙◌, subst, arith, rules, nat_eq, ⊎_elim, inl, inr, slice_index_or}
-use Rattle.std.specs.List.{All, Contains, IsDistinct, list_any}
+use Rattle.std.proofs.Common.{◌≡◌, ℕ, ◌+◌, ◌<◌, ◌≤◌, ◌⊎◌, ◌||◌, ◌==◌, List, [], ◌∷◌, ◌++◌, length, map, Bool, true, false, Option, Some, None, refl, sym, ap, ◌∙◌, subst, arith, rules, nat_eq, ⊎_elim, inl, inr, slice_index_or}
+use Rattle.std.specs.List.{All, Contains, IsDistinct, filter, list_any}
 use Rattle.std.proofs.lemmas.Bool.Decides.{nat_tests}
 use Rattle.std.proofs.lemmas.Cmp.{nat_eq_equiv}
-use Rattle.std.proofs.lemmas.List.{length_push, length-map}
+use Rattle.std.proofs.lemmas.List.{length_push, length-map, map-append}
+use Rattle.std.proofs.lemmas.List.Elements.{filter-append}
 use Rattle.std.proofs.lemmas.List.Sums.{fold_push, sum_by-append}
 use Rattle.std.proofs.lemmas.List.Folds.{Any-from_list_any, list_any-append}
 use Rattle.std.proofs.lemmas.Map.Keys.{IsDistinct-push}
@@ -24,10 +25,36 @@ pub leads_on : (first : Machined) (calls : List Call) (m : Machined) (call : Cal
 leads_on first [] m call leads answer = (answer ∙ ap (λ n. answer_of n call.answer.request) (sym leads), ap (λ n. after n call.answer.request) leads)
 leads_on first (x ∷ xs) m call leads answer = (leads.0, leads_on (after first x.answer.request) xs m call leads.1 answer)
 
+-- the calls of a number among both
+pub calls_by_append : (number : ℕ) (a b : List Call) → calls_by number (a ++ b) ≡ calls_by number a ++ calls_by number b
+calls_by_append number a b =
+    ap (map (λ (c : Call). c.answer)) (filter-append (λ (c : Call). c.by == number) a b)
+    ∙ map-append (λ (c : Call). c.answer) (filter (λ (c : Call). c.by == number) a) (filter (λ (c : Call). c.by == number) b)
+
 -- nothing was answered
 pub told_none : nothing ≡ told_in []
 unfolding told_in
 told_none = refl
+
+-- what no request changes of a machine
+pub record SameSetting (first last : Machined) : Type 0 where
+  pub plan : last.plan ≡ first.plan
+  pub limit : last.limit ≡ first.limit
+  pub allowance : last.allowance ≡ first.allowance
+
+after_setting : (m : Machined) (asked : Request) → SameSetting m (after m asked)
+after_setting m asked = by_refusal (refusal_of m asked)
+  where
+    by_refusal : (r : Option Refusal) → SameSetting m (after_unless r m asked)
+    by_refusal None = record { plan = refl; limit = refl; allowance = refl }
+    by_refusal (Some refusal) = record { plan = refl; limit = refl; allowance = refl }
+
+pub same_setting : (first : Machined) (calls : List Call) (last : Machined) → Leads first calls last → SameSetting first last
+same_setting first [] last leads = record { plan = ap (λ m. m.plan) (sym leads); limit = ap (λ m. m.limit) (sym leads); allowance = ap (λ m. m.allowance) (sym leads) }
+same_setting first (call ∷ more) last leads =
+    let once = after_setting first call.answer.request in
+    let then = same_setting (after first call.answer.request) more last leads.1 in
+    record { plan = then.plan ∙ once.plan; limit = then.limit ∙ once.limit; allowance = then.allowance ∙ once.allowance }
 
 -- one answer more
 pub told_push : (heard : List Said) (said : Said) → told_in (heard ++ said ∷ []) ≡ add (told_in heard) (told said.outcome)

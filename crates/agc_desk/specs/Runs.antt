@@ -1,12 +1,23 @@
 -- What callers ask, and what they are told.
 use Rattle.std.specs.Prelude.{◌≡◌, ℕ, ◌≤◌, ◌⊎◌, List, [], ◌∷◌, ◌++◌, length, map, take}
 use Rattle.agc_plan.specs.declared.request.Request.{Request}
+use Rattle.agc_machine.specs.Machines.{Machined, IsLawful, answer_of}
 use Rattle.agc_machine.specs.Said.{Said}
 use Rattle.agc_desk.specs.History.{Holder}
 
+-- the answer is the one that the machine's step gives to its request on some lawful machine, of the same plan, limit and
+-- allowance as the first
+pub record IsGiven (first : Machined) (said : Said) : Type 0 where
+  pub machine : Machined
+  pub lawful : IsLawful machine
+  pub plan : machine.plan ≡ first.plan
+  pub limit : machine.limit ≡ first.limit
+  pub allowance : machine.allowance ≡ first.allowance
+  pub answer : said.outcome ≡ answer_of machine said.request
+
 -- the holder of a share asks this, gets this answer, and has heard one answer more
-abbrev pub Asks : Holder → Request → Said → Holder → Type 0
-Asks old asked said new = (said.request ≡ asked) × (new ≡ record old { heard = old.heard ++ said ∷ [] })
+abbrev pub Asks : Machined → Holder → Request → Said → Holder → Type 0
+Asks first old asked said new = (said.request ≡ asked) × IsGiven first said × (new ≡ record old { heard = old.heard ++ said ∷ [] })
 
 -- the requests that were answered, in order
 abbrev pub requests_of : List Said → List Request

@@ -30,7 +30,7 @@ pub fn ask<N: Sharing, W: Wait>(
     share: &mut Share<N>,
     request: Request,
 ) -> Answer
-    ensures { Asks share.old request result share.new }
+    ensures { Asks N.first share.old request result share.new }
 {
     shared.lock(rt).desk.serve(share, request)
 }
@@ -45,7 +45,7 @@ pub struct Caller<'a, N: Sharing> {
 }
 
 impl<N: Sharing> Console for Caller<'_, N> {
-    ghost leads = { λ old asked said new. Asks old.share asked said new.share };
+    ghost leads = { λ old asked said new. Asks N.first old.share asked said new.share };
 
     fn ask(&mut self, rt: &impl Wait, request: Request) -> Answer {
         ask(rt, self.shared, &mut self.share, request)

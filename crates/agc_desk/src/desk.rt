@@ -4,6 +4,7 @@ ghost use Rattle.agc_machine.specs.Told.{add, nothing, told};
 ghost use Rattle.agc_desk.specs.Accounts.{told_in, told_to};
 ghost use Rattle.agc_desk.specs.History.{IsHistory, Leads};
 ghost use Rattle.agc_desk.specs.Opening.{names_of};
+ghost use Rattle.agc_desk.specs.Runs.{IsGiven};
 
 use crate::history::{History, Own};
 use crate::ledgers::{Amounts, Ledgers, growth};
@@ -118,6 +119,7 @@ impl<N: Names> Desk<N> {
         ensures request { result.request ≡ request }
         ensures outcome { result.outcome ≡ answer_of self.old.machine request }
         ensures lawful { IsLawful self.old.machine }
+        ensures given { IsGiven N.first result }
         ensures heard { share.new ≡ record share.old { heard = share.old.heard ++ result ∷ [] } }
         ensures desk { self.new ≡ record self.old { machine = after self.old.machine request; history = self.old.history ++ record { by = share.old.number; answer = result } ∷ []; booked = add self.old.booked (told result.outcome) } }
     {

@@ -6,7 +6,9 @@ use crate::{
     drive, gather, work,
 };
 use agc_machine::{Answer, Machine, Totals};
-use agc_plan::{Action, Address, Delay, Entry, Limit, Place, Plan, Priority, Reply, Request, Task};
+use agc_plan::{
+    Action, Address, Delay, Entry, Group, Limit, Phase, Place, Plan, Priority, Reply, Request, Task,
+};
 use agc_word::Word;
 use std::alloc::{AllocError, AllocFailed, Global};
 use std::marker::Brand;
@@ -471,9 +473,105 @@ fn a_call_is_asked_between_before_and_after(rt: HostRuntime) -> Result<(), Fail>
         begun: AtomicU64::new(0),
         ended: AtomicU64::new(0),
     };
-    let requests = [novac(8, 1024)?, Request::Tick, Request::EndOfJob];
-    assert_eq!(rt; drive(&rt, &mut console, 0, &requests, &gate), 3);
-    assert_eq!(rt; gate.begun.load(Ordering::SeqCst), 3);
-    assert_eq!(rt; gate.ended.load(Ordering::SeqCst), 3);
+    let mut requests = Vec::new(rt.alloc());
+    for _call in 0..300 {
+        requests.push(Request::Tick)?;
+    }
+    assert_eq!(rt; drive(&rt, &mut console, 0, requests.as_slice(), &gate), 300);
+    assert_eq!(rt; gate.begun.load(Ordering::SeqCst), 300);
+    assert_eq!(rt; gate.ended.load(Ordering::SeqCst), 300);
+    Ok(())
+}
+
+#[test]
+fn a_worker_asks_each_kind_and_comes_back(rt: HostRuntime) -> Result<(), Fail> {
+    let place = Place::new(1).ok_or("a place")?;
+    let word = Word::new(0o123).ok_or("a word")?;
+    let address = Address::new(1024).ok_or("an address")?;
+    let group = Group::new(1).ok_or("a group")?;
+    let phase = Phase::new(1).ok_or("a phase")?;
+    let requests = [
+        Request::Fresh,
+        Request::Restart,
+        novac(8, 1024)?,
+        findvac(8, 1025)?,
+        Request::Store(place, word),
+        Request::Prio(Priority::new(9).ok_or("a priority")?),
+        Request::Change,
+        Request::Sleep(address),
+        Request::Rouse(address),
+        Request::EndOfJob,
+        list(5, 1026)?,
+        Request::Tick,
+        Request::SetPhase(group, phase),
+    ];
+    let (machine, told) = worked(&rt, rt.alloc(), &requests)?;
+    assert_eq!(rt; told.served, 13);
+    assert_eq!(rt; told.restarts, 2);
+    assert_eq!(rt; machine.log_len(), 11);
+    Ok(())
+}
+
+// A machine whose log holds three requests.
+fn small_machine(alloc: Global) -> Result<Machine, Fail> {
+    let plan = Plan::new(alloc, &[], &[], Action::Nothing, Action::Nothing)?;
+    let limit = Limit::new(3).ok_or("a limit")?;
+    Ok(Machine::new(alloc, plan, limit, 1_000_000)?)
+}
+
+#[test]
+fn a_worker_goes_on_after_a_refusal(rt: HostRuntime) -> Result<(), Fail> {
+    let machine = small_machine(rt.alloc())?;
+    let blanks = Blanks::new(rt.alloc())?;
+    let requests = [
+        Request::Tick,
+        Request::Tick,
+        Request::Tick,
+        Request::Change,
+        Request::Restart,
+        Request::Tick,
+    ];
+    let (machine, told) =
+        worked_through::<Brand, HostRuntime>(&rt, rt.alloc(), machine, blanks, &requests)?;
+    assert_eq!(rt; told.served, 5);
+    assert_eq!(rt; told.restarts, 1);
+    assert_eq!(rt; machine.log_len(), 1);
+    Ok(())
+}
+
+// Two shares are given out, one of them under the lock, and a tick is asked with each.
+fn shared_later<N: Sharing, W: Wait>(
+    rt: &W,
+    alloc: Global,
+    machine: Machine,
+    blanks: Blanks,
+) -> Result<Totals, Fault>
+    requires names { names_of blanks ≡ N.names }
+    requires first { machine ≡ N.first }
+    requires given { (given : ℕ) → N.may_share given ≡ true }
+    requires begun { N.begun ≡ [] }
+{
+    let mut desk: Desk<N> = Desk::new(machine, blanks);
+    let first = desk.share().ok_or(Fault::NoShare)?;
+    let shared: Shared<N> = Mutex::new(Held { desk });
+    let first = work(rt, &shared, first, 0, &[Request::Tick], &OpenGate);
+    let second = shared.lock(rt).desk.share().ok_or(Fault::NoShare)?;
+    let second = work(rt, &shared, second, 1, &[Request::Tick], &OpenGate);
+    let Held { desk } = shared.into_inner();
+    let mut shares = Vec::new(alloc);
+    shares.push(first)?;
+    shares.push(second)?;
+    match gather(desk, shares) {
+        Ok((_, totals)) => Ok(totals),
+        Err(_left) => Err(Fault::Ungathered),
+    }
+}
+
+#[test]
+fn a_share_is_given_out_under_the_lock(rt: HostRuntime) -> Result<(), Fail> {
+    let machine = new_machine(rt.alloc())?;
+    let blanks = Blanks::new(rt.alloc())?;
+    let totals = shared_later::<Brand, HostRuntime>(&rt, rt.alloc(), machine, blanks)?;
+    assert_eq!(rt; totals.served, 2);
     Ok(())
 }

@@ -1,18 +1,33 @@
+use Rattle.std.proofs.Common.{◌∙◌, refl, ap, sym}
+use Rattle.agc_desk.specs.History.{Holder}
 use Rattle.agc_text.proofs.Sessions.{after_next, after_last}
-use Rattle.agc_bench.proofs.Askers.{heard_next, heard_last}
+use Rattle.agc_bench.proofs.Histories.{answers_next, answers_last, calls_next, calls_last}
 use Rattle.agc_bench.proofs.asker.ask_script.Goals as goal
 
 pub loop-request-preserved : goal.loop-request-preserved
-loop-request-preserved g c = rw (c.serve.ensures.desk, c.serve.ensures.heard, c.serve.ensures.outcome) (record {
-  rest = after_next _ c.loop-request.desk.machine c.args.script.now c.loop-request.request-index c.request-item.result c.loop-request-test.true c.request-item.is c.loop-request.invariant.rest;
-  heard = heard_next _ c.loop-request.desk.machine c.loop-request.share c.args.script.now c.loop-request.request-index c.request-item.result c.loop-request-test.true c.request-item.is c.loop-request.invariant.heard;
-  given = c.loop-request.invariant.given;
-})
+loop-request-preserved g c =
+    let i = c.loop-request.invariant in
+    let at = c.loop-request.request-index in
+    let m = c.loop-request.desk.machine in
+    let script = c.args.script.now in
+    let r = c.request-item.result in
+    rw (c.serve.ensures.desk, c.serve.ensures.heard) (record {
+      rest = after_next _ m script at r c.loop-request-test.true c.request-item.is i.rest;
+      history = calls_next _ _ m script at r _ c.serve.result c.loop-request-test.true c.request-item.is (i.number ∙ c.requires) c.serve.ensures.request c.serve.ensures.outcome i.history;
+      heard = answers_next _ _ m script at r c.serve.result c.loop-request-test.true c.request-item.is c.serve.ensures.request c.serve.ensures.outcome i.heard;
+      number = i.number;
+      given = i.given;
+    })
 
 pub returns-clause-machine : goal.returns-clause-machine
 returns-clause-machine g c =
     after_last _ c.loop-request.desk.machine c.args.script.now c.loop-request.request-index c.loop-request-test.false c.loop-request.invariant.rest
 
+pub returns-clause-history : goal.returns-clause-history
+returns-clause-history g c =
+    calls_last _ _ c.loop-request.desk.machine c.args.script.now c.loop-request.request-index c.loop-request-test.false c.loop-request.invariant.history
+
 pub returns-clause-heard : goal.returns-clause-heard
 returns-clause-heard g c =
-    heard_last _ c.loop-request.desk.machine c.loop-request.share c.args.script.now c.loop-request.request-index c.loop-request-test.false c.loop-request.invariant.heard
+    let all = answers_last _ _ c.loop-request.desk.machine c.args.script.now c.loop-request.request-index c.loop-request-test.false c.loop-request.invariant.heard in
+    λ i. record { number = c.loop-request.invariant.number i; heard = all i }

@@ -1,12 +1,14 @@
-use Rattle.std.proofs.Common.{rules, arith, true, false, ◌≡◌, ◌-◌, ◌∷◌, ap, length, replicate, sym, subst, vec_len, ◌∙◌}
+use Rattle.std.proofs.Common.{rules, arith, true, false, ◌≡◌, ◌+◌, ◌-◌, ◌∷◌, ◌++◌, [], List, ap, length, nat_eq, sym, subst, take, vec_len, ◌∙◌}
 use Rattle.agc_machine.specs.declared.totals.Totals.{Totals}
-use Rattle.agc_machine.specs.Machines.{Machined, LeadsTo}
+use Rattle.agc_machine.specs.Machines.{Machined}
+use Rattle.agc_machine.specs.Said.{Said}
 use Rattle.agc_machine.specs.Told.{add, nothing}
-use Rattle.agc_desk.specs.Hearing.{unheard}
+use Rattle.agc_desk.specs.History.{Holder, IsHistory, calls_by}
 use Rattle.agc_bench.specs.Benches.{Benched}
 use Rattle.agc_bench.specs.Runs.{bench_machine}
-use Rattle.agc_bench.specs.Threads.{EachAsks, IsGathered, askers_of, hears_all}
-use Rattle.agc_bench.proofs.Askers.{share_for_each}
+use Rattle.agc_bench.specs.Sharing.{AreFresh, HaveMade, answers_to, first_calls}
+use Rattle.agc_bench.specs.Threads.{askers_of}
+use Rattle.agc_bench.proofs.Histories.{begins_with, calls_by_first, calls_by_others, made, number_is, run_of, same_number}
 use Rattle.agc_bench.proofs.threading.gathered.Goals as goal
 
 -- an error is no success
@@ -22,6 +24,25 @@ none_before : (bench : Benched) (first : Machined) (told total : Totals) → fir
 unfolding bench_machine
 none_before bench first told total is grown = sym (with_nothing told) ∙ (sym (ap (λ m. add told m.totals) is) ∙ grown)
 
+pub invariant_of-new : goal.invariant_of-new
+invariant_of-new g c =
+    let script = c.args.bench.now.script in
+    let one : c.share.new.self.given ≡ 1 = search rules in
+    let shares : c.shares_of.new.desk.given ≡ c.share.new.self.given + (c.count_askers.result - 1) = search rules in
+    let many : c.ask_script.new.desk.given ≡ length (askers_of c.args.bench.now) =
+        omega (arith, one, shares, c.ask_script.ensures.given, c.count_askers.ensures.count, c.count_askers.ensures.least) in
+    let machine : c.shares_of.new.desk.machine ≡ c.args.machine = search rules in
+    let none : c.shares_of.new.desk.history ≡ [] = search rules in
+    let calls : c.ask_script.new.desk.history ≡ g.N.Sharing.begun =
+        c.ask_script.ensures.history
+        ∙ (ap (λ l. l ++ first_calls (answers_to c.shares_of.new.desk.machine c.script.result.now)) none
+        ∙ (ap (λ m. first_calls (answers_to m c.script.result.now)) machine
+        ∙ (ap (λ rs. first_calls (answers_to c.args.machine rs)) c.script.ensures ∙ sym c.requires.begun))) in
+    record {
+      given = c.requires.shares c.ask_script.new.desk.given ∙ (ap (λ n. nat_eq n (length (askers_of c.args.bench.now))) many ∙ same_number (length (askers_of c.args.bench.now)));
+      begun = begins_with g.N.Sharing.begun c.ask_script.new.desk.history calls;
+    }
+
 pub returns-in-Ok-clause-totals : goal.returns-in-Ok-clause-totals
 returns-in-Ok-clause-totals g c =
     none_before c.args.bench.now g.N.Names.first c.in-Ok.all.1 c.in-Ok.all.0.totals (sym c.requires.first ∙ c.requires.bench) c.in-Ok.ensures.grown
@@ -29,32 +50,37 @@ returns-in-Ok-clause-totals g c =
 pub returns-in-Ok-clause-run : goal.returns-in-Ok-clause-run
 returns-in-Ok-clause-run g c =
     let bench = c.args.bench.now in
-    let told = c.ask_script.new.share in
-    let is : g.N.Names.first ≡ bench_machine bench = sym c.requires.first ∙ c.requires.bench in
-    let script : told ≡ hears_all (bench_machine bench) unheard bench.script =
-    let fresh : c.in_ok-first.first ≡ unheard = search rules in
-    let begins : c.shares_of.new.desk.machine ≡ c.args.machine = search rules in
-    c.ask_script.ensures.heard ∙ ap (λ m. hears_all m c.in_ok-first.first c.script.result.now) (begins ∙ c.requires.bench)
-    ∙ ap (λ h. hears_all (bench_machine bench) h c.script.result.now) fresh ∙ ap (λ rs. hears_all (bench_machine bench) unheard rs) c.script.ensures in
-    let starts : c.insert.new.self.items ≡ told ∷ replicate (length (askers_of bench) - 1) unheard = search rules in
-    let as_many : length c.insert.new.self.items ≡ length (askers_of bench) = ap length starts ∙ share_for_each bench told unheard in
-    let gathered : IsGathered (λ n call. g.G.Gate.may_stop c.args.gate.now n call) bench c.in-Ok.all.1 = record {
-      scripted = told;
-      shares = c.in_ok-back.back.items;
-      script = script;
-      for_each = omega (arith, c.in_ok-back.ensures.len, as_many);
-      asked = subst (λ m. EachAsks m (λ n call. g.G.Gate.may_stop c.args.gate.now n call) bench (told ∷ replicate (length (askers_of bench) - 1) unheard) c.in_ok-back.back.items) is (subst (λ ss. EachAsks g.N.Names.first (λ n call. g.G.Gate.may_stop c.args.gate.now n call) bench ss c.in_ok-back.back.items) starts c.in_ok-back.ensures.each);
-      together = c.in-Ok.ensures.told;
-    } in
-    record {
-      leads = subst (λ m. LeadsTo m c.in-Ok.all.0) is c.in-Ok.ensures.leads;
-      gathered = subst (λ t. IsGathered (λ n call. g.G.Gate.may_stop c.args.gate.now n call) bench t) (returns-in-Ok-clause-totals g c) gathered;
-    }
+    let answers : List Said = answers_to c.args.machine bench.script in
+    let others : List Holder = c.in_ok-shares.shares.items in
+    let history = c.into_inner-desk.result.desk.history in
+    let machine : c.shares_of.new.desk.machine ≡ c.args.machine = search rules in
+    let one : c.share.new.self.given ≡ 1 = search rules in
+    let unasked : c.in_ok-first.first ≡ record { number = 0; heard = [] } = search rules in
+    let first : c.ask_script.new.share ≡ record { number = 0; heard = answers } =
+        c.ask_script.ensures.heard
+        ∙ (ap (λ (h : Holder). record h { heard = h.heard ++ answers_to c.shares_of.new.desk.machine c.script.result.now }) unasked
+        ∙ (ap (λ m. record { number = 0; heard = answers_to m c.script.result.now }) machine
+        ∙ ap (λ rs. record { number = 0; heard = answers_to c.args.machine rs }) c.script.ensures)) in
+    let first_made : c.ask_script.new.share ≡ record { number = 0; heard = calls_by 0 (first_calls answers) } =
+        first ∙ ap (λ l. record { number = 0; heard = l }) (sym (calls_by_first answers)) in
+    let fresh : AreFresh 1 others = subst (λ n. AreFresh n others) one c.in_ok-shares.ensures.fresh in
+    let starts : c.insert.new.self.items ≡ c.ask_script.new.share ∷ others = search rules in
+    let begun : HaveMade (first_calls answers) c.insert.new.self.items =
+        subst (HaveMade (first_calls answers)) (sym starts) (made (first_calls answers) c.ask_script.new.share others first_made (λ n. calls_by_others n answers) fresh) in
+    let for_each : length c.insert.new.self.items ≡ length (askers_of bench) =
+        omega (arith, ap length starts, c.in_ok-shares.ensures.count, c.count_askers.ensures.count, c.count_askers.ensures.least) in
+    run_of (λ n call. g.G.Gate.may_stop c.args.gate.now n call) bench c.args.machine history c.in-Ok.all.0 c.insert.new.self.items c.in_ok-back.back.items
+    c.requires.bench
+    (subst (λ m. IsHistory m c.in_ok-back.back.items history c.in-Ok.all.0) (sym c.requires.first) c.in-Ok.ensures.history)
+    (subst (λ l. take (length l) history ≡ l) c.requires.begun c.into_inner-desk.result.begun)
+    begun c.in_ok-back.ensures.each (omega (arith, c.in_ok-back.ensures.len)) for_each
 
 pub returns-in-Err-clause-early : goal.returns-in-Err-clause-early
 returns-in-Err-clause-early g c =
     let bench = c.args.bench.now in
-    let starts : c.insert.new.self.items ≡ c.ask_script.new.share ∷ replicate (length (askers_of bench) - 1) unheard = search rules in
-    let as_many : length c.insert.new.self.items ≡ length (askers_of bench) = ap length starts ∙ share_for_each bench c.ask_script.new.share unheard in
-    let all : vec_len c.in_ok-back.back ≡ c.into_inner-desk.result.desk.given = omega (arith, c.in_ok-back.ensures.len, as_many, c.requires.shares, c.into_inner-desk.result.given) in
+    let starts : c.insert.new.self.items ≡ c.ask_script.new.share ∷ c.in_ok-shares.shares.items = search rules in
+    let given : c.into_inner-desk.result.desk.given ≡ length (askers_of bench) =
+        number_is _ _ (sym (c.requires.shares c.into_inner-desk.result.desk.given) ∙ c.into_inner-desk.result.given) in
+    let all : vec_len c.in_ok-back.back ≡ c.into_inner-desk.result.desk.given =
+        omega (arith, c.in_ok-back.ensures.len, ap length starts, c.in_ok-shares.ensures.count, c.count_askers.ensures.count, c.count_askers.ensures.least, given) in
     unlike (c.in-Err.ensures.ok.1 all)

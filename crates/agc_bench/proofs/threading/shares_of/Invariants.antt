@@ -1,9 +1,10 @@
-use Rattle.std.proofs.Common.{◌≡◌, ◌+◌, replicate}
-use Rattle.agc_desk.specs.Hearing.{unheard}
+use Rattle.std.proofs.Common.{◌≡◌, ◌+◌, vec_len}
+use Rattle.agc_bench.specs.Sharing.{AreFresh}
 use Rattle.agc_bench.proofs.threading.shares_of.Given as goal
 
 abbrev pub invariant-loop-given : goal.invariant-loop-given
 invariant-loop-given g l = record {
-  heard : l.shares.items ≡ replicate l._given unheard;
+  count : vec_len l.shares ≡ l._given;
+  fresh : AreFresh l.initial.desk.given l.shares.items;
   given : l.desk ≡ record l.initial.desk { given = l.initial.desk.given + l._given };
 }

@@ -1,5 +1,6 @@
-use Rattle.std.proofs.Common.{length}
+use Rattle.std.proofs.Common.{length, nat_eq}
 use Rattle.agc_desk.specs.Opening.{names_of}
+use Rattle.agc_bench.specs.Sharing.{answers_to, first_calls}
 use Rattle.agc_bench.specs.Threads.{askers_of}
 use Rattle.agc_bench.proofs.threading.threads.Given as goal
 
@@ -7,4 +8,7 @@ abbrev pub ghosts-gathered-N-Names : goal.ghosts-gathered-N-Names
 ghosts-gathered-N-Names g a = record { names = names_of a.blanks; first = a.machine }
 
 abbrev pub ghosts-gathered-N-Sharing : goal.ghosts-gathered-N-Sharing
-ghosts-gathered-N-Sharing g a = record { shares = length (askers_of a.bench.now) }
+ghosts-gathered-N-Sharing g a = record {
+  may_share = λ given. nat_eq given (length (askers_of a.bench.now));
+  begun = first_calls (answers_to a.machine a.bench.now.script);
+}

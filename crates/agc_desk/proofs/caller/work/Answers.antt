@@ -7,5 +7,5 @@ pub returns : goal.returns
 returns g c = (
   take c.drive.result c.args.requests.now,
   record { count = c.drive.result; few = c.drive.ensures.count; front = refl; whole = c.drive.ensures.whole },
-  asks_all (λ k. k.share) c.args.share [] (take c.drive.result c.args.requests.now) _ _ (asks_none c.args.share) c.drive.ensures.reached,
+  asks_all g.N.Names.first (λ k. k.share) c.args.share [] (take c.drive.result c.args.requests.now) _ _ (asks_none c.args.share) c.drive.ensures.reached,
 )

@@ -4,7 +4,7 @@ use Rattle.agc_machine.specs.Told.{add, told}
 use Rattle.agc_desk.specs.declared.book.Call.{Call}
 use Rattle.agc_desk.specs.Accounts.{told_in}
 use Rattle.agc_desk.specs.History.{Leads}
-use Rattle.agc_desk.proofs.Calls.{leads_on, same_growth, told_after, told_push}
+use Rattle.agc_desk.proofs.Calls.{leads_on, same_growth, same_setting, told_after, told_push}
 use Rattle.agc_desk.proofs.desk.Desk.serve.Goals as goal
 
 pub invariant_of-self : goal.invariant_of-self
@@ -35,3 +35,16 @@ invariant_of-share g c =
     let grew : c.add.new.amounts ≡ add (told_in heard) (told c.apply-answer.result.outcome) =
         c.add.ensures.told ∙ (ap (λ t. add t c.growth-told.result) c.share.invariant ∙ ap (λ t. add (told_in heard) t) same) in
     grew ∙ (sym (told_push heard c.apply-answer.result) ∙ sym (ap (λ o. told_in o.heard) c.note.ensures.own))
+
+pub returns-clause-given : goal.returns-clause-given
+returns-clause-given g c =
+    let machine = c.self.inside.machine in
+    let same = same_setting g.N.Names.first c.self.inside.history.calls machine c.self.invariant.leads in
+    record {
+      machine = machine;
+      lawful = c.apply-answer.ensures.lawful;
+      plan = same.plan;
+      limit = same.limit;
+      allowance = same.allowance;
+      answer = c.apply-answer.ensures.outcome ∙ ap (λ q. answer_of machine q) (sym c.apply-answer.ensures.request);
+    }

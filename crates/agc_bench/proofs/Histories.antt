@@ -1,0 +1,127 @@
+-- The history of a run: the script's calls, and those of the threads.
+use Rattle.std.proofs.Common.{◌≡◌, ℕ, zero, suc, ◌+◌, ◌<◌, ◌≤◌, ◌==◌, true, false, nat_eq, List, [], ◌∷◌, ◌++◌, map, length, get_or, take, drop, arith, refl, sym, ap, subst, ◌∙◌, append_assoc}
+use Rattle.std.specs.List.{All, Contains}
+use Rattle.std.proofs.lemmas.Bool.Decides.{nat_tests}
+use Rattle.std.proofs.lemmas.List.{append-nil, append_cancel_left, get_or-map, length-map, take-append-drop}
+use Rattle.std.proofs.lemmas.List.Elements.{All-drop}
+use Rattle.agc_plan.specs.declared.request.Request.{Request}
+use Rattle.agc_machine.specs.Machines.{Machined, after, after_all, answer_of}
+use Rattle.agc_machine.specs.Said.{Said}
+use Rattle.agc_desk.specs.declared.book.Call.{Call}
+use Rattle.agc_desk.specs.History.{Holder, IsHistory, Leads, calls_by, numbers_of}
+use Rattle.agc_desk.specs.Runs.{AsksAll, requests_of}
+use Rattle.agc_desk.proofs.Calls.{calls_by_append}
+use Rattle.agc_text.proofs.Sessions.{rest_is, nothing_left}
+use Rattle.agc_bench.specs.Benches.{Benched}
+use Rattle.agc_bench.specs.Runs.{bench_machine}
+use Rattle.agc_bench.specs.Sharing.{AreFresh, AsksOwn, EachAsks, HaveMade, answers_to, first_calls}
+use Rattle.agc_bench.specs.Threads.{Asker, AskedOwn, IsRun, asker_at, askers_of}
+
+-- the next request's answer, and those of the requests after it
+answers_at : (m : Machined) (rs : List Request) (i : ℕ) (r : Request) (said : Said) → i < length rs → r ≡ get_or rs i r
+    → said.request ≡ r → said.outcome ≡ answer_of m r → answers_to m (drop i rs) ≡ said ∷ answers_to (after m r) (drop (i + 1) rs)
+unfolding answers_to
+answers_at m rs i r said below is asked answered =
+    ap (answers_to m) (rest_is rs i r below is) ∙ (λ k. record { request = sym asked k; outcome = sym answered k } ∷ answers_to (after m r) (drop (i + 1) rs))
+
+pub answers_next : (goal so_far : List Said) (m : Machined) (rs : List Request) (i : ℕ) (r : Request) (said : Said) → i < length rs → r ≡ get_or rs i r
+    → said.request ≡ r → said.outcome ≡ answer_of m r → goal ≡ so_far ++ answers_to m (drop i rs) → goal ≡ (so_far ++ said ∷ []) ++ answers_to (after m r) (drop (i + 1) rs)
+answers_next goal so_far m rs i r said below is asked answered whole =
+    whole ∙ (ap (λ l. so_far ++ l) (answers_at m rs i r said below is asked answered) ∙ sym (append_assoc so_far (said ∷ []) (answers_to (after m r) (drop (i + 1) rs))))
+
+pub calls_next : (goal so_far : List Call) (m : Machined) (rs : List Request) (i : ℕ) (r : Request) (n : ℕ) (said : Said) → i < length rs → r ≡ get_or rs i r → n ≡ 0
+    → said.request ≡ r → said.outcome ≡ answer_of m r → goal ≡ so_far ++ first_calls (answers_to m (drop i rs))
+    → goal ≡ (so_far ++ record { by = n; answer = said } ∷ []) ++ first_calls (answers_to (after m r) (drop (i + 1) rs))
+calls_next goal so_far m rs i r n said below is first asked answered whole =
+    whole ∙ (ap (λ l. so_far ++ first_calls l) (answers_at m rs i r said below is asked answered)
+    ∙ (ap (λ k. so_far ++ record { by = k; answer = said } ∷ first_calls (answers_to (after m r) (drop (i + 1) rs))) (sym first)
+    ∙ sym (append_assoc so_far (record { by = n; answer = said } ∷ []) (first_calls (answers_to (after m r) (drop (i + 1) rs))))))
+
+-- and after the last
+pub answers_last : (goal so_far : List Said) (m : Machined) (rs : List Request) (i : ℕ) → length rs ≤ i → goal ≡ so_far ++ answers_to m (drop i rs) → so_far ≡ goal
+unfolding answers_to
+answers_last goal so_far m rs i past whole = sym (whole ∙ (ap (λ l. so_far ++ answers_to m l) (nothing_left rs i past) ∙ append-nil so_far))
+
+pub calls_last : (goal so_far : List Call) (m : Machined) (rs : List Request) (i : ℕ) → length rs ≤ i → goal ≡ so_far ++ first_calls (answers_to m (drop i rs)) → so_far ≡ goal
+unfolding answers_to
+calls_last goal so_far m rs i past whole = sym (whole ∙ (ap (λ l. so_far ++ first_calls (answers_to m l)) (nothing_left rs i past) ∙ append-nil so_far))
+
+-- what leads on from the machine after the script
+leads_past : (m : Machined) (script : List Request) (rest : List Call) (last : Machined) → Leads m (first_calls (answers_to m script) ++ rest) last → Leads (after_all m script) rest last
+unfolding after_all answers_to
+leads_past m [] rest last leads = leads
+leads_past m (r ∷ more) rest last leads = leads_past (after m r) more rest last leads.1
+
+-- of the first calls all are of number 0
+pub calls_by_first : (told : List Said) → calls_by 0 (first_calls told) ≡ told
+calls_by_first [] = refl
+calls_by_first (said ∷ more) = ap (λ l. said ∷ l) (calls_by_first more)
+
+pub calls_by_others : (number : ℕ) (told : List Said) → calls_by (suc number) (first_calls told) ≡ []
+calls_by_others number [] = refl
+calls_by_others number (said ∷ more) =
+    let apart : (0 == suc number) ≡ false = grind (arith, nat_tests) in
+    rw apart (calls_by_others number more)
+
+-- a share with which the first calls were made, and the others
+pub made : (calls : List Call) (first : Holder) (others : List Holder) → first ≡ record { number = 0; heard = calls_by 0 calls } → ((n : ℕ) → calls_by (suc n) calls ≡ []) → AreFresh 1 others
+    → HaveMade calls (first ∷ others)
+made calls first others is none fresh zero d below = is
+made calls first others is none fresh (suc i) d below =
+    let number : 1 + i ≡ suc i = omega arith in
+    fresh i d (omega arith) ∙ (λ k. record { number = number k; heard = sym (none i) k })
+
+-- each share stands at its number
+number_at : (calls : List Call) (may_stop : ℕ → ℕ → Type 0) (bench : Benched) (starts back : List Holder) → HaveMade calls starts → EachAsks may_stop bench starts back → length back ≡ length starts
+    → (i : ℕ) (d : Holder) → i < length back → (get_or back i d).number ≡ i
+number_at calls may_stop bench starts back begun asked many i d below =
+    (asked i d d below).all.number ∙ ap (λ h. h.number) (begun i d (omega (arith, many, below)))
+
+-- where a history begins with the script's calls, and each share's holder asked then what is its own, it is a run
+pub run_of : (may_stop : ℕ → ℕ → Type 0) (bench : Benched) (first : Machined) (history : List Call) (last : Machined) (starts back : List Holder)
+    → first ≡ bench_machine bench → IsHistory first back history last
+    → take (length (first_calls (answers_to first bench.script))) history ≡ first_calls (answers_to first bench.script)
+    → HaveMade (first_calls (answers_to first bench.script)) starts → EachAsks may_stop bench starts back
+    → length back ≡ length starts → length starts ≡ length (askers_of bench) → IsRun may_stop bench last
+run_of may_stop bench first history last starts back is whole begins begun asked many for_each =
+    let begin : List Call = first_calls (answers_to first bench.script) in
+    let rest : List Call = drop (length begin) history in
+    let parts : history ≡ begin ++ rest = sym (take-append-drop (length begin) history) ∙ ap (λ l. l ++ rest) begins in
+    record {
+      calls = rest;
+      leads = subst (λ m. Leads (after_all m bench.script) rest last) is (leads_past first bench.script rest last (subst (λ l. Leads first l last) parts whole.leads));
+      each = λ i below.
+          let d : Holder = record { number = i; heard = [] } in
+          let a : AsksOwn may_stop (asker_at bench i) (get_or starts i d) (get_or back i d) = asked i d d (omega (arith, many, for_each, below)) in
+          let start = begun i d (omega (arith, for_each, below)) in
+          let number : (get_or back i d).number ≡ i = number_at begin may_stop bench starts back begun asked many i d (omega (arith, many, for_each, below)) in
+          let heard : calls_by i begin ++ calls_by i rest ≡ calls_by i begin ++ a.all.told =
+              sym (calls_by_append i begin rest)
+              ∙ (ap (calls_by i) (sym parts)
+              ∙ (ap (λ n. calls_by n history) (sym number)
+              ∙ (whole.each i d (omega (arith, many, for_each, below))
+              ∙ (a.all.heard ∙ ap (λ h. h.heard ++ a.all.told) start)))) in
+          subst (λ l. AskedOwn may_stop (asker_at bench i) l) (sym a.all.asked ∙ ap requests_of (sym (append_cancel_left (calls_by i begin) _ _ heard))) a.own;
+      no_other = λ k d below.
+          let among = All-drop (λ (call : Call). Contains (numbers_of back) call.by) (length begin) history whole.no_other k d below in
+          let far : among.0 < length back = omega (arith, among.1, length-map back (λ (h : Holder). h.number)) in
+          let d0 : Holder = record { number = 0; heard = [] } in
+          let place = get_or-map (λ (h : Holder). h.number) back among.0 d0 (get_or rest k d).by far in
+          let number = number_at begin may_stop bench starts back begun asked many among.0 d0 far in
+          omega (arith, far, among.2, place, number, many, for_each);
+    }
+
+-- a number is equal to itself, and to those that the test says
+pub same_number : (n : ℕ) → nat_eq n n ≡ true
+same_number n = grind (arith, nat_tests)
+
+pub number_is : (a b : ℕ) → nat_eq a b ≡ true → a ≡ b
+number_is a b same = grind (arith, nat_tests)
+
+take_own : (l : List Call) → take (length l) l ≡ l
+take_own [] = refl
+take_own (x ∷ xs) = ap (λ l. x ∷ l) (take_own xs)
+
+-- a history that is these calls begins with them
+pub begins_with : (l history : List Call) → history ≡ l → take (length l) history ≡ l
+begins_with l history is = ap (take (length l)) is ∙ take_own l

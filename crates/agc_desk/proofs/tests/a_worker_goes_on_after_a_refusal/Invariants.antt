@@ -1,0 +1,9 @@
+use Rattle.std.proofs.Common.{[], true}
+use Rattle.agc_desk.specs.Opening.{names_of}
+use Rattle.agc_desk.proofs.tests.a_worker_goes_on_after_a_refusal.Given as goal
+
+abbrev pub ghosts-worked_through-N-Names : goal.ghosts-worked_through-N-Names
+ghosts-worked_through-N-Names a = record { names = names_of a.blanks; first = a.machine }
+
+abbrev pub ghosts-worked_through-N-Sharing : goal.ghosts-worked_through-N-Sharing
+ghosts-worked_through-N-Sharing a = record { may_share = λ n. true; begun = [] }
