@@ -1,6 +1,6 @@
 // The place for a new task.
-ghost use Rattle.std.specs.Prelude.{◌≡◌, ◌<◌, ◌≤◌, ℕ, length, slice_index};
-ghost use Rattle.agc_wait.specs.Table.{waits_of, IsLawfulTable};
+ghost use Rattle.std.specs.Prelude.{◌≡◌, ◌↔◌, IsTrue, ◌<◌, ◌≤◌, ℕ, length, slice_index};
+ghost use Rattle.agc_wait.specs.Table.{at_in, waits_of, IsLawfulTable};
 ghost use Rattle.agc_wait.specs.Moving.{IsSpot};
 
 use crate::coding::{TASKS, distance_of, gap_of};
@@ -16,6 +16,14 @@ pub(crate) struct Spot {
     pub(crate) after: u16,
 }
 
+/// Whether a task stands in a place: whether its address in LST2 isn't 00000.
+fn is_occupied(e: &Erasable, place: usize) -> bool
+    requires { place ≤ 8 }
+    ensures { IsTrue result ↔ (1 ≤ at_in e.now place) }
+{
+    e.get(LST2 + 2 * place).bits() != 0
+}
+
 /// The place after all tasks that are due no later than this.
 pub(crate) fn spot_for(e: &Erasable, distance: u16) -> Spot
     requires lawful { IsLawfulTable e.now }
@@ -25,7 +33,7 @@ pub(crate) fn spot_for(e: &Erasable, distance: u16) -> Spot
     let mut before = 0;
     let mut here = distance_of(e.get(TIME3));
     for place in 0..TASKS {
-        if e.get(LST2 + 2 * place).bits() == 0 {
+        if !is_occupied(e, place) {
             return Spot {
                 place,
                 before,
@@ -52,7 +60,7 @@ pub(crate) fn count_tasks(e: &Erasable, known: usize) -> usize
     ensures nine { result ≤ 9 }
 {
     for k in known..TASKS {
-        if e.get(LST2 + 2 * k).bits() == 0 {
+        if !is_occupied(e, k) {
             return k;
         }
     }

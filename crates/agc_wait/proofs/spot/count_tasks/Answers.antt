@@ -1,13 +1,13 @@
-use Rattle.std.proofs.Common.{◌≡◌, ◌≢◌, ◌≤◌, length, ap, ◌∙◌, arith, inl, inr}
+use Rattle.std.proofs.Common.{◌≡◌, ◌≢◌, ◌≤◌, length, refl, ap, ◌∙◌, arith, inl, inr}
 use Rattle.std.proofs.lemmas.Bool.{cases_lt}
-use Rattle.std.proofs.lemmas.Grind.{common_steps}
 use Rattle.agc_wait.specs.Table.{waits_of, at_in}
 use Rattle.agc_wait.proofs.Tables.{read_as}
+use Rattle.agc_wait.proofs.Spots.{none_there}
 use Rattle.agc_wait.proofs.spot.count_tasks.Goals as goal
 
-pub returns-then-bits-eq0-clause-count : goal.returns-then-bits-eq0-clause-count
-returns-then-bits-eq0-clause-count c =
-    let e : at_in c.args.e.now c.loop-k.k ≡ 0 = grind (arith, common_steps) in
+pub returns-then-not-is_occupied-clause-count : goal.returns-then-not-is_occupied-clause-count
+returns-then-not-is_occupied-clause-count c =
+    let e : at_in c.args.e.now c.loop-k.k ≡ 0 = none_there (at_in c.args.e.now c.loop-k.k) c.if-not-is_occupied.ensures.1 in
     let within : c.loop-k.k ≤ length (waits_of c.args.e.now) = c.loop-k.invariant in
     elim (cases_lt c.loop-k.k (length (waits_of c.args.e.now))) [
       | inl lt ↦ let some : 1 ≤ at_in c.args.e.now c.loop-k.k = (read_as c.args.e.now).some c.loop-k.k lt in absurd (omega arith)
@@ -16,7 +16,8 @@ returns-then-bits-eq0-clause-count c =
 
 pub loop-k-preserved : goal.loop-k-preserved
 loop-k-preserved c =
-    let ne : at_in c.args.e.now c.loop-k.k ≢ 0 = grind (arith, common_steps) in
+    let there : 1 ≤ at_in c.args.e.now c.loop-k.k = c.if-not-is_occupied.ensures.0 refl in
+    let ne : at_in c.args.e.now c.loop-k.k ≢ 0 = λ e. omega arith in
     let within : c.loop-k.k ≤ length (waits_of c.args.e.now) = c.loop-k.invariant in
     elim (cases_lt c.loop-k.k (length (waits_of c.args.e.now))) [
       | inl lt ↦ omega arith
