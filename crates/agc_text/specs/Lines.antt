@@ -1,5 +1,5 @@
 -- Requests and actions, and how a line spells them.
-use Rattle.std.specs.Prelude.{ℕ, ◌≤◌, ◌<◌, List, ◌∷◌, ◌++◌, codes}
+use Rattle.std.specs.Prelude.{ℕ, List, ◌∷◌, ◌++◌, codes}
 use Rattle.std.specs.Fmt.{decimal}
 use Rattle.agc_plan.specs.declared.request.Entry.{Entry}
 use Rattle.agc_plan.specs.declared.request.Task.{Task}
@@ -7,7 +7,6 @@ use Rattle.agc_plan.specs.declared.request.Request.{Request}
 use Rattle.agc_plan.specs.declared.request.Request.TheVariants.{Novac, Findvac, EndOfJob, Sleep, Rouse, Prio, Change, Store, List as ListTask, Tick, SetPhase, Restart, Fresh}
 use Rattle.agc_plan.specs.declared.request.Action.{Action}
 use Rattle.agc_plan.specs.declared.request.Action.TheVariants.{Nothing, Novac as DoNovac, Findvac as DoFindvac, Rouse as DoRouse, List as DoList}
-use Rattle.agc_plan.specs.Ranges.{IsPriority, IsAddress, IsDelay, IsSix}
 use Rattle.agc_text.specs.Numbers.{octal}
 
 -- a priority of two octal digits, an address and a bank word of five, each after a space but the first
