@@ -6,7 +6,8 @@ use Rattle.agc_bench.specs.declared.fault.BenchFault.TheVariants.{NoMemory, NotT
 use Rattle.agc_bench.specs.Texts.{Texts}
 use Rattle.agc_bench.specs.Keys.{texts_in}
 use Rattle.agc_bench.specs.Benches.{Benched, bench_texts, IsInRange}
-use Rattle.agc_bench.specs.Faults.{RefusedLine, RefusesBench}
+use Rattle.agc_bench.specs.Gives.{RefusedLine}
+use Rattle.agc_bench.specs.Faults.{RefusesBench}
 
 pub refused_because : (why other : Type 0) (fault : BenchFault) → (why → other) → RefusedLine why fault → RefusedLine other fault
 refused_because why other NoMemory f h = tt

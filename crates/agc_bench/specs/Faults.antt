@@ -10,12 +10,6 @@ use Rattle.agc_bench.specs.Texts.{Texts}
 use Rattle.agc_bench.specs.Keys.{texts_in}
 use Rattle.agc_bench.specs.Benches.{Benched, bench_texts, IsInRange}
 
--- the fault is Line for this reason, want of memory aside
-abbrev pub RefusedLine : Type 0 → BenchFault → Type 0
-RefusedLine why NoMemoryForBench = Unit {0}
-RefusedLine why NoLine = why
-RefusedLine why _ = ⊥
-
 -- the fault of a bench whose plan has this fault
 abbrev pub bench_fault : PlanFault → BenchFault
 bench_fault NoMemoryToPlan = NoMemoryForBench

@@ -1,7 +1,7 @@
--- What a step of reading a bench answers.
+-- For proofs: what a step of reading a bench answers.
 use Rattle.std.specs.Prelude.{◌≡◌, Option, Some, None, Result, Ok, Err}
 use Rattle.agc_bench.specs.declared.fault.BenchFault.{BenchFault}
-use Rattle.agc_bench.specs.declared.fault.BenchFault.TheVariants.{NoMemory, Key}
+use Rattle.agc_bench.specs.declared.fault.BenchFault.TheVariants.{NoMemory, Key, Line}
 
 -- what a call answered, seen by view, is this, and None is a fault Key; want of memory aside
 abbrev pub GivesOrKey : {X Y : Type 0} → (X → Y) → Result X BenchFault → Option Y → Type 0
@@ -9,3 +9,9 @@ GivesOrKey view (Ok x) o = o ≡ Some (view x)
 GivesOrKey view (Err NoMemory) o = Unit {0}
 GivesOrKey view (Err Key) o = o ≡ None
 GivesOrKey view (Err _) o = ⊥
+
+-- the fault is Line for this reason, want of memory aside
+abbrev pub RefusedLine : Type 0 → BenchFault → Type 0
+RefusedLine why NoMemory = Unit {0}
+RefusedLine why Line = why
+RefusedLine why _ = ⊥

@@ -1,10 +1,8 @@
 pub mod Texts
 pub mod Keys
-pub mod Seen
 pub mod Gives
 pub mod Benches
 pub mod Kinds
-pub mod Parts
 pub mod Faults
 pub mod Messages
 pub mod Session

@@ -3,9 +3,8 @@ ghost use Rattle.toml.specs.Parse.{parse_document};
 ghost use Rattle.agc_plan.specs.Plans.{fault_of};
 ghost use Rattle.agc_plan.specs.declared.plan.PlanFault.{PlanFault};
 ghost use Rattle.agc_bench.specs.Benches.{Benched, bench_texts, IsInRange, IsBench};
-ghost use Rattle.agc_bench.specs.Parts.{benched};
-ghost use Rattle.agc_bench.specs.Seen.{texts_seen};
-ghost use Rattle.agc_bench.specs.Faults.{RefusedLine, bench_fault, HasTexts, RefusesBench};
+ghost use Rattle.agc_bench.specs.Faults.{bench_fault, HasTexts, RefusesBench};
+ghost use Rattle.agc_bench.specs.Gives.{RefusedLine};
 
 use crate::device::Line;
 use crate::fault::BenchFault;
@@ -33,6 +32,27 @@ struct Parts {
     devices: Vec<(Line, u32)>,
 }
 
+impl Model for Parts {
+    ghost use Rattle.std.specs.Prelude.{map};
+    ghost use Rattle.agc_bench.specs.Benches.{Benched};
+
+    ghost Value = { Benched };
+
+    ghost view = { λ p. record {
+      limit = p.limit;
+      allowance = p.allowance;
+      attends = p.attends;
+      key = p.key;
+      radar = p.radar;
+      power = p.power;
+      script = p.script.items;
+      rows = p.rows.items;
+      entries = p.entries.items;
+      workers = map (λ w. w.items) p.workers.items;
+      devices = p.devices.items;
+    } };
+}
+
 /// A bench: what a machine is run on. Its numbers are in their ranges, and its rows and entries make a plan. Contracts
 /// see its values. Source: profile.
 #[derive(Drop)]
@@ -42,13 +62,12 @@ pub struct Bench {
 
 impl Model for Bench {
     ghost use Rattle.agc_bench.specs.Benches.{Benched, IsBench};
-    ghost use Rattle.agc_bench.specs.Parts.{benched};
 
     ghost Value = { Benched };
 
-    ghost view = { λ b. benched b.parts };
+    ghost view = { λ b. b.parts };
 
-    ghost invariant = { λ b. IsBench (benched b.parts) };
+    ghost invariant = { λ b. IsBench b.parts };
 }
 
 impl Bench {
@@ -149,8 +168,8 @@ fn or_line<T: Drop>(value: Option<T>) -> Result<T, BenchFault>
 
 /// The values that numbers and texts spell.
 fn parts_of(alloc: Global, texts: &Texts<'_>) -> Result<Parts, BenchFault>
-    ensures found { IfOk result (λ p. IsInRange (benched p) × (texts_seen texts.now ≡ bench_texts (benched p))) }
-    ensures refused { IfErr result (RefusedLine ((b : Benched) → IsInRange b → texts_seen texts.now ≢ bench_texts b)) }
+    ensures found { IfOk result (λ p. IsInRange (p) × (texts.now ≡ bench_texts (p))) }
+    ensures refused { IfErr result (RefusedLine ((b : Benched) → IsInRange b → texts.now ≢ bench_texts b)) }
 {
     let limit = or_line(Limit::new(texts.settings.limit))?;
     let key = or_line(parse_action(texts.settings.key))?;
@@ -178,9 +197,9 @@ fn parts_of(alloc: Global, texts: &Texts<'_>) -> Result<Parts, BenchFault>
 
 /// The bench of parts whose rows and entries make a plan.
 fn planned(alloc: Global, parts: Parts) -> Result<Bench, BenchFault>
-    requires { IsInRange (benched parts) }
-    ensures found { IfOk result (λ b. IsBench b × (b ≡ benched parts)) }
-    ensures refused { IfErr result (λ fault. (fault ≡ BenchFault.NoMemory) ⊎ ((f : PlanFault) × (fault ≡ bench_fault f) × (fault_of parts.rows.items parts.entries.items ≡ Some f))) }
+    requires { IsInRange (parts) }
+    ensures found { IfOk result (λ b. IsBench b × (b ≡ parts)) }
+    ensures refused { IfErr result (λ fault. (fault ≡ BenchFault.NoMemory) ⊎ ((f : PlanFault) × (fault ≡ bench_fault f) × (fault_of parts.rows parts.entries ≡ Some f))) }
 {
     match Plan::new(
         alloc,

@@ -6,7 +6,6 @@ ghost use Rattle.std.specs.BTreeMap.{keys};
 ghost use Rattle.toml.specs.Data.{get_member};
 ghost use Rattle.toml.specs.View.{view, items_view, table_view};
 ghost use Rattle.agc_bench.specs.Gives.{GivesOrKey};
-ghost use Rattle.agc_bench.specs.Seen.{row_seen, entry_seen, device_seen, settings_seen, lists_seen, texts_seen};
 ghost use Rattle.agc_bench.specs.Keys.{is_among, has_only, number_in, number_at, number_or, text_at, text_or, optional_text, texts_of, texts_data, texts_or_none, power_or_none, row_in, row_data, rows_of, rows_or_none, entry_in, entry_data, entries_of, entries_or_none, worker_in, worker_data, workers_of, workers_or_none, device_in, device_data, devices_of, devices_or_none, bench_keys, settings_in, lists_in, texts_in};
 
 use crate::fault::BenchFault;
@@ -193,7 +192,7 @@ fn power_at<'a>(alloc: Global, value: Option<&'a Value>) -> Result<Option<Vec<&'
 
 #[tactic(auto, unfolding(crate::specs::Keys::row_in))]
 fn row_in(table: &Table) -> Option<RowTexts<'_>>
-    ensures { option_map row_seen result ≡ row_in (table_view table.now) }
+    ensures { result ≡ row_in (table_view table.now) }
 {
     if !has_only(table, &["at", "bank", "action"]) {
         return None;
@@ -207,7 +206,7 @@ fn row_in(table: &Table) -> Option<RowTexts<'_>>
 
 #[tactic(auto, unfolding(crate::specs::Keys::row_data))]
 fn row_from(value: &Value) -> Option<RowTexts<'_>>
-    ensures { option_map row_seen result ≡ row_data (view value.now) }
+    ensures { result ≡ row_data (view value.now) }
 {
     match value.as_table() {
         Some(table) => row_in(table),
@@ -217,7 +216,7 @@ fn row_from(value: &Value) -> Option<RowTexts<'_>>
 
 #[tactic(auto, unfolding(crate::specs::Keys::rows_of))]
 fn rows_in_order<'a>(alloc: Global, values: &'a [Value]) -> Result<Vec<RowTexts<'a>>, BenchFault>
-    ensures { GivesOrKey (λ v. map row_seen v.items) result (rows_of (items_view values.now)) }
+    ensures { GivesOrKey (λ v. v.items) result (rows_of (items_view values.now)) }
 {
     let mut rows = Vec::new(alloc);
     for value in values {
@@ -230,7 +229,7 @@ fn rows_in_order<'a>(alloc: Global, values: &'a [Value]) -> Result<Vec<RowTexts<
 }
 
 fn rows_at<'a>(alloc: Global, value: Option<&'a Value>) -> Result<Vec<RowTexts<'a>>, BenchFault>
-    ensures { GivesOrKey (λ v. map row_seen v.items) result (rows_or_none (option_map (λ v. view v.now) value.entry)) }
+    ensures { GivesOrKey (λ v. v.items) result (rows_or_none (option_map (λ v. view v.now) value.entry)) }
 {
     match value {
         None => Ok(Vec::new(alloc)),
@@ -243,7 +242,7 @@ fn rows_at<'a>(alloc: Global, value: Option<&'a Value>) -> Result<Vec<RowTexts<'
 
 #[tactic(auto, unfolding(crate::specs::Keys::entry_in))]
 fn entry_in(table: &Table) -> Option<EntryTexts<'_>>
-    ensures { option_map entry_seen result ≡ entry_in (table_view table.now) }
+    ensures { result ≡ entry_in (table_view table.now) }
 {
     if !has_only(table, &["group", "phase", "job", "task"]) {
         return None;
@@ -262,7 +261,7 @@ fn entry_in(table: &Table) -> Option<EntryTexts<'_>>
 
 #[tactic(auto, unfolding(crate::specs::Keys::entry_data))]
 fn entry_from(value: &Value) -> Option<EntryTexts<'_>>
-    ensures { option_map entry_seen result ≡ entry_data (view value.now) }
+    ensures { result ≡ entry_data (view value.now) }
 {
     match value.as_table() {
         Some(table) => entry_in(table),
@@ -275,7 +274,7 @@ fn entries_in_order<'a>(
     alloc: Global,
     values: &'a [Value],
 ) -> Result<Vec<EntryTexts<'a>>, BenchFault>
-    ensures { GivesOrKey (λ v. map entry_seen v.items) result (entries_of (items_view values.now)) }
+    ensures { GivesOrKey (λ v. v.items) result (entries_of (items_view values.now)) }
 {
     let mut entries = Vec::new(alloc);
     for value in values {
@@ -291,7 +290,7 @@ fn entries_at<'a>(
     alloc: Global,
     value: Option<&'a Value>,
 ) -> Result<Vec<EntryTexts<'a>>, BenchFault>
-    ensures { GivesOrKey (λ v. map entry_seen v.items) result (entries_or_none (option_map (λ v. view v.now) value.entry)) }
+    ensures { GivesOrKey (λ v. v.items) result (entries_or_none (option_map (λ v. view v.now) value.entry)) }
 {
     match value {
         None => Ok(Vec::new(alloc)),
@@ -359,7 +358,7 @@ fn workers_at<'a>(alloc: Global, value: Option<&'a Value>) -> Result<Vec<Vec<&'a
 
 #[tactic(auto, unfolding(crate::specs::Keys::device_in))]
 fn device_in(table: &Table) -> Option<DeviceTexts<'_>>
-    ensures { option_map device_seen result ≡ device_in (table_view table.now) }
+    ensures { result ≡ device_in (table_view table.now) }
 {
     if !has_only(table, &["line", "pulses"]) {
         return None;
@@ -371,7 +370,7 @@ fn device_in(table: &Table) -> Option<DeviceTexts<'_>>
 
 #[tactic(auto, unfolding(crate::specs::Keys::device_data))]
 fn device_from(value: &Value) -> Option<DeviceTexts<'_>>
-    ensures { option_map device_seen result ≡ device_data (view value.now) }
+    ensures { result ≡ device_data (view value.now) }
 {
     match value.as_table() {
         Some(table) => device_in(table),
@@ -384,7 +383,7 @@ fn devices_in_order<'a>(
     alloc: Global,
     values: &'a [Value],
 ) -> Result<Vec<DeviceTexts<'a>>, BenchFault>
-    ensures { GivesOrKey (λ v. map device_seen v.items) result (devices_of (items_view values.now)) }
+    ensures { GivesOrKey (λ v. v.items) result (devices_of (items_view values.now)) }
 {
     let mut devices = Vec::new(alloc);
     for value in values {
@@ -401,7 +400,7 @@ fn devices_at<'a>(
     alloc: Global,
     value: Option<&'a Value>,
 ) -> Result<Vec<DeviceTexts<'a>>, BenchFault>
-    ensures value { GivesOrKey (λ v. map device_seen v.items) result (devices_or_none (option_map (λ v. view v.now) value.entry)) }
+    ensures value { GivesOrKey (λ v. v.items) result (devices_or_none (option_map (λ v. view v.now) value.entry)) }
     ensures few { IfOk result (λ v. length v.items ≤ 32) }
 {
     match value {
@@ -445,7 +444,7 @@ fn or_key<T: Drop>(value: Option<T>) -> Result<T, BenchFault>
 
 #[tactic(auto, unfolding(crate::specs::Keys::settings_in))]
 fn settings_in(alloc: Global, table: &Table) -> Result<Settings<'_>, BenchFault>
-    ensures { GivesOrKey settings_seen result (settings_in (table_view table.now)) }
+    ensures { GivesOrKey (λ s. s) result (settings_in (table_view table.now)) }
 {
     let limit = or_key(limit_of(value_at(table, "limit")))?;
     let allowance = or_key(allowance_of(value_at(table, "allowance")))?;
@@ -465,7 +464,7 @@ fn settings_in(alloc: Global, table: &Table) -> Result<Settings<'_>, BenchFault>
 
 #[tactic(auto, unfolding(crate::specs::Keys::lists_in))]
 fn lists_in(alloc: Global, table: &Table) -> Result<Lists<'_>, BenchFault>
-    ensures { GivesOrKey lists_seen result (lists_in (table_view table.now)) }
+    ensures { GivesOrKey (λ l. l) result (lists_in (table_view table.now)) }
 {
     let script = texts_at(alloc, value_at(table, "script"))?;
     let rows = rows_at(alloc, value_at(table, "task"))?;
@@ -506,7 +505,7 @@ fn has_bench_keys(table: &Table) -> bool
 /// The numbers and texts of a document. A fault `Key` where a key or the kind, range or length of its value is wrong.
 #[tactic(auto, unfolding(crate::specs::Keys::texts_in))]
 pub(crate) fn texts_in(alloc: Global, table: &Table) -> Result<Texts<'_>, BenchFault>
-    ensures { GivesOrKey texts_seen result (texts_in (table_view table.now)) }
+    ensures { GivesOrKey (λ t. t) result (texts_in (table_view table.now)) }
 {
     if !has_bench_keys(table) {
         return Err(BenchFault::Key);

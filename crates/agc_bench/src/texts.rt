@@ -1,14 +1,24 @@
 //! The numbers and texts of a bench, which borrow from its document.
-ghost use Rattle.std.specs.Prelude.{◌≤◌, length};
+use std::marker::Model;
 
-#[derive(Clone, Copy)]
+/// The texts of a task's row.
+#[derive(Drop)]
 pub(crate) struct RowTexts<'a> {
     pub(crate) at: &'a str,
     pub(crate) bank: &'a str,
     pub(crate) action: &'a str,
 }
 
-#[derive(Clone, Copy)]
+impl<'a> Model for RowTexts<'a> {
+    ghost use Rattle.agc_bench.specs.Texts.{RowTexts as Texts};
+
+    ghost Value = { Texts };
+
+    ghost view = { λ t. record { at = t.at.now; bank = t.bank.now; action = t.action.now } };
+}
+
+/// A phase entry: its numbers, and the texts of its job and its task.
+#[derive(Drop)]
 pub(crate) struct EntryTexts<'a> {
     pub(crate) group: u8,
     pub(crate) phase: u8,
@@ -16,13 +26,39 @@ pub(crate) struct EntryTexts<'a> {
     pub(crate) task: Option<&'a str>,
 }
 
-#[derive(Clone, Copy)]
+impl<'a> Model for EntryTexts<'a> {
+    ghost use Rattle.std.specs.Option.{option_map};
+    ghost use Rattle.agc_bench.specs.Texts.{EntryTexts as Texts};
+
+    ghost Value = { Texts };
+
+    ghost view = { λ t. record {
+      group = t.group;
+      phase = t.phase;
+      job = option_map (λ s. s.now) t.job;
+      task = option_map (λ s. s.now) t.task;
+    } };
+}
+
+/// A device: the text of its line, and its pulses.
+#[derive(Drop)]
 pub(crate) struct DeviceTexts<'a> {
     pub(crate) line: &'a str,
     pub(crate) pulses: u32,
-    ghost few_pulses: { pulses ≤ 1000000 },
 }
 
+impl<'a> Model for DeviceTexts<'a> {
+    ghost use Rattle.std.specs.Prelude.{◌≤◌};
+    ghost use Rattle.agc_bench.specs.Texts.{DeviceTexts as Texts};
+
+    ghost Value = { Texts };
+
+    ghost view = { λ t. record { line = t.line.now; pulses = t.pulses } };
+
+    ghost invariant = { λ t. t.pulses ≤ 1000000 };
+}
+
+/// What a bench has once.
 #[derive(Drop)]
 pub(crate) struct Settings<'a> {
     pub(crate) limit: u32,
@@ -31,10 +67,28 @@ pub(crate) struct Settings<'a> {
     pub(crate) key: &'a str,
     pub(crate) radar: &'a str,
     pub(crate) power: Option<Vec<&'a str>>,
-    ghost allowance_fits: { allowance ≤ 9223372036854775807 },
-    ghost few_attends: { attends ≤ 1000 },
 }
 
+impl<'a> Model for Settings<'a> {
+    ghost use Rattle.std.specs.Prelude.{◌≤◌, map};
+    ghost use Rattle.std.specs.Option.{option_map};
+    ghost use Rattle.agc_bench.specs.Texts.{Settings as Texts};
+
+    ghost Value = { Texts };
+
+    ghost view = { λ t. record {
+      limit = t.limit;
+      allowance = t.allowance;
+      attends = t.attends;
+      key = t.key.now;
+      radar = t.radar.now;
+      power = option_map (λ v. map (λ s. s.now) v.items) t.power;
+    } };
+
+    ghost invariant = { λ t. (t.allowance ≤ 9223372036854775807) × (t.attends ≤ 1000) };
+}
+
+/// What a bench has many of.
 #[derive(Drop)]
 pub(crate) struct Lists<'a> {
     pub(crate) script: Vec<&'a str>,
@@ -42,12 +96,36 @@ pub(crate) struct Lists<'a> {
     pub(crate) entries: Vec<EntryTexts<'a>>,
     pub(crate) workers: Vec<Vec<&'a str>>,
     pub(crate) devices: Vec<DeviceTexts<'a>>,
-    ghost few_workers: { length workers.items ≤ 32 },
-    ghost few_devices: { length devices.items ≤ 32 },
 }
 
+impl<'a> Model for Lists<'a> {
+    ghost use Rattle.std.specs.Prelude.{◌≤◌, map, length};
+    ghost use Rattle.agc_bench.specs.Texts.{Lists as Texts};
+
+    ghost Value = { Texts };
+
+    ghost view = { λ t. record {
+      script = map (λ s. s.now) t.script.items;
+      rows = t.rows.items;
+      entries = t.entries.items;
+      workers = map (λ v. map (λ s. s.now) v.items) t.workers.items;
+      devices = t.devices.items;
+    } };
+
+    ghost invariant = { λ t. (length t.workers.items ≤ 32) × (length t.devices.items ≤ 32) };
+}
+
+/// All of a bench.
 #[derive(Drop)]
 pub(crate) struct Texts<'a> {
     pub(crate) settings: Settings<'a>,
     pub(crate) lists: Lists<'a>,
+}
+
+impl<'a> Model for Texts<'a> {
+    ghost use Rattle.agc_bench.specs.Texts.{Texts as All};
+
+    ghost Value = { All };
+
+    ghost view = { λ t. record { settings = t.settings; lists = t.lists } };
 }

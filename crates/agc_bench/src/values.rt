@@ -13,8 +13,7 @@ ghost use Rattle.agc_text.specs.Numbers.{octal, IsWord};
 ghost use Rattle.agc_text.specs.Lines.{line_of};
 ghost use Rattle.agc_bench.specs.Benches.{job_request, timed_request, kind_text, row_texts, entry_texts, device_texts, power_texts, IsRow, IsJob, IsTimed, IsEntry, IsDevice, IsPower, AreRequests};
 ghost use Rattle.agc_bench.specs.Kinds.{job_of, timed_of};
-ghost use Rattle.agc_bench.specs.Seen.{row_seen, entry_seen, device_seen};
-ghost use Rattle.agc_bench.specs.Faults.{RefusedLine};
+ghost use Rattle.agc_bench.specs.Gives.{RefusedLine};
 
 use crate::device::Line;
 use crate::fault::BenchFault;
@@ -41,8 +40,8 @@ pub(crate) fn requests_of(alloc: Global, texts: &[&str]) -> Result<Vec<Request>,
 
 /// The row that its texts spell.
 fn row_of(texts: &RowTexts<'_>) -> Option<(Task, Action)>
-    ensures found { IfSome result (λ r. IsRow r × (row_seen texts.now ≡ row_texts r)) }
-    ensures only { IfNone result ((r : Task × Action) → IsRow r → row_seen texts.now ≢ row_texts r) }
+    ensures found { IfSome result (λ r. IsRow r × (texts.now ≡ row_texts r)) }
+    ensures only { IfNone result ((r : Task × Action) → IsRow r → texts.now ≢ row_texts r) }
 {
     let at = parse_address(texts.at)?;
     let bank = parse_word(texts.bank)?;
@@ -55,8 +54,8 @@ pub(crate) fn rows_of(
     alloc: Global,
     texts: &[RowTexts<'_>],
 ) -> Result<Vec<(Task, Action)>, BenchFault>
-    ensures found { IfOk result (λ v. AllByRecursion IsRow v.items × (map row_seen texts.now ≡ map row_texts v.items)) }
-    ensures refused { IfErr result (RefusedLine ((rs : List (Task × Action)) → AllByRecursion IsRow rs → map row_seen texts.now ≢ map row_texts rs)) }
+    ensures found { IfOk result (λ v. AllByRecursion IsRow v.items × (texts.now ≡ map row_texts v.items)) }
+    ensures refused { IfErr result (RefusedLine ((rs : List (Task × Action)) → AllByRecursion IsRow rs → texts.now ≢ map row_texts rs)) }
 {
     let mut rows: Vec<(Task, Action)> = Vec::new(alloc);
     for text in texts {
@@ -121,8 +120,8 @@ fn parse_timed(text: Option<&str>) -> Option<Option<(Delay, Task)>>
 
 /// The phase entry that its numbers and texts spell.
 fn entry_of(texts: &EntryTexts<'_>) -> Option<PhaseEntry>
-    ensures found { IfSome result (λ b. IsEntry b × (entry_seen texts.now ≡ entry_texts b)) }
-    ensures only { IfNone result ((b : Begins) → IsEntry b → entry_seen texts.now ≢ entry_texts b) }
+    ensures found { IfSome result (λ b. IsEntry b × (texts.now ≡ entry_texts b)) }
+    ensures only { IfNone result ((b : Begins) → IsEntry b → texts.now ≢ entry_texts b) }
 {
     let group = Group::new(texts.group)?;
     let phase = Phase::new(texts.phase)?;
@@ -136,8 +135,8 @@ pub(crate) fn entries_of(
     alloc: Global,
     texts: &[EntryTexts<'_>],
 ) -> Result<Vec<PhaseEntry>, BenchFault>
-    ensures found { IfOk result (λ v. AllByRecursion IsEntry v.items × (map entry_seen texts.now ≡ map entry_texts v.items)) }
-    ensures refused { IfErr result (RefusedLine ((bs : List Begins) → AllByRecursion IsEntry bs → map entry_seen texts.now ≢ map entry_texts bs)) }
+    ensures found { IfOk result (λ v. AllByRecursion IsEntry v.items × (texts.now ≡ map entry_texts v.items)) }
+    ensures refused { IfErr result (RefusedLine ((bs : List Begins) → AllByRecursion IsEntry bs → texts.now ≢ map entry_texts bs)) }
 {
     let mut entries: Vec<PhaseEntry> = Vec::new(alloc);
     for text in texts {
@@ -180,8 +179,8 @@ fn parse_kind(text: &str) -> Option<Line>
 
 /// The device that its text and number spell.
 fn device_of(texts: &DeviceTexts<'_>) -> Option<(Line, u32)>
-    ensures found { IfSome result (λ d. IsDevice d × (device_seen texts.now ≡ device_texts d)) }
-    ensures only { IfNone result ((d : Line × ℕ) → IsDevice d → device_seen texts.now ≢ device_texts d) }
+    ensures found { IfSome result (λ d. IsDevice d × (texts.now ≡ device_texts d)) }
+    ensures only { IfNone result ((d : Line × ℕ) → IsDevice d → texts.now ≢ device_texts d) }
 {
     let line = parse_kind(texts.line)?;
     Some((line, texts.pulses))
@@ -192,8 +191,8 @@ pub(crate) fn devices_of(
     alloc: Global,
     texts: &[DeviceTexts<'_>],
 ) -> Result<Vec<(Line, u32)>, BenchFault>
-    ensures found { IfOk result (λ v. AllByRecursion IsDevice v.items × (map device_seen texts.now ≡ map device_texts v.items)) }
-    ensures refused { IfErr result (RefusedLine ((ds : List (Line × ℕ)) → AllByRecursion IsDevice ds → map device_seen texts.now ≢ map device_texts ds)) }
+    ensures found { IfOk result (λ v. AllByRecursion IsDevice v.items × (texts.now ≡ map device_texts v.items)) }
+    ensures refused { IfErr result (RefusedLine ((ds : List (Line × ℕ)) → AllByRecursion IsDevice ds → texts.now ≢ map device_texts ds)) }
 {
     let mut devices: Vec<(Line, u32)> = Vec::new(alloc);
     for text in texts {

@@ -8,7 +8,7 @@ use Rattle.std.specs.Str.Parse.{AllDigits, digits_value, ParsesUnsigned}
 use Rattle.std.proofs.lemmas.Slice.Eq.{bytes_eq-Decides}
 use Rattle.std.proofs.lemmas.Str.Parse.{IsNumeralModel, numerals_by_value, tells_digits, parse_plain, not_in_digits}
 use Rattle.std.proofs.lemmas.Fmt.{decimal_digit, first_decimal, decimal_nonempty, digits_decimal, digits_value-decimal, decimal-digits_value}
-use Rattle.agc_text.specs.Numbers.{decimal_of}
+use Rattle.agc_text.specs.Reading.{decimal_of}
 use Rattle.agc_text.proofs.Cuts.{Lacks, lacks_by_index}
 
 own : IsNumeralModel (AllDigits 10) (digits_value 10)

@@ -2,7 +2,8 @@
 use Rattle.std.proofs.Common.{◌≡◌, ◌≢◌, ℕ, ◌+◌, ◌*◌, ◌/◌, ◌%◌, ◌<◌, List, [], ◌∷◌, Option, Some, None, refl, sym, ap, arith}
 use Rattle.std.proofs.lemmas.Grind.{common_steps}
 use Rattle.agc_text.specs.Chain.{◌>>=◌}
-use Rattle.agc_text.specs.Numbers.{octal, digit_of, octal_one_of, octal_pair_of, octal_five_of}
+use Rattle.agc_text.specs.Numbers.{octal}
+use Rattle.agc_text.specs.Reading.{digit_of, octal_one_of, octal_pair_of, octal_five_of}
 use Rattle.agc_text.proofs.Cuts.{Lacks}
 
 digit_again : (d : ℕ) → d < 8 → digit_of (48 + d) ≡ Some d

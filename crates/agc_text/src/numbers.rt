@@ -1,6 +1,7 @@
 ghost use Rattle.std.specs.Prelude.{◌≡◌, ◌<◌, ◌↔◌, ℕ, true, IfSome, slice_index};
-ghost use Rattle.agc_text.specs.Numbers.{octal, IsWord, digit_of, octal_one_of, octal_pair_of, octal_five_of, decimal_of, priority_of, address_of, delay_of, group_of, phase_of, place_of};
+ghost use Rattle.agc_text.specs.Numbers.{octal, IsWord};
 ghost use Rattle.agc_plan.specs.Ranges.{IsAddress};
+ghost use Rattle.agc_text.specs.Reading.{digit_of, octal_one_of, octal_pair_of, octal_five_of, decimal_of, priority_of, address_of, delay_of, group_of, phase_of, place_of};
 
 use agc_plan::{Address, Delay, Group, Phase, Place, Priority};
 use agc_word::Word;
@@ -74,14 +75,14 @@ fn decimal(text: &str) -> Option<u16>
     text.parse().ok()
 }
 
-#[tactic(auto, unfolding(crate::specs::Numbers::priority_of))]
+#[tactic(auto, unfolding(crate::specs::Reading::priority_of))]
 pub(crate) fn priority(text: &str) -> Option<Priority>
     ensures { result ≡ priority_of text.now }
 {
     Priority::new(octal_pair(text)?)
 }
 
-#[tactic(auto, unfolding(crate::specs::Numbers::address_of))]
+#[tactic(auto, unfolding(crate::specs::Reading::address_of))]
 pub(crate) fn address(text: &str) -> Option<Address>
     ensures { result ≡ address_of text.now }
 {
@@ -94,28 +95,28 @@ pub(crate) fn word(text: &str) -> Option<Word>
     Word::new(octal_five(text)?)
 }
 
-#[tactic(auto, unfolding(crate::specs::Numbers::delay_of))]
+#[tactic(auto, unfolding(crate::specs::Reading::delay_of))]
 pub(crate) fn delay(text: &str) -> Option<Delay>
     ensures { result ≡ delay_of text.now }
 {
     Delay::new(decimal(text)?)
 }
 
-#[tactic(auto, unfolding(crate::specs::Numbers::group_of))]
+#[tactic(auto, unfolding(crate::specs::Reading::group_of))]
 pub(crate) fn group(text: &str) -> Option<Group>
     ensures { result ≡ group_of text.now }
 {
     Group::new(octal_one(text)?)
 }
 
-#[tactic(auto, unfolding(crate::specs::Numbers::place_of))]
+#[tactic(auto, unfolding(crate::specs::Reading::place_of))]
 pub(crate) fn place(text: &str) -> Option<Place>
     ensures { result ≡ place_of text.now }
 {
     Place::new(octal_one(text)?)
 }
 
-#[tactic(auto, unfolding(crate::specs::Numbers::phase_of))]
+#[tactic(auto, unfolding(crate::specs::Reading::phase_of))]
 pub(crate) fn phase(text: &str) -> Option<Phase>
     ensures { result ≡ phase_of text.now }
 {

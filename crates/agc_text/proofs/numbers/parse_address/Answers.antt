@@ -1,6 +1,6 @@
 use Rattle.std.proofs.Common.{◌≡◌, List, ℕ, Option, Some, None, IfSome, ◌∙◌, ap, sym}
 use Rattle.agc_text.specs.Numbers.{octal}
-use Rattle.agc_text.specs.Numbers.{address_of}
+use Rattle.agc_text.specs.Reading.{address_of}
 use Rattle.agc_text.proofs.Ranges.{address_takes, address_again}
 use Rattle.agc_text.proofs.numbers.parse_address.Goals as goal
 use Rattle.agc_plan.specs.Ranges.{IsAddress}

@@ -1,6 +1,6 @@
 use Rattle.std.proofs.Common.{◌≡◌, ◌<◌, List, ℕ, Option, Some, None, IfSome, ◌∙◌, ap, sym}
 use Rattle.agc_text.specs.Numbers.{octal}
-use Rattle.agc_text.specs.Numbers.{octal_five_of}
+use Rattle.agc_text.specs.Reading.{octal_five_of}
 use Rattle.agc_text.proofs.Octals.{five_takes, five_again}
 use Rattle.agc_text.proofs.numbers.parse_word.Goals as goal
 

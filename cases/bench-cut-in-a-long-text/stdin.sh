@@ -1,0 +1,2 @@
+printf 'script = [\n'
+yes '"tick",' | head -n 20000

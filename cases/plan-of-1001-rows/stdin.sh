@@ -1,0 +1,12 @@
+cat << 'END'
+script = ["list 1 01750 00005", "list 1 01751 00005", "tick"]
+END
+for row in $(seq 1000); do
+    printf '[[task]]\nat = "%05o"\nbank = "00005"\naction = "nothing"\n' "$row"
+done
+cat << 'END'
+[[task]]
+at = "01751"
+bank = "00005"
+action = "novac 10 03000 00005"
+END
