@@ -1,6 +1,7 @@
 //! Why the program ended.
-ghost use Rattle.std.specs.Prelude.{◌≡◌};
+ghost use Rattle.std.specs.Prelude.{◌≡◌, Some};
 ghost use Rattle.agc.specs.declared.fault.Fault.TheVariants.{NoMemory, Read, Script, Bench, Run};
+ghost use Rattle.agc.specs.Messages.{fault_text};
 ghost use Rattle.agc.specs.Statuses.{status_of};
 
 use agc_bench::{BenchFault, ReadFault, RunFault, ScriptFault};
@@ -95,6 +96,8 @@ impl From<RunFault> for Fault {
 }
 
 impl fmt::Display for Fault {
+    ghost output = { λ fault. Some (fault_text fault) };
+
     fn fmt<W: fmt::Write>(&self, f: &mut fmt::Formatter<W>) -> fmt::Result {
         match self {
             Fault::Words => f.write_str("use script, serial or threads"),

@@ -4,8 +4,9 @@ use Rattle.agc_plan.specs.declared.request.Request.{Request}
 use Rattle.agc_plan.specs.declared.request.Request.TheVariants.{Novac, Findvac, Rouse, List as ListTask}
 use Rattle.agc_plan.specs.declared.request.Action.{Action}
 use Rattle.agc_plan.specs.declared.request.Action.TheVariants.{Nothing, Novac as DoNovac, Findvac as DoFindvac, Rouse as DoRouse, List as DoList}
+use Rattle.agc_plan.specs.Ranges.{IsRequest, IsAction}
 use Rattle.agc_text.specs.Chain.{◌>>=◌}
-use Rattle.agc_text.specs.Lines.{line_of, action_line_of, IsRequest, IsAction}
+use Rattle.agc_text.specs.Lines.{line_of, action_line_of}
 use Rattle.agc_text.specs.Reading.{action_of}
 
 -- the text of an action is read, if that of each request is

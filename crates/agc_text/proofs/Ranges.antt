@@ -2,10 +2,11 @@
 use Rattle.std.proofs.Common.{◌≡◌, ℕ, ◌≤◌, List, Some, refl, ap, ◌∙◌, arith}
 use Rattle.std.proofs.lemmas.Bool.Decides.{nat_tests}
 use Rattle.std.specs.Fmt.{decimal}
-use Rattle.agc_text.specs.Numbers.{octal, IsPriority, IsAddress, IsDelay, IsSix}
+use Rattle.agc_text.specs.Numbers.{octal}
 use Rattle.agc_text.specs.Reading.{octal_one_of, octal_pair_of, octal_five_of, within, decimal_of, delay_of, phase_of, priority_of, address_of, group_of, place_of}
 use Rattle.agc_text.proofs.Decimals.{decimal_again, decimal_takes}
 use Rattle.agc_text.proofs.Octals.{bind_some, one_again, pair_again, five_again, one_takes, pair_takes, five_takes}
+use Rattle.agc_plan.specs.Ranges.{IsPriority, IsAddress, IsDelay, IsSix}
 
 within_again : (low high n : ℕ) → low ≤ n → n ≤ high → within low high n ≡ Some n
 within_again low high n p q = grind (arith, nat_tests)

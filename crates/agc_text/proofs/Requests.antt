@@ -7,9 +7,10 @@ use Rattle.agc_plan.specs.declared.request.Entry.{Entry}
 use Rattle.agc_plan.specs.declared.request.Task.{Task}
 use Rattle.agc_plan.specs.declared.request.Request.{Request}
 use Rattle.agc_plan.specs.declared.request.Request.TheVariants.{Novac, Findvac, EndOfJob, Sleep, Rouse, Prio, Change, Store, List as ListTask, Tick, SetPhase, Restart, Fresh}
+use Rattle.agc_plan.specs.Ranges.{IsPriority, IsDelay, IsSix, IsEntry, IsTask, IsRequest}
 use Rattle.agc_text.specs.Chain.{◌>>=◌}
-use Rattle.agc_text.specs.Numbers.{octal, IsPriority, IsDelay, IsSix}
-use Rattle.agc_text.specs.Lines.{entry_text, task_text, line_of, IsEntry, IsTask, IsRequest}
+use Rattle.agc_text.specs.Numbers.{octal}
+use Rattle.agc_text.specs.Lines.{entry_text, task_text, line_of}
 use Rattle.agc_text.specs.Reading.{cut, established_of, listed_of, stored_of, phased_of, parted_request, bare_request, request_of, octal_five_of, priority_of, address_of, delay_of, group_of, phase_of, place_of}
 use Rattle.agc_text.proofs.Cuts.{Lacks, cut_at, cut_found}
 use Rattle.agc_text.proofs.Decimals.{decimal_lacks}

@@ -2,7 +2,8 @@
 use Rattle.std.proofs.Common.{◌≡◌, ◌≢◌, ℕ, suc, ◌<◌, List, [], ◌∷◌, ◌++◌, length, get_or, map, refl, ap, ◌∙◌, arith, length-append}
 use Rattle.std.specs.List.{AllByRecursion}
 use Rattle.agc_plan.specs.declared.request.Request.{Request}
-use Rattle.agc_text.specs.Lines.{line_of, IsRequest}
+use Rattle.agc_plan.specs.Ranges.{IsRequest}
+use Rattle.agc_text.specs.Lines.{line_of}
 use Rattle.agc_text.specs.Script.{put, lines_of, IsLine, IsFirstRefused}
 use Rattle.agc_text.proofs.Cuts.{Lacks, eqb-false, lacks_by_index}
 

@@ -1,5 +1,5 @@
 -- Requests and actions, and how a line spells them.
-use Rattle.std.specs.Prelude.{ℕ, ◌≤◌, ◌<◌, List, ◌∷◌, ◌++◌, codes}
+use Rattle.std.specs.Prelude.{ℕ, List, ◌∷◌, ◌++◌, codes}
 use Rattle.std.specs.Fmt.{decimal}
 use Rattle.agc_plan.specs.declared.request.Entry.{Entry}
 use Rattle.agc_plan.specs.declared.request.Task.{Task}
@@ -7,7 +7,7 @@ use Rattle.agc_plan.specs.declared.request.Request.{Request}
 use Rattle.agc_plan.specs.declared.request.Request.TheVariants.{Novac, Findvac, EndOfJob, Sleep, Rouse, Prio, Change, Store, List as ListTask, Tick, SetPhase, Restart, Fresh}
 use Rattle.agc_plan.specs.declared.request.Action.{Action}
 use Rattle.agc_plan.specs.declared.request.Action.TheVariants.{Nothing, Novac as DoNovac, Findvac as DoFindvac, Rouse as DoRouse, List as DoList}
-use Rattle.agc_text.specs.Numbers.{octal, IsPriority, IsAddress, IsDelay, IsSix}
+use Rattle.agc_text.specs.Numbers.{octal}
 
 -- a priority of two octal digits, an address and a bank word of five, each after a space but the first
 abbrev pub entry_text : ℕ → Entry → List ℕ
@@ -40,35 +40,3 @@ action_line_of (DoNovac priority entry) = line_of (Novac priority entry)
 action_line_of (DoFindvac priority entry) = line_of (Findvac priority entry)
 action_line_of (DoRouse at) = line_of (Rouse at)
 action_line_of (DoList delay task) = line_of (ListTask delay task)
-
--- an entry's numbers are in their ranges
-abbrev pub IsEntry : Entry → Type 0
-IsEntry entry = IsAddress entry.at × (entry.bank < 32768)
-
--- a task's numbers are in their ranges
-abbrev pub IsTask : Task → Type 0
-IsTask task = IsAddress task.at × (task.bank < 32768)
-
--- the numbers of a request are in their ranges
-abbrev pub IsRequest : Request → Type 0
-IsRequest (Novac priority entry) = IsPriority priority × IsEntry entry
-IsRequest (Findvac priority entry) = IsPriority priority × IsEntry entry
-IsRequest EndOfJob = Unit {0}
-IsRequest (Sleep at) = IsAddress at
-IsRequest (Rouse at) = IsAddress at
-IsRequest (Prio priority) = IsPriority priority
-IsRequest Change = Unit {0}
-IsRequest (Store place word) = IsSix place × (word < 32768)
-IsRequest (ListTask delay task) = IsDelay delay × IsTask task
-IsRequest Tick = Unit {0}
-IsRequest (SetPhase group phase) = IsSix group × (phase ≤ 127)
-IsRequest Restart = Unit {0}
-IsRequest Fresh = Unit {0}
-
--- the numbers of an action are in their ranges
-abbrev pub IsAction : Action → Type 0
-IsAction Nothing = Unit {0}
-IsAction (DoNovac priority entry) = IsRequest (Novac priority entry)
-IsAction (DoFindvac priority entry) = IsRequest (Findvac priority entry)
-IsAction (DoRouse at) = IsRequest (Rouse at)
-IsAction (DoList delay task) = IsRequest (ListTask delay task)

@@ -1,7 +1,8 @@
 -- A script, which is a text of lines.
 use Rattle.std.specs.Prelude.{◌≡◌, ℕ, zero, suc, List, [], ◌∷◌, ◌==◌, if◌then◌else◌}
 use Rattle.agc_plan.specs.declared.request.Request.{Request}
-use Rattle.agc_text.specs.Lines.{line_of, IsRequest}
+use Rattle.agc_plan.specs.Ranges.{IsRequest}
+use Rattle.agc_text.specs.Lines.{line_of}
 
 -- the byte, at the front of the first line
 abbrev pub put : ℕ → List (List ℕ) → List (List ℕ)

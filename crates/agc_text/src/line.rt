@@ -2,7 +2,8 @@ ghost use Rattle.std.specs.Prelude.{◌≡◌, IfSome, Some};
 ghost use Rattle.std.specs.Option.{option_map};
 ghost use Rattle.agc_plan.specs.declared.request.Action.{Action};
 ghost use Rattle.agc_plan.specs.declared.request.Request.{Request};
-ghost use Rattle.agc_text.specs.Lines.{line_of, action_line_of, IsRequest, IsAction};
+ghost use Rattle.agc_plan.specs.Ranges.{IsRequest, IsAction};
+ghost use Rattle.agc_text.specs.Lines.{line_of, action_line_of};
 ghost use Rattle.agc_text.specs.Reading.{cut, established_of, listed_of, stored_of, phased_of, novac_of, findvac_of, listing_of, parted_request, bare_request, request_of, action_of};
 
 use crate::numbers::{address, delay, group, phase, place, priority, word};

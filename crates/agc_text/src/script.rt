@@ -1,8 +1,9 @@
 ghost use Rattle.std.specs.Prelude.{◌≡◌, map, IfOk, IfErr, length, ◌<◌, ◌∷◌};
 ghost use Rattle.std.specs.List.{AllByRecursion};
-ghost use Rattle.agc_text.specs.Lines.{line_of, IsRequest};
+ghost use Rattle.agc_text.specs.Lines.{line_of};
 ghost use Rattle.agc_text.specs.Script.{lines_of};
 ghost use Rattle.agc_text.specs.Faults.{RefusesScript};
+ghost use Rattle.agc_plan.specs.Ranges.{IsRequest};
 
 use crate::fault::ScriptFault;
 use crate::line::parse_line;

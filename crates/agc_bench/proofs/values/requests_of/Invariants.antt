@@ -1,7 +1,8 @@
 use Rattle.std.proofs.Common.{◌≡◌, take, map}
 use Rattle.std.specs.List.{AllByRecursion}
-use Rattle.agc_text.specs.Lines.{line_of, IsRequest}
+use Rattle.agc_text.specs.Lines.{line_of}
 use Rattle.agc_bench.proofs.values.requests_of.Given as goal
+use Rattle.agc_plan.specs.Ranges.{IsRequest}
 
 abbrev pub invariant-loop-text : goal.invariant-loop-text
 invariant-loop-text l = record {

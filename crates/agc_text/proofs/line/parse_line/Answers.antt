@@ -1,6 +1,7 @@
 use Rattle.std.proofs.Common.{◌≡◌, List, ℕ, Option, Some, None, IfSome, ◌∙◌, ap, sym}
 use Rattle.agc_plan.specs.declared.request.Request.{Request}
-use Rattle.agc_text.specs.Lines.{line_of, IsRequest}
+use Rattle.agc_plan.specs.Ranges.{IsRequest}
+use Rattle.agc_text.specs.Lines.{line_of}
 use Rattle.agc_text.specs.Reading.{request_of}
 use Rattle.agc_text.proofs.Requests.{request_takes, request_again}
 use Rattle.agc_text.proofs.line.parse_line.Goals as goal

@@ -1,8 +1,9 @@
 use Rattle.std.proofs.Common.{◌≡◌, List, ℕ, Option, Some, None, IfSome, ◌∙◌, ap, sym}
-use Rattle.agc_text.specs.Numbers.{octal, IsAddress}
+use Rattle.agc_text.specs.Numbers.{octal}
 use Rattle.agc_text.specs.Reading.{address_of}
 use Rattle.agc_text.proofs.Ranges.{address_takes, address_again}
 use Rattle.agc_text.proofs.numbers.parse_address.Goals as goal
+use Rattle.agc_plan.specs.Ranges.{IsAddress}
 
 is_found : (s : List ℕ) (q : Option ℕ) → q ≡ address_of s → IfSome q (λ a. IsAddress a × (s ≡ octal 5 a))
 is_found s None e = tt

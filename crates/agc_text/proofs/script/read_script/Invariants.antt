@@ -2,9 +2,10 @@ use Rattle.std.proofs.Common.{◌≡◌, map, length, ◌++◌}
 use denote.Text.{Utf8}
 use denote.Shadow.{shadow}
 use Rattle.std.specs.List.{AllByRecursion}
-use Rattle.agc_text.specs.Lines.{line_of, IsRequest}
+use Rattle.agc_text.specs.Lines.{line_of}
 use Rattle.agc_text.specs.Script.{lines_of}
 use Rattle.agc_text.proofs.script.read_script.Given as goal
+use Rattle.agc_plan.specs.Ranges.{IsRequest}
 
 abbrev pub invariant-loop-rest : goal.invariant-loop-rest
 invariant-loop-rest l = record {
