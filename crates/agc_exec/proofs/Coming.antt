@@ -4,7 +4,7 @@ use Rattle.agc_word.specs.Layout.{OutsideSets, OutsideCores, use_place, Keeps}
 use Rattle.agc_word.proofs.Keeping.{kept_twice}
 use Rattle.agc_exec.proofs.Finishing.{sets_kept}
 use Rattle.agc_exec.specs.Calls.{new_block, fronted_blocks, blocks_new}
-use Rattle.agc_exec.specs.Stages.{SameOwners}
+use Rattle.agc_exec.specs.Stages.{SameOwners, Tells, TookOver}
 use Rattle.std.proofs.lemmas.Grind.{common_steps}
 use Rattle.agc_plan.specs.declared.request.Entry.{Entry}
 use Rattle.agc_plan.specs.declared.reply.Reply.{Reply}
@@ -15,8 +15,8 @@ use Rattle.agc_exec.specs.Held.{Held}
 use Rattle.agc_exec.specs.Blocks.{blocks_of}
 use Rattle.agc_exec.specs.Sets.{IsLawful, IsFreeAt, IsUnowned, BringsBest, Gives, slots_of, entries_of, running_in, jobs_of}
 use Rattle.agc_exec.specs.Image.{held_of, sets_of, IsLawfulBlock, IsTidyBlock, Each, IsSet, UsesAgree, IsLawfulWords, jobs_in, entries_in, use_word}
-use Rattle.agc_exec.proofs.Bests.{place_of_number}
-use Rattle.agc_exec.proofs.Establish.{Arrives, Arrives-made, arrived-lawful, Gives-busy, Gives-idle, running_in-found, written-entries, least_unused-fits}
+use Rattle.agc_exec.proofs.Bests.{place_of_number, running_in-awake}
+use Rattle.agc_exec.proofs.Arriving.{Arrives, Arrives-made, arrived-lawful, Gives-busy, Gives-idle, running_in-found, written-entries, least_unused-fits}
 use Rattle.agc_exec.proofs.Decoding.{job_with, held_of-new, sets_of-set, swap-same, Each-new, Each-fronted, Each-set}
 use Rattle.agc_exec.proofs.Finishing.{Near, sets_of-same}
 use Rattle.agc_exec.proofs.Owners.{SameOwners-set, is_owned-new}
@@ -135,3 +135,21 @@ Near-findvac old mid new priority entry area made reply lawful gives words coded
       tidy = λ t. rw (kept, words) (Each-new IsTidyBlock (established reply) priority entry area (running_in (sets_of mid)) (entries_in old) (blocks_of old) t (λ number e r is. (refl, refl)));
       others = kept_twice OutsideCores old mid new (sets_kept old mid others) later;
     }
+
+-- a new job came, and taking over
+pub record Came (old new : List ℕ) (number priority : ℕ) (entry : Entry) (area : ℕ) : Type 0 where
+  pub gives : Gives (establish_at (least_unused 1 (slots_of (sets_of old))) (new_job priority entry area) (jobs_of (sets_of old))) (placed_new (Some number) (running_in (sets_of new)) (entries_of (sets_of old))) (sets_of new) (Established number)
+  pub words : blocks_of new ≡ blocks_new (Some number) priority entry area (running_in (sets_of new)) (entries_of (sets_of old)) (blocks_of old)
+
+pub came : (old mid new : List ℕ) (k number priority : ℕ) (entry : Entry) (area : ℕ) (ran : Bool) → Comes old mid k number priority entry area → Tells ran old → TookOver ran mid new → Came old new number priority entry area
+came old mid new k number priority entry area false c tells over = record {
+  gives = came-idle old mid new k number priority entry area c (tells.idle refl) (over.idle refl);
+  words = words-idle old mid new k number priority entry area c (over.idle refl) (over.idle_blocks refl);
+}
+came old mid new k number priority entry area true c tells over =
+    let (r, at, awake) = tells.runs refl in
+    let runs : running_in (sets_of old) ≡ Some r.number = running_in-awake (sets_of old) r at awake in
+    rw (over.busy refl) (record {
+      gives = came-busy old mid k r.number number priority entry area c runs;
+      words = words-busy old mid k number priority entry area c;
+    })

@@ -1,9 +1,10 @@
 -- What NEWJOB names.
 use Rattle.std.proofs.Common.{◌≡◌, ◌≢◌, ◌⊎◌, ℕ, zero, suc, ◌*◌, ◌/◌, ◌<◌, ◌≤◌, nat_lt, Bool, true, false, cond, List, Option, Some, None, length, slice_index_or, slice_set, swap, option_map, refl, ap, sym, ◌∙◌, inl, inr, arith}
 use Rattle.agc_word.specs.Layout as layout
-use Rattle.agc_word.specs.Layout.{IsSized, sets_in, OutsideSets, Keeps}
+use Rattle.agc_word.specs.Layout.{IsSized, sets_in, OutsideSets, OutsideCores, Keeps}
+use Rattle.agc_word.proofs.Keeping.{kept}
 use Rattle.agc_exec.proofs.Finishing.{sets_kept}
-use Rattle.agc_exec.specs.Calls.{fronted_blocks}
+use Rattle.agc_exec.specs.Calls.{Does, fronted_blocks}
 use Rattle.agc_exec.specs.Stages.{Waits}
 use Rattle.std.proofs.lemmas.Bool.{cases_eq, cases_lt}
 use Rattle.std.proofs.lemmas.Option.{same_Some}
@@ -14,14 +15,14 @@ use Rattle.agc_plan.specs.declared.reply.Reply.TheVariants.{Runs}
 use Rattle.agc_exec.specs.Held.{Held}
 use Rattle.agc_exec.specs.Best.{better_of, precedes}
 use Rattle.agc_exec.specs.Blocks.{blocks_of}
-use Rattle.agc_exec.specs.Sets.{Holds, IsLawful, IsStanding, BestBelow, Yields, GivesWay, slots_of, running_in}
+use Rattle.agc_exec.specs.Sets.{Holds, IsLawful, IsStanding, BestBelow, Yields, GivesWay, Gives, slots_of, running_in}
 use Rattle.agc_exec.specs.Image.{sets_of, IsLawfulBlock, IsTidyBlock, IsLawfulWords, newjob_of, jobs_in, entries_in}
 use Rattle.agc_exec.proofs.Bests.{best_ready, place_of_number}
 use Rattle.agc_exec.proofs.Swaps.{Holds-within, slots_of-swap, swap-Holds, moved}
 use Rattle.agc_exec.proofs.Yielding.{GivesWay-none, GivesWay-swap, Gives-change}
 use Rattle.agc_exec.proofs.Finishing.{newjob_of-best, front_priority-is, Near, Renewed}
 use Rattle.agc_exec.proofs.Decoding.{length-sets_of, sets_of-swap, Each-swap}
-use Rattle.agc_exec.proofs.Coming.{uses-kept}
+use Rattle.agc_exec.proofs.Coming.{uses-kept, fronted-stays}
 use Rattle.agc_exec.proofs.Reading.{blocks_of-kept}
 use Rattle.std.proofs.lemmas.List.{get_or-set_same, get_or-set_other, length-set}
 
@@ -150,6 +151,22 @@ newjob_of-front sets first number e here =
     let no : nat_lt first.priority first.priority ≡ false = grind (arith, common_steps) in
     rw (e, front_priority-is sets first here, no)
 
+-- a word of less than one set's length names set 0
+pub named-stays : (sets : List (Option Held)) (job : Held) (w : ℕ) → IsStanding sets → Holds sets 0 job → job.asleep ≡ false → w ≡ newjob_of sets → w / 12 ≡ 0 → GivesWay job.number sets sets job.number
+named-stays sets job w standing here awake e z = elim (named sets job standing here awake) [
+  | inl both ↦ both.1
+  | inr some ↦ absurd (omega arith)
+]
+
+-- the named set is one of the sets
+pub named-range : (sets : List (Option Held)) (job : Held) (w : ℕ) → IsStanding sets → Holds sets 0 job → job.asleep ≡ false → w ≡ newjob_of sets → w / 12 < length sets
+named-range sets job w standing here awake e =
+    let first : 0 < length sets = Holds-within sets 0 job here in
+    elim (cases_eq w 0) [
+      | inl z ↦ omega arith
+      | inr ne ↦ let waits : Waits sets job (w / 12) = named-some sets job w standing here awake e ne in Holds-within sets (w / 12) waits.first waits.best.here
+    ]
+
 -- the named set was exchanged with set 0
 pub record Changes (old mid : List ℕ) (job : Held) (k number : ℕ) : Type 0 where
   pub sets : sets_of mid ≡ swap (sets_of old) 0 k
@@ -195,3 +212,9 @@ Renewed-set words w sized is = record {
   uses = λ i lt. get_or-set_other words layout.newjob i w 0 (omega arith);
   others = record { same_length = length-set words layout.newjob w; words = λ i is. get_or-set_other words layout.newjob i w 0 (omega arith) };
 }
+
+-- the job in set 0 runs on
+pub Does-stays : (old : List ℕ) (job : Held) → IsLawfulWords old → Holds (sets_of old) 0 job → job.asleep ≡ false → GivesWay job.number (sets_of old) (sets_of old) job.number → Does (change (jobs_in old)) (fronted (running_in (sets_of old)) (entries_in old)) (fronted_blocks (running_in (sets_of old)) (entries_in old) (blocks_of old)) old old (Runs job.number)
+Does-stays old job lawful here awake way =
+    let gives : Gives (change (jobs_in old)) (fronted (running_in (sets_of old)) (entries_in old)) (sets_of old) (Runs job.number) = Gives-change (sets_of old) (sets_of old) job job.number here awake way in
+    record { lawful = lawful; outcome_is = gives.outcome_is; placed = gives.entries_is; words = sym (fronted-stays (sets_of old) (blocks_of old) lawful.sets.standing.lawful); tidy = λ t. t; others = kept OutsideCores old }

@@ -1,8 +1,9 @@
 -- The twelve words of each set.
-use Rattle.std.proofs.Common.{◌≡◌, ◌≢◌, ℕ, ◌+◌, ◌-◌, ◌/◌, ◌<◌, ◌≤◌, List, length, get_or, slice_index, slice_set, refl, ap, sym, ◌∙◌, inl, inr, arith}
+use Rattle.std.proofs.Common.{◌≡◌, ◌≢◌, ℕ, ◌+◌, ◌-◌, ◌/◌, ◌<◌, ◌≤◌, List, length, get_or, slice_index, slice_set, swap, [], refl, ap, sym, ◌∙◌, inl, inr, arith}
 use Rattle.agc_word.specs.Layout.{IsSized, sets_in, set_place}
 use Rattle.std.proofs.lemmas.Bool.{cases_eq, cases_lt}
-use Rattle.std.proofs.lemmas.List.{get_or-set_same, get_or-set_other, get_or_default, length-set, same_lists}
+use Rattle.std.proofs.lemmas.List.{get_or-set_same, get_or-set_other, get_or_default, length-set, set-set, same_lists}
+use Rattle.std.proofs.lemmas.List.Edits.{swap_is, length-swap}
 use Rattle.std.proofs.lemmas.List.FromFn.{get_or-map-range_with_len, length-map-range_with_len}
 use Rattle.agc_exec.specs.Blocks.{block_in, blocks_of}
 
@@ -83,3 +84,75 @@ blocks_of-kept words j w sized low high =
   where
     outside : (s i j : ℕ) → s < 8 → i < 12 → 84 ≤ j → j < 132 → set_place s + i ≡ j → ⊥
     outside s i j lt_s lt_i low high e = omega arith
+
+-- one word of a set was written
+pub blocks_of-word : (words : List ℕ) (k i w : ℕ) → IsSized words → k < 7 → i < 12 → blocks_of (slice_set words (set_place k + i) w) ≡ slice_set (blocks_of words) k (slice_set (block_in words k) i w)
+blocks_of-word words k i w sized lt lt_i =
+    let twelve : length (block_in words k) ≡ 12 = length-block_in words k in
+    let most : sets_in words ≤ 8 = IsSized-most words sized in
+    blocks_of-written words (slice_set words (set_place k + i) w) k (slice_set (block_in words k) i w) (omega arith) (omega arith) most (length-set (block_in words k) i w ∙ twelve) (record {
+      same_length = length-set words (set_place k + i) w;
+      here = λ j lt_j. elim (cases_eq j i) [
+        | inl same ↦ rw same (get_or-set_same words (set_place k + i) w 0 (omega arith) ∙ sym (get_or-set_same (block_in words k) i w 0 (omega arith)))
+        | inr ne ↦ get_or-set_other words (set_place k + i) (set_place k + j) w 0 (λ e. ne (omega arith)) ∙ sym (get_or-set_other (block_in words k) i j w 0 ne ∙ get-block_in words k j 0 lt_j)
+      ];
+      before = λ j lt_j. get_or-set_other words (set_place k + i) j w 0 (omega arith);
+      after = λ j le. get_or-set_other words (set_place k + i) j w 0 (omega arith);
+    })
+
+-- two words of a set were written
+pub blocks_of-twice : (old mid new : List ℕ) (k i j v w : ℕ) → IsSized old → length mid ≡ length old → k < 7 → blocks_of mid ≡ slice_set (blocks_of old) k (slice_set (block_in old k) i v) → blocks_of new ≡ slice_set (blocks_of mid) k (slice_set (block_in mid k) j w) → blocks_of new ≡ slice_set (blocks_of old) k (slice_set (slice_set (block_in old k) i v) j w)
+blocks_of-twice old mid new k i j v w sized len lt first second =
+    let len_old : length (blocks_of old) ≡ sets_in old = length-blocks_of old in
+    let least : k < sets_in old = omega arith in
+    let same_count : sets_in mid ≡ sets_in old = ap (λ n. (n - 48) / 12) len in
+    let block : block_in mid k ≡ slice_set (block_in old k) i v =
+    sym (get-blocks_of mid k [] (omega arith)) ∙ ap (λ bs. get_or bs k []) first ∙ get_or-set_same (blocks_of old) k (slice_set (block_in old k) i v) [] (omega arith) in
+    second ∙ ap (λ b. slice_set (blocks_of mid) k (slice_set b j w)) block
+    ∙ ap (λ bs. slice_set bs k (slice_set (slice_set (block_in old k) i v) j w)) first
+    ∙ set-set (blocks_of old) k (slice_set (block_in old k) i v) (slice_set (slice_set (block_in old k) i v) j w)
+
+-- set 0 begins at place 0
+get-first_block : (words : List ℕ) (i : ℕ) → i < 12 → slice_index words i ≡ get_or (block_in words 0) i 0
+get-first_block words i lt = let is : i ≡ set_place 0 + i = omega arith in ap (slice_index words) is ∙ sym (get-block_in words 0 i 0 lt)
+
+-- the words of set 0 and of set k were exchanged
+pub record Exchanged (old new : List ℕ) (k : ℕ) : Type 0 where
+  pub same_length : length new ≡ length old
+  pub front : (i : ℕ) → i < 12 → slice_index new i ≡ slice_index old (set_place k + i)
+  pub other : (i : ℕ) → i < 12 → slice_index new (set_place k + i) ≡ slice_index old i
+  pub front_rest : (j : ℕ) → 12 ≤ j → j < set_place k → slice_index new j ≡ slice_index old j
+  pub other_rest : (j : ℕ) → set_place k + 12 ≤ j → slice_index new j ≡ slice_index old j
+
+pub blocks_of-exchanged : (old new : List ℕ) (k : ℕ) → IsSized old → 0 < k → k < 7 → Exchanged old new k → blocks_of new ≡ swap (blocks_of old) 0 k
+blocks_of-exchanged old new k sized positive lt x =
+    let len_old : length (blocks_of old) ≡ sets_in old = length-blocks_of old in
+    let len_new : length (blocks_of new) ≡ sets_in new = length-blocks_of new in
+    let same_count : sets_in new ≡ sets_in old = ap (λ n. (n - 48) / 12) x.same_length in
+    let most : sets_in old ≤ 8 = IsSized-most old sized in
+    same_lists (blocks_of new) (swap (blocks_of old) 0 k) (len_new ∙ same_count ∙ sym len_old ∙ sym (length-swap (blocks_of old) 0 k)) (λ s d lt_s.
+    get-blocks_of new s d (omega arith) ∙ at s d (omega arith) ∙ ap (λ b. get_or b s d) (swap_is (blocks_of old) 0 k [] (omega arith) (omega arith)))
+  where
+    at : (s : ℕ) (d : List ℕ) → s < sets_in old → block_in new s ≡ get_or (slice_set (slice_set (blocks_of old) 0 (get_or (blocks_of old) k [])) k (get_or (blocks_of old) 0 [])) s d
+    at s d lt_s =
+        let len_old : length (blocks_of old) ≡ sets_in old = length-blocks_of old in
+        let len_first : length (slice_set (blocks_of old) 0 (get_or (blocks_of old) k [])) ≡ length (blocks_of old) = length-set (blocks_of old) 0 (get_or (blocks_of old) k []) in
+        let most : sets_in old ≤ 8 = IsSized-most old sized in
+        elim (cases_eq s k) [
+          | inl is_k ↦
+              rw is_k (block_in-is new k (block_in old 0) (length-block_in old 0) (λ i lt_i. x.other i lt_i ∙ get-first_block old i lt_i)
+              ∙ sym (get_or-set_same (slice_set (blocks_of old) 0 (get_or (blocks_of old) k [])) k (get_or (blocks_of old) 0 []) d (omega arith) ∙ get-blocks_of old 0 [] (omega arith)))
+          | inr not_k ↦ elim (cases_eq s 0) [
+            | inl is_0 ↦
+                rw is_0 (block_in-is new 0 (block_in old k) (length-block_in old k) (λ i lt_i. let is : set_place 0 + i ≡ i = omega arith in ap (slice_index new) is ∙ x.front i lt_i ∙ sym (get-block_in old k i 0 lt_i))
+                ∙ sym (get_or-set_other (slice_set (blocks_of old) 0 (get_or (blocks_of old) k [])) k 0 (get_or (blocks_of old) 0 []) d (omega arith)
+                ∙ get_or-set_same (blocks_of old) 0 (get_or (blocks_of old) k []) d (omega arith) ∙ get-blocks_of old k [] (omega arith)))
+            | inr not_0 ↦
+                block_in-same old new s (λ i lt_i. elim (cases_lt s k) [
+                  | inl below ↦ let apart : set_place s + 12 ≤ set_place k = places_apart s k below (omega arith) in x.front_rest (set_place s + i) (omega arith) (omega arith)
+                  | inr above ↦ let apart : set_place k + 12 ≤ set_place s = places_apart k s (omega arith) (omega arith) in x.other_rest (set_place s + i) (omega arith)
+                ])
+                ∙ sym (get_or-set_other (slice_set (blocks_of old) 0 (get_or (blocks_of old) k [])) k s (get_or (blocks_of old) 0 []) d not_k
+                ∙ get_or-set_other (blocks_of old) 0 s (get_or (blocks_of old) k []) d not_0 ∙ get-blocks_of old s d lt_s)
+          ]
+        ]

@@ -1,5 +1,6 @@
 -- A change of the running job's words.
 use Rattle.std.proofs.Common.{◌≡◌, ℕ, zero, suc, ◌+◌, ◌-◌, ◌<◌, ◌≤◌, Bool, true, false, List, [], ◌∷◌, Option, Some, None, length, slice_index, slice_index_or, slice_set, refl, ap, sym, ◌∙◌, arith}
+use Rattle.agc_word.specs.Words.{complement}
 use Rattle.agc_word.specs.Layout as layout
 use Rattle.agc_word.specs.Layout.{IsSized, sets_in, OutsideSets, Keeps}
 use Rattle.agc_exec.proofs.Finishing.{sets_kept}
@@ -17,7 +18,7 @@ use Rattle.agc_exec.specs.Sets.{Holds, IsLawful, BringsBest, Gives, slots_of, en
 use Rattle.agc_exec.specs.Image.{held_of, sets_of, IsCoded, IsLawfulBlock, IsTidyBlock, Each, IsTidy, IsSet, IsLawfulWords, priority_word, urgency_word, jobs_in, entries_in, newjob_of, newjob_for, front_priority}
 use Rattle.agc_exec.proofs.Bests.{running_in-awake, slot_of}
 use Rattle.agc_exec.proofs.Leaving.{Gives-sleep, changed-lawful, changed-entries}
-use Rattle.agc_exec.proofs.Reading.{length-block_in, get-blocks_of}
+use Rattle.agc_exec.proofs.Reading.{length-block_in, get-blocks_of, blocks_of-twice}
 use Rattle.agc_exec.proofs.Decoding.{job_with, held_of-made, held_of-fields, sets_of-set, held_at, Each-fronted, Each-set, length-sets, length-sets_of, IsSized-kept}
 use Rattle.agc_exec.proofs.Finishing.{Near, front_priority-is}
 use Rattle.agc_exec.proofs.Coming.{uses-kept, fronted-stays}
@@ -86,6 +87,11 @@ Turned-slept old mid job at set here awake at_low at_high blocks =
     (held_of-made (slept_block at (block_in old 0)) job.priority job.area true coded.low coded.high coded.five word ∙ ap Some made)
     (record { twelve = slept-twelve old 0 at; word = word; low = coded.low; high = coded.high; five = coded.five; at_low = at_low; at_high = at_high })
     refl blocks
+
+-- PRIORITY was complemented and LOC set
+pub turned-by : (old mid new : List ℕ) (job : Held) (at v w : ℕ) → IsSet old → Holds (sets_of old) 0 job → job.asleep ≡ false → 1 ≤ at → at ≤ 16383 → Keeps OutsideSets old mid → blocks_of mid ≡ slice_set (blocks_of old) 0 (slice_set (block_in old 0) 11 v) → blocks_of new ≡ slice_set (blocks_of mid) 0 (slice_set (block_in mid 0) 8 w) → v ≡ complement (slice_index (block_in old 0) 11) → w ≡ at → Turned old new 0 job (slept at job) (slept_block at (block_in old 0))
+turned-by old mid new job at v w set here awake low high kept first second v_is w_is =
+    Turned-slept old new job at set here awake low high (rw (← v_is, ← w_is) (blocks_of-twice old mid new 0 11 8 v w set.sized kept.same_length (omega arith) first second))
 
 pub turned-lawful : (old mid : List ℕ) (k : ℕ) (job made : Held) (block : List ℕ) → Turned old mid k job made block → IsLawful (sets_of mid)
 turned-lawful old mid k job made block t = rw t.sets (changed-lawful (sets_of old) k job made t.set.standing.lawful t.here t.number t.area)

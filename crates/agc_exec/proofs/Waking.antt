@@ -10,7 +10,7 @@ use Rattle.agc_exec.specs.Held.{Held}
 use Rattle.agc_exec.specs.Sets.{job_of, slots_of, running_in, entries_of, jobs_of, Holds, IsLawful, IsStanding, Gives, BringsBest, IsFirstBelow, FirstBelow, TakesOver}
 use Rattle.agc_exec.proofs.Swaps.{Holds-within, slots_of-changed}
 use Rattle.agc_exec.proofs.Bests.{slot_found, slot_of, place_of_number, running_in-awake}
-use Rattle.agc_exec.proofs.Establish.{swap-none, running_in-found}
+use Rattle.agc_exec.proofs.Arriving.{swap-none, running_in-found}
 use Rattle.agc_exec.proofs.Leaving.{changed-lawful, changed-entries}
 use Rattle.agc_exec.proofs.Searches.{sleeper_from-is, sleeper_from-none}
 

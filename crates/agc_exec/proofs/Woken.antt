@@ -1,9 +1,9 @@
 -- A sleeper's words, awake.
-use Rattle.std.proofs.Common.{◌≡◌, ℕ, ◌-◌, ◌<◌, true, false, List, [], Option, Some, None, length, slice_index, slice_set, refl, ap, sym, ◌∙◌, arith}
+use Rattle.std.proofs.Common.{◌≡◌, ℕ, ◌-◌, ◌<◌, Bool, true, false, List, [], Option, Some, None, length, slice_index, slice_set, refl, ap, sym, ◌∙◌, arith}
 use Rattle.agc_word.specs.Layout.{sets_in, OutsideSets, Keeps}
 use Rattle.agc_exec.proofs.Finishing.{sets_kept}
 use Rattle.agc_exec.specs.Calls.{fronted_blocks, blocks_roused, woken_block, roused, Does}
-use Rattle.agc_exec.specs.Stages.{SameOwners}
+use Rattle.agc_exec.specs.Stages.{SameOwners, Tells, TookOver}
 use Rattle.std.proofs.lemmas.Grind.{common_steps}
 use Rattle.agc_plan.specs.declared.reply.Reply.{Reply}
 use Rattle.agc_plan.specs.declared.reply.Reply.TheVariants.{Roused, NoSleeper}
@@ -13,7 +13,7 @@ use Rattle.agc_exec.specs.Held.{Held}
 use Rattle.agc_exec.specs.Blocks.{block_in, blocks_of}
 use Rattle.agc_exec.specs.Sets.{Holds, IsFirstBelow, FirstBelow, BringsBest, Gives, slots_of, entries_of, running_in, jobs_of, job_of}
 use Rattle.agc_exec.specs.Image.{sets_of, IsLawfulBlock, IsTidyBlock, Each, IsSet, IsLawfulWords, urgency_word, jobs_in, entries_in}
-use Rattle.agc_exec.proofs.Bests.{place_of_number, slot_of}
+use Rattle.agc_exec.proofs.Bests.{place_of_number, running_in-awake, slot_of}
 use Rattle.agc_exec.proofs.Swaps.{Holds-within}
 use Rattle.agc_exec.proofs.Waking.{Wakes, Gives-rouse-idle, Gives-rouse-busy, Gives-no_sleeper, sleeper-is}
 use Rattle.agc_exec.proofs.Decoding.{job_with, held_of-made, held_of-fields, length-sets, urgency_word-parts, Each-fronted, Each-set}
@@ -105,3 +105,21 @@ pub Does-no_sleeper : (old : List ℕ) (at : ℕ) → IsLawfulWords old → Firs
 Does-no_sleeper old at lawful none =
     let gives : Gives (rouse at (jobs_in old)) (fronted (running_in (sets_of old)) (entries_in old)) (sets_of old) NoSleeper = Gives-no_sleeper (sets_of old) at lawful.sets.standing none in
     record { lawful = lawful; outcome_is = gives.outcome_is; placed = gives.entries_is; words = refl; tidy = λ t. t; others = record { same_length = refl; words = λ i is. refl } }
+
+-- a sleeper woke, and taking over
+pub record Awoke (old new : List ℕ) (at number : ℕ) : Type 0 where
+  pub gives : Gives (rouse at (jobs_of (sets_of old))) (fronted (running_in (sets_of new)) (entries_of (sets_of old))) (sets_of new) (Roused number)
+  pub words : blocks_of new ≡ blocks_roused (Some number) (running_in (sets_of new)) (entries_of (sets_of old)) (blocks_of old)
+
+pub awoke : (old mid new : List ℕ) (k at : ℕ) (job : Held) (ran : Bool) → Turned old mid k job (awake job) (woken_block (block_in old k)) → IsFirstBelow (sets_of old) at (length (sets_of old)) k job → Tells ran old → TookOver ran mid new → Awoke old new at job.number
+awoke old mid new k at job false t is tells over = record {
+  gives = woken-idle old mid new k at job t is (tells.idle refl) (over.idle refl);
+  words = woken-words-idle old mid new k job t (over.idle refl) (over.idle_blocks refl);
+}
+awoke old mid new k at job true t is tells over =
+    let (r, here, awake_r) = tells.runs refl in
+    let runs : running_in (sets_of old) ≡ Some r.number = running_in-awake (sets_of old) r here awake_r in
+    rw (over.busy refl) (record {
+      gives = woken-busy old mid k at r.number job t is runs;
+      words = woken-words-busy old mid k job t;
+    })

@@ -9,7 +9,7 @@ use Rattle.agc_exec.specs.Held.{Held}
 use Rattle.agc_exec.specs.Sets.{job_of, slots_of, running_in, entries_of, jobs_of, Holds, IsStanding, Gives, BringsBest, GivesWay, IsBestBelow}
 use Rattle.agc_exec.proofs.Swaps.{Holds-within, slots_of-changed}
 use Rattle.agc_exec.proofs.Bests.{slot_of, place_of_number, running_in-awake, best_ready, BringsBest-swap}
-use Rattle.agc_exec.proofs.Establish.{swap-none}
+use Rattle.agc_exec.proofs.Arriving.{swap-none}
 use Rattle.agc_exec.proofs.Leaving.{changed-lawful, changed-entries}
 
 -- the best is strictly more urgent

@@ -1,18 +1,24 @@
-//! The Executive's core sets: which job stands in which set, and what each request does to them. Source: the listings'
-//! EXECUTIVE section.
+//! The Executive's core sets, VAC areas and NEWJOB, on the erasable words: which job stands in which set, and what each
+//! request does to them. Each call but `clear` wants lawful words; an image that comes from outside is tested first.
+//! Source: the listings' EXECUTIVE section.
 #![tactic(auto)]
 
-mod blocks;
-mod emptied;
-mod exec;
-mod front;
-mod more;
-mod record;
-mod rousing;
-mod sets;
+mod area;
+mod change;
+mod clearing;
+mod core_set;
+mod establish;
+mod lawful;
+mod leave;
+mod newjob;
+mod search;
+#[cfg(test)]
+mod tests;
+mod wake;
 
-pub use emptied::clear;
-pub use exec::{change_job, end_of_job, novac, running};
-pub use front::{job_sleep, prio_change, store};
-pub use more::findvac;
-pub use rousing::job_wake;
+pub use change::{change_job, prio_change, running, store};
+pub use clearing::clear;
+pub use establish::{findvac, novac};
+pub use lawful::is_lawful;
+pub use leave::{end_of_job, job_sleep};
+pub use wake::job_wake;

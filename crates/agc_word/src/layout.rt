@@ -59,7 +59,11 @@ pub fn address_of(area: u16) -> u16
     requires { area ≤ 5 }
     ensures { result ≡ address_of area }
 {
-    if area == 0 { 0 } else { FIRST_AREA + AREA_SIZE * (area - 1) }
+    if area == 0 {
+        0
+    } else {
+        FIRST_AREA + AREA_SIZE * (area - 1)
+    }
 }
 
 /// The VAC area at an address; 0 for address 0. Source: profile.

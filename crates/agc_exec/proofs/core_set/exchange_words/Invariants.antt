@@ -1,0 +1,12 @@
+use Rattle.std.proofs.Common.{◌≡◌, ℕ, ◌+◌, ◌<◌, ◌≤◌, length, slice_index}
+use Rattle.agc_word.specs.Layout.{set_place}
+use Rattle.agc_exec.proofs.core_set.exchange_words.Given as goal
+
+abbrev pub invariant-loop-i : goal.invariant-loop-i
+invariant-loop-i l = record {
+  same_length : length l.e ≡ length l.fn.e;
+  front : (i : ℕ) → i < l.i → slice_index l.e i ≡ slice_index l.fn.e (set_place l.k + i);
+  other : (i : ℕ) → i < l.i → slice_index l.e (set_place l.k + i) ≡ slice_index l.fn.e i;
+  front_rest : (j : ℕ) → l.i ≤ j → j < set_place l.k → slice_index l.e j ≡ slice_index l.fn.e j;
+  other_rest : (j : ℕ) → set_place l.k + l.i ≤ j → slice_index l.e j ≡ slice_index l.fn.e j;
+}
