@@ -3,6 +3,7 @@ use Rattle.std.proofs.Common.{◌≡◌, ◌≢◌, ℕ, zero, suc, ◌+◌, ◌
 use Rattle.std.proofs.lemmas.Bool.{cases_eq}
 use Rattle.std.proofs.lemmas.List.{length-map, length-set}
 use Rattle.std.proofs.lemmas.Grind.{common_steps}
+use Rattle.agc_word.specs.Layout as layout
 use Rattle.agc_word.specs.Layout.{OutsideWaitlist}
 use Rattle.agc_word.proofs.Keeping.{kept, kept_set, kept_also}
 use Rattle.agc_plan.specs.Tasks.{Waiting, Agenda, StandsFor, later}
@@ -50,15 +51,15 @@ least_first words waits carries (suc k) lt =
     let same : (place_in waits (k + 1)).distance ≡ (place_in waits (suc k)).distance = ap (λ i. (place_in waits i).distance) (add-one k) in
     omega arith
 
-Carries-counted : (old new : List ℕ) (waits : List Waiting) → Carries old waits → 0 < length waits → 0 < (place_in waits 0).distance → ((i : ℕ) → i ≢ 90 → slice_index new i ≡ slice_index old i) → time3 new < 16384 → distance_of (time3 new) ≡ distance_of (time3 old) - 1 → Carries new (map nearer waits)
+Carries-counted : (old new : List ℕ) (waits : List Waiting) → Carries old waits → 0 < length waits → 0 < (place_in waits 0).distance → ((i : ℕ) → i ≢ layout.time3 → slice_index new i ≡ slice_index old i) → time3 new < 16384 → distance_of (time3 new) ≡ distance_of (time3 old) - 1 → Carries new (map nearer waits)
 Carries-counted old new waits carries some far same counter less = record {
-  word = λ i within. elim (cases_eq i 90) [
+  word = λ i within. elim (cases_eq i layout.time3) [
     | inl e ↦ let c : time3 new < 16384 = counter in let is : slice_index new i ≡ time3 new = ap (slice_index new) e in omega arith
     | inr ne ↦ subst (λ (n : ℕ). n < 32768) (sym (same i ne)) (carries.word i within)
   ];
   nine = rw len carries.nine;
-  at = λ k lt. same (99 + 2 * k) (λ e. omega arith) ∙ carries.at k lt ∙ sym (ap (λ (w : Waiting). w.task.at) (place_in-nearer waits k));
-  bank = λ k lt. same (100 + 2 * k) (λ e. omega arith) ∙ carries.bank k lt ∙ sym (ap (λ (w : Waiting). w.task.bank) (place_in-nearer waits k));
+  at = λ k lt. same (layout.lst2 + 2 * k) (λ e. omega arith) ∙ carries.at k lt ∙ sym (ap (λ (w : Waiting). w.task.at) (place_in-nearer waits k));
+  bank = λ k lt. same (layout.lst2 + 1 + 2 * k) (λ e. omega arith) ∙ carries.bank k lt ∙ sym (ap (λ (w : Waiting). w.task.bank) (place_in-nearer waits k));
   low = λ k lt. rw (place_in-nearer waits k) (carries.low k (rw len at lt));
   high = λ k. rw (place_in-nearer waits k) (carries.high k);
   counter = counter;
@@ -70,10 +71,10 @@ Carries-counted old new waits carries some far same counter less = record {
       let there : (place_in (map nearer waits) (k + 1)).distance ≡ (place_in waits (k + 1)).distance - 1 = ap (λ (w : Waiting). w.distance) (place_in-nearer waits (k + 1)) in
       let step : (place_in waits (k + 1)).distance ≡ (place_in waits k).distance + gap_of (lst1 old k) = carries.next k more in
       let low : (place_in waits 0).distance ≤ (place_in waits k).distance = least_first old waits carries k (omega arith) in
-      let gap : gap_of (lst1 new k) ≡ gap_of (lst1 old k) = ap gap_of (same (91 + k) (λ e. omega arith)) in
+      let gap : gap_of (lst1 new k) ≡ gap_of (lst1 old k) = ap gap_of (same (layout.lst1 + k) (λ e. omega arith)) in
       omega arith;
-  gaps = λ k lt. rw (same (91 + k) (λ e. omega arith)) (carries.gaps k (rw len at lt));
-  rest = λ k le lt. same (91 + k) (λ e. omega arith) ∙ carries.rest k (rw len at le) lt;
+  gaps = λ k lt. rw (same (layout.lst1 + k) (λ e. omega arith)) (carries.gaps k (rw len at lt));
+  rest = λ k le lt. same (layout.lst1 + k) (λ e. omega arith) ∙ carries.rest k (rw len at le) lt;
   near = λ k.
       let is : (place_in (map nearer waits) k).distance ≡ (place_in waits k).distance - 1 = ap (λ (w : Waiting). w.distance) (place_in-nearer waits k) in
       let before : (place_in waits k).distance ≤ 16250 = carries.near k in
@@ -101,12 +102,12 @@ counts-by old new answer lawful apart lawful_new waits value words =
       value = value;
       few_due = omega arith;
       lawful = lawful_new;
-      tidy = λ tidy k lt e. tidy k lt (sym (words.others.words (91 + k) (λ s. omega arith)) ∙ e);
+      tidy = λ tidy k lt e. tidy k lt (sym (words.others.words (layout.lst1 + k) (λ s. omega arith)) ∙ e);
       others = kept_also _ OutsideWaitlist old new outside words.others;
       words = words;
     }
   where
-    outside : (i : ℕ) → OutsideWaitlist i → (i ≡ 90) → ⊥
+    outside : (i : ℕ) → OutsideWaitlist i → (i ≡ layout.time3) → ⊥
     outside i (inl lt) e = omega arith
     outside i (inr le) e = omega arith
 
@@ -118,26 +119,26 @@ counts-none old lawful apart empty =
     (record { counter = sym (same_word (at_in old 0) 0 _ _ empty); others = kept _ old })
 
 -- TIME3 went up by one, or over
-pub counts-some : (old : List ℕ) (t : ℕ) → IsLawfulTable old → 117 ≤ length old → is_due (waits_of old) ≡ false → at_in old 0 ≢ 0 → t ≡ cond (time3 old == 16383) 0 (time3 old + 1) → Counts old (t == 0) (slice_set old 90 t)
+pub counts-some : (old : List ℕ) (t : ℕ) → IsLawfulTable old → layout.phase_words ≤ length old → is_due (waits_of old) ≡ false → at_in old 0 ≢ 0 → t ≡ cond (time3 old == 16383) 0 (time3 old + 1) → Counts old (t == 0) (slice_set old layout.time3 t)
 counts-some old t lawful len apart ne is =
     let carries : Carries old (waits_of old) = Carries-lawful old lawful in
-    let new = slice_set old 90 t in
-    let len_new : length new ≡ length old = length-set old 90 t in
-    let get : (j : ℕ) → slice_index new j ≡ cond (j == 90) t (slice_index old j) = get-set old 90 t (omega arith) in
-    let at_90 : time3 new ≡ t = get 90 in
+    let new = slice_set old layout.time3 t in
+    let len_new : length new ≡ length old = length-set old layout.time3 t in
+    let get : (j : ℕ) → slice_index new j ≡ cond (j == layout.time3) t (slice_index old j) = get-set old layout.time3 t (omega arith) in
+    let at_90 : time3 new ≡ t = get layout.time3 in
     let far : 0 < (place_in (waits_of old) 0).distance = far_first (waits_of old) (Carries-some old (waits_of old) carries ne) apart in
     let first : distance_of (time3 old) ≡ (place_in (waits_of old) 0).distance = carries.first in
     let counter : time3 old < 16384 = carries.counter in
     let started : time3 old ≢ 0 = λ e. (let z : distance_of (time3 old) ≡ 0 = ap distance_of e in omega arith) in
     let step : (distance_of t ≡ distance_of (time3 old) - 1) × (t < 16384) = nearer_by t (time3 old) started counter is in
     let carried : Carries new (map nearer (waits_of old)) =
-    Carries-counted old new (waits_of old) carries (Carries-some old (waits_of old) carries ne) far (λ i other. get i ∙ other_word i 90 _ _ other)
+    Carries-counted old new (waits_of old) carries (Carries-some old (waits_of old) carries ne) far (λ i other. get i ∙ other_word i layout.time3 _ _ other)
     (rw at_90 step.1) (ap distance_of at_90 ∙ step.0) in
     counts-by old new (t == 0) lawful apart (IsLawfulTable-carried new (map nearer (waits_of old)) carried) (waits_of-carried new (map nearer (waits_of old)) carried)
-    (ap (λ d. d == 0) (sym at_90) ∙ sym (is_due-carried new (map nearer (waits_of old)) carried (λ e. ne (sym (get 99) ∙ e))) ∙ sym (ap is_due (waits_of-carried new (map nearer (waits_of old)) carried)))
+    (ap (λ d. d == 0) (sym at_90) ∙ sym (is_due-carried new (map nearer (waits_of old)) carried (λ e. ne (sym (get layout.lst2) ∙ e))) ∙ sym (ap is_due (waits_of-carried new (map nearer (waits_of old)) carried)))
     (record {
       counter = at_90 ∙ is ∙ sym (other_word (at_in old 0) 0 _ _ ne);
-      others = kept_set (λ i. (i ≡ 90) → ⊥) old 90 t (λ outside. outside refl);
+      others = kept_set (λ i. (i ≡ layout.time3) → ⊥) old layout.time3 t (λ outside. outside refl);
     })
   where
     nearer_by : (t s : ℕ) → s ≢ 0 → s < 16384 → t ≡ cond (s == 16383) 0 (s + 1) → (distance_of t ≡ distance_of s - 1) × (t < 16384)

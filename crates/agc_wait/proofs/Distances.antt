@@ -1,12 +1,10 @@
 -- Distances from now, against due times.
-use Rattle.std.proofs.Common.{◌≡◌, ◌≢◌, ℕ, zero, suc, ◌+◌, ◌-◌, ◌<◌, ◌≤◌, true, false, List, [], ◌∷◌, map, Some, None, length, refl, ap, sym, ◌∙◌, inl, inr, arith, get_or, subst, ◌↔◌, IsSome, slice_index_or}
-use Rattle.std.specs.List.{insert, remove, refill}
-use Rattle.std.proofs.lemmas.List.{length-map, take_at}
-use Rattle.std.proofs.lemmas.List.Edits.{length-insert}
+use Rattle.std.proofs.Common.{◌≡◌, ◌≢◌, ℕ, suc, ◌+◌, ◌-◌, ◌≤◌, true, false, List, [], ◌∷◌, map, Some, None, length, refl, ap, sym, ◌∙◌, inl, inr, arith, subst, ◌↔◌, IsSome, slice_index_or}
+use Rattle.std.specs.List.{insert, remove}
 use Rattle.std.proofs.lemmas.Bool.{cases_eq, cases_lt}
 use Rattle.std.proofs.lemmas.Grind.{common_steps}
 use Rattle.agc_plan.specs.Tasks.{Pending, Waiting, Agenda, timed, StandsFor, InOrder, RisesFrom, listed, later, dispatched, first_due, without_first_due}
-use Rattle.agc_wait.specs.Waits.{is_due, place_for, nearer, Spreads, IsLawful}
+use Rattle.agc_wait.specs.Waits.{is_due, place_for, nearer, Spreads}
 use Rattle.agc_wait.proofs.Orders.{set_in, RisesFrom-weaker, InOrder-append, InOrder-first, InOrder-rest, InOrder-none_due, InOrder-nil, InOrder-length}
 
 abbrev pub timed_at : ℕ → Waiting → Pending
@@ -39,70 +37,11 @@ length-timed now (w ∷ ws) = ap suc (length-timed now ws)
 pub StandsFor-length : (ws : List Waiting) (agenda : Agenda) → StandsFor ws agenda → length agenda.tasks ≡ length ws
 StandsFor-length ws agenda stands = sym (InOrder-length agenda.tasks (timed agenda.time ws) stands) ∙ length-timed agenda.time ws
 
-pub Spreads-insert : (least most : ℕ) (w : Waiting) (ws : List Waiting) → least ≤ w.distance → w.distance ≤ most → Spreads least most ws → Spreads least most (insert ws (place_for w.distance ws) w)
-Spreads-insert least most w [] low high spreads = (low, high, tt)
-Spreads-insert least most w (v ∷ vs) low high spreads = elim (cases_lt w.distance v.distance) [
-  | inl lt ↦
-      let p : place_for w.distance (v ∷ vs) ≡ 0 = grind (arith, common_steps) in
-      rw p (low, high, (omega arith, spreads.1, spreads.2))
-  | inr ge ↦
-      let p : place_for w.distance (v ∷ vs) ≡ suc (place_for w.distance vs) = grind (arith, common_steps) in
-      rw p (spreads.0, spreads.1, Spreads-insert v.distance most w vs ge high spreads.2)
-]
-
-pub Spreads-weaker : (less least most : ℕ) (ws : List Waiting) → less ≤ least → Spreads least most ws → Spreads less most ws
-Spreads-weaker less least most [] le spreads = tt
-Spreads-weaker less least most (w ∷ ws) le spreads = (omega arith, spreads.1, spreads.2)
-
 -- none is due
 pub Spreads-not_due : (most : ℕ) (ws : List Waiting) → is_due ws ≡ false → Spreads 0 most ws → Spreads 1 most ws
 Spreads-not_due most [] e spreads = tt
 Spreads-not_due most (w ∷ ws) e spreads =
     let apart : w.distance ≢ 0 = grind (arith, common_steps) in (omega arith, spreads.1, spreads.2)
-
-pub Spreads-at : (least most : ℕ) (ws : List Waiting) → Spreads least most ws → (k : ℕ) (d : Waiting) → k < length ws → least ≤ (get_or ws k d).distance
-Spreads-at least most [] spreads k d lt = absurd (omega arith)
-Spreads-at least most (w ∷ ws) spreads zero d lt = spreads.0
-Spreads-at least most (w ∷ ws) spreads (suc k) d lt =
-    let rest : w.distance ≤ (get_or ws k d).distance = Spreads-at w.distance most ws spreads.2 k d (omega arith) in
-    let here : least ≤ w.distance = spreads.0 in
-    omega arith
-
-pub Spreads-nearer : (least most : ℕ) (ws : List Waiting) → Spreads least most ws → Spreads (least - 1) most (map nearer ws)
-Spreads-nearer least most [] spreads = tt
-Spreads-nearer least most (w ∷ ws) spreads =
-    let low : least ≤ w.distance = spreads.0 in
-    let high : w.distance ≤ most = spreads.1 in
-    (omega arith, omega arith, Spreads-nearer w.distance most ws spreads.2)
-
-pub timed-nearer : (now least most : ℕ) (ws : List Waiting) → 1 ≤ least → Spreads least most ws → timed (now + 1) (map nearer ws) ≡ timed now ws
-timed-nearer now least most [] low spreads = refl
-timed-nearer now least most (w ∷ ws) low spreads =
-    let here : least ≤ w.distance = spreads.0 in
-    let same : now + 1 + (w.distance - 1) ≡ now + w.distance = omega arith in
-    let rest : timed (now + 1) (map nearer ws) ≡ timed now ws = timed-nearer now w.distance most ws (omega arith) spreads.2 in
-    cc
-
-pub StandsFor-later : (ws : List Waiting) (agenda : Agenda) → IsLawful ws → is_due ws ≡ false → StandsFor ws agenda → StandsFor (map nearer ws) (later agenda)
-StandsFor-later ws agenda lawful apart stands =
-    rw (timed-nearer agenda.time 1 16250 ws (omega arith) (Spreads-not_due 16250 ws apart lawful.spreads)) stands
-
-pub IsLawful-later : (ws : List Waiting) → IsLawful ws → IsLawful (map nearer ws)
-IsLawful-later ws lawful = record {
-  spreads = Spreads-nearer 0 16250 ws lawful.spreads;
-  nine = let n : length (map nearer ws) ≡ length ws = length-map ws nearer in let m : length ws ≤ 9 = lawful.nine in omega arith;
-}
-
-pub IsLawful-listed : (ws : List Waiting) (w : Waiting) → IsLawful ws → length ws < 9 → w.distance ≤ 16250 → IsLawful (insert ws (place_for w.distance ws) w)
-IsLawful-listed ws w lawful room near = record {
-  spreads = Spreads-insert 0 16250 w ws (omega arith) near lawful.spreads;
-  nine = let n : length (insert ws (place_for w.distance ws) w) ≡ length ws + 1 = length-insert ws (place_for w.distance ws) w (place_for-within w.distance ws) in omega arith;
-}
-  where
-    place_for-within : (distance : ℕ) (ws : List Waiting) → place_for distance ws ≤ length ws
-    place_for-within distance [] = omega arith
-    place_for-within distance (v ∷ vs) =
-        let rest : place_for distance vs ≤ length vs = place_for-within distance vs in grind (arith, common_steps)
 
 -- a task is due exactly where the first is due now
 pub first_due-none : (ws : List Waiting) (agenda : Agenda) → StandsFor ws agenda → is_due ws ≡ false → first_due agenda.time agenda.tasks ≡ None
@@ -147,23 +86,13 @@ StandsFor-itself least most ws spreads = record { rises = RisesFrom-weaker 0 lea
         let low : least ≤ w.distance = spreads.0 in
         (omega arith, rw zero_plus (rises w.distance ws spreads.2))
 
--- the first of a list, in the form that `remove` gives
-pub first_due-removed : (ws : List Waiting) (first : Waiting) (agenda : Agenda) → is_due ws ≡ true → first ≡ get_or ws 0 first → StandsFor ws agenda → first_due agenda.time agenda.tasks ≡ Some first.task
-first_due-removed [] first agenda due is stands = absurd (cc)
-first_due-removed (w ∷ ws) first agenda due is stands =
-    let zero_is : w.distance ≡ 0 = grind (arith, common_steps) in
-    first_due-is w ws agenda stands zero_is ∙ ap (λ v. Some v.task) (sym is)
-
 pub StandsFor-removed : (ws : List Waiting) (agenda : Agenda) → is_due ws ≡ true → StandsFor ws agenda → StandsFor (remove ws 0) (dispatched agenda)
 StandsFor-removed [] agenda due stands = absurd (cc)
 StandsFor-removed (w ∷ ws) agenda due stands =
     let zero_is : w.distance ≡ 0 = grind (arith, common_steps) in
     StandsFor-dispatched w ws agenda stands zero_is
 
-pub refill_same : (xs ws : List Waiting) → length ws ≡ length xs → refill (length xs) xs ws ≡ ws
-refill_same xs ws same = take_at ws _ (length xs) same
-
--- the same where the order alone is known
+-- each one centisecond nearer, they are due at the same times
 timed-nearer_by : (now least : ℕ) (ws : List Waiting) → now + 1 ≤ least → RisesFrom least (timed now ws) → timed (now + 1) (map nearer ws) ≡ timed now ws
 timed-nearer_by now least [] low rises = refl
 timed-nearer_by now least (w ∷ ws) low rises =

@@ -13,6 +13,7 @@ pub mod Taking
 pub mod Putting
 pub mod Listing
 pub mod Blanks
+pub mod Whole
 pub mod Firings
 pub mod Histories
 pub mod OneImage

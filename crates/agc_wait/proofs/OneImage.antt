@@ -2,6 +2,7 @@
 use Rattle.std.proofs.Common.{◌≡◌, ◌≢◌, ◌⊎◌, ℕ, ◌+◌, ◌-◌, ◌<◌, ◌≤◌, List, [], ◌∷◌, length, slice_index, refl, ap, sym, subst, ◌∙◌, inl, inr, arith}
 use Rattle.std.proofs.lemmas.Bool.{cases_eq, cases_lt}
 use Rattle.std.proofs.lemmas.Grind.{common_steps}
+use Rattle.agc_word.specs.Layout as layout
 use Rattle.agc_plan.specs.declared.request.Task.{Task}
 use Rattle.agc_plan.specs.Tasks.{Pending, Waiting, Agenda, StandsFor, timed}
 use Rattle.agc_wait.specs.Table.{Shows, SameTable, IsTidy, waits_of, time3, lst1, distance_of, gap_of}
@@ -74,7 +75,7 @@ lst1-one a b ws in_a in_b a_tidy b_tidy k lt = elim (cases_lt (k + 1) (length ws
       let a_next : (place_in ws (k + 1)).distance ≡ (place_in ws k).distance + gap_of (lst1 a k) = in_a.next k more in
       let b_next : (place_in ws (k + 1)).distance ≡ (place_in ws k).distance + gap_of (lst1 b k) = in_b.next k more in
       let same : gap_of (lst1 a k) ≡ gap_of (lst1 b k) = omega arith in
-      gap_of-one (lst1 a k) (lst1 b k) (in_a.gaps k more) (in_b.gaps k more) (in_a.word (91 + k) (omega arith, omega arith)) (in_b.word (91 + k) (omega arith, omega arith)) (a_tidy k lt) (b_tidy k lt) same
+      gap_of-one (lst1 a k) (lst1 b k) (in_a.gaps k more) (in_b.gaps k more) (in_a.word (layout.lst1 + k) (omega arith, omega arith)) (in_b.word (layout.lst1 + k) (omega arith, omega arith)) (a_tidy k lt) (b_tidy k lt) same
   | inr last ↦ in_a.rest k last lt ∙ sym (in_b.rest k last lt)
 ]
 

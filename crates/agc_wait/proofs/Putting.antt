@@ -4,11 +4,12 @@ use Rattle.std.specs.List.{insert}
 use Rattle.std.proofs.lemmas.Bool.{cases_eq, cases_lt}
 use Rattle.std.proofs.lemmas.List.Edits.{length-insert, get_or-insert_below, get_or-insert_at, get_or-insert_above}
 use Rattle.std.proofs.lemmas.Grind.{common_steps}
+use Rattle.agc_word.specs.Layout as layout
 use Rattle.agc_word.specs.Layout.{OutsideWaitlist}
 use Rattle.agc_plan.specs.declared.request.Task.{Task}
 use Rattle.agc_plan.specs.Tasks.{Waiting}
 use Rattle.agc_wait.specs.Waits.{place_for}
-use Rattle.agc_wait.specs.Table.{IsLawfulTable, IsTidy, waits_of, time3, at_in, bank_in, lst1, gap_of, distance_of}
+use Rattle.agc_wait.specs.Table.{blank_gap, IsLawfulTable, IsTidy, waits_of, time3, at_in, bank_in, lst1, gap_of, distance_of}
 use Rattle.agc_wait.specs.Writing.{place_in, distance_in, no_task, gap_word, gap_to_next, counter_at, IsPut}
 use Rattle.agc_wait.specs.Moving.{IsSpot, moved_down, task_put, gap_put}
 use Rattle.agc_wait.proofs.Gaps.{gap_of-gap_word, gap_word-legal, gap_word-tidy, gap_word-word, counter_at-low, distance_of-counter_at}
@@ -17,7 +18,7 @@ use Rattle.agc_wait.proofs.Tables.{Carries, Carries-lawful}
 use Rattle.agc_wait.proofs.Writes.{other_word, same_word, moved_down-in, moved_down-below, moved_down-above}
 use Rattle.agc_wait.proofs.Spots.{place_for-passed, place_for-next, place_for-within}
 
-gap_put-then : (words : List ℕ) (p n word j : ℕ) → p < n → gap_put words p n word j ≡ cond (j == 91 + p) word (moved_down words (91 + p) (91 + n - 1) 1 j)
+gap_put-then : (words : List ℕ) (p n word j : ℕ) → p < n → gap_put words p n word j ≡ cond (j == layout.lst1 + p) word (moved_down words (layout.lst1 + p) (layout.lst1 + n - 1) 1 j)
 gap_put-then words p n word j lt = pick (nat_lt p n) _ _ (grind (arith, common_steps))
   where
     pick : (b : Bool) (x y : ℕ) → b ≡ true → cond b x y ≡ x
@@ -35,7 +36,7 @@ gap_to_next-is words p d lt = pick (nat_lt p (length (waits_of words))) _ _ (gri
     pick : (b : Bool) (x y : ℕ) → b ≡ true → cond b x y ≡ x
     pick b x y e = rw e refl
 
-gap_to_next-none : (words : List ℕ) (p d : ℕ) → length (waits_of words) ≤ p → gap_to_next words p d ≡ 24575
+gap_to_next-none : (words : List ℕ) (p d : ℕ) → length (waits_of words) ≤ p → gap_to_next words p d ≡ blank_gap
 gap_to_next-none words p d le = pass (nat_lt p (length (waits_of words))) _ _ (grind (arith, common_steps))
   where
     pass : (b : Bool) (x y : ℕ) → b ≡ false → cond b x y ≡ y
@@ -49,69 +50,69 @@ lead_word p b d = cond (p == 0) (counter_at d) (gap_word (d - b))
 pub record Puts (old put e new : List ℕ) (task : Task) (p n d b a : ℕ) : Type 0 where
   pub by_task : (j : ℕ) → slice_index put j ≡ task_put old p n task.at task.bank j
   pub by_gap : (j : ℕ) → slice_index e j ≡ gap_put put p n (gap_word (a - d)) j
-  pub by_lead : (j : ℕ) → slice_index new j ≡ cond (j == 90 + p) (lead_word p b d) (slice_index e j)
+  pub by_lead : (j : ℕ) → slice_index new j ≡ cond (j == layout.time3 + p) (lead_word p b d) (slice_index e j)
 
 module _ (old put e new : List ℕ) (task : Task) (p n d b a : ℕ) (by : Puts old put e new task p n d b a) (small : p ≤ n) (room : n ≤ 8) where
   abbrev lead : ℕ
   lead = lead_word p b d
 
-  task_low : (j : ℕ) → j < 99 + 2 * p → slice_index put j ≡ slice_index old j
+  task_low : (j : ℕ) → j < layout.lst2 + 2 * p → slice_index put j ≡ slice_index old j
   task_low j lt =
-      by.by_task j ∙ other_word j (100 + 2 * p) task.bank _ (λ s. omega arith) ∙ other_word j (99 + 2 * p) task.at _ (λ s. omega arith)
-      ∙ moved_down-below old (99 + 2 * p) (99 + 2 * n) 2 j (omega arith)
+      by.by_task j ∙ other_word j (layout.lst2 + 1 + 2 * p) task.bank _ (λ s. omega arith) ∙ other_word j (layout.lst2 + 2 * p) task.at _ (λ s. omega arith)
+      ∙ moved_down-below old (layout.lst2 + 2 * p) (layout.lst2 + 2 * n) 2 j (omega arith)
 
-  task_after : (j : ℕ) → 101 + 2 * p ≤ j → j < 101 + 2 * n → slice_index put j ≡ slice_index old (j - 2)
+  task_after : (j : ℕ) → layout.lst2 + 2 + 2 * p ≤ j → j < layout.lst2 + 2 + 2 * n → slice_index put j ≡ slice_index old (j - 2)
   task_after j le lt =
-      by.by_task j ∙ other_word j (100 + 2 * p) task.bank _ (λ s. omega arith) ∙ other_word j (99 + 2 * p) task.at _ (λ s. omega arith)
-      ∙ moved_down-in old (99 + 2 * p) (99 + 2 * n) 2 j (omega arith) (omega arith)
+      by.by_task j ∙ other_word j (layout.lst2 + 1 + 2 * p) task.bank _ (λ s. omega arith) ∙ other_word j (layout.lst2 + 2 * p) task.at _ (λ s. omega arith)
+      ∙ moved_down-in old (layout.lst2 + 2 * p) (layout.lst2 + 2 * n) 2 j (omega arith) (omega arith)
 
-  task_past : (j : ℕ) → 101 + 2 * n ≤ j → slice_index put j ≡ slice_index old j
+  task_past : (j : ℕ) → layout.lst2 + 2 + 2 * n ≤ j → slice_index put j ≡ slice_index old j
   task_past j le =
-      by.by_task j ∙ other_word j (100 + 2 * p) task.bank _ (λ s. omega arith) ∙ other_word j (99 + 2 * p) task.at _ (λ s. omega arith)
-      ∙ moved_down-above old (99 + 2 * p) (99 + 2 * n) 2 j (omega arith)
+      by.by_task j ∙ other_word j (layout.lst2 + 1 + 2 * p) task.bank _ (λ s. omega arith) ∙ other_word j (layout.lst2 + 2 * p) task.at _ (λ s. omega arith)
+      ∙ moved_down-above old (layout.lst2 + 2 * p) (layout.lst2 + 2 * n) 2 j (omega arith)
 
-  gap_outside : (j : ℕ) → (j < 91 + p) ⊎ (91 + n ≤ j) → slice_index e j ≡ slice_index put j
+  gap_outside : (j : ℕ) → (j < layout.lst1 + p) ⊎ (layout.lst1 + n ≤ j) → slice_index e j ≡ slice_index put j
   gap_outside j out = elim (cases_lt p n) [
-    | inl lt ↦ by.by_gap j ∙ gap_put-then put p n _ j lt ∙ other_word j (91 + p) _ _ (apart out lt) ∙ still out lt
+    | inl lt ↦ by.by_gap j ∙ gap_put-then put p n _ j lt ∙ other_word j (layout.lst1 + p) _ _ (apart out lt) ∙ still out lt
     | inr le ↦ by.by_gap j ∙ gap_put-else put p n _ j le
   ]
     where
-      apart : (j < 91 + p) ⊎ (91 + n ≤ j) → p < n → j ≢ 91 + p
+      apart : (j < layout.lst1 + p) ⊎ (layout.lst1 + n ≤ j) → p < n → j ≢ layout.lst1 + p
       apart (inl low) lt s = omega arith
       apart (inr high) lt s = omega arith
 
-      still : (j < 91 + p) ⊎ (91 + n ≤ j) → p < n → moved_down put (91 + p) (91 + n - 1) 1 j ≡ slice_index put j
-      still (inl low) lt = moved_down-below put (91 + p) (91 + n - 1) 1 j (omega arith)
-      still (inr high) lt = moved_down-above put (91 + p) (91 + n - 1) 1 j (omega arith)
+      still : (j < layout.lst1 + p) ⊎ (layout.lst1 + n ≤ j) → p < n → moved_down put (layout.lst1 + p) (layout.lst1 + n - 1) 1 j ≡ slice_index put j
+      still (inl low) lt = moved_down-below put (layout.lst1 + p) (layout.lst1 + n - 1) 1 j (omega arith)
+      still (inr high) lt = moved_down-above put (layout.lst1 + p) (layout.lst1 + n - 1) 1 j (omega arith)
 
-  pairs : (j : ℕ) → 99 ≤ j → slice_index new j ≡ slice_index put j
-  pairs j le = by.by_lead j ∙ other_word j (90 + p) lead _ (λ s. omega arith) ∙ gap_outside j (inr (omega arith))
+  pairs : (j : ℕ) → layout.lst2 ≤ j → slice_index new j ≡ slice_index put j
+  pairs j le = by.by_lead j ∙ other_word j (layout.time3 + p) lead _ (λ s. omega arith) ∙ gap_outside j (inr (omega arith))
 
   pub put-outside : (j : ℕ) → OutsideWaitlist j → slice_index new j ≡ slice_index old j
   put-outside j (inl lt) =
-      by.by_lead j ∙ other_word j (90 + p) lead _ (λ s. omega arith) ∙ gap_outside j (inl (omega arith)) ∙ task_low j (omega arith)
+      by.by_lead j ∙ other_word j (layout.time3 + p) lead _ (λ s. omega arith) ∙ gap_outside j (inl (omega arith)) ∙ task_low j (omega arith)
   put-outside j (inr le) = pairs j (omega arith) ∙ task_past j (omega arith)
 
   gap_at : p < n → lst1 new p ≡ gap_word (a - d)
   gap_at lt =
-      by.by_lead (91 + p) ∙ other_word (91 + p) (90 + p) lead _ (λ s. omega arith) ∙ by.by_gap (91 + p) ∙ gap_put-then put p n _ (91 + p) lt ∙ same_word (91 + p) (91 + p) _ _ refl
+      by.by_lead (layout.lst1 + p) ∙ other_word (layout.lst1 + p) (layout.time3 + p) lead _ (λ s. omega arith) ∙ by.by_gap (layout.lst1 + p) ∙ gap_put-then put p n _ (layout.lst1 + p) lt ∙ same_word (layout.lst1 + p) (layout.lst1 + p) _ _ refl
 
   gap_past : (k : ℕ) → p ≤ k → k + 1 < n → lst1 new (k + 1) ≡ lst1 old k
   gap_past k le lt =
-      by.by_lead (91 + (k + 1)) ∙ other_word (91 + (k + 1)) (90 + p) lead _ (λ s. omega arith) ∙ by.by_gap (91 + (k + 1)) ∙ gap_put-then put p n _ (91 + (k + 1)) (omega arith)
-      ∙ other_word (91 + (k + 1)) (91 + p) _ _ (λ s. omega arith) ∙ moved_down-in put (91 + p) (91 + n - 1) 1 (91 + (k + 1)) (omega arith) (omega arith)
-      ∙ ap (slice_index put) (let s : 91 + (k + 1) - 1 ≡ 91 + k = omega arith in s) ∙ task_low (91 + k) (omega arith)
+      by.by_lead (layout.lst1 + (k + 1)) ∙ other_word (layout.lst1 + (k + 1)) (layout.time3 + p) lead _ (λ s. omega arith) ∙ by.by_gap (layout.lst1 + (k + 1)) ∙ gap_put-then put p n _ (layout.lst1 + (k + 1)) (omega arith)
+      ∙ other_word (layout.lst1 + (k + 1)) (layout.lst1 + p) _ _ (λ s. omega arith) ∙ moved_down-in put (layout.lst1 + p) (layout.lst1 + n - 1) 1 (layout.lst1 + (k + 1)) (omega arith) (omega arith)
+      ∙ ap (slice_index put) (let s : layout.lst1 + (k + 1) - 1 ≡ layout.lst1 + k = omega arith in s) ∙ task_low (layout.lst1 + k) (omega arith)
 
   gap_same : (k : ℕ) → n ≤ k → k < 8 → lst1 new k ≡ lst1 old k
   gap_same k le lt =
-      by.by_lead (91 + k) ∙ other_word (91 + k) (90 + p) lead _ (λ s. omega arith) ∙ gap_outside (91 + k) (inr (omega arith)) ∙ task_low (91 + k) (omega arith)
+      by.by_lead (layout.lst1 + k) ∙ other_word (layout.lst1 + k) (layout.time3 + p) lead _ (λ s. omega arith) ∙ gap_outside (layout.lst1 + k) (inr (omega arith)) ∙ task_low (layout.lst1 + k) (omega arith)
 
-  gap_low : (j : ℕ) → j < 90 + p → slice_index new j ≡ slice_index old j
+  gap_low : (j : ℕ) → j < layout.time3 + p → slice_index new j ≡ slice_index old j
   gap_low j lt =
-      by.by_lead j ∙ other_word j (90 + p) lead _ (λ s. omega arith) ∙ gap_outside j (inl (omega arith)) ∙ task_low j (omega arith)
+      by.by_lead j ∙ other_word j (layout.time3 + p) lead _ (λ s. omega arith) ∙ gap_outside j (inl (omega arith)) ∙ task_low j (omega arith)
 
   -- a word of a pair that is moved: those from place n on are 00000 before and after
-  moved : (first k : ℕ) → 99 ≤ first → first ≤ 100 → p ≤ k → k < 8 → ((i : ℕ) → n ≤ i → i < 9 → slice_index old (first + 2 * i) ≡ 0) → slice_index new (first + 2 * (k + 1)) ≡ slice_index old (first + 2 * k)
+  moved : (first k : ℕ) → layout.lst2 ≤ first → first ≤ layout.lst2 + 1 → p ≤ k → k < 8 → ((i : ℕ) → n ≤ i → i < 9 → slice_index old (first + 2 * i) ≡ 0) → slice_index new (first + 2 * (k + 1)) ≡ slice_index old (first + 2 * k)
   moved first k from to le lt none = elim (cases_lt k n) [
     | inl less ↦
         pairs (first + 2 * (k + 1)) (omega arith) ∙ task_after (first + 2 * (k + 1)) (omega arith) (omega arith)
@@ -124,12 +125,12 @@ module _ (old put e new : List ℕ) (task : Task) (p n d b a : ℕ) (by : Puts o
   put-is lawful n_is spot = record {
     counter = elim (cases_eq p 0) [
       | inl is ↦
-          by.by_lead 90 ∙ same_word 90 (90 + p) lead _ (omega arith) ∙ same_word p 0 _ _ is ∙ sym (same_word p 0 _ _ is)
-      | inr not ↦ gap_low 90 (omega arith) ∙ sym (other_word p 0 _ _ not)
+          by.by_lead layout.time3 ∙ same_word layout.time3 (layout.time3 + p) lead _ (omega arith) ∙ same_word p 0 _ _ is ∙ sym (same_word p 0 _ _ is)
+      | inr not ↦ gap_low layout.time3 (omega arith) ∙ sym (other_word p 0 _ _ not)
     ];
-    gap_kept = λ k lt. gap_low (91 + k) (omega arith);
+    gap_kept = λ k lt. gap_low (layout.lst1 + k) (omega arith);
     gap_before = λ k e.
-        by.by_lead (91 + k) ∙ same_word (91 + k) (90 + p) lead _ (omega arith) ∙ other_word p 0 (counter_at d) (gap_word (d - b)) (λ z. omega arith)
+        by.by_lead (layout.lst1 + k) ∙ same_word (layout.lst1 + k) (layout.time3 + p) lead _ (omega arith) ∙ other_word p 0 (counter_at d) (gap_word (d - b)) (λ z. omega arith)
         ∙ ap (λ x. gap_word (d - x)) (spot.before_is k (omega arith));
     gap_after = λ lt. elim (cases_lt p n) [
       | inl less ↦ gap_at less ∙ ap (λ x. gap_word (x - d)) (spot.after_is (omega arith)) ∙ sym (gap_to_next-is old p d (omega arith))
@@ -139,14 +140,14 @@ module _ (old put e new : List ℕ) (task : Task) (p n d b a : ℕ) (by : Puts o
       | inl less ↦ gap_past k le less
       | inr end ↦ gap_same (k + 1) end (omega arith) ∙ lawful.no_gap (k + 1) (omega arith) (omega arith) ∙ sym (lawful.no_gap k (omega arith) (omega arith))
     ];
-    at_kept = λ k lt. pairs (99 + 2 * k) (omega arith) ∙ task_low (99 + 2 * k) (omega arith);
+    at_kept = λ k lt. pairs (layout.lst2 + 2 * k) (omega arith) ∙ task_low (layout.lst2 + 2 * k) (omega arith);
     at =
-        pairs (99 + 2 * p) (omega arith) ∙ by.by_task (99 + 2 * p) ∙ other_word (99 + 2 * p) (100 + 2 * p) task.bank _ (λ s. omega arith)
-        ∙ same_word (99 + 2 * p) (99 + 2 * p) task.at _ refl;
-    at_moved = λ k le lt. moved 99 k (omega arith) (omega arith) le lt (λ i from to. (lawful.no_task i (omega arith) to).0);
-    bank_kept = λ k lt. pairs (100 + 2 * k) (omega arith) ∙ task_low (100 + 2 * k) (omega arith);
-    bank = pairs (100 + 2 * p) (omega arith) ∙ by.by_task (100 + 2 * p) ∙ same_word (100 + 2 * p) (100 + 2 * p) task.bank _ refl;
-    bank_moved = λ k le lt. moved 100 k (omega arith) (omega arith) le lt (λ i from to. (lawful.no_task i (omega arith) to).1);
+        pairs (layout.lst2 + 2 * p) (omega arith) ∙ by.by_task (layout.lst2 + 2 * p) ∙ other_word (layout.lst2 + 2 * p) (layout.lst2 + 1 + 2 * p) task.bank _ (λ s. omega arith)
+        ∙ same_word (layout.lst2 + 2 * p) (layout.lst2 + 2 * p) task.at _ refl;
+    at_moved = λ k le lt. moved layout.lst2 k (omega arith) (omega arith) le lt (λ i from to. (lawful.no_task i (omega arith) to).0);
+    bank_kept = λ k lt. pairs (layout.lst2 + 1 + 2 * k) (omega arith) ∙ task_low (layout.lst2 + 1 + 2 * k) (omega arith);
+    bank = pairs (layout.lst2 + 1 + 2 * p) (omega arith) ∙ by.by_task (layout.lst2 + 1 + 2 * p) ∙ same_word (layout.lst2 + 1 + 2 * p) (layout.lst2 + 1 + 2 * p) task.bank _ refl;
+    bank_moved = λ k le lt. moved (layout.lst2 + 1) k (omega arith) (omega arith) le lt (λ i from to. (lawful.no_task i (omega arith) to).1);
   }
 
 -- where k stands to p
@@ -210,12 +211,12 @@ module _ (old new : List ℕ) (w : Waiting) (p : ℕ) (lawful : IsLawfulTable ol
 
   bank_word : w.task.bank < 32768 → (k : ℕ) → k < 9 → bank_in new k < 32768
   bank_word low k lt_k = elim (cases_place k p) [
-    | inl lt ↦ subst (λ (n : ℕ). n < 32768) (sym (put.bank_kept k lt)) (lawful.word (100 + 2 * k) (omega arith, omega arith))
+    | inl lt ↦ subst (λ (n : ℕ). n < 32768) (sym (put.bank_kept k lt)) (lawful.word (layout.lst2 + 1 + 2 * k) (omega arith, omega arith))
     | inr (inl e) ↦ subst (λ (n : ℕ). n < 32768) (sym (ap (bank_in new) e ∙ put.bank)) low
     | inr (inr more) ↦
         let e : k ≡ more.0 + 1 = more.2 in
         let le : p ≤ more.0 = more.1 in
-        subst (λ (n : ℕ). n < 32768) (sym (ap (bank_in new) e ∙ put.bank_moved more.0 le (omega arith))) (lawful.word (100 + 2 * more.0) (omega arith, omega arith))
+        subst (λ (n : ℕ). n < 32768) (sym (ap (bank_in new) e ∙ put.bank_moved more.0 le (omega arith))) (lawful.word (layout.lst2 + 1 + 2 * more.0) (omega arith, omega arith))
   ]
 
   -- the gap after the new task
@@ -279,7 +280,7 @@ module _ (old new : List ℕ) (w : Waiting) (p : ℕ) (lawful : IsLawfulTable ol
             ]
       ]
 
-  rest_is : (k : ℕ) → length (waits_of old) ≤ k → k < 8 → lst1 new k ≡ 24575
+  rest_is : (k : ℕ) → length (waits_of old) ≤ k → k < 8 → lst1 new k ≡ blank_gap
   rest_is k le lt = elim (cases_place k p) [
     | inl less ↦ absurd (let i : p ≤ length (waits_of old) = within in omega arith)
     | inr (inl e) ↦ ap (lst1 new) e ∙ put.gap_after (omega arith) ∙ gap_to_next-none old p w.distance (omega arith)
@@ -302,17 +303,17 @@ module _ (old new : List ℕ) (w : Waiting) (p : ℕ) (lawful : IsLawfulTable ol
 
   gap_is : (k : ℕ) → k < 8 → lst1 new k < 32768
   gap_is k lt = elim (cases_place (k + 1) p) [
-    | inl less ↦ subst (λ (n : ℕ). n < 32768) (sym (put.gap_kept k less)) (lawful.word (91 + k) (omega arith, omega arith))
+    | inl less ↦ subst (λ (n : ℕ). n < 32768) (sym (put.gap_kept k less)) (lawful.word (layout.lst1 + k) (omega arith, omega arith))
     | inr (inl e) ↦ subst (λ (n : ℕ). n < 32768) (sym (put.gap_before k e)) (gap_word-word _)
     | inr (inr more) ↦ elim (cases_place k p) [
       | inl less ↦ absurd (let at_k : k + 1 ≡ more.0 + 1 = more.2 in let le_k : p ≤ more.0 = more.1 in omega arith)
       | inr (inl e) ↦ elim (cases_lt p (length (waits_of old))) [
         | inl some ↦ subst (λ (n : ℕ). n < 32768) (sym (ap (lst1 new) e ∙ next_is some)) (gap_word-word _)
-        | inr none ↦ let is : lst1 new k ≡ 24575 = rest_is k (omega arith) lt in omega arith
+        | inr none ↦ let is : lst1 new k ≡ blank_gap = rest_is k (omega arith) lt in omega arith
       ]
       | inr (inr far) ↦
           let e : k ≡ far.0 + 1 = far.2 in
-          subst (λ (n : ℕ). n < 32768) (sym (ap (lst1 new) e ∙ put.gap_moved far.0 far.1 (omega arith))) (lawful.word (91 + far.0) (omega arith, omega arith))
+          subst (λ (n : ℕ). n < 32768) (sym (ap (lst1 new) e ∙ put.gap_moved far.0 far.1 (omega arith))) (lawful.word (layout.lst1 + far.0) (omega arith, omega arith))
     ]
   ]
 
@@ -348,7 +349,7 @@ module _ (old new : List ℕ) (w : Waiting) (p : ℕ) (lawful : IsLawfulTable ol
       | inl less ↦ absurd (let at_k : k + 1 ≡ more.0 + 1 = more.2 in let le_k : p ≤ more.0 = more.1 in omega arith)
       | inr (inl is) ↦ elim (cases_lt p (length (waits_of old))) [
         | inl some ↦ gap_word-tidy _ (sym (ap (lst1 new) is ∙ next_is some) ∙ e)
-        | inr none ↦ let blank : lst1 new k ≡ 24575 = rest_is k (omega arith) lt in omega arith
+        | inr none ↦ let blank : lst1 new k ≡ blank_gap = rest_is k (omega arith) lt in omega arith
       ]
       | inr (inr far) ↦
           let is : k ≡ far.0 + 1 = far.2 in

@@ -1,18 +1,19 @@
 -- What is read from a table, and whether it is in order, depends on its own words alone.
 use Rattle.std.proofs.Common.{◌≡◌, ◌⊎◌, ℕ, zero, suc, ◌+◌, ◌*◌, ◌<◌, ◌≤◌, List, length, refl, ap, sym, subst, ◌∙◌, arith}
 use Rattle.std.specs.List.{All}
+use Rattle.agc_word.specs.Layout as layout
 use Rattle.agc_plan.specs.Tasks.{Waiting}
 use Rattle.agc_wait.specs.Table.{SameTable, IsLawfulTable, IsTidy, waits_of, waits_from, time3, lst1, at_in, bank_in, distance_of, gap_of}
 use Rattle.agc_wait.proofs.Tables.{Carries-lawful}
 
 lst1-same : (new old : List ℕ) → SameTable new old → (k : ℕ) → k < 9 → lst1 new k ≡ lst1 old k
-lst1-same new old same k lt = same (91 + k) (omega arith, omega arith)
+lst1-same new old same k lt = same (layout.lst1 + k) (omega arith, omega arith)
 
 at_in-same : (new old : List ℕ) → SameTable new old → (k : ℕ) → k < 9 → at_in new k ≡ at_in old k
-at_in-same new old same k lt = same (99 + 2 * k) (omega arith, omega arith)
+at_in-same new old same k lt = same (layout.lst2 + 2 * k) (omega arith, omega arith)
 
 bank_in-same : (new old : List ℕ) → SameTable new old → (k : ℕ) → k < 9 → bank_in new k ≡ bank_in old k
-bank_in-same new old same k lt = same (100 + 2 * k) (omega arith, omega arith)
+bank_in-same new old same k lt = same (layout.lst2 + 1 + 2 * k) (omega arith, omega arith)
 
 waits_from-same : (left k distance : ℕ) (new old : List ℕ) → SameTable new old → k + left ≡ 9 → waits_from left k distance new ≡ waits_from left k distance old
 waits_from-same zero k distance new old same end = refl
@@ -27,13 +28,13 @@ pub waits_of-same : (new old : List ℕ) → SameTable new old → waits_of new 
 unfolding waits_of
 waits_of-same new old same =
     waits_from-same 9 0 (distance_of (time3 new)) new old same refl
-    ∙ ap (λ (c : ℕ). waits_from 9 0 (distance_of c) old) (same 90 (omega arith, omega arith))
+    ∙ ap (λ (c : ℕ). waits_from 9 0 (distance_of c) old) (same layout.time3 (omega arith, omega arith))
 
 pub IsLawfulTable-same : (new old : List ℕ) → SameTable new old → IsLawfulTable old → IsLawfulTable new
 IsLawfulTable-same new old same lawful =
     let is : waits_of new ≡ waits_of old = waits_of-same new old same in
     let long : length (waits_of new) ≡ length (waits_of old) = ap (λ (l : List Waiting). length l) is in
-    let counter : time3 new ≡ time3 old = same 90 (omega arith, omega arith) in
+    let counter : time3 new ≡ time3 old = same layout.time3 (omega arith, omega arith) in
     record {
       word = λ i within. subst (λ (w : ℕ). w < 32768) (sym (same i within)) (lawful.word i within);
       counter = subst (λ (w : ℕ). w < 16384) (sym counter) lawful.counter;

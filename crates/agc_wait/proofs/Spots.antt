@@ -1,5 +1,5 @@
 -- The walk to the place of a new task.
-use Rattle.std.proofs.Common.{◌≡◌, ◌≢◌, ℕ, zero, suc, ◌+◌, ◌<◌, ◌≤◌, List, [], ◌∷◌, drop, length, refl, ap, sym, ◌∙◌, inl, inr, arith}
+use Rattle.std.proofs.Common.{IsTrue, true, false, ◌≡◌, ◌≢◌, ℕ, zero, suc, ◌+◌, ◌<◌, ◌≤◌, List, [], ◌∷◌, drop, length, refl, ap, sym, ◌∙◌, inl, inr, arith}
 use Rattle.std.proofs.lemmas.Bool.{cases_lt}
 use Rattle.std.proofs.lemmas.List.{get_or_past, drop_all, drop_more}
 use Rattle.std.proofs.lemmas.Grind.{common_steps}
@@ -130,3 +130,8 @@ spot-fits words bits d p b a n lawful is empty spot n_is =
     let few : length (waits_of words) ≤ 8 = Carries-empty words (waits_of words) (Carries-lawful words lawful) 8 (omega arith) (sym is ∙ empty) in
     let within : p ≤ length (waits_of words) = spot-within (waits_of words) d p b a spot in
     (omega arith, omega arith)
+
+-- an address that isn't one or more is none
+pub none_there : (at : ℕ) → (1 ≤ at → IsTrue false) → at ≡ 0
+none_there zero none = refl
+none_there (suc at) none = absurd (let e : false ≡ true = none (omega arith) in cc)

@@ -6,7 +6,7 @@ use Rattle.std.proofs.lemmas.List.{get_or_past, drop_all, drop_more}
 use Rattle.std.proofs.lemmas.List.Elements.{All-get_or, All-from_get_or}
 use Rattle.std.proofs.lemmas.Grind.{common_steps}
 use Rattle.agc_plan.specs.Tasks.{Waiting}
-use Rattle.agc_wait.specs.Table.{InTable, waits_of, waits_from, time3, lst1, at_in, bank_in, distance_of, gap_of, IsLawfulTable}
+use Rattle.agc_wait.specs.Table.{blank_gap, InTable, waits_of, waits_from, time3, lst1, at_in, bank_in, distance_of, gap_of, IsLawfulTable}
 use Rattle.agc_wait.specs.Writing.{place_in, no_task}
 
 -- the words hold these tasks, at most nine and none further than the longest delay, and all else in the table is blank
@@ -22,7 +22,7 @@ pub record Carries (words : List ℕ) (waits : List Waiting) : Type 0 where
   pub first : distance_of (time3 words) ≡ (place_in waits 0).distance
   pub next : (k : ℕ) → k + 1 < length waits → (place_in waits (k + 1)).distance ≡ (place_in waits k).distance + gap_of (lst1 words k)
   pub gaps : (k : ℕ) → k + 1 < length waits → (lst1 words k ≤ 1) ⊎ (16384 ≤ lst1 words k)
-  pub rest : (k : ℕ) → length waits ≤ k + 1 → k < 8 → lst1 words k ≡ 24575
+  pub rest : (k : ℕ) → length waits ≤ k + 1 → k < 8 → lst1 words k ≡ blank_gap
   pub near : (k : ℕ) → (place_in waits k).distance ≤ 16250
 
 -- place k and those after it
@@ -81,15 +81,17 @@ record Reads (left k distance : ℕ) (words : List ℕ) (waits : List Waiting) :
   bank : (j : ℕ) → j < length waits → bank_in words (k + j) ≡ (place_in waits j).task.bank
   low : (j : ℕ) → j < length waits → 1 ≤ at_in words (k + j)
   next : (j : ℕ) → j + 1 < length waits → (place_in waits (j + 1)).distance ≡ (place_in waits j).distance + gap_of (lst1 words (k + j))
+  end : length waits < left → at_in words (k + length waits) ≡ 0
 
-Reads-none : (left k distance : ℕ) (words : List ℕ) → Reads left k distance words []
-Reads-none left k distance words = record {
+Reads-none : (left k distance : ℕ) (words : List ℕ) → (0 < left → at_in words k ≡ 0) → Reads left k distance words []
+Reads-none left k distance words none = record {
   short = omega arith;
   first = λ lt. absurd (omega arith);
   at = λ j lt. absurd (omega arith);
   bank = λ j lt. absurd (omega arith);
   low = λ j lt. absurd (omega arith);
   next = λ j lt. absurd (omega arith);
+  end = λ lt. ap (at_in words) (let s : k + 0 ≡ k = omega arith in s) ∙ none lt;
 }
 
 Reads-more : (left k distance : ℕ) (words : List ℕ) (waits : List Waiting) → 1 ≤ at_in words k → Reads left (k + 1) (distance + gap_of (lst1 words k)) words waits → Reads (suc left) k distance words (record { task = record { at = at_in words k; bank = bank_in words k }; distance = distance } ∷ waits)
@@ -102,6 +104,7 @@ Reads-more left k distance words waits some more =
       bank = bank;
       low = low;
       next = next;
+      end = λ lt. ap (at_in words) (let s : k + suc (length waits) ≡ k + 1 + length waits = omega arith in s) ∙ more.end (omega arith);
     }
   where
     first : Waiting
@@ -132,11 +135,11 @@ Reads-more left k distance words waits some more =
         ∙ more.next j (omega arith) ∙ ap (λ (n : ℕ). (place_in waits j).distance + gap_of (lst1 words n)) (sym (moved j))
 
 reads : (left k distance : ℕ) (words : List ℕ) → Reads left k distance words (waits_from left k distance words)
-reads zero k distance words = Reads-none zero k distance words
+reads zero k distance words = Reads-none zero k distance words (λ lt. absurd (omega arith))
 reads (suc left) k distance words = elim (cases_eq (at_in words k) 0) [
   | inl none ↦
       let shut : waits_from (suc left) k distance words ≡ [] = grind (arith, common_steps) in
-      subst (Reads (suc left) k distance words) (sym shut) (Reads-none (suc left) k distance words)
+      subst (Reads (suc left) k distance words) (sym shut) (Reads-none (suc left) k distance words (λ lt. none))
   | inr some ↦
       let open_up : waits_from (suc left) k distance words ≡ (record { task = record { at = at_in words k; bank = bank_in words k }; distance = distance } ∷ waits_from left (k + 1) (distance + gap_of (lst1 words k)) words) = grind (arith, common_steps) in
       subst (Reads (suc left) k distance words) (sym open_up) (Reads-more left k distance words (waits_from left (k + 1) (distance + gap_of (lst1 words k)) words) (omega arith) (reads left (k + 1) (distance + gap_of (lst1 words k)) words))
@@ -145,6 +148,28 @@ reads (suc left) k distance words = elim (cases_eq (at_in words k) 0) [
 reads-all : (words : List ℕ) → Reads 9 0 (distance_of (time3 words)) words (waits_of words)
 unfolding waits_of
 reads-all words = reads 9 0 (distance_of (time3 words)) words
+
+-- how any words are read
+pub record IsRead (words : List ℕ) : Type 0 where
+  pub short : length (waits_of words) ≤ 9
+  pub some : (k : ℕ) → k < length (waits_of words) → 1 ≤ at_in words k
+  pub end : length (waits_of words) < 9 → at_in words (length (waits_of words)) ≡ 0
+  pub first : 0 < length (waits_of words) → (place_in (waits_of words) 0).distance ≡ distance_of (time3 words)
+  pub next : (k : ℕ) → k + 1 < length (waits_of words) → (place_in (waits_of words) (k + 1)).distance ≡ (place_in (waits_of words) k).distance + gap_of (lst1 words k)
+
+pub read_as : (words : List ℕ) → IsRead words
+read_as words =
+    let r : Reads 9 0 (distance_of (time3 words)) words (waits_of words) = reads-all words in
+    record {
+      short = r.short;
+      some = λ k lt. subst (λ (n : ℕ). 1 ≤ at_in words n) (zero_plus k) (r.low k lt);
+      end = λ lt. ap (at_in words) (sym (zero_plus (length (waits_of words)))) ∙ r.end lt;
+      first = λ lt. r.first (omega arith);
+      next = λ k lt. r.next k lt ∙ ap (λ (n : ℕ). (place_in (waits_of words) k).distance + gap_of (lst1 words n)) (zero_plus k);
+    }
+  where
+    zero_plus : (k : ℕ) → 0 + k ≡ k
+    zero_plus k = omega arith
 
 -- words in order carry what is read from them
 pub Carries-lawful : (words : List ℕ) → IsLawfulTable words → Carries words (waits_of words)

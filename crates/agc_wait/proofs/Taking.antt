@@ -1,14 +1,15 @@
 -- The words after the first task is taken out.
-use Rattle.std.proofs.Common.{◌≡◌, ◌≢◌, ℕ, suc, ◌+◌, ◌*◌, ◌<◌, ◌≤◌, ◌==◌, true, cond, List, [], ◌∷◌, length, slice_index, Some, refl, ap, sym, subst, ◌∙◌, inl, inr, arith, add-one}
+use Rattle.std.proofs.Common.{◌-◌, ◌≡◌, ◌≢◌, ℕ, suc, ◌+◌, ◌*◌, ◌<◌, ◌≤◌, ◌==◌, true, cond, List, [], ◌∷◌, length, slice_index, Some, refl, ap, sym, subst, ◌∙◌, inl, inr, arith, add-one}
 use Rattle.std.specs.List.{remove}
 use Rattle.std.proofs.lemmas.Bool.{cases_lt}
 use Rattle.std.proofs.lemmas.List.{get_or_past}
 use Rattle.std.proofs.lemmas.Grind.{common_steps}
+use Rattle.agc_word.specs.Layout as layout
 use Rattle.agc_word.specs.Layout.{OutsideWaitlist}
 use Rattle.agc_plan.specs.declared.request.Task.{Task}
 use Rattle.agc_plan.specs.Tasks.{Waiting}
 use Rattle.agc_wait.specs.Waits.{is_due, due_now}
-use Rattle.agc_wait.specs.Table.{IsLawfulTable, IsTidy, waits_of, time3, lst1, at_in, bank_in, distance_of, gap_of}
+use Rattle.agc_wait.specs.Table.{blank_gap, IsLawfulTable, IsTidy, waits_of, time3, lst1, at_in, bank_in, distance_of, gap_of}
 use Rattle.agc_wait.specs.Writing.{place_in, no_task, counter_at, IsTaken}
 use Rattle.agc_wait.specs.Moving.{moved_up}
 use Rattle.agc_wait.specs.Calls.{Dispatches}
@@ -22,50 +23,50 @@ use Rattle.agc_wait.proofs.Writes.{other_word, same_word, moved_up-in, moved_up-
 
 -- the writes of a dispatch, one after another
 pub record Takes (old e1 e2 e3 e4 e5 new : List ℕ) (t : ℕ) : Type 0 where
-  pub counter : (j : ℕ) → slice_index e1 j ≡ cond (j == 90) t (slice_index old j)
-  pub gaps : (j : ℕ) → slice_index e2 j ≡ moved_up e1 91 98 1 j
-  pub last_gap : (j : ℕ) → slice_index e3 j ≡ cond (j == 98) 24575 (slice_index e2 j)
-  pub pairs : (j : ℕ) → slice_index e4 j ≡ moved_up e3 99 115 2 j
-  pub last_at : (j : ℕ) → slice_index e5 j ≡ cond (j == 115) 0 (slice_index e4 j)
-  pub last_bank : (j : ℕ) → slice_index new j ≡ cond (j == 116) 0 (slice_index e5 j)
+  pub counter : (j : ℕ) → slice_index e1 j ≡ cond (j == layout.time3) t (slice_index old j)
+  pub gaps : (j : ℕ) → slice_index e2 j ≡ moved_up e1 layout.lst1 (layout.lst2 - 1) 1 j
+  pub last_gap : (j : ℕ) → slice_index e3 j ≡ cond (j == (layout.lst2 - 1)) blank_gap (slice_index e2 j)
+  pub pairs : (j : ℕ) → slice_index e4 j ≡ moved_up e3 layout.lst2 (layout.phase_words - 2) 2 j
+  pub last_at : (j : ℕ) → slice_index e5 j ≡ cond (j == (layout.phase_words - 2)) 0 (slice_index e4 j)
+  pub last_bank : (j : ℕ) → slice_index new j ≡ cond (j == (layout.phase_words - 1)) 0 (slice_index e5 j)
 
 module _ (old e1 e2 e3 e4 e5 new : List ℕ) (t : ℕ) (by : Takes old e1 e2 e3 e4 e5 new t) where
-  before_pairs : (j : ℕ) → j < 99 → slice_index new j ≡ slice_index e3 j
+  before_pairs : (j : ℕ) → j < layout.lst2 → slice_index new j ≡ slice_index e3 j
   before_pairs j lt =
-      by.last_bank j ∙ other_word j 116 0 (slice_index e5 j) (λ e. omega arith) ∙ by.last_at j ∙ other_word j 115 0 (slice_index e4 j) (λ e. omega arith)
-      ∙ by.pairs j ∙ moved_up-below e3 99 115 2 j lt
+      by.last_bank j ∙ other_word j (layout.phase_words - 1) 0 (slice_index e5 j) (λ e. omega arith) ∙ by.last_at j ∙ other_word j (layout.phase_words - 2) 0 (slice_index e4 j) (λ e. omega arith)
+      ∙ by.pairs j ∙ moved_up-below e3 layout.lst2 (layout.phase_words - 2) 2 j lt
 
-  taken-gap : (j : ℕ) → 91 ≤ j → j < 98 → slice_index new j ≡ slice_index old (j + 1)
+  taken-gap : (j : ℕ) → layout.lst1 ≤ j → j < (layout.lst2 - 1) → slice_index new j ≡ slice_index old (j + 1)
   taken-gap j le lt =
-      before_pairs j (omega arith) ∙ by.last_gap j ∙ other_word j 98 24575 (slice_index e2 j) (λ e. omega arith) ∙ by.gaps j ∙ moved_up-in e1 91 98 1 j le lt
-      ∙ by.counter (j + 1) ∙ other_word (j + 1) 90 t (slice_index old (j + 1)) (λ e. omega arith)
+      before_pairs j (omega arith) ∙ by.last_gap j ∙ other_word j (layout.lst2 - 1) blank_gap (slice_index e2 j) (λ e. omega arith) ∙ by.gaps j ∙ moved_up-in e1 layout.lst1 (layout.lst2 - 1) 1 j le lt
+      ∙ by.counter (j + 1) ∙ other_word (j + 1) layout.time3 t (slice_index old (j + 1)) (λ e. omega arith)
 
-  taken-pair : (j : ℕ) → 99 ≤ j → j < 115 → slice_index new j ≡ slice_index old (j + 2)
+  taken-pair : (j : ℕ) → layout.lst2 ≤ j → j < (layout.phase_words - 2) → slice_index new j ≡ slice_index old (j + 2)
   taken-pair j le lt =
-      by.last_bank j ∙ other_word j 116 0 (slice_index e5 j) (λ e. omega arith) ∙ by.last_at j ∙ other_word j 115 0 (slice_index e4 j) (λ e. omega arith)
-      ∙ by.pairs j ∙ moved_up-in e3 99 115 2 j le lt
-      ∙ by.last_gap (j + 2) ∙ other_word (j + 2) 98 24575 (slice_index e2 (j + 2)) (λ e. omega arith) ∙ by.gaps (j + 2) ∙ moved_up-above e1 91 98 1 (j + 2) (omega arith)
-      ∙ by.counter (j + 2) ∙ other_word (j + 2) 90 t (slice_index old (j + 2)) (λ e. omega arith)
+      by.last_bank j ∙ other_word j (layout.phase_words - 1) 0 (slice_index e5 j) (λ e. omega arith) ∙ by.last_at j ∙ other_word j (layout.phase_words - 2) 0 (slice_index e4 j) (λ e. omega arith)
+      ∙ by.pairs j ∙ moved_up-in e3 layout.lst2 (layout.phase_words - 2) 2 j le lt
+      ∙ by.last_gap (j + 2) ∙ other_word (j + 2) (layout.lst2 - 1) blank_gap (slice_index e2 (j + 2)) (λ e. omega arith) ∙ by.gaps (j + 2) ∙ moved_up-above e1 layout.lst1 (layout.lst2 - 1) 1 (j + 2) (omega arith)
+      ∙ by.counter (j + 2) ∙ other_word (j + 2) layout.time3 t (slice_index old (j + 2)) (λ e. omega arith)
 
   pub taken-outside : (j : ℕ) → OutsideWaitlist j → slice_index new j ≡ slice_index old j
   taken-outside j (inl lt) =
-      before_pairs j (omega arith) ∙ by.last_gap j ∙ other_word j 98 24575 (slice_index e2 j) (λ e. omega arith) ∙ by.gaps j ∙ moved_up-below e1 91 98 1 j (omega arith)
-      ∙ by.counter j ∙ other_word j 90 t (slice_index old j) (λ e. omega arith)
+      before_pairs j (omega arith) ∙ by.last_gap j ∙ other_word j (layout.lst2 - 1) blank_gap (slice_index e2 j) (λ e. omega arith) ∙ by.gaps j ∙ moved_up-below e1 layout.lst1 (layout.lst2 - 1) 1 j (omega arith)
+      ∙ by.counter j ∙ other_word j layout.time3 t (slice_index old j) (λ e. omega arith)
   taken-outside j (inr le) =
-      by.last_bank j ∙ other_word j 116 0 (slice_index e5 j) (λ e. omega arith) ∙ by.last_at j ∙ other_word j 115 0 (slice_index e4 j) (λ e. omega arith)
-      ∙ by.pairs j ∙ moved_up-above e3 99 115 2 j (omega arith)
-      ∙ by.last_gap j ∙ other_word j 98 24575 (slice_index e2 j) (λ e. omega arith) ∙ by.gaps j ∙ moved_up-above e1 91 98 1 j (omega arith)
-      ∙ by.counter j ∙ other_word j 90 t (slice_index old j) (λ e. omega arith)
+      by.last_bank j ∙ other_word j (layout.phase_words - 1) 0 (slice_index e5 j) (λ e. omega arith) ∙ by.last_at j ∙ other_word j (layout.phase_words - 2) 0 (slice_index e4 j) (λ e. omega arith)
+      ∙ by.pairs j ∙ moved_up-above e3 layout.lst2 (layout.phase_words - 2) 2 j (omega arith)
+      ∙ by.last_gap j ∙ other_word j (layout.lst2 - 1) blank_gap (slice_index e2 j) (λ e. omega arith) ∙ by.gaps j ∙ moved_up-above e1 layout.lst1 (layout.lst2 - 1) 1 j (omega arith)
+      ∙ by.counter j ∙ other_word j layout.time3 t (slice_index old j) (λ e. omega arith)
 
   pub taken-is : t ≡ cond (at_in old 1 == 0) 0 (counter_at (gap_of (lst1 old 0))) → IsTaken old new
   taken-is is = record {
-    counter = before_pairs 90 (omega arith) ∙ by.last_gap 90 ∙ by.gaps 90 ∙ by.counter 90 ∙ is;
-    gap = λ k lt. taken-gap (91 + k) (omega arith) (omega arith) ∙ ap (slice_index old) (omega arith);
-    last_gap = before_pairs 98 (omega arith) ∙ by.last_gap 98;
-    at = λ k lt. taken-pair (99 + 2 * k) (omega arith) (omega arith) ∙ ap (slice_index old) (omega arith);
-    last_at = by.last_bank 115 ∙ by.last_at 115;
-    bank = λ k lt. taken-pair (100 + 2 * k) (omega arith) (omega arith) ∙ ap (slice_index old) (omega arith);
-    last_bank = by.last_bank 116;
+    counter = before_pairs layout.time3 (omega arith) ∙ by.last_gap layout.time3 ∙ by.gaps layout.time3 ∙ by.counter layout.time3 ∙ is;
+    gap = λ k lt. taken-gap (layout.lst1 + k) (omega arith) (omega arith) ∙ ap (slice_index old) (omega arith);
+    last_gap = before_pairs (layout.lst2 - 1) (omega arith) ∙ by.last_gap (layout.lst2 - 1);
+    at = λ k lt. taken-pair (layout.lst2 + 2 * k) (omega arith) (omega arith) ∙ ap (slice_index old) (omega arith);
+    last_at = by.last_bank (layout.phase_words - 2) ∙ by.last_at (layout.phase_words - 2);
+    bank = λ k lt. taken-pair (layout.lst2 + 1 + 2 * k) (omega arith) (omega arith) ∙ ap (slice_index old) (omega arith);
+    last_bank = by.last_bank (layout.phase_words - 1);
   }
 
 place_in-suc : (w : Waiting) (ws : List Waiting) (k : ℕ) → place_in (w ∷ ws) (k + 1) ≡ place_in ws k
@@ -78,15 +79,15 @@ Carries-taken old new w ws carries now taken =
       word = at_each_place (λ i. slice_index new i < 32768)
           (let c : time3 new < 16384 = below in omega arith)
           (λ k lt. elim (cases_lt k 7) [
-            | inl more ↦ subst (λ (n : ℕ). n < 32768) (sym (taken.gap k more)) (carries.word (91 + (k + 1)) (omega arith, omega arith))
-            | inr end ↦ let is : k ≡ 7 = omega arith in let last : lst1 new k ≡ 24575 = ap (lst1 new) is ∙ taken.last_gap in omega arith
+            | inl more ↦ subst (λ (n : ℕ). n < 32768) (sym (taken.gap k more)) (carries.word (layout.lst1 + (k + 1)) (omega arith, omega arith))
+            | inr end ↦ let is : k ≡ 7 = omega arith in let last : lst1 new k ≡ blank_gap = ap (lst1 new) is ∙ taken.last_gap in omega arith
           ])
           (λ k lt. elim (cases_lt k 8) [
-            | inl more ↦ subst (λ (n : ℕ). n < 32768) (sym (taken.at k more)) (carries.word (99 + 2 * (k + 1)) (omega arith, omega arith))
+            | inl more ↦ subst (λ (n : ℕ). n < 32768) (sym (taken.at k more)) (carries.word (layout.lst2 + 2 * (k + 1)) (omega arith, omega arith))
             | inr end ↦ let is : k ≡ 8 = omega arith in let last : at_in new k ≡ 0 = ap (at_in new) is ∙ taken.last_at in omega arith
           ])
           (λ k lt. elim (cases_lt k 8) [
-            | inl more ↦ subst (λ (n : ℕ). n < 32768) (sym (taken.bank k more)) (carries.word (100 + 2 * (k + 1)) (omega arith, omega arith))
+            | inl more ↦ subst (λ (n : ℕ). n < 32768) (sym (taken.bank k more)) (carries.word (layout.lst2 + 1 + 2 * (k + 1)) (omega arith, omega arith))
             | inr end ↦ let is : k ≡ 8 = omega arith in let last : bank_in new k ≡ 0 = ap (bank_in new) is ∙ taken.last_bank in omega arith
           ]);
       nine = omega arith;
@@ -158,7 +159,7 @@ IsTidy-taken old new taken tidy k lt e = elim (cases_lt k 7) [
   | inl more ↦ tidy (k + 1) (omega arith) (sym (taken.gap k more) ∙ e)
   | inr end ↦
       let is : k ≡ 7 = omega arith in
-      let last : lst1 new k ≡ 24575 = ap (lst1 new) is ∙ taken.last_gap in omega arith
+      let last : lst1 new k ≡ blank_gap = ap (lst1 new) is ∙ taken.last_gap in omega arith
 ]
 
 -- the first task is gone from the table

@@ -13,14 +13,16 @@ ShownAgenda words = (agenda : Agenda) × StandsFor (waits_of words) agenda
 
 -- whatever agenda the old words stand for, the new ones stand for this change of it
 abbrev pub Becomes : (Agenda → Agenda) → List ℕ → List ℕ → Type 0
-Becomes change old new = (agenda : Agenda) → StandsFor (waits_of old) agenda → StandsFor (waits_of new) (change agenda)
+Becomes change old new =
+    (agenda : Agenda) → StandsFor (waits_of old) agenda → StandsFor (waits_of new) (change agenda)
 
 -- a task is due in this agenda
 abbrev pub HasDue : Agenda → Type 0
 HasDue agenda = IsSome (first_due agenda.time agenda.tasks)
 
 -- a task is listed, or not accepted where nine wait
-pub record Lists (delay : ℕ) (task : Task) (old : List ℕ) (accepted : Bool) (new : List ℕ) : Type 0 where
+pub record Lists (delay : ℕ) (task : Task) (old : List ℕ) (accepted : Bool) (new : List ℕ)
+    : Type 0 where
   pub shown : ShownAgenda old
   pub room : (agenda : Agenda) → StandsFor (waits_of old) agenda → accepted ≡ has_room agenda
   pub listed : Becomes (listed_if_room delay task) old new
@@ -35,7 +37,8 @@ pub record Lists (delay : ℕ) (task : Task) (old : List ℕ) (accepted : Bool) 
 pub record Counts (old : List ℕ) (answer : Bool) (new : List ℕ) : Type 0 where
   pub shown : ShownAgenda old
   pub counted : Becomes later old new
-  pub due : (agenda : Agenda) → StandsFor (waits_of old) agenda → IsTrue answer ↔ HasDue (later agenda)
+  pub due :
+      (agenda : Agenda) → StandsFor (waits_of old) agenda → IsTrue answer ↔ HasDue (later agenda)
   pub value : answer ≡ is_due (waits_of new)
   pub few_due : due_now (waits_of new) ≤ 9
   pub lawful : IsLawfulTable new
@@ -46,7 +49,9 @@ pub record Counts (old : List ℕ) (answer : Bool) (new : List ℕ) : Type 0 whe
 -- of the tasks that are due the earliest arrival is taken out
 pub record Dispatches (old : List ℕ) (task : Task) (new : List ℕ) : Type 0 where
   pub shown : ShownAgenda old
-  pub first : (agenda : Agenda) → StandsFor (waits_of old) agenda → first_due agenda.time agenda.tasks ≡ Some task
+  pub first :
+      (agenda : Agenda) → StandsFor (waits_of old) agenda
+      → first_due agenda.time agenda.tasks ≡ Some task
   pub taken : Becomes dispatched old new
   pub fewer_due : due_now (waits_of old) ≡ due_now (waits_of new) + 1
   pub lawful : IsLawfulTable new

@@ -3,4 +3,5 @@ pub mod Table
 pub mod Writing
 pub mod Calls
 pub mod Moving
+pub mod Parts
 pub mod Runs

@@ -7,12 +7,14 @@ use Rattle.agc_wait.specs.Writing.{place_in}
 
 -- word j, once the words of these places came up from so many places further on
 abbrev pub moved_up : List ℕ → ℕ → ℕ → ℕ → ℕ → ℕ
-moved_up words from to by j = if nat_le from j && nat_lt j to then slice_index words (j + by) else slice_index words j
+moved_up words from to by j =
+    if nat_le from j && nat_lt j to then slice_index words (j + by) else slice_index words j
 
 -- word j, once the words of these places went down by so many
 abbrev pub moved_down : List ℕ → ℕ → ℕ → ℕ → ℕ → ℕ
 moved_down words from to by j =
-    if nat_le (from + by) j && nat_lt j (to + by) then slice_index words (j - by) else slice_index words j
+    if nat_le (from + by) j && nat_lt j (to + by) then slice_index words (j - by)
+    else slice_index words j
 
 -- word j, once these places were filled
 abbrev pub filled : List ℕ → ℕ → ℕ → ℕ → ℕ → ℕ
@@ -29,10 +31,13 @@ task_put words place count at bank j =
 abbrev pub gap_put : List ℕ → ℕ → ℕ → ℕ → ℕ → ℕ
 gap_put words place count word j =
     if nat_lt place count
-    then (if j == layout.lst1 + place then word else moved_down words (layout.lst1 + place) (layout.lst1 + count - 1) 1 j)
+    then (
+    if j == layout.lst1 + place then word
+    else moved_down words (layout.lst1 + place) (layout.lst1 + count - 1) 1 j)
     else slice_index words j
 
--- the place for a task of this distance, how far the task before it is, and the task that stands there, if one does
+-- the place for a task of this distance, how far the task before it is, and the task that stands
+-- there, if one does
 pub record IsSpot (waits : List Waiting) (distance place before after : ℕ) : Type 0 where
   pub place_is : place ≡ place_for distance waits
   pub before_is : (k : ℕ) → place ≡ k + 1 → before ≡ (place_in waits k).distance

@@ -1,4 +1,4 @@
--- How the words of the Waitlist are read: TIME3, the eight gaps of LST1, and the nine pairs of LST2.
+-- How the words of the Waitlist are read: TIME3, eight gaps in LST1, nine pairs in LST2.
 use Rattle.std.specs.Prelude.{◌≡◌, ◌⊎◌, ℕ, zero, suc, ◌+◌, ◌-◌, ◌*◌, ◌<◌, ◌≤◌, ◌==◌, nat_lt, if◌then◌else◌, List, [], ◌∷◌, length, slice_index}
 use Rattle.std.specs.List.{All}
 use Rattle.agc_word.specs.Layout as layout
@@ -24,7 +24,8 @@ bank_in words k = slice_index words (layout.lst2 + 1 + 2 * k)
 abbrev pub distance_of : ℕ → ℕ
 distance_of counter = if counter == 0 then 0 else 16384 - counter
 
--- how much further the next task is, by a word of LST1: one less the word's value, and either zero has value zero
+-- how much further the next task is, by a word of LST1: one less the word's value, which is zero
+-- for either zero
 abbrev pub gap_of : ℕ → ℕ
 gap_of word = if nat_lt word 16384 then 1 - word else 32768 - word
 
@@ -36,7 +37,8 @@ waits_from (suc left) k distance words =
     else (record { task = record { at = at_in words k; bank = bank_in words k }; distance = distance }
     ∷ waits_from left (k + 1) (distance + gap_of (lst1 words k)) words)
 
--- the tasks that are read from the words, up to the first empty place: which places are occupied is read from LST2 alone
+-- the tasks that are read from the words, up to the first empty place: which places are occupied
+-- is read from LST2 alone
 unfoldable pub waits_of : List ℕ → List Waiting
 waits_of words = waits_from 9 0 (distance_of (time3 words)) words
 
@@ -48,7 +50,8 @@ InTable i = (layout.time3 ≤ i) × (i < layout.phase_words)
 abbrev pub blank_gap : ℕ
 blank_gap = 0o57777
 
--- the table is in order: no word has more than fifteen bits, what is read is within its range, and all else is blank
+-- the table is in order: no word has more than fifteen bits, what is read is within its range, and
+-- all else is blank
 pub record IsLawfulTable (words : List ℕ) : Type 0 where
   pub word : (i : ℕ) → InTable i → slice_index words i < 32768
   pub counter : time3 words < 16384

@@ -29,9 +29,11 @@ counter_at distance = if distance == 0 then 0 else 16384 - distance
 -- the gap from a new task to the one that stands at its place, if one does
 abbrev pub gap_to_next : List ℕ → ℕ → ℕ → ℕ
 gap_to_next words place delay =
-    if nat_lt place (length (waits_of words)) then gap_word (distance_in words place - delay) else blank_gap
+    if nat_lt place (length (waits_of words)) then gap_word (distance_in words place - delay)
+    else blank_gap
 
--- the table after a task was put into a place: what stood there and behind moved down by one, and both gaps beside it are new
+-- the table after a task was put into a place: what stood there and behind moved down by one, and
+-- both gaps beside it are new
 pub record IsPut (place delay : ℕ) (task : Task) (old new : List ℕ) : Type 0 where
   pub counter : time3 new ≡ (if place == 0 then counter_at delay else time3 old)
   pub gap_kept : (k : ℕ) → k + 1 < place → lst1 new k ≡ lst1 old k
@@ -45,7 +47,8 @@ pub record IsPut (place delay : ℕ) (task : Task) (old new : List ℕ) : Type 0
   pub bank : bank_in new place ≡ task.bank
   pub bank_moved : (k : ℕ) → place ≤ k → k < 8 → bank_in new (k + 1) ≡ bank_in old k
 
--- the table after the first task was taken out: all others moved up by one, and left 57777 and 00000 00000 behind
+-- the table after the first task was taken out: all others moved up by one, and left 57777 and
+-- 00000 00000 behind
 pub record IsTaken (old new : List ℕ) : Type 0 where
   pub counter : time3 new ≡ (if at_in old 1 == 0 then 0 else counter_at (gap_of (lst1 old 0)))
   pub gap : (k : ℕ) → k < 7 → lst1 new k ≡ lst1 old (k + 1)
@@ -57,7 +60,9 @@ pub record IsTaken (old new : List ℕ) : Type 0 where
 
 -- TIME3 after a count: it stands still where no task waits, and overflows to 00000
 abbrev pub counted : List ℕ → ℕ
-counted words = if at_in words 0 == 0 then time3 words else (if time3 words == 0o37777 then 0 else time3 words + 1)
+counted words =
+    if at_in words 0 == 0 then time3 words
+    else (if time3 words == 0o37777 then 0 else time3 words + 1)
 
 -- the table after a count: TIME3 alone changed
 pub record IsCounted (old new : List ℕ) : Type 0 where

@@ -12,7 +12,7 @@ pub(crate) const TASKS: usize = 9;
 pub(crate) const NO_GAP: u16 = 0o57777;
 
 /// How many centiseconds a full TIME3 counts.
-const FULL: u16 = 16384;
+pub(crate) const FULL_COUNT: u16 = 16384;
 
 /// The word of LST1 for a gap.
 pub(crate) fn gap_word(gap: u16) -> Word
@@ -34,7 +34,7 @@ pub(crate) fn gap_of(word: Word) -> u16
     let bits = word.bits();
     if bits == 0 {
         1
-    } else if bits < FULL {
+    } else if bits < FULL_COUNT {
         0
     } else {
         32768 - bits
@@ -49,7 +49,7 @@ pub(crate) fn counter_at(distance: u16) -> Word
     if distance == 0 {
         Word::zero()
     } else {
-        Word::of_bits(FULL - distance)
+        Word::of_bits(FULL_COUNT - distance)
     }
 }
 
@@ -59,5 +59,5 @@ pub(crate) fn distance_of(counter: Word) -> u16
     ensures { result ≡ distance_of counter }
 {
     let bits = counter.bits();
-    if bits == 0 { 0 } else { FULL - bits }
+    if bits == 0 { 0 } else { FULL_COUNT - bits }
 }

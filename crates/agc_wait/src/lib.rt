@@ -2,10 +2,14 @@
 #![tactic(auto)]
 
 mod coding;
+mod lawful;
 mod laws;
 mod moving;
 mod spot;
 mod table;
+#[cfg(test)]
+mod tests;
 
+pub use lawful::is_lawful;
 pub use laws::{earliest_arrival_is_first_in_order, one_table_of_an_agenda, tasks_fire_when_due};
 pub use table::{Full, clear, count_time3, dispatch, due, list};

@@ -1,18 +1,27 @@
 // The place for a new task.
-ghost use Rattle.std.specs.Prelude.{◌≡◌, ◌<◌, ◌≤◌, ℕ, length, slice_index};
-ghost use Rattle.agc_wait.specs.Table.{waits_of, IsLawfulTable};
+ghost use Rattle.std.specs.Prelude.{◌≡◌, ◌↔◌, IsTrue, ◌<◌, ◌≤◌, ℕ, length, slice_index};
+ghost use Rattle.agc_wait.specs.Table.{at_in, waits_of, IsLawfulTable};
 ghost use Rattle.agc_wait.specs.Moving.{IsSpot};
 
 use crate::coding::{TASKS, distance_of, gap_of};
 use agc_word::Erasable;
 use agc_word::layout::{LST1, LST2, TIME3};
 
-/// A place for a new task: how far the task before it is from now, and the one that stands there, if one does.
+/// A place for a new task: how far the task before it is from now, and the one that stands there, if
+/// one does.
 #[derive(Clone, Copy)]
 pub(crate) struct Spot {
     pub(crate) place: usize,
     pub(crate) before: u16,
     pub(crate) after: u16,
+}
+
+/// Whether a task stands in a place: whether its address in LST2 isn't 00000.
+fn is_occupied(e: &Erasable, place: usize) -> bool
+    requires { place ≤ 8 }
+    ensures { IsTrue result ↔ (1 ≤ at_in e.now place) }
+{
+    e.get(LST2 + 2 * place).bits() != 0
 }
 
 /// The place after all tasks that are due no later than this.
@@ -24,7 +33,7 @@ pub(crate) fn spot_for(e: &Erasable, distance: u16) -> Spot
     let mut before = 0;
     let mut here = distance_of(e.get(TIME3));
     for place in 0..TASKS {
-        if e.get(LST2 + 2 * place).bits() == 0 {
+        if !is_occupied(e, place) {
             return Spot {
                 place,
                 before,
@@ -46,13 +55,13 @@ pub(crate) fn spot_for(e: &Erasable, distance: u16) -> Spot
 
 /// How many tasks wait, of which at least so many are known to.
 pub(crate) fn count_tasks(e: &Erasable, known: usize) -> usize
-    requires lawful { IsLawfulTable e.now }
-    requires known { known ≤ length (waits_of e.now) }
-    ensures { result ≡ length (waits_of e.now) }
+    requires { known ≤ length (waits_of e.now) }
+    ensures count { result ≡ length (waits_of e.now) }
+    ensures nine { result ≤ 9 }
 {
-    for place in known..TASKS {
-        if e.get(LST2 + 2 * place).bits() == 0 {
-            return place;
+    for k in known..TASKS {
+        if !is_occupied(e, k) {
+            return k;
         }
     }
     TASKS

@@ -20,7 +20,8 @@ use thiserror::Error;
 #[error("nine tasks wait already")]
 pub struct Full;
 
-/// Takes all tasks out, from any words: TIME3 and LST2 are 00000, LST1 is 57777. Source: the listings' WAITLIST section.
+/// Takes all tasks out, from any words: TIME3 and LST2 are 00000, LST1 is 57777. Source: the
+/// listings' WAITLIST section.
 pub fn clear(e: &mut Erasable)
     ensures { Clears e.old e.new }
 {
@@ -29,7 +30,8 @@ pub fn clear(e: &mut Erasable)
     fill(e, LST2, PHASE_WORDS, Word::zero());
 }
 
-/// Whether a task is due now: whether one waits and TIME3 is 00000. Source: the listings' WAITLIST section.
+/// Whether a task is due now: whether one waits and TIME3 is 00000. Source: the listings' WAITLIST
+/// section.
 pub fn due(e: &Erasable) -> bool
     requires { IsLawfulTable e.now }
     ensures { TellsDue e.now result }
@@ -37,8 +39,8 @@ pub fn due(e: &Erasable) -> bool
     e.get(LST2).bits() != 0 && e.get(TIME3).bits() == 0
 }
 
-/// A centisecond passes; no task may be due before it. Answers whether one is due now: whether TIME3 overflowed. It
-/// stands still where no task waits. Source: the listings' WAITLIST section.
+/// A centisecond passes; no task may be due before it. Answers whether one is due now: whether TIME3
+/// overflowed. It stands still where no task waits. Source: the listings' WAITLIST section.
 pub fn count_time3(e: &mut Erasable) -> bool
     requires lawful { IsLawfulTable e.old }
     requires none_due { is_due (waits_of e.old) ≡ false }
@@ -57,7 +59,8 @@ pub fn count_time3(e: &mut Erasable) -> bool
     }
 }
 
-/// TIME3 once the first task is gone: the second task's address word, and the gap to it, say how far that is.
+/// TIME3 once the first task is gone: the second task's address word, and the gap to it, say how far
+/// that is.
 fn next_counter(second: Word, gap: Word) -> Word
     requires { 1 ≤ second → gap_of gap ≤ 16250 }
     ensures { result ≡ (if second == 0 then 0 else counter_at (gap_of gap)) }
@@ -84,8 +87,9 @@ fn first_task(e: &Erasable) -> Task
     }
 }
 
-/// Takes out the first task, which must be due: of those due now the earliest arrival. The others move up by one place,
-/// and leave 57777 and 00000 00000 behind. Source: the listings' WAITLIST section.
+/// Takes out the first task, which must be due: of those due now the earliest arrival. The others
+/// move up by one place, and leave 57777 and 00000 00000 behind. Source: the listings' WAITLIST
+/// section.
 pub fn dispatch(e: &mut Erasable) -> Task
     requires lawful { IsLawfulTable e.old }
     requires due { is_due (waits_of e.old) ≡ true }
@@ -117,12 +121,14 @@ fn put_task(e: &mut Erasable, place: usize, count: usize, task: Task)
     e.set(LST2 + 2 * place + 1, Word::of_bits(task.bank.bits()));
 }
 
-/// Puts the gap behind a place, if a task is there, and the gaps from there on, between so many tasks, down by one.
+/// Puts the gap behind a place, if a task is there, and the gaps from there on, between so many
+/// tasks, down by one.
 fn put_gap(e: &mut Erasable, place: usize, count: usize, distance: u16, after: u16)
     requires room { count ≤ 8 }
     requires rises { place < count → (distance ≤ after) × (after ≤ 16250) }
     ensures all { length e.new ≡ length e.old }
-    ensures put { (j : ℕ) → slice_index e.new j ≡ gap_put e.old place count (gap_word (after - distance)) j }
+    ensures put { (j : ℕ) → slice_index e.new j
+        ≡ gap_put e.old place count (gap_word (after - distance)) j }
 {
     if place < count {
         move_down(e, LST1 + place, LST1 + count - 1, 1);
@@ -143,8 +149,9 @@ fn word_before(place: usize, before: u16, distance: u16) -> Word
     }
 }
 
-/// Lists a task, due this many centiseconds from now: after all that are due no later. It shortens the gap behind it, and
-/// the words of the tasks behind it move down by one place. Source: the listings' WAITLIST section.
+/// Lists a task, due this many centiseconds from now: after all that are due no later. It shortens
+/// the gap behind it, and the words of the tasks behind it move down by one place. Source: the
+/// listings' WAITLIST section.
 ///
 /// # Errors
 ///

@@ -1,30 +1,32 @@
-use Rattle.std.proofs.Common.{◌≡◌, ◌≢◌, ◌≤◌, ◌∙◌, ap, arith}
-use Rattle.std.proofs.lemmas.Grind.{common_steps}
+use Rattle.std.proofs.Common.{◌≡◌, ◌≢◌, ◌≤◌, ◌∙◌, refl, ap, arith}
 use Rattle.agc_wait.specs.Table.{waits_of, at_in, gap_of, lst1, time3, distance_of}
 use Rattle.agc_wait.proofs.Tables.{Carries-lawful}
-use Rattle.agc_wait.proofs.Spots.{walked-start, walked-end, walked-here, walked-more, walked-near}
+use Rattle.agc_wait.proofs.Spots.{none_there, walked-start, walked-end, walked-here, walked-more, walked-near}
 use Rattle.agc_wait.proofs.spot.spot_for.Goals as goal
 
-pub returns-then-bits-eq0 : goal.returns-then-bits-eq0
-returns-then-bits-eq0 c =
-    let e : at_in c.args.e.now c.loop-place.place ≡ 0 = grind (arith, common_steps) in
+pub returns-then-not-is_occupied : goal.returns-then-not-is_occupied
+returns-then-not-is_occupied c =
+    let e : at_in c.args.e.now c.loop-place.place ≡ 0 = none_there (at_in c.args.e.now c.loop-place.place) c.if-not-is_occupied.ensures.1 in
     walked-end c.args.e.now (waits_of c.args.e.now) c.args.distance c.loop-place.place c.loop-place.before c.loop-place.here (Carries-lawful c.args.e.now c.requires.lawful) c.loop-place.invariant c.loop-place-test.true e
 
 pub returns-then-distance-here : goal.returns-then-distance-here
 returns-then-distance-here c =
-    let ne : at_in c.args.e.now c.loop-place.place ≢ 0 = grind (arith, common_steps) in
+    let there : 1 ≤ at_in c.args.e.now c.loop-place.place = c.if-not-is_occupied.ensures.0 refl in
+    let ne : at_in c.args.e.now c.loop-place.place ≢ 0 = λ e. omega arith in
     walked-here c.args.e.now (waits_of c.args.e.now) c.args.distance c.loop-place.place c.loop-place.before c.loop-place.here (Carries-lawful c.args.e.now c.requires.lawful) c.loop-place.invariant c.loop-place-test.true ne c.if-distance-here.true
 
 pub overflow_add-here : goal.overflow_add-here
 overflow_add-here c =
-    let ne : at_in c.args.e.now c.loop-place.place ≢ 0 = grind (arith, common_steps) in
+    let there : 1 ≤ at_in c.args.e.now c.loop-place.place = c.if-not-is_occupied.ensures.0 refl in
+    let ne : at_in c.args.e.now c.loop-place.place ≢ 0 = λ e. omega arith in
     let near : c.loop-place.here ≤ 16250 = walked-near c.args.e.now (waits_of c.args.e.now) c.args.distance c.loop-place.place c.loop-place.before c.loop-place.here (Carries-lawful c.args.e.now c.requires.lawful) c.loop-place.invariant c.loop-place-test.true ne in
     omega arith
 
 pub loop-place-preserved : goal.loop-place-preserved
 loop-place-preserved c =
-    let ne : at_in c.args.e.now c.loop-place.place ≢ 0 = grind (arith, common_steps) in
-    let gap : c.gap_of-here.result ≡ gap_of (lst1 c.args.e.now c.loop-place.place) = c.gap_of-here.ensures.value ∙ ap gap_of c.get-in-loop-place-2.ensures.value in
+    let there : 1 ≤ at_in c.args.e.now c.loop-place.place = c.if-not-is_occupied.ensures.0 refl in
+    let ne : at_in c.args.e.now c.loop-place.place ≢ 0 = λ e. omega arith in
+    let gap : c.gap_of-here.result ≡ gap_of (lst1 c.args.e.now c.loop-place.place) = c.gap_of-here.ensures.value ∙ ap gap_of c.get-in-loop-place.ensures.value in
     rw gap (walked-more c.args.e.now (waits_of c.args.e.now) c.args.distance c.loop-place.place c.loop-place.before c.loop-place.here (Carries-lawful c.args.e.now c.requires.lawful) c.loop-place.invariant c.loop-place-test.true ne c.if-distance-here.false)
 
 pub loop-place-init : goal.loop-place-init

@@ -1,4 +1,5 @@
-use Rattle.std.proofs.Common.{◌≡◌, ◌≤◌, ◌∙◌, ap, sym, arith, refl, length}
+use Rattle.std.proofs.Common.{◌-◌, ◌≡◌, ◌≤◌, ◌∙◌, ap, sym, arith, refl, length}
+use Rattle.agc_word.specs.Layout as layout
 use Rattle.agc_wait.specs.Table.{waits_of, at_in, lst1, gap_of}
 use Rattle.agc_wait.proofs.Tables.{Carries-lawful}
 use Rattle.agc_wait.proofs.Taking.{IsFirstDue, Takes, first-due, dispatches}
@@ -20,12 +21,12 @@ next_counter-counter-requires c some =
 
 by : (c : After-set-4) → Takes c.args.e.now c.set.new.self c.move_up.new.e c.set-2.new.self c.move_up-2.new.e c.set-3.new.self c.set-4.new.self c.next_counter-counter.result
 by c = record {
-  counter = after_set _ _ 90 _ _ c.set.ensures.value refl c.set.ensures.all (omega arith);
+  counter = after_set _ _ layout.time3 _ _ c.set.ensures.value refl c.set.ensures.all (omega arith);
   gaps = c.move_up.ensures.moved;
-  last_gap = after_set _ _ 98 _ _ c.set-2.ensures.value c.of_bits.ensures c.set-2.ensures.all (omega arith);
+  last_gap = after_set _ _ (layout.lst2 - 1) _ _ c.set-2.ensures.value c.of_bits.ensures c.set-2.ensures.all (omega arith);
   pairs = c.move_up-2.ensures.moved;
-  last_at = after_set _ _ 115 _ _ c.set-3.ensures.value c.zero.ensures c.set-3.ensures.all (omega arith);
-  last_bank = after_set _ _ 116 _ _ c.set-4.ensures.value c.zero-2.ensures c.set-4.ensures.all (omega arith);
+  last_at = after_set _ _ (layout.phase_words - 2) _ _ c.set-3.ensures.value c.zero.ensures c.set-3.ensures.all (omega arith);
+  last_bank = after_set _ _ (layout.phase_words - 1) _ _ c.set-4.ensures.value c.zero-2.ensures c.set-4.ensures.all (omega arith);
 }
 
 pub returns : goal.returns
