@@ -1,6 +1,6 @@
 -- What a request does before an era begins with it, and an action of the plan, by what they do to
 -- jobs and tasks.
-use Rattle.std.proofs.Common.{◌≡◌, ℕ, List, Option, None, refl, ap, sym, subst, ◌∙◌}
+use Rattle.std.proofs.Common.{◌≡◌, ℕ, List, Option, refl, ap, sym, subst, ◌∙◌}
 use Rattle.agc_plan.specs.declared.reply.Alarm.{Alarm}
 use Rattle.agc_plan.specs.declared.reply.Reply.{Reply}
 use Rattle.agc_plan.specs.declared.request.Action.{Action}
@@ -11,7 +11,7 @@ use Rattle.agc_plan.specs.Plans.{Planned}
 use Rattle.agc_plan.specs.Seats.{places_acted}
 use Rattle.agc_plan.specs.Steps.{Plain, Stepped, Acted, Did, acted, with_work, done, did_of, alarm_of}
 use Rattle.agc_phase.specs.Image.{base_of, Becomes}
-use Rattle.agc_machine.specs.Stands.{IsSound, Works, Changes, SameDue, Performs, places_done, Steps, Acts, StandsFor}
+use Rattle.agc_machine.specs.Stands.{IsSound, Works, SameDue, Performs, places_done, Steps, Acts}
 use Rattle.agc_machine.proofs.Frames.{sound_by_phases, stands_by_phases}
 
 -- a request on jobs and tasks

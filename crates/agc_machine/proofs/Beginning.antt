@@ -1,12 +1,11 @@
 -- Words whose core sets and Waitlist were cleared.
-use Rattle.std.proofs.Common.{◌≡◌, ℕ, ◌+◌, ◌-◌, ◌/◌, ◌<◌, List, [], ◌∷◌, Option, length, drop, get_or, replicate, add-one, drop-cons, refl, ap, sym, ◌∙◌}
+use Rattle.std.proofs.Common.{◌≡◌, ℕ, ◌+◌, ◌-◌, ◌/◌, ◌<◌, List, ◌∷◌, Option, length, drop, get_or, replicate, add-one, drop-cons, refl, ap, sym, ◌∙◌}
 use Rattle.agc_word.specs.Layout.{sets_in, others_size, set_size}
 use Rattle.agc_plan.specs.Begins.{Begins}
 use Rattle.agc_plan.specs.Eras.{Work, no_work, active, begun_from, group_begun}
 use Rattle.agc_plan.specs.Jobs.{no_jobs}
 use Rattle.agc_plan.specs.Seats.{no_places, places_from}
 use Rattle.agc_exec.specs.Calls as cores
-use Rattle.agc_exec.specs.Image.{jobs_in, entries_in}
 use Rattle.agc_exec.proofs.Agreeing.{kept_by_waitlist, jobs_in-agrees, entries_in-agrees, IsTidy-agrees, IsLawfulWords-agrees}
 use Rattle.agc_wait.specs.Calls as table
 use Rattle.agc_wait.specs.Table.{waits_of}

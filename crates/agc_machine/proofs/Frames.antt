@@ -1,18 +1,17 @@
 -- What one crate's calls keep of the other tables, and what they do to jobs and tasks.
-use Rattle.std.proofs.Common.{◌≡◌, ℕ, ◌<◌, ◌≤◌, if◌then◌else◌, Bool, false, nat_lt, List, Option, refl, ap, sym, subst, ◌∙◌, inl, inr, arith}
+use Rattle.std.proofs.Common.{◌≡◌, ℕ, if◌then◌else◌, Bool, false, nat_lt, List, refl, ap, sym, subst, ◌∙◌, inl, inr, arith}
 use Rattle.std.proofs.lemmas.Grind.{common_steps}
-use Rattle.agc_word.specs.Layout.{Keeps, OutsideCores, OutsideWaitlist, OutsidePhases, InsideCores}
+use Rattle.agc_word.specs.Layout.{Keeps, OutsideCores, OutsideWaitlist, OutsidePhases}
 use Rattle.agc_word.proofs.Keeping.{kept_also}
 use Rattle.agc_plan.specs.declared.reply.Alarm.TheVariants.{A1203}
 use Rattle.agc_plan.specs.declared.reply.Reply.{Reply}
 use Rattle.agc_plan.specs.declared.reply.Reply.TheVariants.{Listed, Alarmed}
 use Rattle.agc_plan.specs.declared.request.Task.{Task}
-use Rattle.agc_plan.specs.Base.{Base}
 use Rattle.agc_plan.specs.Eras.{Work}
 use Rattle.agc_plan.specs.Jobs.{Jobs, Outcome, established}
 use Rattle.agc_plan.specs.Places.{placed_new, placed_end, fronted}
 use Rattle.agc_plan.specs.Seats.{seated_new}
-use Rattle.agc_plan.specs.Steps.{Acted, with_jobs, with_listed}
+use Rattle.agc_plan.specs.Steps.{with_jobs, with_listed}
 use Rattle.agc_plan.specs.Tasks.{Agenda, Waiting}
 use Rattle.agc_plan.specs.Tasks as tasks
 use Rattle.agc_exec.specs.Calls.{Does}

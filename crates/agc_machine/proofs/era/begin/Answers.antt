@@ -1,5 +1,4 @@
-use Rattle.std.proofs.Common.{List, ℕ, sym, ◌∙◌, subst}
-use Rattle.agc_plan.specs.Base.{Base}
+use Rattle.std.proofs.Common.{List, ℕ, ◌∙◌, subst}
 use Rattle.agc_plan.specs.Eras.{begun, no_work}
 use Rattle.agc_plan.specs.Seats.{places_from, no_places}
 use Rattle.agc_machine.specs.Stands.{Stands}

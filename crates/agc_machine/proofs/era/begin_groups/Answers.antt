@@ -1,4 +1,4 @@
-use Rattle.std.proofs.Common.{◌≡◌, ℕ, ◌+◌, sym, ◌∙◌}
+use Rattle.std.proofs.Common.{◌≡◌, ◌+◌, sym, ◌∙◌}
 use Rattle.agc_plan.specs.Eras.{group_begun}
 use Rattle.agc_machine.specs.Stands.{places_group}
 use Rattle.agc_machine.proofs.Beginning.{one_more}

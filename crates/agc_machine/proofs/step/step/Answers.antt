@@ -1,4 +1,4 @@
-use Rattle.std.proofs.Common.{List, ℕ, sym, ◌∙◌, subst}
+use Rattle.std.proofs.Common.{sym, ◌∙◌, subst}
 use Rattle.agc_plan.specs.Base.{Base}
 use Rattle.agc_plan.specs.Eras.{begun}
 use Rattle.agc_plan.specs.Seats.{era_places}

@@ -1,10 +1,7 @@
-use Rattle.std.proofs.Common.{◌≡◌, ◌+◌, ◌≤◌, [], List, Some, None, length, arith, refl, sym, ◌∙◌, subst}
+use Rattle.std.proofs.Common.{[], List, Some, None, arith, refl, sym, ◌∙◌, subst}
 use Rattle.std.proofs.lemmas.List.{length-append}
 use Rattle.agc_plan.specs.declared.request.Task.{Task}
-use Rattle.agc_plan.specs.Seats.{seated_fired}
 use Rattle.agc_plan.specs.Steps.{fire_all}
-use Rattle.agc_wait.specs.Table.{waits_of}
-use Rattle.agc_wait.specs.Waits.{due_now}
 use Rattle.agc_machine.specs.Stands.{seated_in, places_fired}
 use Rattle.agc_machine.proofs.Fires.{GoesOn, Ends, begins_firing, onward, stopped, finished, fires_by}
 use Rattle.agc_machine.proofs.Frames.{sound_by_waits, base_by_waits, none_counted}
