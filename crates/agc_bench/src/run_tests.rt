@@ -14,9 +14,9 @@ const FIRST_PATH_AS_A_BENCH: &str =
 fn a_bench_with_one_caller(rt: HostRuntime) -> Result<(), Fail> {
     let (_, text) = FIRST_PATH;
     let bench = read_bench(rt.alloc(), FIRST_PATH_AS_A_BENCH)?;
-    let mut writer = Vec::new(rt.alloc());
+    let mut writer = Narrow::new(rt.alloc(), 1000, 1000);
     serial(rt.alloc(), &bench, &mut writer)?;
-    assert_eq!(rt; writer.as_slice(), text.as_bytes());
+    assert_eq!(rt; writer.taken.as_slice(), text.as_bytes());
     Ok(())
 }
 

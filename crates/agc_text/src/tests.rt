@@ -317,9 +317,11 @@ const TOTALS: Totals = Totals {
 #[test]
 fn the_longest_lines(rt: HostRuntime) -> Result<(), Fail> {
     let word = Word::new(0o12345).ok_or("word")?;
-    let mut text = Vec::new(rt.alloc());
-    report(&[word; 132], &TOTALS, &mut text).map_err(|_| "output")?;
-    assert_eq!(rt; text.as_slice(), FULL.as_bytes());
+    let mut text = [0u8; 2000];
+    let mut rest = &mut text[..];
+    report(&[word; 132], &TOTALS, &mut rest).map_err(|_| "output")?;
+    assert_eq!(rt; rest.len().checked_add(FULL.len()), Some(2000));
+    assert!(rt; text.starts_with(FULL.as_bytes()));
     Ok(())
 }
 
