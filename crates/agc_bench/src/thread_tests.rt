@@ -87,7 +87,7 @@ impl Gate for Crossed {
     }
 }
 
-fn crossed(last: usize) -> Crossed {
+fn crossing(last: usize) -> Crossed {
     Crossed {
         last,
         first_of_0: AtomicBool::new(false),
@@ -102,7 +102,7 @@ fn thirty_two_workers_run_at_the_same_time(rt: HostRuntime) -> Result<(), Fail> 
         document.extend_from_slice(TWO_WORKERS.as_bytes())?;
     }
     let document = str::from_utf8(document.as_slice()).map_err(|_| "text")?;
-    let (text, ended) = run(&rt, rt.alloc(), document, &crossed(31), 1000)?;
+    let (text, ended) = run(&rt, rt.alloc(), document, &crossing(31), 1000)?;
     assert_eq!(rt; ended, Ok(()));
     let wanted = report_ending(
         rt.alloc(),
@@ -114,7 +114,7 @@ fn thirty_two_workers_run_at_the_same_time(rt: HostRuntime) -> Result<(), Fail> 
 
 #[test]
 fn two_workers_run_at_the_same_time(rt: HostRuntime) -> Result<(), Fail> {
-    let (text, ended) = run(&rt, rt.alloc(), TWO_WORKERS, &crossed(1), 1000)?;
+    let (text, ended) = run(&rt, rt.alloc(), TWO_WORKERS, &crossing(1), 1000)?;
     assert_eq!(rt; ended, Ok(()));
     let wanted = report_ending(
         rt.alloc(),

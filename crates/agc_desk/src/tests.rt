@@ -296,32 +296,6 @@ fn the_65th_share_is_none(rt: HostRuntime) -> Result<(), Fail> {
     Ok(())
 }
 
-// Two shares are given out, and a tick is served with the first. `gather` refuses the second alone, and none; then it
-// takes both.
-fn gathered_late<N: Names>(
-    alloc: Global,
-    machine: Machine,
-    blanks: Blanks,
-) -> Result<(usize, usize, Totals), Fault>
-    requires names { names_of blanks ≡ N.names }
-    requires first { machine ≡ N.first }
-{
-    let mut desk: Desk<N> = Desk::new(machine, blanks);
-    let mut first = desk.share().ok_or(Fault::NoShare)?;
-    let second = desk.share().ok_or(Fault::NoShare)?;
-    desk.serve(&mut first, Request::Tick);
-    let mut shares = Vec::new(alloc);
-    shares.push(second)?;
-    let Ungathered { desk, mut shares } = refused(desk, shares)?;
-    let one = shares.len();
-    let Ungathered { desk, shares: none } = refused(desk, Vec::new(alloc))?;
-    shares.push(first)?;
-    match gather(desk, shares) {
-        Ok((_, totals)) => Ok((one, none.len(), totals)),
-        Err(_left) => Err(Fault::Ungathered),
-    }
-}
-
 fn refused<N: Names>(desk: Desk<N>, shares: Vec<Share<N>>) -> Result<Ungathered<N>, Fault> {
     match gather(desk, shares) {
         Ok(_all) => Err(Fault::Gathered),
@@ -329,14 +303,85 @@ fn refused<N: Names>(desk: Desk<N>, shares: Vec<Share<N>>) -> Result<Ungathered<
     }
 }
 
+fn only<N: Names>(alloc: Global, share: Share<N>) -> Result<Vec<Share<N>>, Fault> {
+    let mut shares = Vec::new(alloc);
+    shares.push(share)?;
+    Ok(shares)
+}
+
+// With a share more the desk is gathered.
+fn gathered_with<N: Names>(
+    desk: Desk<N>,
+    share: Share<N>,
+    shares: Vec<Share<N>>,
+) -> Result<Totals, Fault> {
+    let mut shares = shares;
+    shares.push(share)?;
+    match gather(desk, shares) {
+        Ok((_, totals)) => Ok(totals),
+        Err(_left) => Err(Fault::Ungathered),
+    }
+}
+
+// Two shares were given out, and a tick is served with the first. `gather` refuses the second alone, and then takes both.
+fn gathered_late<N: Names>(
+    alloc: Global,
+    desk: Desk<N>,
+    first: Share<N>,
+    second: Share<N>,
+) -> Result<(usize, Totals), Fault> {
+    let mut desk = desk;
+    let mut first = first;
+    desk.serve(&mut first, Request::Tick);
+    let shares = only(alloc, second)?;
+    let Ungathered { desk, shares } = refused(desk, shares)?;
+    let handed_back = shares.len();
+    let totals = gathered_with(desk, first, shares)?;
+    Ok((handed_back, totals))
+}
+
+// How many shares come back where the second comes alone, and what is gathered where both come.
+fn one_missing<N: Names>(
+    alloc: Global,
+    machine: Machine,
+    blanks: Blanks,
+) -> Result<(usize, Totals), Fault>
+    requires names { names_of blanks ≡ N.names }
+    requires first { machine ≡ N.first }
+{
+    let mut desk: Desk<N> = Desk::new(machine, blanks);
+    match (desk.share(), desk.share()) {
+        (Some(first), Some(second)) => gathered_late(alloc, desk, first, second),
+        _ => Err(Fault::NoShare),
+    }
+}
+
+// How many shares come back where one was given out and none comes.
+fn all_missing<N: Names>(alloc: Global, machine: Machine, blanks: Blanks) -> Result<usize, Fault>
+    requires names { names_of blanks ≡ N.names }
+    requires first { machine ≡ N.first }
+{
+    let mut desk: Desk<N> = Desk::new(machine, blanks);
+    let _first = desk.share();
+    let Ungathered { desk: _, shares } = refused(desk, Vec::new(alloc))?;
+    Ok(shares.len())
+}
+
 #[test]
 fn a_missing_share_is_handed_back(rt: HostRuntime) -> Result<(), Fail> {
     let machine = new_machine(rt.alloc())?;
     let blanks = Blanks::new(rt.alloc())?;
-    let (one, none, totals) = gathered_late::<Brand>(rt.alloc(), machine, blanks)?;
-    assert_eq!(rt; one, 1);
-    assert_eq!(rt; none, 0);
+    let (handed_back, totals) = one_missing::<Brand>(rt.alloc(), machine, blanks)?;
+    assert_eq!(rt; handed_back, 1);
     assert_eq!(rt; totals.served, 1);
+    Ok(())
+}
+
+#[test]
+fn all_shares_are_missing(rt: HostRuntime) -> Result<(), Fail> {
+    let machine = new_machine(rt.alloc())?;
+    let blanks = Blanks::new(rt.alloc())?;
+    assert_eq!(rt; all_missing::<Brand>(rt.alloc(), machine, blanks)?, 0);
     Ok(())
 }
 
