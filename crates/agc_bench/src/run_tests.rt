@@ -1,5 +1,6 @@
 use crate::writers::Narrow;
 use crate::{RunFault, read_bench, read_script, run_script, serial};
+use std::alloc::Global;
 use std::test::Fail;
 
 const FIRST_PATH: (&str, &str) = (
@@ -10,13 +11,19 @@ const FIRST_PATH: (&str, &str) = (
 const FIRST_PATH_AS_A_BENCH: &str =
     "script = [\"novac 20 02000 00005\"]\n[[worker]]\nscript = [\"end\"]\n";
 
+// What is written of a run of a bench by one caller.
+fn written(alloc: Global, document: &str) -> Result<Vec<u8>, Fail> {
+    let bench = read_bench(alloc, document)?;
+    let mut writer = Narrow::new(alloc, 1000, 1000);
+    serial(alloc, &bench, &mut writer)?;
+    Ok(writer.taken)
+}
+
 #[test]
 fn a_bench_with_one_caller(rt: HostRuntime) -> Result<(), Fail> {
     let (_, text) = FIRST_PATH;
-    let bench = read_bench(rt.alloc(), FIRST_PATH_AS_A_BENCH)?;
-    let mut writer = Narrow::new(rt.alloc(), 1000, 1000);
-    serial(rt.alloc(), &bench, &mut writer)?;
-    assert_eq!(rt; writer.taken.as_slice(), text.as_bytes());
+    let taken = written(rt.alloc(), FIRST_PATH_AS_A_BENCH)?;
+    assert_eq!(rt; taken.as_slice(), text.as_bytes());
     Ok(())
 }
 

@@ -1,11 +1,12 @@
 -- Who owns which area.
 use Rattle.std.proofs.Common.{◌≡◌, ◌≢◌, ℕ, zero, suc, ◌-◌, Bool, true, false, List, [], ◌∷◌, Option, Some, None, slice_index_or, refl, ap, ◌∙◌, inl, inr, arith}
+use Rattle.agc_exec.specs.Stages.{owned_in, IsUnowned}
 use Rattle.std.proofs.lemmas.Bool.{cases_eq}
 use Rattle.std.proofs.lemmas.Option.{same_Some}
 use Rattle.std.proofs.lemmas.Grind.{common_steps}
 use Rattle.agc_plan.specs.Jobs.{Job, is_owned}
 use Rattle.agc_exec.specs.Held.{Held}
-use Rattle.agc_exec.specs.Sets.{job_of, slots_of, owned_in, Holds, IsLawful, IsUnowned}
+use Rattle.agc_exec.specs.Sets.{job_of, slots_of, Holds, IsLawful}
 use Rattle.agc_exec.proofs.Bests.{slot_found, slot_of}
 
 pub owned_in-false : (area : ℕ) (sets : List (Option Held)) → owned_in area sets ≡ false → IsUnowned sets area

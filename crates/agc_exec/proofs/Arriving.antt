@@ -1,12 +1,13 @@
 -- What a new job in the first free set does to the plain list of jobs.
 use Rattle.std.proofs.Common.{◌≡◌, ◌≢◌, ℕ, suc, ◌+◌, ◌-◌, ◌<◌, ◌≤◌, Bool, true, false, List, [], ◌∷◌, Option, Some, None, length, slice_index_or, slice_set, swap, refl, ap, sym, ◌∙◌, arith}
+use Rattle.agc_exec.specs.Stages.{IsFreeAt, IsUnowned, Gives, BringsBest}
 use Rattle.std.proofs.lemmas.List.{get_or-set_other, map-set}
 use Rattle.agc_plan.specs.Jobs.{Job, least_unused, with_job, best, establish_at, new_job}
 use Rattle.agc_plan.specs.Places.{place_of, with_new, placed_new}
 use Rattle.agc_plan.specs.declared.request.Entry.{Entry}
 use Rattle.agc_plan.specs.declared.reply.Reply.TheVariants.{Established}
 use Rattle.agc_exec.specs.Held.{Held}
-use Rattle.agc_exec.specs.Sets.{job_of, job_numbered, slots_of, number_in, running_in, entries_of, jobs_of, Holds, IsLawful, IsFreeAt, IsStanding, IsUnowned, Gives, BringsBest, TakesOver}
+use Rattle.agc_exec.specs.Sets.{job_of, job_numbered, slots_of, number_in, running_in, entries_of, jobs_of, Holds, IsLawful, IsStanding}
 use Rattle.std.proofs.lemmas.Option.{same_Some}
 use Rattle.agc_exec.proofs.Slots.{None-job_numbered, get_or-slots_from, length-slots_from}
 use Rattle.agc_exec.proofs.Swaps.{Fits, IsLawful-set, slots_of-written}
@@ -113,8 +114,3 @@ Gives-idle sets new k r job a idle brings =
       outcome_is = rw (← a.number, slots, runs, idle, ← a.same);
       entries_is = brings.entries ∙ rw (← brings.running, written-entries sets k r a.first);
     }
-
--- taking over after the new job came
-pub Gives-arrived : (sets new : List (Option Held)) (k : ℕ) (r : Held) (job : Job) → Arrives sets k r job → (runner : Option ℕ) → runner ≡ running_in sets → TakesOver runner (slice_set sets k (Some r)) new → let number = least_unused 1 (slots_of sets) in Gives (establish_at number job (jobs_of sets)) (placed_new (Some r.number) (running_in new) (entries_of sets)) new (Established r.number)
-Gives-arrived sets new k r job a None is over = Gives-idle sets new k r job a (sym is) over
-Gives-arrived sets new k r job a (Some n) is over = rw over (Gives-busy sets k n r job a (sym is))

@@ -1,5 +1,6 @@
 -- Where the best job stands, and what an exchange that brings it to set 0 does.
 use Rattle.std.proofs.Common.{◌≡◌, ◌⊎◌, ℕ, ◌+◌, ◌-◌, ◌<◌, ◌≤◌, true, false, List, [], ◌∷◌, Option, Some, None, length, slice_index_or, swap, refl, ap, sym, ◌∙◌, inl, inr, arith}
+use Rattle.agc_exec.specs.Stages.{IsBestBelow, BestBelow, BringsBest}
 use Rattle.std.specs.Prelude.{option_map}
 use Rattle.std.proofs.lemmas.Bool.{cases_lt}
 use Rattle.std.proofs.lemmas.List.{get_or_past}
@@ -7,7 +8,7 @@ use Rattle.std.proofs.lemmas.List.Edits.{length-swap}
 use Rattle.agc_plan.specs.Jobs.{Job, best, best_from}
 use Rattle.agc_plan.specs.Places.{place_of}
 use Rattle.agc_exec.specs.Held.{Held}
-use Rattle.agc_exec.specs.Sets.{job_of, job_numbered, slots_of, number_in, running_in, entries_of, Holds, IsLawful, IsBestBelow, BestBelow, BringsBest}
+use Rattle.agc_exec.specs.Sets.{job_of, job_numbered, slots_of, number_in, running_in, entries_of, Holds, IsLawful}
 use Rattle.agc_exec.proofs.Slots.{job_numbered-at, job_numbered-found, get_or-slots_from, length-slots_from}
 use Rattle.agc_exec.proofs.Entries.{place_of-at}
 use Rattle.agc_exec.proofs.Swaps.{Holds-within, get_or-swap, IsLawful-swap, slots_of-swap, map-swap}

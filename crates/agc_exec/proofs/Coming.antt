@@ -4,7 +4,7 @@ use Rattle.agc_word.specs.Layout.{OutsideSets, OutsideCores, use_place, Keeps}
 use Rattle.agc_word.proofs.Keeping.{kept_twice}
 use Rattle.agc_exec.proofs.Finishing.{sets_kept}
 use Rattle.agc_exec.specs.Calls.{new_block, fronted_blocks, blocks_new}
-use Rattle.agc_exec.specs.Stages.{SameOwners, Tells, TookOver}
+use Rattle.agc_exec.specs.Stages.{SameOwners, Tells, TookOver, IsFreeAt, IsUnowned, BringsBest, Gives}
 use Rattle.std.proofs.lemmas.Grind.{common_steps}
 use Rattle.agc_plan.specs.declared.request.Entry.{Entry}
 use Rattle.agc_plan.specs.declared.reply.Reply.{Reply}
@@ -13,7 +13,7 @@ use Rattle.agc_plan.specs.Jobs.{Jobs, Outcome, least_unused, establish_at, new_j
 use Rattle.agc_plan.specs.Places.{place_of, with_new, placed_new}
 use Rattle.agc_exec.specs.Held.{Held}
 use Rattle.agc_exec.specs.Blocks.{blocks_of}
-use Rattle.agc_exec.specs.Sets.{IsLawful, IsFreeAt, IsUnowned, BringsBest, Gives, slots_of, entries_of, running_in, jobs_of}
+use Rattle.agc_exec.specs.Sets.{IsLawful, slots_of, entries_of, running_in, jobs_of}
 use Rattle.agc_exec.specs.Image.{held_of, sets_of, IsLawfulBlock, IsTidyBlock, Each, IsSet, UsesAgree, IsLawfulWords, jobs_in, entries_in, use_word}
 use Rattle.agc_exec.proofs.Bests.{place_of_number, running_in-awake}
 use Rattle.agc_exec.proofs.Arriving.{Arrives, Arrives-made, arrived-lawful, Gives-busy, Gives-idle, running_in-found, written-entries, least_unused-fits}

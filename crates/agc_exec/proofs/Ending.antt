@@ -1,5 +1,6 @@
 -- The end of a job on the words.
 use Rattle.std.proofs.Common.{◌≡◌, ◌≢◌, ℕ, ◌-◌, ◌<◌, ◌≤◌, ◌==◌, true, false, cond, List, [], Option, Some, None, length, slice_index, slice_index_or, slice_set, ap, sym, ◌∙◌, inl, inr, arith}
+use Rattle.agc_exec.specs.Stages.{BringsBest, Gives}
 use Rattle.agc_word.specs.Layout.{address_of, IsSized, OutsideSets, OutsideCores, use_place, Keeps}
 use Rattle.agc_word.proofs.Keeping.{kept_twice}
 use Rattle.agc_exec.proofs.Finishing.{sets_kept}
@@ -14,7 +15,7 @@ use Rattle.agc_plan.specs.Jobs.{Job, Outcome, best, end_of_job, is_owned, with_j
 use Rattle.agc_plan.specs.Places.{place_of, without, placed_end}
 use Rattle.agc_exec.specs.Held.{Held}
 use Rattle.agc_exec.specs.Blocks.{block_in, blocks_of}
-use Rattle.agc_exec.specs.Sets.{Holds, IsLawful, BringsBest, Gives, slots_of, entries_of, running_in, jobs_of, job_of, number_in}
+use Rattle.agc_exec.specs.Sets.{Holds, IsLawful, slots_of, entries_of, running_in, jobs_of, job_of, number_in}
 use Rattle.agc_exec.specs.Image.{held_of, sets_of, IsLawfulBlock, IsTidyBlock, Each, IsSet, UsesAgree, IsLawfulWords, use_word, jobs_in, entries_in}
 use Rattle.agc_exec.proofs.Bests.{place_of_number, running_in-awake, slot_of, slot_found}
 use Rattle.agc_exec.proofs.Leaving.{Gives-end, cleared-lawful}

@@ -1,5 +1,6 @@
 -- From what a request did to the sets to what it did to all words.
 use Rattle.std.proofs.Common.{◌≡◌, ℕ, ◌*◌, ◌<◌, ◌≤◌, nat_lt, cond, false, List, [], ◌∷◌, Option, Some, None, length, slice_index, map, refl, ap, sym, ◌∙◌, arith}
+use Rattle.agc_exec.specs.Stages.{IsBestBelow, BestBelow, Gives}
 use Rattle.agc_word.specs.Layout as layout
 use Rattle.agc_word.specs.Layout.{IsSized, sets_in, OutsideSets, OutsideCores, use_place, Keeps}
 use Rattle.agc_word.proofs.Keeping.{kept_twice, kept_also}
@@ -10,7 +11,7 @@ use Rattle.agc_plan.specs.declared.reply.Reply.{Reply}
 use Rattle.agc_plan.specs.Jobs.{Outcome}
 use Rattle.agc_exec.specs.Held.{Held}
 use Rattle.agc_exec.specs.Blocks.{blocks_of}
-use Rattle.agc_exec.specs.Sets.{Holds, IsLawful, IsBestBelow, BestBelow, Gives, slots_of, running_in}
+use Rattle.agc_exec.specs.Sets.{Holds, IsLawful, slots_of, running_in}
 use Rattle.agc_exec.specs.Image.{held_of, sets_of, IsLawfulBlock, Each, IsTidy, UsesAgree, newjob_of, front_priority}
 use Rattle.agc_exec.proofs.Decoding.{job_with, held_of-new, IsSized-kept}
 use Rattle.agc_exec.proofs.Bests.{best_ready, ready-none, place_of_number}

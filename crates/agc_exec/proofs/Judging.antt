@@ -8,8 +8,8 @@ use Rattle.agc_word.specs.Words.{complement}
 use Rattle.agc_exec.specs.Held.{Held}
 use Rattle.agc_exec.specs.Blocks.{block_in, blocks_of}
 use Rattle.agc_exec.specs.Image.{minus_zero, sign, record_of, held_by, sets_of, IsCoded, IsSet}
-use Rattle.agc_exec.specs.Sets.{number_in, owned_in, Holds, IsFronted, running_in}
-use Rattle.agc_exec.specs.Stages.{unsigned, AreSound, IsSoundAt, AreSoundSets, area_held, Differs, AllApart, NobodyAwake, FrontRuns}
+use Rattle.agc_exec.specs.Sets.{number_in, Holds, IsFronted, running_in}
+use Rattle.agc_exec.specs.Stages.{unsigned, AreSound, IsSoundAt, AreSoundSets, area_held, Differs, AllApart, NobodyAwake, FrontRuns, owned_in}
 use Rattle.agc_exec.proofs.Bests.{running_in-awake}
 use Rattle.agc_exec.proofs.Decoding.{held_at, length-sets, urgency_word-parts}
 use Rattle.agc_exec.proofs.Ranks.{at_words, held_by-free, held_by-awake, held_by-asleep, held_asleep}

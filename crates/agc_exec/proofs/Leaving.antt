@@ -1,12 +1,13 @@
 -- What leaving set 0 does to the plain list of jobs.
 use Rattle.std.proofs.Common.{◌≡◌, ℕ, false, List, Option, Some, None, map, slice_index_or, slice_set, ap, sym, ◌∙◌}
+use Rattle.agc_exec.specs.Stages.{Gives, BringsBest}
 use Rattle.std.proofs.lemmas.List.{map-set, set-get_or}
 use Rattle.std.proofs.lemmas.Option.{same_Some}
 use Rattle.agc_plan.specs.Jobs.{job_in, with_job, best, end_of_job, sleep, sleeping_at}
 use Rattle.agc_plan.specs.Places.{place_of, fronted, without, placed_end}
 use Rattle.agc_plan.specs.declared.reply.Reply.TheVariants.{Left}
 use Rattle.agc_exec.specs.Held.{Held}
-use Rattle.agc_exec.specs.Sets.{job_of, slots_of, number_in, running_in, entries_of, jobs_of, Holds, IsLawful, IsStanding, Gives, BringsBest}
+use Rattle.agc_exec.specs.Sets.{job_of, slots_of, number_in, running_in, entries_of, jobs_of, Holds, IsLawful, IsStanding}
 use Rattle.agc_exec.proofs.Swaps.{Fits, IsLawful-set, slots_of-cleared, slots_of-changed}
 use Rattle.agc_exec.proofs.Bests.{slot_of, place_of_number, running_in-awake}
 

@@ -5,7 +5,7 @@ use Rattle.agc_word.specs.Layout.{IsSized, sets_in, OutsideSets, OutsideCores, K
 use Rattle.agc_word.proofs.Keeping.{kept}
 use Rattle.agc_exec.proofs.Finishing.{sets_kept}
 use Rattle.agc_exec.specs.Calls.{Does, fronted_blocks}
-use Rattle.agc_exec.specs.Stages.{Waits}
+use Rattle.agc_exec.specs.Stages.{Waits, BestBelow, Yields, GivesWay, Gives}
 use Rattle.std.proofs.lemmas.Bool.{cases_eq, cases_lt}
 use Rattle.std.proofs.lemmas.Option.{same_Some}
 use Rattle.std.proofs.lemmas.Grind.{common_steps}
@@ -15,7 +15,7 @@ use Rattle.agc_plan.specs.declared.reply.Reply.TheVariants.{Runs}
 use Rattle.agc_exec.specs.Held.{Held}
 use Rattle.agc_exec.specs.Best.{better_of, precedes}
 use Rattle.agc_exec.specs.Blocks.{blocks_of}
-use Rattle.agc_exec.specs.Sets.{Holds, IsLawful, IsStanding, BestBelow, Yields, GivesWay, Gives, slots_of, running_in}
+use Rattle.agc_exec.specs.Sets.{Holds, IsLawful, IsStanding, slots_of, running_in}
 use Rattle.agc_exec.specs.Image.{sets_of, IsLawfulBlock, IsTidyBlock, IsLawfulWords, newjob_of, jobs_in, entries_in}
 use Rattle.agc_exec.proofs.Bests.{best_ready, place_of_number}
 use Rattle.agc_exec.proofs.Swaps.{Holds-within, slots_of-swap, swap-Holds, moved}

@@ -10,8 +10,8 @@ use Rattle.agc_plan.specs.Jobs.{Job, is_sleeper}
 use Rattle.agc_exec.specs.Held.{Held}
 use Rattle.agc_exec.specs.Blocks.{block_in}
 use Rattle.agc_exec.specs.Image.{minus_zero, sign, priority_unit, record_of, held_by, held_of, sets_of, IsSet, newjob_of}
-use Rattle.agc_exec.specs.Sets.{job_of, job_numbered, number_in, Holds, IsLawful, BestBelow, IsBestBelow, FirstBelow, IsFirstBelow}
-use Rattle.agc_exec.specs.Stages.{rank_in, sleeper_rank, IsMost, IsBestRank, IsSleeperRank, IsMarked}
+use Rattle.agc_exec.specs.Sets.{job_of, job_numbered, number_in, Holds, IsLawful}
+use Rattle.agc_exec.specs.Stages.{rank_in, sleeper_rank, IsMost, IsBestRank, IsSleeperRank, IsMarked, BestBelow, IsBestBelow, FirstBelow, IsFirstBelow}
 use Rattle.agc_exec.proofs.Finishing.{newjob_of-best}
 use Rattle.agc_exec.proofs.Decoding.{held_at, length-sets}
 use Rattle.agc_exec.proofs.Slots.{job_numbered-none, None-job_numbered}

@@ -1,6 +1,6 @@
 -- The twelve words of each set.
 use Rattle.std.proofs.Common.{◌≡◌, ◌≢◌, ℕ, ◌+◌, ◌-◌, ◌/◌, ◌<◌, ◌≤◌, List, length, get_or, slice_index, slice_set, swap, [], refl, ap, sym, ◌∙◌, inl, inr, arith}
-use Rattle.agc_word.specs.Layout.{IsSized, sets_in, set_place}
+use Rattle.agc_word.specs.Layout.{IsSized, sets_in, set_place, use_words, last_set}
 use Rattle.std.proofs.lemmas.Bool.{cases_eq, cases_lt}
 use Rattle.std.proofs.lemmas.List.{get_or-set_same, get_or-set_other, get_or_default, length-set, set-set, same_lists}
 use Rattle.std.proofs.lemmas.List.Edits.{swap_is, length-swap}
@@ -69,7 +69,7 @@ pub IsSized-most : (words : List ℕ) → IsSized words → sets_in words ≤ 8
 IsSized-most words s = omega arith
 
 -- a word that no set has was written
-pub blocks_of-kept : (words : List ℕ) (j w : ℕ) → IsSized words → 84 ≤ j → j < 132 → blocks_of (slice_set words j w) ≡ blocks_of words
+pub blocks_of-kept : (words : List ℕ) (j w : ℕ) → IsSized words → use_words ≤ j → j < last_set → blocks_of (slice_set words j w) ≡ blocks_of words
 blocks_of-kept words j w sized low high =
     let len_old : length (blocks_of words) ≡ sets_in words = length-blocks_of words in
     let len_new : length (blocks_of (slice_set words j w)) ≡ sets_in (slice_set words j w) = length-blocks_of (slice_set words j w) in
@@ -82,7 +82,7 @@ blocks_of-kept words j w sized low high =
     ∙ block_in-same words (slice_set words j w) s (λ i lt_i. let apart : set_place s + i ≢ j = λ e. outside s i j (omega arith) lt_i low high e in get_or-set_other words j (set_place s + i) w 0 apart)
     ∙ sym (get-blocks_of words s d lt_s))
   where
-    outside : (s i j : ℕ) → s < 8 → i < 12 → 84 ≤ j → j < 132 → set_place s + i ≡ j → ⊥
+    outside : (s i j : ℕ) → s < 8 → i < 12 → use_words ≤ j → j < last_set → set_place s + i ≡ j → ⊥
     outside s i j lt_s lt_i low high e = omega arith
 
 -- one word of a set was written

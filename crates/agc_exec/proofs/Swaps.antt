@@ -1,12 +1,13 @@
 -- What a write to one set, and an exchange of two, do to the plain list of jobs.
 use Rattle.std.proofs.Common.{◌≡◌, ◌≢◌, ◌⊎◌, ℕ, ◌<◌, ◌≤◌, ◌==◌, cond, List, Option, Some, None, map, length, slice_index_or, slice_set, swap, refl, ap, sym, ◌∙◌, inl, inr, arith}
+use Rattle.agc_exec.specs.Stages.{IsFreeAt}
 use Rattle.std.proofs.lemmas.Bool.{cases_eq, cases_lt}
 use Rattle.std.proofs.lemmas.List.{get_or-set_same, get_or-set_other, length-set, length-map, map-set, get_or-map, get_or_past}
 use Rattle.std.proofs.lemmas.List.Edits.{swap_is, length-swap}
 use Rattle.std.proofs.lemmas.Grind.{common_steps}
 use Rattle.agc_plan.specs.Jobs.{Job, with_job}
 use Rattle.agc_exec.specs.Held.{Held}
-use Rattle.agc_exec.specs.Sets.{job_of, job_numbered, slots_of, number_in, Holds, IsLawful, IsFreeAt}
+use Rattle.agc_exec.specs.Sets.{job_of, job_numbered, slots_of, number_in, Holds, IsLawful}
 use Rattle.agc_exec.proofs.Slots.{job_numbered-none, job_numbered-at, job_numbered-other, job_numbered-found, None-job_numbered, slots_from-set, slots_from-same}
 
 pub Holds-within : (sets : List (Option Held)) (i : ℕ) (r : Held) → Holds sets i r → i < length sets

@@ -5,7 +5,7 @@ use Rattle.agc_word.specs.Layout as layout
 use Rattle.agc_word.specs.Layout.{IsSized, sets_in, OutsideSets, Keeps}
 use Rattle.agc_exec.proofs.Finishing.{sets_kept}
 use Rattle.agc_exec.specs.Calls.{Does, fronted_blocks, front_block, slept_block, blocks_changed}
-use Rattle.agc_exec.specs.Stages.{SameOwners}
+use Rattle.agc_exec.specs.Stages.{SameOwners, BringsBest, Gives}
 use Rattle.std.proofs.lemmas.List.{get_or-set_same, get_or-set_other, length-set}
 use Rattle.std.proofs.lemmas.Option.{same_Some}
 use Rattle.agc_plan.specs.declared.reply.Reply.{Reply}
@@ -14,7 +14,7 @@ use Rattle.agc_plan.specs.Jobs.{Job, Outcome, Ready, best, best_from, sleep, sto
 use Rattle.agc_plan.specs.Places.{fronted}
 use Rattle.agc_exec.specs.Held.{Held}
 use Rattle.agc_exec.specs.Blocks.{block_in, blocks_of}
-use Rattle.agc_exec.specs.Sets.{Holds, IsLawful, BringsBest, Gives, slots_of, entries_of, running_in, jobs_of, job_of}
+use Rattle.agc_exec.specs.Sets.{Holds, IsLawful, slots_of, entries_of, running_in, jobs_of, job_of}
 use Rattle.agc_exec.specs.Image.{held_of, sets_of, IsCoded, IsLawfulBlock, IsTidyBlock, Each, IsTidy, IsSet, IsLawfulWords, priority_word, urgency_word, jobs_in, entries_in, newjob_of, newjob_for, front_priority}
 use Rattle.agc_exec.proofs.Bests.{running_in-awake, slot_of}
 use Rattle.agc_exec.proofs.Leaving.{Gives-sleep, changed-lawful, changed-entries}

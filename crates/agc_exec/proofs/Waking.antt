@@ -1,5 +1,6 @@
 -- What waking a sleeper does to the plain list of jobs.
 use Rattle.std.proofs.Common.{◌≡◌, ◌≢◌, ℕ, ◌+◌, ◌-◌, ◌<◌, ◌≤◌, Bool, true, false, List, Option, Some, None, length, slice_index_or, slice_set, refl, ap, sym, ◌∙◌, arith}
+use Rattle.agc_exec.specs.Stages.{Gives, BringsBest, IsFirstBelow, FirstBelow}
 use Rattle.std.proofs.lemmas.List.{get_or-set_other}
 use Rattle.std.proofs.lemmas.Option.{same_Some}
 use Rattle.std.proofs.lemmas.Grind.{common_steps}
@@ -7,7 +8,7 @@ use Rattle.agc_plan.specs.Jobs.{Job, job_in, with_job, best, is_sleeper, sleeper
 use Rattle.agc_plan.specs.Places.{place_of, fronted}
 use Rattle.agc_plan.specs.declared.reply.Reply.TheVariants.{Roused, NoSleeper}
 use Rattle.agc_exec.specs.Held.{Held}
-use Rattle.agc_exec.specs.Sets.{job_of, slots_of, running_in, entries_of, jobs_of, Holds, IsLawful, IsStanding, Gives, BringsBest, IsFirstBelow, FirstBelow, TakesOver}
+use Rattle.agc_exec.specs.Sets.{job_of, slots_of, running_in, entries_of, jobs_of, Holds, IsLawful, IsStanding}
 use Rattle.agc_exec.proofs.Swaps.{Holds-within, slots_of-changed}
 use Rattle.agc_exec.proofs.Bests.{slot_found, slot_of, place_of_number, running_in-awake}
 use Rattle.agc_exec.proofs.Arriving.{swap-none, running_in-found}
@@ -87,8 +88,3 @@ Gives-rouse-busy sets at k n r changed w runs =
       outcome_is = rw (sleeper, slot, woken-slots sets at k r changed w, runner, runs);
       entries_is = changed-entries sets k r changed w.is.here w.number ∙ rw (runner, place) (sym (swap-none (entries_of sets)));
     }
-
--- taking over after the sleeper woke
-pub Gives-roused : (sets new : List (Option Held)) (at k : ℕ) (r changed : Held) → Wakes sets at k r changed → (runner : Option ℕ) → runner ≡ running_in sets → TakesOver runner (slice_set sets k (Some changed)) new → Gives (rouse at (jobs_of sets)) (fronted (running_in new) (entries_of sets)) new (Roused r.number)
-Gives-roused sets new at k r changed w None is over = Gives-rouse-idle sets new at k r changed w (sym is) over
-Gives-roused sets new at k r changed w (Some n) is over = rw over (Gives-rouse-busy sets at k n r changed w (sym is))

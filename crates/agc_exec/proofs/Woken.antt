@@ -3,7 +3,7 @@ use Rattle.std.proofs.Common.{◌≡◌, ℕ, ◌-◌, ◌<◌, Bool, true, fals
 use Rattle.agc_word.specs.Layout.{sets_in, OutsideSets, Keeps}
 use Rattle.agc_exec.proofs.Finishing.{sets_kept}
 use Rattle.agc_exec.specs.Calls.{fronted_blocks, blocks_roused, woken_block, roused, Does}
-use Rattle.agc_exec.specs.Stages.{SameOwners, Tells, TookOver}
+use Rattle.agc_exec.specs.Stages.{SameOwners, Tells, TookOver, IsFirstBelow, FirstBelow, BringsBest, Gives}
 use Rattle.std.proofs.lemmas.Grind.{common_steps}
 use Rattle.agc_plan.specs.declared.reply.Reply.{Reply}
 use Rattle.agc_plan.specs.declared.reply.Reply.TheVariants.{Roused, NoSleeper}
@@ -11,7 +11,7 @@ use Rattle.agc_plan.specs.Jobs.{Outcome, best, rouse, woken, sleeper_from, job_i
 use Rattle.agc_plan.specs.Places.{fronted}
 use Rattle.agc_exec.specs.Held.{Held}
 use Rattle.agc_exec.specs.Blocks.{block_in, blocks_of}
-use Rattle.agc_exec.specs.Sets.{Holds, IsFirstBelow, FirstBelow, BringsBest, Gives, slots_of, entries_of, running_in, jobs_of, job_of}
+use Rattle.agc_exec.specs.Sets.{Holds, slots_of, entries_of, running_in, jobs_of, job_of}
 use Rattle.agc_exec.specs.Image.{sets_of, IsLawfulBlock, IsTidyBlock, Each, IsSet, IsLawfulWords, urgency_word, jobs_in, entries_in}
 use Rattle.agc_exec.proofs.Bests.{place_of_number, running_in-awake, slot_of}
 use Rattle.agc_exec.proofs.Swaps.{Holds-within}

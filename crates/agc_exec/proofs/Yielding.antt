@@ -1,12 +1,13 @@
 -- What a change of the running job does to the plain list of jobs.
 use Rattle.std.proofs.Common.{◌≡◌, ℕ, true, false, nat_lt, List, Option, Some, None, length, slice_set, swap, refl, ap, subst, sym, ◌∙◌}
+use Rattle.agc_exec.specs.Stages.{Gives, BringsBest, GivesWay, IsBestBelow}
 use Rattle.std.proofs.lemmas.List.{get_or-set_same}
 use Rattle.agc_plan.specs.Jobs.{Job, Jobs, job_in, with_job, best, best_from, change, prio, with_priority, with_running, store, with_word}
 use Rattle.agc_plan.specs.Places.{place_of, fronted}
 use Rattle.agc_plan.specs.declared.reply.Reply.{Reply}
 use Rattle.agc_plan.specs.declared.reply.Reply.TheVariants.{Runs, Stored}
 use Rattle.agc_exec.specs.Held.{Held}
-use Rattle.agc_exec.specs.Sets.{job_of, slots_of, running_in, entries_of, jobs_of, Holds, IsStanding, Gives, BringsBest, GivesWay, IsBestBelow}
+use Rattle.agc_exec.specs.Sets.{job_of, slots_of, running_in, entries_of, jobs_of, Holds, IsStanding}
 use Rattle.agc_exec.proofs.Swaps.{Holds-within, slots_of-changed}
 use Rattle.agc_exec.proofs.Bests.{slot_of, place_of_number, running_in-awake, best_ready, BringsBest-swap}
 use Rattle.agc_exec.proofs.Arriving.{swap-none}

@@ -1,7 +1,5 @@
--- The searches for the best job and for a sleeper, one set at a time.
+-- Helpers of proofs: the search for the best job, one set at a time.
 use Rattle.std.specs.Prelude.{ℕ, nat_lt, ◌==◌, ◌&&◌, ◌||◌, Bool, if◌then◌else◌, Option, Some, None}
-use Rattle.agc_plan.specs.Jobs.{is_sleeper}
-use Rattle.agc_exec.specs.Sets.{job_of}
 use Rattle.agc_exec.specs.Held.{Held}
 
 -- more urgent, or as urgent and of a lower number
@@ -13,10 +11,3 @@ abbrev pub better_of : Option (ℕ × Held) → ℕ → Option Held → Option (
 better_of best k None = best
 better_of None k (Some r) = if r.asleep then None else Some (k, r)
 better_of (Some best) k (Some r) = if r.asleep then Some best else if precedes best.1 r then Some best else Some (k, r)
-
--- the sleeper of lower number
-abbrev pub earlier : ℕ → Option (ℕ × Held) → ℕ → Option Held → Option (ℕ × Held)
-earlier at found k None = found
-earlier at None k (Some r) = if is_sleeper at (job_of r) then Some (k, r) else None
-earlier at (Some first) k (Some r) =
-    if is_sleeper at (job_of r) then (if nat_lt r.number first.1.number then Some (k, r) else Some first) else Some first

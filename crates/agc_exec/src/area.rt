@@ -5,8 +5,8 @@ ghost use Rattle.agc_plan.specs.Jobs.{least_unowned};
 ghost use Rattle.agc_exec.specs.Blocks.{blocks_of};
 ghost use Rattle.agc_exec.specs.Held.{Held};
 ghost use Rattle.agc_exec.specs.Image.{sets_of, IsSet, IsLawfulWords};
-ghost use Rattle.agc_exec.specs.Sets.{slots_of, IsUnowned, Holds};
-ghost use Rattle.agc_exec.specs.Stages.{FrontRuns};
+ghost use Rattle.agc_exec.specs.Sets.{slots_of, Holds};
+ghost use Rattle.agc_exec.specs.Stages.{FrontRuns, IsUnowned};
 
 use crate::core_set::{PRIORITY, PRIORITY_UNIT, word_of};
 use agc_word::layout::{address_of, area_of, use_place};

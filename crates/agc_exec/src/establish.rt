@@ -1,12 +1,13 @@
 // New jobs: NOVAC and FINDVAC.
 ghost use Rattle.std.specs.Prelude.{◌≡◌, ◌<◌, ◌≤◌, is_some};
+ghost use Rattle.agc_exec.specs.Stages.{Gives, IsUnowned};
 ghost use Rattle.agc_word.specs.Layout.{OutsideSets, Keeps};
 ghost use Rattle.agc_plan.specs.Jobs.{least_unused, establish_at, new_job, established};
 ghost use Rattle.agc_plan.specs.Places.{placed_new};
 ghost use Rattle.agc_exec.specs.Blocks.{blocks_of};
 ghost use Rattle.agc_exec.specs.Calls.{new_block, blocks_new, DoesNovac, DoesFindvac};
 ghost use Rattle.agc_exec.specs.Image.{sets_of, IsSet, Each, IsLawfulBlock, IsLawfulWords};
-ghost use Rattle.agc_exec.specs.Sets.{slots_of, entries_of, running_in, Gives, IsUnowned, jobs_of};
+ghost use Rattle.agc_exec.specs.Sets.{slots_of, entries_of, running_in, jobs_of};
 
 use crate::area::{free_area, take_area};
 use crate::core_set::{PRIORITY_UNIT, write_block};

@@ -3,8 +3,8 @@ ghost use Rattle.std.specs.Prelude.{◌≡◌, ◌<◌, ◌≤◌, ◌↔◌, tr
 ghost use Rattle.agc_word.specs.Layout.{IsSized, address_of};
 ghost use Rattle.agc_word.specs.Words.{complement};
 ghost use Rattle.agc_exec.specs.Image.{sets_of, IsSet, IsLawfulWords, UsesAgree};
-ghost use Rattle.agc_exec.specs.Sets.{slots_of, owned_in};
-ghost use Rattle.agc_exec.specs.Stages.{unsigned, AreSound, IsSoundAt, AreSoundSets, area_held, Differs, AreApart, IsApart, AllApart, NobodyAwake};
+ghost use Rattle.agc_exec.specs.Sets.{slots_of};
+ghost use Rattle.agc_exec.specs.Stages.{unsigned, AreSound, IsSoundAt, AreSoundSets, area_held, Differs, AreApart, IsApart, AllApart, NobodyAwake, owned_in};
 
 use crate::core_set::{LOC, MINUS_ZERO, PRIORITY, PRIORITY_UNIT, SIGN, entry, word_of};
 use crate::newjob::newjob;

@@ -6,8 +6,8 @@ ghost use Rattle.agc_plan.specs.Places.{placed_end, fronted};
 ghost use Rattle.agc_exec.specs.Blocks.{blocks_of};
 ghost use Rattle.agc_exec.specs.Calls.{blocks_end, fronted_blocks, slept_block, front_block, DoesEnd, DoesSleep};
 ghost use Rattle.agc_exec.specs.Image.{sets_of, IsSet, Each, IsLawfulBlock, IsLawfulWords};
-ghost use Rattle.agc_exec.specs.Sets.{entries_of, running_in, Gives, jobs_of};
-ghost use Rattle.agc_exec.specs.Stages.{FrontRuns};
+ghost use Rattle.agc_exec.specs.Sets.{entries_of, running_in, jobs_of};
+ghost use Rattle.agc_exec.specs.Stages.{FrontRuns, Gives};
 
 use crate::area::{front_area, release_area};
 use crate::core_set::{LOC, MINUS_ZERO, PRIORITY, set_word, word_of};

@@ -6,8 +6,8 @@ ghost use Rattle.agc_plan.specs.Places.{place_of};
 ghost use Rattle.agc_exec.specs.Blocks.{blocks_of};
 ghost use Rattle.agc_exec.specs.Calls.{fronted_blocks};
 ghost use Rattle.agc_exec.specs.Image.{sets_of, IsSet};
-ghost use Rattle.agc_exec.specs.Sets.{slots_of, entries_of, running_in, IsFreeAt, IsLawful, BringsBest};
-ghost use Rattle.agc_exec.specs.Stages.{FrontRuns, IsHeldAt, rank_in, sleeper_rank, IsBestRank, IsSleeperRank, IsMarked};
+ghost use Rattle.agc_exec.specs.Sets.{slots_of, entries_of, running_in, IsLawful};
+ghost use Rattle.agc_exec.specs.Stages.{FrontRuns, IsHeldAt, rank_in, sleeper_rank, IsBestRank, IsSleeperRank, IsMarked, IsFreeAt, BringsBest};
 
 use crate::core_set::{LOC, MINUS_ZERO, PRIORITY, PRIORITY_UNIT, SIGN, entry, exchange, word_of};
 use agc_plan::{Address, JobNo};

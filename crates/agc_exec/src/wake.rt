@@ -6,8 +6,8 @@ ghost use Rattle.agc_plan.specs.Places.{fronted};
 ghost use Rattle.agc_exec.specs.Blocks.{blocks_of};
 ghost use Rattle.agc_exec.specs.Calls.{roused, blocks_roused, DoesWake};
 ghost use Rattle.agc_exec.specs.Image.{sets_of, IsSet, Each, IsLawfulBlock, IsLawfulWords};
-ghost use Rattle.agc_exec.specs.Sets.{entries_of, running_in, Gives, jobs_of};
-ghost use Rattle.agc_exec.specs.Stages.{IsFirstAt};
+ghost use Rattle.agc_exec.specs.Sets.{entries_of, running_in, jobs_of};
+ghost use Rattle.agc_exec.specs.Stages.{IsFirstAt, Gives};
 
 use crate::core_set::{PRIORITY, set_word, word_of};
 use crate::newjob::bring_newjob_up_to_date;

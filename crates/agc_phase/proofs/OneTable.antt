@@ -1,11 +1,10 @@
 -- Phases and codes have one table of words.
-use Rattle.std.proofs.Common.{◌≡◌, ℕ, zero, suc, ◌+◌, ◌-◌, ◌*◌, ◌<◌, ◌≤◌, ◌⊎◌, Option, None, List, slice_index, slice_index_or, ap, sym, subst, ◌∙◌, inl, inr, arith}
+use Rattle.std.proofs.Common.{◌≡◌, ℕ, zero, suc, ◌+◌, ◌-◌, ◌*◌, ◌<◌, ◌≤◌, None, List, slice_index, slice_index_or, ap, sym, subst, ◌∙◌, inl, inr, arith}
 use Rattle.std.proofs.lemmas.Bool.{cases_lt}
 use Rattle.agc_word.specs.Layout as layout
 use Rattle.agc_word.specs.Words.{complement}
-use Rattle.agc_plan.specs.declared.reply.Code.{Code}
 use Rattle.agc_plan.specs.Base.{Base}
-use Rattle.agc_phase.specs.Image.{IsPair, phase_in, phase_words, failreg_word, code_word, code_of_word, IsLawfulTable, ShowSameBase, SameTable}
+use Rattle.agc_phase.specs.Image.{phase_words, failreg_word, code_word, code_of_word, IsLawfulTable, ShowSameBase, SameTable}
 use Rattle.agc_phase.specs.Writing.{minus_place}
 use Rattle.agc_phase.proofs.Reading.{phases_in-at, phase_in-at, ArePairs-at, each_of_three}
 

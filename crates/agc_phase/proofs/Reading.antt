@@ -1,11 +1,11 @@
 -- What the words of the table are read as, pair by pair and code by code.
-use Rattle.std.proofs.Common.{◌≡◌, ℕ, zero, suc, ◌+◌, ◌*◌, ◌<◌, ◌≤◌, Option, Some, None, List, [], ◌∷◌, length, drop, slice_index, refl, ap, sym, ◌∙◌, arith}
+use Rattle.std.proofs.Common.{◌≡◌, ℕ, zero, suc, ◌+◌, ◌*◌, ◌<◌, Option, Some, None, List, [], ◌∷◌, length, drop, slice_index, refl, ap, sym, ◌∙◌, arith}
 use Rattle.std.proofs.lemmas.List.{get_or-take, get_or-drop}
 use Rattle.std.proofs.lemmas.Grind.{same_number_lists}
 use Rattle.agc_word.specs.Layout as layout
 use Rattle.agc_plan.specs.declared.reply.Code.{Code}
 use Rattle.agc_plan.specs.declared.reply.Code.TheVariants.{C1107, C1201, C1202, C1203}
-use Rattle.agc_phase.specs.Image.{IsPair, ArePairs, minus_in, phase_in, phases_in, phase_words, code_word, code_of_word, failreg_word, codes_in, IsFailreg, IsLawfulBase, IsLawfulTable, base_of}
+use Rattle.agc_phase.specs.Image.{IsPair, ArePairs, minus_in, phase_in, phases_in, phase_words, code_word, code_of_word, failreg_word, codes_in, IsLawfulBase, IsLawfulTable, base_of}
 use Rattle.agc_phase.specs.Writing.{minus_place}
 
 -- a word among the twelve phase words

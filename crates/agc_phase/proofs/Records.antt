@@ -1,12 +1,12 @@
 -- What the words are read as once a code was recorded.
-use Rattle.std.proofs.Common.{◌≡◌, ◌≢◌, ℕ, ◌+◌, ◌<◌, ◌≤◌, ◌⊎◌, Option, Some, None, List, [], ◌∷◌, length, slice_index, slice_index_or, slice_set, refl, ap, sym, subst, ◌∙◌, inl, inr, arith}
+use Rattle.std.proofs.Common.{◌≡◌, ◌≢◌, ℕ, ◌+◌, ◌<◌, ◌≤◌, Option, Some, None, List, [], ◌∷◌, length, slice_index, slice_set, refl, ap, sym, subst, ◌∙◌, inl, inr, arith}
 use Rattle.std.proofs.lemmas.List.{get_or-set_same, get_or-set_other, length-set}
 use Rattle.agc_word.specs.Layout.{Keeps, OutsidePhases}
 use Rattle.agc_word.specs.Layout as layout
 use Rattle.agc_plan.specs.declared.reply.Code.{Code}
 use Rattle.agc_plan.specs.declared.reply.Code.TheVariants.{C1107, C1201, C1202, C1203}
 use Rattle.agc_plan.specs.Base.{kept_first, with_code}
-use Rattle.agc_phase.specs.Image.{IsCodeWord, AreFirstSecondLatest, IsFailreg, phases_in, phase_words, failreg_word, codes_in, code_word, code_of_word, base_of, IsLawfulTable, Becomes}
+use Rattle.agc_phase.specs.Image.{IsCodeWord, AreFirstSecondLatest, IsFailreg, failreg_word, codes_in, code_word, code_of_word, base_of, IsLawfulTable, Becomes}
 use Rattle.agc_phase.specs.Writing.{minus_place}
 use Rattle.agc_phase.specs.Recording.{free_place}
 use Rattle.agc_phase.proofs.Reading.{ArePairs-are, ArePairs-at, code_of_word-code_word, codes_in-is, each_of_three}

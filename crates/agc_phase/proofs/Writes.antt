@@ -1,5 +1,5 @@
 -- What the words are read as once one pair, or all pairs and codes, were written.
-use Rattle.std.proofs.Common.{◌≡◌, ◌≢◌, ℕ, ◌+◌, ◌*◌, ◌<◌, ◌≤◌, ◌⊎◌, Option, Some, None, List, [], ◌∷◌, length, slice_index, slice_index_or, slice_set, refl, ap, sym, subst, ◌∙◌, inl, inr, arith}
+use Rattle.std.proofs.Common.{◌≡◌, ◌≢◌, ℕ, ◌+◌, ◌<◌, Option, None, List, [], ◌∷◌, length, slice_index, slice_index_or, slice_set, refl, ap, sym, subst, ◌∙◌, inl, inr, arith}
 use Rattle.std.proofs.lemmas.Bool.{cases_eq, cases_lt}
 use Rattle.std.proofs.lemmas.List.{get_or-set_same, get_or-set_other, length-set}
 use Rattle.agc_word.specs.Layout.{Keeps, OutsidePhases}
@@ -7,7 +7,7 @@ use Rattle.agc_word.specs.Layout as layout
 use Rattle.agc_word.proofs.Keeping.{kept_twice, kept_also}
 use Rattle.agc_word.specs.Words.{complement}
 use Rattle.agc_plan.specs.declared.reply.Code.{Code}
-use Rattle.agc_phase.specs.Image.{IsPair, IsCodeWord, IsFailreg, phase_in, phases_in, phase_words, failreg_word, codes_in, code_word, code_of_word, base_of, IsLawfulTable, Becomes}
+use Rattle.agc_phase.specs.Image.{IsPair, IsCodeWord, IsFailreg, phases_in, phase_words, failreg_word, codes_in, code_of_word, base_of, IsLawfulTable, Becomes}
 use Rattle.agc_phase.specs.Writing.{minus_place, OutsidePair, OutsideFailreg, WritesPair, PairsWritten, CodesWritten}
 use Rattle.agc_phase.proofs.Reading.{phases_in-is, phases_in-at, phase_in-at, ArePairs-are, ArePairs-at, code_of_word-code_word, codes_in-is}
 use Rattle.agc_phase.proofs.Kept.{codes_in-same}

@@ -1,9 +1,10 @@
 use Rattle.std.proofs.Common.{◌<◌, ℕ, List, length, arith}
+use Rattle.agc_exec.specs.Stages.{IsFreeAt}
 use Rattle.agc_word.specs.Layout.{IsSized, OutsideSets}
 use Rattle.agc_word.proofs.Keeping.{kept_twice}
 use Rattle.agc_exec.specs.Blocks.{blocks_of}
 use Rattle.agc_exec.specs.Image.{sets_of}
-use Rattle.agc_exec.specs.Sets.{running_in, entries_of, IsFreeAt}
+use Rattle.agc_exec.specs.Sets.{running_in, entries_of}
 use Rattle.agc_exec.proofs.Decoding.{IsSet-lengths}
 use Rattle.agc_exec.proofs.Coming.{Came, Comes, Comes-made, came, came-lawful, coded-new}
 use Rattle.agc_exec.proofs.establish.establish.Goals as goal

@@ -1,5 +1,4 @@
-use Rattle.std.proofs.Common.{◌+◌, ◌∙◌, arith, refl}
-use Rattle.agc_word.specs.Layout as layout
+use Rattle.std.proofs.Common.{◌∙◌, arith, refl}
 use Rattle.agc_phase.proofs.table.failreg.Goals as goal
 
 pub returns-clause-codes : goal.returns-clause-codes

@@ -1,4 +1,4 @@
-use Rattle.std.proofs.Common.{◌≡◌, subst}
+use Rattle.std.proofs.Common.{subst}
 use Rattle.agc_plan.specs.Base as plain
 use Rattle.agc_phase.specs.Image.{Becomes}
 use Rattle.agc_phase.proofs.Writes.{Becomes-restored}
