@@ -96,11 +96,11 @@ run_of may_stop bench first history last starts back is whole begins begun asked
           let start = begun i d (omega (arith, for_each, below)) in
           let number : (get_or back i d).number ≡ i = number_at begin may_stop bench starts back begun asked many i d (omega (arith, many, for_each, below)) in
           let heard : calls_by i begin ++ calls_by i rest ≡ calls_by i begin ++ a.all.told =
-              sym (calls_by_append i begin rest)
-              ∙ (ap (calls_by i) (sym parts)
-              ∙ (ap (λ n. calls_by n history) (sym number)
-              ∙ (whole.each i d (omega (arith, many, for_each, below))
-              ∙ (a.all.heard ∙ ap (λ h. h.heard ++ a.all.told) start)))) in
+          sym (calls_by_append i begin rest)
+          ∙ (ap (calls_by i) (sym parts)
+          ∙ (ap (λ n. calls_by n history) (sym number)
+          ∙ (whole.each i d (omega (arith, many, for_each, below))
+          ∙ (a.all.heard ∙ ap (λ h. h.heard ++ a.all.told) start)))) in
           subst (λ l. AskedOwn may_stop (asker_at bench i) l) (sym a.all.asked ∙ ap requests_of (sym (append_cancel_left (calls_by i begin) _ _ heard))) a.own;
       no_other = λ k d below.
           let among = All-drop (λ (call : Call). Contains (numbers_of back) call.by) (length begin) history whole.no_other k d below in

@@ -32,7 +32,8 @@ pub record AsksOwn (may_stop : ℕ → ℕ → Type 0) (asker : Asker) (old new 
   pub own : AskedOwn may_stop asker asked
   pub all : AsksAll old asked new
 
--- in each thread what is its own was asked with the share at its place; s and t stand in where a list has no such place
+-- in each thread what is its own was asked with the share at its place; s and t stand in where a
+-- list has no such place
 abbrev pub EachAsks : (ℕ → ℕ → Type 0) → Benched → List Holder → List Holder → Type 0
 EachAsks may_stop bench old new =
     (i : ℕ) (s t : Holder) → i < length new → AsksOwn may_stop (asker_at bench i) (slice_index_or old i s) (slice_index_or new i t)

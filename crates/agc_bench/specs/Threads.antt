@@ -45,17 +45,19 @@ askers_of bench = some_or_idle (workers_of bench ++ devices_of bench)
 abbrev pub asker_at : Benched → ℕ → Asker
 asker_at bench thread = slice_index_or (askers_of bench) thread idle
 
--- one who asks asked just these requests: a device all that are its own, a worker those as far as its gate lets it
+-- one who asks asked just these requests: a device all that are its own, a worker those as far as
+-- its gate lets it
 abbrev pub AskedOwn : (ℕ → ℕ → Type 0) → Asker → List Request → Type 0
 AskedOwn may_stop (Worker worker requests) asked = IsFront (may_stop worker) requests asked
 AskedOwn may_stop (Device requests) asked = asked ≡ requests
 
--- the machine that a run leaves: the script was asked of the bench's machine, and then, in some order, all threads asked it
--- what is their own, each in its own order, and nothing else was asked
+-- the machine that a run leaves: the script was asked of the bench's machine, and then, in some
+-- order, all threads asked it what is their own, each in its own order, and nothing else was asked
 pub record IsRun (may_stop : ℕ → ℕ → Type 0) (bench : Benched) (machine : Machined) : Type 0 where
   pub calls : List Call
   pub leads : Leads (after_all (bench_machine bench) bench.script) calls machine
-  pub each : (thread : ℕ) → thread < length (askers_of bench) → AskedOwn may_stop (asker_at bench thread) (requests_of (calls_by thread calls))
+  pub each : (thread : ℕ) → thread < length (askers_of bench)
+      → AskedOwn may_stop (asker_at bench thread) (requests_of (calls_by thread calls))
   pub no_other : All (λ call. call.by < length (askers_of bench)) calls
 
 -- the report of the machine that a run leaves
@@ -73,8 +75,8 @@ IsEarly NoThread = Unit {0}
 IsEarly Lost = ⊥
 IsEarly Output = ⊥
 
--- what a run of threads wrote: the report and nothing else; a front of it where a write failed; nothing where there was no
--- memory or no thread; Lost is never answered
+-- what a run of threads wrote: the report and nothing else; a front of it where a write failed;
+-- nothing where there was no memory or no thread; Lost is never answered
 abbrev pub WritesRun : {T : Type 0} → (ℕ → ℕ → Type 0) → Benched → Option (List ℕ) → Option (List ℕ) → Result T RunFault → Type 0
 WritesRun may_stop bench old new (Ok _) = (text : List ℕ) × IsRunReport may_stop bench text × Appends old new text
 WritesRun may_stop bench old new (Err Output) = (text : List ℕ) × IsRunReport may_stop bench text × AppendsFront old new text

@@ -68,8 +68,8 @@ pub(crate) fn count_askers(bench: &Bench) -> usize
     count.max(1)
 }
 
-/// Asks what the thread of this number asks: the workers' requests come first, each as far as the gate lets it, then those
-/// of the devices.
+/// Asks what the thread of this number asks: the workers' requests come first, each as far as the
+/// gate lets it, then those of the devices.
 pub(crate) fn ask_own<N: Sharing, G: Gate, W: Wait>(
     rt: &W,
     shared: &Shared<N>,

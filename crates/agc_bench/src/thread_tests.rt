@@ -48,7 +48,8 @@ fn report_ending(alloc: Global, ending: [&str; 2]) -> Result<Vec<u8>, Fail> {
     Ok(text)
 }
 
-/// Worker 0's first call comes after the last worker's first, and the last worker's second after worker 0's first.
+/// Worker 0's first call comes after the last worker's first, and the last worker's second after
+/// worker 0's first.
 #[derive(Drop)]
 struct Crossed {
     last: usize,
@@ -124,7 +125,8 @@ fn two_workers_run_at_the_same_time(rt: HostRuntime) -> Result<(), Fail> {
     Ok(())
 }
 
-/// Counts the calls of two workers before which it was asked, and those after which it was told, each in order from 0.
+/// Counts the calls of two workers before which it was asked, and those after which it was told,
+/// each in order from 0.
 #[derive(Drop)]
 struct Counts {
     asked: [AtomicU64; 2],

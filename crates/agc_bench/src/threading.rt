@@ -53,7 +53,8 @@ fn shares_of<N: Names>(
     Ok(shares)
 }
 
-/// Has all workers and devices ask at once, each in a thread of its own with the share at its place, and joins them.
+/// Has all workers and devices ask at once, each in a thread of its own with the share at its
+/// place, and joins them.
 fn ask_at_once<N: Sharing + Send + Sync, G: Gate + Sync, W: Threads + Wait + Sync>(
     rt: &W,
     alloc: Global,
@@ -99,7 +100,8 @@ fn ask_at_once<N: Sharing + Send + Sync, G: Gate + Sync, W: Threads + Wait + Syn
     )
 }
 
-/// Asks the script with the first share, then, under a lock, all workers and devices at once, and gathers the shares.
+/// Asks the script with the first share, then, under a lock, all workers and devices at once, and
+/// gathers the shares.
 fn gathered<N: Sharing + Send + Sync, G: Gate + Sync, W: Threads + Wait + Sync>(
     rt: &W,
     alloc: Global,
@@ -131,17 +133,19 @@ fn gathered<N: Sharing + Send + Sync, G: Gate + Sync, W: Threads + Wait + Sync>(
     }
 }
 
-/// Runs a bench with threads: its machine is asked for the requests of the script, and then, under a lock, by all workers
-/// and devices at once, each in a thread of its own. A worker passes the gate before and after each call, under its number
-/// in the order of the bench from 0; a device passes no gate. When all have ended, their shares are gathered, and the report
-/// is written: of the machine that some order of all these requests reaches, in which each thread's stand in its own order.
-/// The writer is not flushed. It may wait for the lock and for the threads. Source: profile.
+/// Runs a bench with threads: its machine is asked for the requests of the script, and then, under
+/// a lock, by all workers and devices at once, each in a thread of its own. A worker passes the
+/// gate before and after each call, under its number in the order of the bench from 0; a device
+/// passes no gate. When all have ended, their shares are gathered, and the report is written: of
+/// the machine that some order of all these requests reaches, in which each thread's stand in its
+/// own order. The writer is not flushed. It may wait for the lock and for the threads. Source:
+/// profile.
 ///
 /// # Errors
 ///
-/// `NoMemory`, and `NoThread` where a thread couldn't be started: nothing was written, and the threads that were started are
-/// joined. `Output`, where a write failed, or took nothing of what was left; a front of the text was then written. `Lost`
-/// never comes.
+/// `NoMemory`, and `NoThread` where a thread couldn't be started: nothing was written, and the
+/// threads that were started are joined. `Output`, where a write failed, or took nothing of what
+/// was left; a front of the text was then written. `Lost` never comes.
 pub fn threads<R: Threads + Wait + Sync, W: Write, G: Gate + Sync>(
     rt: &R,
     alloc: Global,

@@ -6,7 +6,8 @@ use Rattle.agc_machine.specs.Said.{Said}
 use Rattle.agc_machine.specs.Told.{add, nothing, told}
 use Rattle.agc_desk.specs.History.{Holder}
 
--- a ledger: what was booked, how many of its parts were not given out, and what came back with the others
+-- a ledger: what was booked, how many of its parts were not given out, and what came back with the
+-- others
 pub record Account : Type 0 where
   pub total : ℕ
   pub left : ℕ

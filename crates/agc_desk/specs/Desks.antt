@@ -14,9 +14,10 @@ pub record Desked : Type 0 where
   pub booked : Totals
   pub given : ℕ
 
--- what a desk keeps that was made with the first machine: its history leads from that one to its machine, and no share was
--- settled; each book is the machine's total less its value as the desk was made; with each share went one of the 65 parts of
--- each ledger, the desk keeps at least one, and no share is back
+-- what a desk keeps that was made with the first machine: its history leads from that one to its
+-- machine, and no share was settled; each book is the machine's total less its value as the desk
+-- was made; with each share went one of the 65 parts of each ledger, the desk keeps at least one,
+-- and no share is back
 pub record IsBooked (first machine : Machined) (known : Known) (since : Totals) (ledgers : Accounts) : Type 0 where
   pub leads : Leads first known.calls machine
   pub none_settled : known.settled ≡ []

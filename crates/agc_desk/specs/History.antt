@@ -5,7 +5,8 @@ use Rattle.agc_machine.specs.Said.{Said}
 use Rattle.agc_machine.specs.Machines.{Machined, after, answer_of}
 use Rattle.agc_desk.specs.declared.book.Call.{Call}
 
--- these calls lead in this order from the first machine to the last, each answered as the machine's step answers it there
+-- these calls lead in this order from the first machine to the last, each answered as the machine's
+-- step answers it there
 abbrev pub Leads : Machined → List Call → Machined → Type 0
 Leads first [] last = first ≡ last
 Leads first (call ∷ more) last =
@@ -20,7 +21,8 @@ pub record Holder : Type 0 where
   pub number : ℕ
   pub heard : List Said
 
--- what a desk knows of its history: the calls, how many shares were given out, and the numbers of those that were settled
+-- what a desk knows of its history: the calls, how many shares were given out, and the numbers of
+-- those that were settled
 pub record Known : Type 0 where
   pub calls : List Call
   pub given : ℕ

@@ -1,4 +1,5 @@
--- The names of the five ledgers and of the history of a desk, and what stands where nothing is picked.
+-- The names of the five ledgers and of the history of a desk, and what stands where nothing is
+-- picked.
 use Rattle.std.specs.Prelude.{ℕ, [], Err}
 use Rattle.atomic_table.specs.Seated.{TableId}
 use Rattle.agc_plan.specs.declared.request.Action.TheVariants.{Nothing}

@@ -5,8 +5,8 @@ use Rattle.agc_machine.specs.Machines.{Machined, IsLawful, answer_of}
 use Rattle.agc_machine.specs.Said.{Said}
 use Rattle.agc_desk.specs.History.{Holder}
 
--- the answer is the one that the machine's step gives to its request on some lawful machine, of the same plan, limit and
--- allowance as the first
+-- the answer is the one that the machine's step gives to its request on some lawful machine, of the
+-- same plan, limit and allowance as the first
 pub record IsGiven (first : Machined) (said : Said) : Type 0 where
   pub machine : Machined
   pub lawful : IsLawful machine
@@ -17,7 +17,8 @@ pub record IsGiven (first : Machined) (said : Said) : Type 0 where
 
 -- the holder of a share asks this, gets this answer, and has heard one answer more
 abbrev pub Asks : Machined → Holder → Request → Said → Holder → Type 0
-Asks first old asked said new = (said.request ≡ asked) × IsGiven first said × (new ≡ record old { heard = old.heard ++ said ∷ [] })
+Asks first old asked said new =
+    (said.request ≡ asked) × IsGiven first said × (new ≡ record old { heard = old.heard ++ said ∷ [] })
 
 -- the requests that were answered, in order
 abbrev pub requests_of : List Said → List Request
@@ -30,14 +31,16 @@ pub record AsksAll (old : Holder) (requests : List Request) (new : Holder) : Typ
   pub heard : new.heard ≡ old.heard ++ told
   pub asked : requests_of told ≡ requests
 
--- these were asked of the requests: the first so many, which are all or end at a call before which the gate may stop
+-- these were asked of the requests: the first so many, which are all or end at a call before which
+-- the gate may stop
 pub record IsFront (may_stop : ℕ → Type 0) (requests asked : List Request) : Type 0 where
   pub count : ℕ
   pub few : count ≤ length requests
   pub front : asked ≡ take count requests
   pub whole : (count ≡ length requests) ⊎ may_stop count
 
--- these requests, each answered as the relation says, lead in this order from the first state to the last
+-- these requests, each answered as the relation says, lead in this order from the first state to
+-- the last
 abbrev pub Reached : {State : Type 0} → (State → Request → Said → State → Type 0) → State → List Request → State → Type 0
 Reached leads first [] last = first ≡ last
 Reached {State} leads first (asked ∷ more) last =

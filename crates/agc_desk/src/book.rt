@@ -1,5 +1,6 @@
-// The table that ties what a desk knows of its history to what the holders of its shares know. It has one word, which never
-// changes: all that its steps change is what its seats know, which has no bytes.
+// The table that ties what a desk knows of its history to what the holders of its shares know. It
+// has one word, which never changes: all that its steps change is what its seats know, which has no
+// bytes.
 ghost use Rattle.std.specs.Prelude.{◌≡◌, ◌<◌, ◌+◌, ◌++◌, ◌∷◌, [], ℕ, true, All, nat_eq, false};
 ghost use Rattle.std.specs.List.{list_any};
 ghost use Rattle.agc_desk.specs.History.{calls_by};
@@ -11,8 +12,8 @@ use std::alloc::Global;
 use std::collections::LinkedList;
 use std::marker::{Brand, PhantomData};
 
-/// With which share a request was asked, and what it was and was answered. No value of it is made: the history of a desk
-/// stands in proofs alone. Source: profile.
+/// With which share a request was asked, and what it was and was answered. No value of it is made:
+/// the history of a desk stands in proofs alone. Source: profile.
 pub struct Call {
     /// The share's number. Source: profile.
     pub by: u64,
@@ -170,7 +171,8 @@ pub(crate) fn note(book: &Book, keeper: &mut Pass, pass: &mut Pass, answer: &Ans
     *pass = noted::<Brand>(book, keeper, own, answer);
 }
 
-/// Settles the pass's number: what the pass knows is what the history has of it, and no other pass has it.
+/// Settles the pass's number: what the pass knows is what the history has of it, and no other pass
+/// has it.
 pub(crate) fn settle(book: &Book, keeper: &mut Pass, pass: Pass)
     requires table { (keeper.old.table_id ≡ book.now.shared.table_id) × (pass.table_id ≡ book.now.shared.table_id) × (0 < book.now.shared.table_id.words) }
     requires keeps { keeper.old.me.0.keeps ≡ true }

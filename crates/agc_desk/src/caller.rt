@@ -9,8 +9,8 @@ use agc_machine::Answer;
 use agc_plan::Request;
 use std::sync::{Mutex, Wait};
 
-/// What lies under the lock. Whenever the lock is free, as many of the desk's shares are given out as may be there, and its
-/// history begins with the calls that the type names. Source: profile.
+/// What lies under the lock. Whenever the lock is free, as many of the desk's shares are given out
+/// as may be there, and its history begins with the calls that the type names. Source: profile.
 #[derive(Drop)]
 pub struct Held<N: Sharing> {
     /// The desk that is asked. Source: profile.
@@ -22,8 +22,9 @@ pub struct Held<N: Sharing> {
 /// A desk that several threads share, under a lock. Source: profile.
 pub type Shared<N> = Mutex<Held<N>>;
 
-/// Asks the machine of the locked desk, with this share: the request and its answer come into the desk's history under its
-/// number. A refusal is the answer's result. It may wait for the lock. Source: profile.
+/// Asks the machine of the locked desk, with this share: the request and its answer come into the
+/// desk's history under its number. A refusal is the answer's result. It may wait for the lock.
+/// Source: profile.
 pub fn ask<N: Sharing, W: Wait>(
     rt: &W,
     shared: &Shared<N>,
@@ -52,9 +53,9 @@ impl<N: Sharing> Console for Caller<'_, N> {
     }
 }
 
-/// Asks the requests in order at the shared desk, all or up to a call at which the gate may stop, and hands back the
-/// share, whose holder asked just these. `worker` is the number that the gate is told. It may wait for the lock, and as its
-/// gate does. Source: profile.
+/// Asks the requests in order at the shared desk, all or up to a call at which the gate may stop,
+/// and hands back the share, whose holder asked just these. `worker` is the number that the gate is
+/// told. It may wait for the lock, and as its gate does. Source: profile.
 pub fn work<N: Sharing, G: Gate, W: Wait>(
     rt: &W,
     shared: &Shared<N>,

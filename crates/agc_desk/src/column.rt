@@ -4,7 +4,8 @@ use std::marker::Model;
 use std::sync::ledger;
 use std::sync::ledger::{Blank, Book, Ledger};
 
-/// What one holder was told of one number, with its part of the number's ledger. Contracts see it as the amount.
+/// What one holder was told of one number, with its part of the number's ledger. Contracts see it
+/// as the amount.
 #[derive(Drop)]
 pub(crate) struct Told<L: Ledger> {
     amount: u64,

@@ -46,9 +46,9 @@ impl Gate for OpenGate {
     fn after(&self, _worker: usize, _call: usize) {}
 }
 
-/// Asks the requests in order, and answers how many it asked: all of them, or those before a call at which the gate
-/// may stop. The gate is told `worker` as the worker's number. It waits as its console and its gate do. Source:
-/// profile.
+/// Asks the requests in order, and answers how many it asked: all of them, or those before a call
+/// at which the gate may stop. The gate is told `worker` as the worker's number. It waits as its
+/// console and its gate do. Source: profile.
 pub fn drive<C: Console, G: Gate, W: Wait>(
     rt: &W,
     console: &mut C,

@@ -16,11 +16,12 @@ use std::marker::Model;
 /// How many shares a desk gives out.
 const SHARES: u64 = 64;
 
-/// A machine, with the history of all that was asked of it, and a book for each of its totals. Contracts see it as its
-/// machine, its history, the books, and how many shares were given out.
+/// A machine, with the history of all that was asked of it, and a book for each of its totals.
+/// Contracts see it as its machine, its history, the books, and how many shares were given out.
 ///
-/// Of every desk it holds that the history leads to its machine from the one with which it was made, and that each book is
-/// the machine's total less that one's. The history has no bytes. Source: profile.
+/// Of every desk it holds that the history leads to its machine from the one with which it was
+/// made, and that each book is the machine's total less that one's. The history has no bytes.
+/// Source: profile.
 #[derive(Drop)]
 pub struct Desk<N: Names> {
     machine: Machine,
@@ -39,8 +40,8 @@ impl<N: Names> Model for Desk<N> {
     ghost invariant = { λ d. IsBooked N.first d.machine d.history d.since d.ledgers };
 }
 
-/// What its holder asked of one desk, and was answered. Contracts see it as its number and these answers, of which it knows
-/// the totals alone when it runs. Source: profile.
+/// What its holder asked of one desk, and was answered. Contracts see it as its number and these
+/// answers, of which it knows the totals alone when it runs. Source: profile.
 ///
 /// It can't be copied, and a share of another desk has another type.
 #[derive(Drop)]
@@ -71,7 +72,8 @@ impl<N: Names> Share<N> {
 }
 
 impl<N: Names> Desk<N> {
-    /// A desk that gave out no share, booked nothing, and of which nothing was asked. Source: profile.
+    /// A desk that gave out no share, booked nothing, and of which nothing was asked. Source:
+    /// profile.
     pub fn new(machine: Machine, blanks: Blanks) -> Desk<N>
         requires names { names_of blanks ≡ N.names }
         requires first { machine ≡ N.first }
@@ -96,7 +98,8 @@ impl<N: Names> Desk<N> {
         &self.machine
     }
 
-    /// A share with which nothing was asked, of the least number that was not given out; none where 64 were. Source: profile.
+    /// A share with which nothing was asked, of the least number that was not given out; none where
+    /// 64 were. Source: profile.
     pub fn share(&mut self) -> Option<Share<N>>
         ensures none { IsNone result ↔ (self.old.given ≡ 64) }
         ensures share { IfSome result (λ s. s ≡ record { number = self.old.given; heard = [] }) }
@@ -112,9 +115,9 @@ impl<N: Names> Desk<N> {
         })
     }
 
-    /// Asks the machine, and books what its answer tells in the share and in the desk's books. The request and its answer
-    /// come into the history, and to what the share's holder was answered. A refusal is the answer's result, and books
-    /// nothing. Source: profile.
+    /// Asks the machine, and books what its answer tells in the share and in the desk's books. The
+    /// request and its answer come into the history, and to what the share's holder was answered. A
+    /// refusal is the answer's result, and books nothing. Source: profile.
     pub fn serve(&mut self, share: &mut Share<N>, request: Request) -> Answer
         ensures request { result.request ≡ request }
         ensures outcome { result.outcome ≡ answer_of self.old.machine request }
@@ -132,7 +135,8 @@ impl<N: Names> Desk<N> {
     }
 }
 
-/// What [`gather`] hands back where it refuses: not as many shares came as the desk gave out. Source: profile.
+/// What [`gather`] hands back where it refuses: not as many shares came as the desk gave out.
+/// Source: profile.
 #[derive(Drop)]
 pub struct Ungathered<N: Names> {
     /// The desk as it was. Source: profile.
@@ -141,13 +145,15 @@ pub struct Ungathered<N: Names> {
     pub shares: Vec<Share<N>>,
 }
 
-/// Ends a desk: gives its machine, unchanged, and what the holders of all its shares were told together, which is what the
-/// machine's totals grew by. The history leads to that machine from the one with which the desk was made; of each share's
-/// number it has just what its holder asked and was answered, and it has no other calls. Source: profile.
+/// Ends a desk: gives its machine, unchanged, and what the holders of all its shares were told
+/// together, which is what the machine's totals grew by. The history leads to that machine from the
+/// one with which the desk was made; of each share's number it has just what its holder asked and
+/// was answered, and it has no other calls. Source: profile.
 ///
 /// # Errors
 ///
-/// `Ungathered` exactly where not as many shares come as the desk gave out; desk and shares come back as they were.
+/// `Ungathered` exactly where not as many shares come as the desk gave out; desk and shares come
+/// back as they were.
 pub fn gather<N: Names>(
     desk: Desk<N>,
     shares: Vec<Share<N>>,

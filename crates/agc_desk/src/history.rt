@@ -10,7 +10,8 @@ use agc_machine::{Answer, NoMemory};
 use std::alloc::Global;
 use std::marker::{Model, PhantomData};
 
-/// A history of no calls that has no name in the types yet. Contracts see it as its name. Source: profile.
+/// A history of no calls that has no name in the types yet. Contracts see it as its name. Source:
+/// profile.
 #[derive(Drop)]
 pub struct Opened {
     book: Book,
@@ -37,8 +38,8 @@ impl Opened {
     }
 }
 
-/// The history of a desk, which has no bytes but those that name it. Contracts see it as its calls, how many shares were
-/// given out, and the numbers of those that were settled.
+/// The history of a desk, which has no bytes but those that name it. Contracts see it as its calls,
+/// how many shares were given out, and the numbers of those that were settled.
 #[derive(Drop)]
 pub(crate) struct History<N: Names> {
     book: Book,
@@ -119,7 +120,8 @@ impl<N: Names> History<N> {
         note(&self.book, &mut self.keeper, &mut own.pass, answer);
     }
 
-    /// What the holder of this number heard is what the history has of it; and it was given out, and settled just now.
+    /// What the holder of this number heard is what the history has of it; and it was given out,
+    /// and settled just now.
     pub(crate) fn settle(&mut self, own: Own<N>)
         ensures settled { self.new ≡ record self.old { settled = self.old.settled ++ own.number ∷ [] } }
         ensures heard { calls_by own.number self.old.calls ≡ own.heard }

@@ -68,7 +68,8 @@ impl<N: Names> Model for Ledgers<N> {
 }
 
 impl<N: Names> Ledgers<N> {
-    /// Ledgers of which nothing was booked and no part was given out, and the history that came with them.
+    /// Ledgers of which nothing was booked and no part was given out, and the history that came
+    /// with them.
     pub(crate) fn open(blanks: Blanks) -> (Ledgers<N>, Opened)
         requires { names_of blanks ≡ N.names }
         ensures ledgers { result.0 ≡ record { total = nothing; left = 65; back = nothing } }

@@ -9,11 +9,12 @@ use std::alloc::Global;
 use std::marker::{Brand, PhantomData};
 use std::sync::ledger::{Blank, Ledger};
 
-/// Into how many parts each ledger is cut: one for each of 64 shares, and one that stays with the desk.
+/// Into how many parts each ledger is cut: one for each of 64 shares, and one that stays with the
+/// desk.
 const PARTS: u64 = 65;
 
-/// What the type of a desk says of it: which five ledgers it has, one for each number of [`Totals`], which history, and with
-/// which machine it was made. Source: profile.
+/// What the type of a desk says of it: which five ledgers it has, one for each number of
+/// [`Totals`], which history, and with which machine it was made. Source: profile.
 ///
 /// A function that is generic over it is called with `Brand`, and the call picks names and machine.
 pub trait Names {
@@ -30,8 +31,9 @@ impl Names for Brand {
     ghost first = { no_machine };
 }
 
-/// What the type of a desk under a lock says besides: how many of its shares may be given out while it is there, and with
-/// which calls its history begins. A call with `Brand` picks both too. Source: profile.
+/// What the type of a desk under a lock says besides: how many of its shares may be given out while
+/// it is there, and with which calls its history begins. A call with `Brand` picks both too.
+/// Source: profile.
 pub trait Sharing: Names {
     /// Whether as many shares may be given out while the desk is under the lock. Source: profile.
     ghost may_share: { ℕ → Bool };
@@ -101,8 +103,8 @@ impl<N: Names> Ledger for Restarts<N> {
     ghost parts = { 65 };
 }
 
-/// Five ledgers that have no names in the types yet, of 65 parts each, in fields named as those of [`Totals`], and a history
-/// of no calls.
+/// Five ledgers that have no names in the types yet, of 65 parts each, in fields named as those of
+/// [`Totals`], and a history of no calls.
 ///
 /// They are made before the function that is generic over their names is called. Source: profile.
 #[derive(Drop)]

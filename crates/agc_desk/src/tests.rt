@@ -323,7 +323,8 @@ fn gathered_with<N: Names>(
     }
 }
 
-// Two shares were given out, and a tick is served with the first. `gather` refuses the second alone, and then takes both.
+// Two shares were given out, and a tick is served with the first. `gather` refuses the second
+// alone, and then takes both.
 fn gathered_late<N: Names>(
     alloc: Global,
     desk: Desk<N>,
@@ -411,7 +412,8 @@ impl Fake {
     }
 }
 
-// A gate that stops at the call of this number, and counts the calls of one worker that were answered, in order from 0.
+// A gate that stops at the call of this number, and counts the calls of one worker that were
+// answered, in order from 0.
 #[derive(Drop)]
 struct StopAt {
     worker: usize,
@@ -480,8 +482,8 @@ impl Console for Counting<'_> {
     }
 }
 
-// A gate that counts the calls before which its console was asked just for those that come first, and the calls after
-// which it was asked for one more.
+// A gate that counts the calls before which its console was asked just for those that come first,
+// and the calls after which it was asked for one more.
 #[derive(Drop)]
 struct InTurn<'a> {
     asked: &'a AtomicU64,
@@ -522,7 +524,10 @@ fn a_call_is_asked_between_before_and_after(rt: HostRuntime) -> Result<(), Fail>
     for _call in 0..300 {
         requests.push(Request::Tick)?;
     }
-    assert_eq!(rt; drive(&rt, &mut console, 0, requests.as_slice(), &gate), 300);
+    assert_eq!(rt;
+        drive(&rt, &mut console, 0, requests.as_slice(), &gate),
+        300
+    );
     assert_eq!(rt; gate.begun.load(Ordering::SeqCst), 300);
     assert_eq!(rt; gate.ended.load(Ordering::SeqCst), 300);
     Ok(())
@@ -576,8 +581,13 @@ fn a_worker_goes_on_after_a_refusal(rt: HostRuntime) -> Result<(), Fail> {
         Request::Restart,
         Request::Tick,
     ];
-    let (machine, told) =
-        worked_through::<Brand, HostRuntime>(&rt, rt.alloc(), machine, blanks, &requests)?;
+    let (machine, told) = worked_through::<Brand, HostRuntime>(
+        &rt,
+        rt.alloc(),
+        machine,
+        blanks,
+        &requests,
+    )?;
     assert_eq!(rt; told.served, 5);
     assert_eq!(rt; told.restarts, 1);
     assert_eq!(rt; machine.log_len(), 1);

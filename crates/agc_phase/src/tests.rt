@@ -1,5 +1,5 @@
 use crate::{
-    Base, Code, clear, failreg, is_lawful, laws, phases, record_alarm, recover, set_phase,
+    Base, Code, Phases, clear, failreg, is_lawful, laws, phases, record_alarm, recover, set_phase,
 };
 use agc_plan::{Group, Phase};
 use agc_word::{Erasable, Word};
@@ -23,6 +23,49 @@ fn group(number: u8) -> Result<Group, Fail> {
 
 fn phase(number: u8) -> Result<Phase, Fail> {
     Ok(Phase::new(number).ok_or("phase")?)
+}
+
+/// Sets a word, if there is such a place.
+fn put(e: &mut Erasable, place: usize, bits: u16) -> Result<(), Fail> {
+    if place >= 132 {
+        Err("place")?
+    }
+    e.set(place, word(bits)?);
+    Ok(())
+}
+
+/// Sets a group's phase, if the words are lawful.
+fn set(e: &mut Erasable, number: u8, value: u8) -> Result<(), Fail> {
+    if !is_lawful(e) {
+        Err("unlawful")?
+    }
+    set_phase(e, group(number)?, phase(value)?);
+    Ok(())
+}
+
+/// Records a code, if the words are lawful.
+fn record(e: &mut Erasable, code: Code) -> Result<(), Fail> {
+    if !is_lawful(e) {
+        Err("unlawful")?
+    }
+    record_alarm(e, code);
+    Ok(())
+}
+
+/// The phases and codes, if the words are lawful.
+fn read(e: &Erasable) -> Result<Base, Fail> {
+    if !is_lawful(e) {
+        Err("unlawful")?
+    }
+    assert_same(phases(e), Base::read(e))
+}
+
+/// The base, if its phases are these.
+fn assert_same(phases: Phases, base: Base) -> Result<Base, Fail> {
+    if base.phases() != phases {
+        Err("phases")?
+    }
+    Ok(base)
 }
 
 /// All words 12345, and then a cleared table.
@@ -89,16 +132,16 @@ fn each_single_bit_breaks_its_pair(rt: HostRuntime) -> Result<(), Fail> {
 #[test]
 fn failreg_keeps_the_first_two(rt: HostRuntime) -> Result<(), Fail> {
     let mut e = cleared()?;
-    record_alarm(&mut e, Code::C1201);
+    record(&mut e, Code::C1201)?;
     assert_eq!(rt; failreg(&e), [word(0o1201)?, word(0)?, word(0o1201)?]);
-    record_alarm(&mut e, Code::C1202);
-    record_alarm(&mut e, Code::C1203);
+    record(&mut e, Code::C1202)?;
+    record(&mut e, Code::C1203)?;
     assert_eq!(rt; failreg(&e), [word(0o1201)?, word(0o1202)?, word(0o1203)?]);
-    record_alarm(&mut e, Code::C1201);
+    record(&mut e, Code::C1201)?;
     assert_eq!(rt; failreg(&e), [word(0o1201)?, word(0o1202)?, word(0o1201)?]);
     clear(&mut e);
     assert_eq!(rt; failreg(&e), [word(0)?; 3]);
-    record_alarm(&mut e, Code::C1107);
+    record(&mut e, Code::C1107)?;
     assert_eq!(rt; failreg(&e), [word(0o1107)?, word(0)?, word(0o1107)?]);
     Ok(())
 }
@@ -122,24 +165,23 @@ fn a_cleared_table(rt: HostRuntime) -> Result<(), Fail> {
 #[test]
 fn a_set_phase_and_an_alarm(rt: HostRuntime) -> Result<(), Fail> {
     let mut e = cleared()?;
-    set_phase(&mut e, group(2)?, phase(3)?);
-    record_alarm(&mut e, Code::C1203);
+    set(&mut e, 2, 3)?;
+    record(&mut e, Code::C1203)?;
     let want = [
         0o77777, 0, 0o77774, 3, 0o77777, 0, 0o77777, 0, 0o77777, 0, 0o77777, 0, 0o1203, 0, 0o1203,
     ];
     for k in 0..15usize {
         assert_eq!(rt; e.get(117 + k).bits(), want[k]);
     }
-    assert_eq!(rt; phases(&e)[1].get(), 3);
-    let kept = Base::read(&e);
+    let kept = read(&e)?;
     assert_eq!(rt; kept.phases()[1].get(), 3);
     clear(&mut e);
-    assert!(rt; Base::read(&e) == Base::fresh());
+    assert!(rt; read(&e)? == Base::fresh());
     kept.restore(&mut e);
     for k in 0..15usize {
         assert_eq!(rt; e.get(117 + k).bits(), want[k]);
     }
-    Base::with_phases(phases(&e)).restore(&mut e);
+    Base::with_phases(kept.phases()).restore(&mut e);
     assert_eq!(rt; e.get(120).bits(), 3);
     assert_eq!(rt; failreg(&e), [word(0)?; 3]);
     assert_eq!(rt; e.get(116).bits(), 0o12345);
@@ -149,10 +191,10 @@ fn a_set_phase_and_an_alarm(rt: HostRuntime) -> Result<(), Fail> {
 #[test]
 fn the_greatest_phase_as_words(rt: HostRuntime) -> Result<(), Fail> {
     let mut e = cleared()?;
-    set_phase(&mut e, group(4)?, phase(127)?);
+    set(&mut e, 4, 127)?;
     assert_eq!(rt; e.get(123).bits(), 0o77600);
     assert_eq!(rt; e.get(124).bits(), 0o177);
-    set_phase(&mut e, group(4)?, phase(0)?);
+    set(&mut e, 4, 0)?;
     assert_eq!(rt; e.get(123).bits(), 0o77777);
     assert_eq!(rt; e.get(124).bits(), 0);
     Ok(())
@@ -199,7 +241,7 @@ fn unlawful_words(rt: HostRuntime) -> Result<(), Fail> {
     for (k, broken) in BROKEN.iter().enumerate() {
         let mut e = cleared()?;
         for (place, bits) in broken {
-            e.set(*place, word(*bits)?);
+            put(&mut e, *place, *bits)?;
         }
         assert!(rt; !is_lawful(&e), "image {k}");
     }
@@ -210,11 +252,11 @@ fn unlawful_words(rt: HostRuntime) -> Result<(), Fail> {
 fn lawful_words(rt: HostRuntime) -> Result<(), Fail> {
     let mut e = cleared()?;
     for number in 1..7u8 {
-        set_phase(&mut e, group(number)?, phase(20 * number)?);
+        set(&mut e, number, 20 * number)?;
         assert!(rt; is_lawful(&e), "group {number}");
     }
     for code in [Code::C1107, Code::C1201, Code::C1202, Code::C1203] {
-        record_alarm(&mut e, code);
+        record(&mut e, code)?;
         assert!(rt; is_lawful(&e));
     }
     assert!(rt; !is_lawful(&Erasable::new()));

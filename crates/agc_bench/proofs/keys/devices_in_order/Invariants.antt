@@ -1,4 +1,4 @@
-use Rattle.std.proofs.Common.{◌≡◌, drop, map}
+use Rattle.std.proofs.Common.{◌≡◌, drop}
 use Rattle.toml.specs.View.{items_view}
 use Rattle.agc_bench.specs.Keys.{each, device_data}
 use Rattle.agc_bench.proofs.Each.{with_front}

@@ -30,14 +30,14 @@ invariant_of-new g c =
     let one : c.share.new.self.given ≡ 1 = search rules in
     let shares : c.shares_of.new.desk.given ≡ c.share.new.self.given + (c.count_askers.result - 1) = search rules in
     let many : c.ask_script.new.desk.given ≡ length (askers_of c.args.bench.now) =
-        omega (arith, one, shares, c.ask_script.ensures.given, c.count_askers.ensures.count, c.count_askers.ensures.least) in
+    omega (arith, one, shares, c.ask_script.ensures.given, c.count_askers.ensures.count, c.count_askers.ensures.least) in
     let machine : c.shares_of.new.desk.machine ≡ c.args.machine = search rules in
     let none : c.shares_of.new.desk.history ≡ [] = search rules in
     let calls : c.ask_script.new.desk.history ≡ g.N.Sharing.begun =
-        c.ask_script.ensures.history
-        ∙ (ap (λ l. l ++ first_calls (answers_to c.shares_of.new.desk.machine c.script.result.now)) none
-        ∙ (ap (λ m. first_calls (answers_to m c.script.result.now)) machine
-        ∙ (ap (λ rs. first_calls (answers_to c.args.machine rs)) c.script.ensures ∙ sym c.requires.begun))) in
+    c.ask_script.ensures.history
+    ∙ (ap (λ l. l ++ first_calls (answers_to c.shares_of.new.desk.machine c.script.result.now)) none
+    ∙ (ap (λ m. first_calls (answers_to m c.script.result.now)) machine
+    ∙ (ap (λ rs. first_calls (answers_to c.args.machine rs)) c.script.ensures ∙ sym c.requires.begun))) in
     record {
       given = c.requires.shares c.ask_script.new.desk.given ∙ (ap (λ n. nat_eq n (length (askers_of c.args.bench.now))) many ∙ same_number (length (askers_of c.args.bench.now)));
       begun = begins_with g.N.Sharing.begun c.ask_script.new.desk.history calls;
@@ -57,18 +57,18 @@ returns-in-Ok-clause-run g c =
     let one : c.share.new.self.given ≡ 1 = search rules in
     let unasked : c.in_ok-first.first ≡ record { number = 0; heard = [] } = search rules in
     let first : c.ask_script.new.share ≡ record { number = 0; heard = answers } =
-        c.ask_script.ensures.heard
-        ∙ (ap (λ (h : Holder). record h { heard = h.heard ++ answers_to c.shares_of.new.desk.machine c.script.result.now }) unasked
-        ∙ (ap (λ m. record { number = 0; heard = answers_to m c.script.result.now }) machine
-        ∙ ap (λ rs. record { number = 0; heard = answers_to c.args.machine rs }) c.script.ensures)) in
+    c.ask_script.ensures.heard
+    ∙ (ap (λ (h : Holder). record h { heard = h.heard ++ answers_to c.shares_of.new.desk.machine c.script.result.now }) unasked
+    ∙ (ap (λ m. record { number = 0; heard = answers_to m c.script.result.now }) machine
+    ∙ ap (λ rs. record { number = 0; heard = answers_to c.args.machine rs }) c.script.ensures)) in
     let first_made : c.ask_script.new.share ≡ record { number = 0; heard = calls_by 0 (first_calls answers) } =
-        first ∙ ap (λ l. record { number = 0; heard = l }) (sym (calls_by_first answers)) in
+    first ∙ ap (λ l. record { number = 0; heard = l }) (sym (calls_by_first answers)) in
     let fresh : AreFresh 1 others = subst (λ n. AreFresh n others) one c.in_ok-shares.ensures.fresh in
     let starts : c.insert.new.self.items ≡ c.ask_script.new.share ∷ others = search rules in
     let begun : HaveMade (first_calls answers) c.insert.new.self.items =
-        subst (HaveMade (first_calls answers)) (sym starts) (made (first_calls answers) c.ask_script.new.share others first_made (λ n. calls_by_others n answers) fresh) in
+    subst (HaveMade (first_calls answers)) (sym starts) (made (first_calls answers) c.ask_script.new.share others first_made (λ n. calls_by_others n answers) fresh) in
     let for_each : length c.insert.new.self.items ≡ length (askers_of bench) =
-        omega (arith, ap length starts, c.in_ok-shares.ensures.count, c.count_askers.ensures.count, c.count_askers.ensures.least) in
+    omega (arith, ap length starts, c.in_ok-shares.ensures.count, c.count_askers.ensures.count, c.count_askers.ensures.least) in
     run_of (λ n call. g.G.Gate.may_stop c.args.gate.now n call) bench c.args.machine history c.in-Ok.all.0 c.insert.new.self.items c.in_ok-back.back.items
     c.requires.bench
     (subst (λ m. IsHistory m c.in_ok-back.back.items history c.in-Ok.all.0) (sym c.requires.first) c.in-Ok.ensures.history)
@@ -80,7 +80,7 @@ returns-in-Err-clause-early g c =
     let bench = c.args.bench.now in
     let starts : c.insert.new.self.items ≡ c.ask_script.new.share ∷ c.in_ok-shares.shares.items = search rules in
     let given : c.into_inner-desk.result.desk.given ≡ length (askers_of bench) =
-        number_is _ _ (sym (c.requires.shares c.into_inner-desk.result.desk.given) ∙ c.into_inner-desk.result.given) in
+    number_is _ _ (sym (c.requires.shares c.into_inner-desk.result.desk.given) ∙ c.into_inner-desk.result.given) in
     let all : vec_len c.in_ok-back.back ≡ c.into_inner-desk.result.desk.given =
-        omega (arith, c.in_ok-back.ensures.len, ap length starts, c.in_ok-shares.ensures.count, c.count_askers.ensures.count, c.count_askers.ensures.least, given) in
+    omega (arith, c.in_ok-back.ensures.len, ap length starts, c.in_ok-shares.ensures.count, c.count_askers.ensures.count, c.count_askers.ensures.least, given) in
     unlike (c.in-Err.ensures.ok.1 all)

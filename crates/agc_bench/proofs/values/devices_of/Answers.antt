@@ -1,4 +1,4 @@
-use Rattle.std.proofs.Common.{ap, ◌∙◌}
+use Rattle.std.proofs.Common.{◌∙◌}
 use Rattle.agc_bench.specs.Benches.{device_texts, IsDevice}
 use Rattle.agc_bench.proofs.Beside.{refused_here, beside_here, all_beside}
 use Rattle.agc_bench.proofs.values.devices_of.Goals as goal
