@@ -1,4 +1,4 @@
-use Rattle.std.proofs.Common.{◌≡◌, ℕ, List, Option, Result, Ok, Err, refl, sym, ap, subst}
+use Rattle.std.proofs.Common.{◌≡◌, ◌⊎◌, ◌<◌, ◌≤◌, ℕ, IfErr, List, Option, Result, Ok, Err, inl, inr, refl, sym, ap, subst, arith, ◌∙◌}
 use Rattle.std.specs.Result.{IsErr, IsErrAnd}
 use Rattle.agc_bench.specs.declared.run_fault.RunFault.{RunFault}
 use Rattle.agc_bench.specs.declared.run_fault.RunFault.TheVariants.{NoMemory, Output, NoThread, Lost}
@@ -29,3 +29,13 @@ output_writes may_stop bench machine words totals old new (Err Output) run same 
 output_writes may_stop bench machine words totals old new (Err NoMemory) run same image front is output = absurd cc
 output_writes may_stop bench machine words totals old new (Err NoThread) run same image front is output = absurd cc
 output_writes may_stop bench machine words totals old new (Err Lost) run same image front is output = absurd cc
+
+-- a desk of which no more than 64 shares are asked has them: where it gave none, memory was wanting
+pub early_share : {T : Type 0} (fault : RunFault) (given : ℕ) (result : Result T RunFault)
+    → (fault ≡ NoMemory) ⊎ ((fault ≡ Lost) × (64 < given)) → given ≤ 64 → IsErrAnd result (λ e. e ≡ fault)
+    → IfErr result (λ e. IsEarly e)
+early_share fault given (Ok x) why few same = absurd same
+early_share fault given (Err e) why few same = elim why [
+  | inl is ↦ subst IsEarly (sym (same ∙ is)) tt
+  | inr lost ↦ absurd (omega (arith, lost.1, few))
+]

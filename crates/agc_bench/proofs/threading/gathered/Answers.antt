@@ -8,6 +8,7 @@ use Rattle.agc_bench.specs.Benches.{Benched}
 use Rattle.agc_bench.specs.Runs.{bench_machine}
 use Rattle.agc_bench.specs.Sharing.{AreFresh, HaveMade, answers_to, first_calls}
 use Rattle.agc_bench.specs.Threads.{askers_of}
+use Rattle.agc_bench.proofs.Early.{early_share}
 use Rattle.agc_bench.proofs.Histories.{begins_with, calls_by_first, calls_by_others, made, number_is, run_of, same_number}
 use Rattle.agc_bench.proofs.threading.gathered.Goals as goal
 
@@ -84,3 +85,9 @@ returns-in-Err-clause-early g c =
     let all : vec_len c.in_ok-back.back ≡ c.into_inner-desk.result.desk.given =
     omega (arith, c.in_ok-back.ensures.len, ap length starts, c.in_ok-shares.ensures.count, c.count_askers.ensures.count, c.count_askers.ensures.least, given) in
     unlike (c.in-Err.ensures.ok.1 all)
+
+pub returns-in_err-shares-clause-early : goal.returns-in_err-shares-clause-early
+returns-in_err-shares-clause-early g c =
+    let one : c.share.new.self.given ≡ 1 = search rules in
+    early_share c.in_err-shares.field-0.0 (c.share.new.self.given + (c.count_askers.result - 1)) c.from_residual-in_err-shares.result
+    c.in_err-shares.ensures.early (omega (arith, one, c.count_askers.ensures.most, c.count_askers.ensures.least)) c.from_residual-in_err-shares.ensures.1
