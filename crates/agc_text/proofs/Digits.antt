@@ -2,11 +2,6 @@
 use Rattle.std.proofs.Common.{◌≡◌, ℕ, zero, suc, ◌+◌, ◌-◌, ◌/◌, ◌%◌, ◌^◌, ◌<◌, ◌≤◌, List, [], ◌∷◌, ◌++◌, length, length-append, append_assoc, refl, sym, ap, ◌∙◌, arith}
 use Rattle.std.specs.Fmt.{decimal}
 use Rattle.std.proofs.lemmas.Fmt.{decimal_digit, decimal_step, length-decimal-le}
-use Rattle.agc_text.specs.Numbers.{octal}
-
-pub octal_more : (k n : ℕ) → 0 < k → octal k n ≡ octal (k - 1) (n / 8) ++ (48 + n % 8) ∷ []
-octal_more zero n h = absurd (omega arith)
-octal_more (suc k) n h = let e : suc k - 1 ≡ k = omega arith in rw e refl
 
 pub decimal_short : (n : ℕ) → n < 2 ^ 64 → length (decimal n) ≤ 20
 decimal_short n h = length-decimal-le 20 n (omega arith) (omega arith) h

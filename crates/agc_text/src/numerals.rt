@@ -1,5 +1,5 @@
 //! The parts of a line, which is a text of at most 128 bytes.
-ghost use Rattle.std.specs.Prelude.{◌≡◌, ◌+◌, ◌*◌, ◌<◌, ◌≤◌, ◌^◌, [], ◌∷◌, ◌++◌, length};
+ghost use Rattle.std.specs.Prelude.{◌≡◌, ◌+◌, ◌*◌, ◌%◌, ◌<◌, ◌≤◌, ◌^◌, [], ◌∷◌, ◌++◌, length};
 ghost use Rattle.std.specs.Fmt.{decimal};
 ghost use Rattle.agc_text.specs.Numbers.{octal};
 ghost use Rattle.agc_text.specs.Replies.{word_text, words_text};
@@ -17,17 +17,13 @@ fn add_digit(line: &mut ArrayString<128>, digit: u8)
     line.push(char::from(b'0' + digit));
 }
 
-#[tactic(auto, using(crate::proofs::Digits::octal_more))]
-/// Appends so many octal digits of a number, the last ones.
-fn add_octal(line: &mut ArrayString<128>, digits: u8, number: u16)
-    requires { length line.old.bytes + digits ≤ 128 }
-    ensures text { line.new.bytes ≡ line.old.bytes ++ octal digits number }
-    ensures len { length line.new.bytes ≡ length line.old.bytes + digits }
+/// Appends the last octal digit of a number.
+fn add_octal_digit(line: &mut ArrayString<128>, number: u16)
+    requires { length line.old.bytes < 128 }
+    ensures text { line.new.bytes ≡ line.old.bytes ++ (48 + number % 8) ∷ [] }
+    ensures len { length line.new.bytes ≡ length line.old.bytes + 1 }
 {
-    if digits > 0 {
-        add_octal(line, digits - 1, number / 8);
-        add_digit(line, (number % 8) as u8);
-    }
+    add_digit(line, (number % 8) as u8);
 }
 
 /// Appends a number in decimal.
@@ -58,7 +54,12 @@ pub(crate) fn add_word(line: &mut ArrayString<128>, word: u16)
     ensures text { line.new.bytes ≡ line.old.bytes ++ octal 5 word }
     ensures len { length line.new.bytes ≡ length line.old.bytes + 5 }
 {
-    add_octal(line, 5, word);
+    // one after the other, and no recursion, which would cost as much again
+    add_octal_digit(line, word / 8 / 8 / 8 / 8);
+    add_octal_digit(line, word / 8 / 8 / 8);
+    add_octal_digit(line, word / 8 / 8);
+    add_octal_digit(line, word / 8);
+    add_octal_digit(line, word);
 }
 
 /// Appends words, each after a space.
