@@ -2,8 +2,8 @@
 use Rattle.std.specs.Prelude.{ℕ, Result, Ok, Err}
 use Rattle.agc.specs.declared.fault.Fault.{Fault}
 use Rattle.agc.specs.declared.fault.Fault.TheVariants.{Words, NoMemory, Output, Read, Script, Bench, Run}
-use Rattle.agc_bench.specs.declared.fault.ReadFault.TheVariants as read
-use Rattle.agc_bench.specs.declared.fault.ScriptFault.TheVariants as script
+use Rattle.agc_text.specs.declared.fault.ReadFault.TheVariants as read
+use Rattle.agc_text.specs.declared.fault.ScriptFault.TheVariants as script
 use Rattle.agc_bench.specs.declared.fault.BenchFault.TheVariants as bench
 use Rattle.agc_bench.specs.declared.run_fault.RunFault.TheVariants as run
 

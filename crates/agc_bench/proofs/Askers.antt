@@ -12,7 +12,7 @@ use Rattle.agc_desk.proofs.Runs.{reached_more}
 use Rattle.agc_bench.specs.declared.device.Line.{Line}
 use Rattle.agc_bench.specs.Benches.{Benched}
 use Rattle.agc_bench.specs.Runs.{device_requests}
-use Rattle.agc_bench.proofs.Sessions.{rest_is, nothing_left}
+use Rattle.agc_text.proofs.Sessions.{rest_is, nothing_left}
 use Rattle.agc_bench.specs.Threads.{hears_all, Asker, Worker, Device, idle, workers_of, devices_of, some_or_idle, askers_of, asker_at}
 
 -- the same request once more

@@ -6,10 +6,10 @@ use Rattle.agc_plan.specs.declared.request.JobStart.{JobStart}
 use Rattle.agc_plan.specs.declared.request.JobStart.TheVariants.{Novac as WithoutArea, Findvac as WithArea}
 use Rattle.agc_plan.specs.declared.request.Request.{Request}
 use Rattle.agc_plan.specs.declared.request.Request.TheVariants.{Novac, Findvac, EndOfJob, Sleep, Rouse, Prio, Change, Store, List as ListTask, Tick, SetPhase, Restart, Fresh}
-use Rattle.agc_bench.specs.Chain.{◌>>=◌}
-use Rattle.agc_bench.specs.Lines.{line_of, IsRequest}
+use Rattle.agc_text.specs.Chain.{◌>>=◌}
+use Rattle.agc_text.specs.Lines.{line_of, IsRequest}
 use Rattle.agc_bench.specs.Benches.{job_request, timed_request, IsJob, IsTimed}
-use Rattle.agc_bench.specs.Reading.{job_of, timed_of}
+use Rattle.agc_bench.specs.Kinds.{job_of, timed_of}
 
 job_again : (x : JobStart) → job_of (job_request x) ≡ Some x
 job_again (WithoutArea p e) = refl

@@ -5,7 +5,7 @@ use Rattle.toml.specs.Data.{Data}
 use Rattle.toml.specs.View.{view, items_view}
 use Rattle.toml.specs.declared.value.Value.{Value}
 use Rattle.toml.proofs.Views.{items_view-drop}
-use Rattle.agc_bench.specs.Chain.{◌>>=◌}
+use Rattle.agc_text.specs.Chain.{◌>>=◌}
 use Rattle.agc_bench.specs.Keys.{each}
 
 abbrev pub with_front : {X : Type 0} → List X → Option (List X) → Option (List X)

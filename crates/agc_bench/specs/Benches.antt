@@ -1,5 +1,5 @@
 -- A bench: its values, their ranges and their texts.
-use Rattle.std.specs.Prelude.{◌≡◌, ◌≤◌, ◌<◌, ℕ, List, codes, map, length, Option, Some, None}
+use Rattle.std.specs.Prelude.{◌≡◌, ◌≤◌, ℕ, List, codes, map, length, Option, Some, None}
 use Rattle.std.specs.Option.{option_map}
 use Rattle.std.specs.List.{AllByRecursion}
 use Rattle.agc_plan.specs.declared.request.Task.{Task}
@@ -12,8 +12,8 @@ use Rattle.agc_plan.specs.Begins.{Begins}
 use Rattle.agc_plan.specs.Plans.{fault_of}
 use Rattle.agc_bench.specs.declared.device.Line.{Line}
 use Rattle.agc_bench.specs.declared.device.Line.TheVariants.{Timer, Key, Radar}
-use Rattle.agc_bench.specs.Numbers.{octal, IsBetween, IsSix}
-use Rattle.agc_bench.specs.Lines.{line_of, action_line_of, IsRequest, IsAction, IsTask}
+use Rattle.agc_text.specs.Numbers.{octal, IsBetween, IsSix, IsWord}
+use Rattle.agc_text.specs.Lines.{line_of, action_line_of, IsRequest, IsAction, IsTask}
 use Rattle.agc_bench.specs.Texts.{RowTexts, EntryTexts, DeviceTexts, Settings, Lists, Texts}
 
 -- the values of a bench
@@ -72,10 +72,6 @@ lists_texts b = record { script = map line_of b.script; rows = map row_texts b.r
 -- the numbers and texts of a bench
 abbrev pub bench_texts : Benched → Texts
 bench_texts b = record { settings = settings_texts b; lists = lists_texts b }
-
--- a word
-abbrev pub IsWord : ℕ → Type 0
-IsWord w = w < 32768
 
 -- a row's numbers are in their ranges
 abbrev pub IsRow : Task × Action → Type 0

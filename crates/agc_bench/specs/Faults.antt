@@ -1,11 +1,5 @@
--- When each fault comes.
-use Rattle.std.specs.Prelude.{◌≡◌, ◌≢◌, ◌≤◌, ◌<◌, ℕ, List, Option, Some, None, length}
-use Rattle.std.specs.Str.{IsUtf8}
-use Rattle.std.specs.Io.KnownBytes.{Consumes}
-use Rattle.agc_bench.specs.declared.fault.ScriptFault.{ScriptFault}
-use Rattle.agc_bench.specs.declared.fault.ScriptFault.TheVariants.{NoMemory, Line}
-use Rattle.agc_bench.specs.declared.fault.ReadFault.{ReadFault}
-use Rattle.agc_bench.specs.declared.fault.ReadFault.TheVariants.{NoMemory as NoMemoryToRead, Input, TooLong, NotText}
+-- When each fault of a bench comes.
+use Rattle.std.specs.Prelude.{◌≡◌, ◌≢◌, Option, Some, None}
 use Rattle.toml.specs.Data.{Members}
 use Rattle.agc_plan.specs.Plans.{fault_of}
 use Rattle.agc_plan.specs.declared.plan.PlanFault.{PlanFault}
@@ -15,20 +9,6 @@ use Rattle.agc_bench.specs.declared.fault.BenchFault.TheVariants.{NoMemory as No
 use Rattle.agc_bench.specs.Texts.{Texts}
 use Rattle.agc_bench.specs.Keys.{texts_in}
 use Rattle.agc_bench.specs.Benches.{Benched, bench_texts, IsInRange}
-use Rattle.agc_bench.specs.Input.{ReadsAll, most_bytes}
-use Rattle.agc_bench.specs.Script.{IsFirstRefused}
-
--- why these lines are no script, want of memory aside
-abbrev pub RefusesScript : List (List ℕ) → ScriptFault → Type 0
-RefusesScript ls NoMemory = Unit {0}
-RefusesScript ls (Line n) = IsFirstRefused ls n
-
--- why an input could not be read: at TooLong more bytes than may be were read, at NotText all were read and are no text
-abbrev pub RefusesInput : Option (List ℕ) → Option (List ℕ) → ReadFault → Type 0
-RefusesInput old new NoMemoryToRead = (bytes : List ℕ) × Consumes old new bytes
-RefusesInput old new Input = (bytes : List ℕ) × Consumes old new bytes × (length bytes ≤ most_bytes)
-RefusesInput old new TooLong = (bytes : List ℕ) × Consumes old new bytes × (most_bytes < length bytes)
-RefusesInput old new NotText = (bytes : List ℕ) × ReadsAll old new bytes × (IsUtf8 bytes → ⊥)
 
 -- the fault is Line for this reason, want of memory aside
 abbrev pub RefusedLine : Type 0 → BenchFault → Type 0

@@ -2,7 +2,7 @@
 use Rattle.std.specs.Prelude.{ℕ, ℤ, pos, negsuc, List, [], ◌∷◌, codes, length, Option, Some, None, Bool, true, false, nat_lt, ◌==◌, ◌&&◌, ◌||◌, if◌then◌else◌}
 use Rattle.std.specs.Str.{bytes_eq}
 use Rattle.toml.specs.Data.{Data, Items, no_items, item, Members, no_members, member, get_member, as_str, as_integer, as_array, as_table}
-use Rattle.agc_bench.specs.Chain.{◌>>=◌}
+use Rattle.agc_text.specs.Chain.{◌>>=◌}
 use Rattle.agc_bench.specs.Texts.{RowTexts, EntryTexts, DeviceTexts, Settings, Lists, Texts}
 
 -- whether a key is one of these

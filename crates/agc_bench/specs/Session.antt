@@ -1,23 +1,14 @@
 -- A session: requests asked of a machine in order, and what is written of it.
-use Rattle.std.specs.Prelude.{◌≡◌, ℕ, List, [], ◌∷◌, ◌++◌, ◌⊎◌, Option, Result, Ok, Err}
+use Rattle.std.specs.Prelude.{◌≡◌, ℕ, List, ◌++◌, ◌⊎◌, Option, Result, Ok, Err}
 use Rattle.std.specs.Io.KnownBytes.{Appends}
 use Rattle.agc_plan.specs.declared.request.Request.{Request}
 use Rattle.agc_machine.specs.Image.{IsImage}
-use Rattle.agc_machine.specs.Machines.{Machined, after, after_all, answer_of}
+use Rattle.agc_machine.specs.Machines.{Machined, after_all}
 use Rattle.agc_bench.specs.declared.run_fault.RunFault.{RunFault}
 use Rattle.agc_bench.specs.declared.run_fault.RunFault.TheVariants.{NoMemory, Output, NoThread, Lost}
-use Rattle.agc_bench.specs.Replies.{answer_line}
-use Rattle.agc_bench.specs.Report.{report_text}
-use Rattle.agc_bench.specs.Writing.{AppendsFront, Writes}
-
--- the line of the answer that this machine gives
-unfoldable pub line_for : Machined → Request → List ℕ
-line_for machine request = answer_line (answer_of machine request)
-
--- the lines of the answers, in order
-unfoldable pub answer_lines : Machined → List Request → List ℕ
-answer_lines machine [] = []
-answer_lines machine (request ∷ requests) = line_for machine request ++ answer_lines (after machine request) requests
+use Rattle.agc_text.specs.Report.{report_text}
+use Rattle.agc_text.specs.Session.{answer_lines}
+use Rattle.agc_text.specs.Writing.{AppendsFront, Writes}
 
 -- the report of a machine's totals, and of words that are the machine's, was written and nothing else; where a write
 -- failed, a front of it

@@ -14,8 +14,8 @@ use Rattle.agc_bench.specs.declared.run_fault.RunFault.{RunFault}
 use Rattle.agc_bench.specs.declared.run_fault.RunFault.TheVariants.{NoMemory, Output, NoThread, Lost}
 use Rattle.agc_bench.specs.Benches.{Benched}
 use Rattle.agc_bench.specs.Runs.{bench_machine, device_requests}
-use Rattle.agc_bench.specs.Report.{report_text}
-use Rattle.agc_bench.specs.Writing.{AppendsFront}
+use Rattle.agc_text.specs.Report.{report_text}
+use Rattle.agc_text.specs.Writing.{AppendsFront}
 
 -- who asks in a thread: a worker with its number and its requests, or a device with its requests
 pub data Asker : Type 0 where

@@ -10,10 +10,10 @@ ghost use Rattle.agc_bench.specs.Faults.{RefusedLine, bench_fault, HasTexts, Ref
 use crate::device::Line;
 use crate::fault::BenchFault;
 use crate::keys::texts_in;
-use crate::line::parse_action;
 use crate::texts::Texts;
 use crate::values::{devices_of, entries_of, power_of, requests_of, rows_of, workers_of};
 use agc_plan::{Action, Limit, PhaseEntry, Plan, Request, Task};
+use agc_text::parse_action;
 use agc_word::Word;
 use std::alloc::Global;
 use std::marker::Model;

@@ -1,16 +1,15 @@
 ghost use Rattle.std.specs.Prelude.{◌≡◌, OnOk, replicate};
 ghost use Rattle.std.specs.List.{flat_map};
-ghost use Rattle.agc_bench.specs.Writing.{Writes};
+ghost use Rattle.agc_text.specs.Writing.{Writes};
 ghost use Rattle.agc_machine.specs.Machines.{after_all};
-ghost use Rattle.agc_bench.specs.Session.{answer_lines};
+ghost use Rattle.agc_text.specs.Session.{answer_lines};
 ghost use Rattle.agc_bench.specs.Runs.{action_request, pulse_request, device_requests, bench_requests};
 
 use crate::bench::Bench;
 use crate::device::Line;
-use crate::run_fault::Output;
-use crate::session::{ask, ask_all};
 use agc_machine::Machine;
 use agc_plan::{Action, Request};
+use agc_text::{Output, write_answer, write_answers};
 use std::io::Write;
 
 /// The request by which an action is asked for.
@@ -48,7 +47,7 @@ fn ask_times<W: Write>(
     ensures writes { Writes (W.contents writer.old) (W.contents writer.new) (answer_lines machine.old (replicate times request.now)) result }
 {
     for _pulse in 0..times {
-        ask(machine, *request, writer)?;
+        write_answer(machine, *request, writer)?;
     }
     Ok(())
 }
@@ -78,7 +77,7 @@ fn ask_workers<W: Write>(
     ensures writes { Writes (W.contents writer.old) (W.contents writer.new) (answer_lines machine.old (flat_map (λ w. w.items) workers.now)) result }
 {
     for worker in workers {
-        ask_all(machine, worker.as_slice(), writer)?;
+        write_answers(machine, worker.as_slice(), writer)?;
     }
     Ok(())
 }
@@ -102,7 +101,7 @@ pub(crate) fn ask_bench<W: Write>(
     ensures after { OnOk result (machine.new ≡ after_all machine.old (bench_requests bench.now)) }
     ensures writes { Writes (W.contents writer.old) (W.contents writer.new) (answer_lines machine.old (bench_requests bench.now)) result }
 {
-    ask_all(machine, bench.script(), writer)?;
+    write_answers(machine, bench.script(), writer)?;
     ask_workers(machine, bench.workers(), writer)?;
     ask_devices(machine, bench, writer)
 }

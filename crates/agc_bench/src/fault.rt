@@ -1,85 +1,26 @@
-ghost use Rattle.std.specs.Prelude.{◌≡◌};
-ghost use Rattle.agc_bench.specs.declared.fault.ScriptFault.TheVariants.{NoMemory};
-ghost use Rattle.agc_bench.specs.declared.fault.ReadFault.TheVariants.{NoMemory as NoMemoryToRead};
+ghost use Rattle.std.specs.Prelude.{◌≡◌, Some};
 ghost use Rattle.agc_bench.specs.declared.fault.BenchFault.TheVariants.{NoMemory as NoMemoryForBench};
 
 use agc_plan::PlanFault;
 use std::alloc::{AllocError, AllocFailed};
-use thiserror::Error;
-
-/// Why a script is refused. Source: profile.
-#[derive(Clone, Copy, PartialEq, Eq, Debug, Error)]
-pub enum ScriptFault {
-    #[error("no memory")]
-    NoMemory,
-    /// The first line that is no request, counted from 1.
-    #[error("line {0}")]
-    Line(u64),
-}
-
-impl From<AllocError> for ScriptFault {
-    ghost from_gives = { λ _ e. e ≡ NoMemory };
-
-    fn from(_error: AllocError) -> ScriptFault {
-        ScriptFault::NoMemory
-    }
-}
-
-impl<T: Drop> From<AllocFailed<T>> for ScriptFault {
-    ghost from_gives = { λ _ e. e ≡ NoMemory };
-
-    fn from(_error: AllocFailed<T>) -> ScriptFault {
-        ScriptFault::NoMemory
-    }
-}
-
-/// Why an input could not be read. Source: profile.
-#[derive(Clone, Copy, PartialEq, Eq, Debug, Error)]
-pub enum ReadFault {
-    #[error("no memory")]
-    NoMemory,
-    /// A read failed.
-    #[error("input")]
-    Input,
-    /// There are more than 1,048,576 bytes.
-    #[error("too long")]
-    TooLong,
-    /// The whole is not UTF-8.
-    #[error("not text")]
-    NotText,
-}
-
-impl From<AllocError> for ReadFault {
-    ghost from_gives = { λ _ e. e ≡ NoMemoryToRead };
-
-    fn from(_error: AllocError) -> ReadFault {
-        ReadFault::NoMemory
-    }
-}
+use std::fmt;
 
 /// Why a bench is refused. Of several faults the first in this order is answered; want of memory may come in place of
 /// any. Source: profile.
-#[derive(Clone, Copy, PartialEq, Eq, Debug, Error)]
+#[derive(Clone, Copy, PartialEq, Eq, Debug)]
 pub enum BenchFault {
-    #[error("no memory")]
     NoMemory,
     /// The text is no TOML document.
-    #[error("not toml")]
     NotToml,
     /// A key is unknown or missing, or its value is of another kind, out of range, or of another length.
-    #[error("key")]
     Key,
     /// A text is not of its form.
-    #[error("line")]
     Line,
     /// One task has two rows.
-    #[error("task twice")]
     TaskTwice,
     /// One group and phase has two entries.
-    #[error("phase twice")]
     PhaseTwice,
     /// Each of the six groups has an entry whose job wants a VAC area.
-    #[error("too many areas")]
     TooManyAreas,
 }
 
@@ -113,3 +54,23 @@ impl From<PlanFault> for BenchFault {
         }
     }
 }
+
+impl fmt::Display for BenchFault {
+    ghost use Rattle.agc_bench.specs.Messages.{bench_fault_text};
+
+    ghost output = { λ f. Some (bench_fault_text f) };
+
+    fn fmt<W: fmt::Write>(&self, f: &mut fmt::Formatter<W>) -> fmt::Result {
+        match self {
+            BenchFault::NoMemory => f.write_str("no memory"),
+            BenchFault::NotToml => f.write_str("not toml"),
+            BenchFault::Key => f.write_str("key"),
+            BenchFault::Line => f.write_str("line"),
+            BenchFault::TaskTwice => f.write_str("task twice"),
+            BenchFault::PhaseTwice => f.write_str("phase twice"),
+            BenchFault::TooManyAreas => f.write_str("too many areas"),
+        }
+    }
+}
+
+impl std::error::Error for BenchFault {}

@@ -1,5 +1,5 @@
-//! Scripts and benches: what a text asks of the machine and why it is refused, runs by one caller or by threads, and the
-//! lines and the report that are written.
+//! A bench: what a TOML document asks of the machine and why it is refused, and runs of a script or a bench by one caller
+//! or by threads. What `agc_text` has for others is passed on.
 #![tactic(auto)]
 
 mod asker;
@@ -7,19 +7,11 @@ mod bench;
 mod bench_session;
 mod device;
 mod fault;
-mod input;
 mod keys;
-mod line;
-mod numbers;
-mod numerals;
-mod replies;
-mod reporting;
 mod run;
 mod run_fault;
 #[cfg(test)]
 mod run_tests;
-mod script;
-mod session;
 #[cfg(test)]
 mod tests;
 mod texts;
@@ -29,15 +21,14 @@ mod threading;
 mod values;
 #[cfg(test)]
 mod writers;
-mod writing;
 
+pub use agc_text::{
+    Output, ReadFault, ScriptFault, parse_action, parse_address, parse_line, parse_word, read_all,
+    read_script, report, write_answer, write_answers,
+};
 pub use bench::{Bench, read_bench};
 pub use device::Line;
-pub use fault::{BenchFault, ReadFault, ScriptFault};
-pub use input::read_all;
-pub use line::{parse_action, parse_line};
-pub use reporting::report;
+pub use fault::BenchFault;
 pub use run::{run_script, serial};
-pub use run_fault::{Output, RunFault};
-pub use script::read_script;
+pub use run_fault::RunFault;
 pub use threading::threads;

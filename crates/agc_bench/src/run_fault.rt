@@ -1,29 +1,21 @@
-ghost use Rattle.std.specs.Prelude.{◌≡◌};
+ghost use Rattle.std.specs.Prelude.{◌≡◌, Some};
 ghost use Rattle.agc_bench.specs.declared.run_fault.RunFault.TheVariants.{NoMemory as WantOfMemory, Output as OutputFailed};
 
 use agc_machine::NoMemory;
+use agc_text::Output;
 use std::alloc::{AllocError, AllocFailed};
-use thiserror::Error;
-
-/// A write failed, or took nothing of what was left. Source: profile.
-#[derive(Clone, Copy, PartialEq, Eq, Debug, Error)]
-#[error("output")]
-pub struct Output;
+use std::fmt;
 
 /// Why a run did not come to its end. Source: profile.
-#[derive(Clone, Copy, PartialEq, Eq, Debug, Error)]
+#[derive(Clone, Copy, PartialEq, Eq, Debug)]
 pub enum RunFault {
     /// Nothing was written.
-    #[error("no memory")]
     NoMemory,
     /// A write failed, or took nothing of what was left; a front of the text, perhaps empty, was written, and not all.
-    #[error("output")]
     Output,
     /// A thread couldn't be started. Nothing was written.
-    #[error("no thread")]
     NoThread,
     /// Shares are missing. Nothing was written. It is proved that no run comes to this.
-    #[error("lost")]
     Lost,
 }
 
@@ -58,3 +50,20 @@ impl<T: Drop> From<AllocFailed<T>> for RunFault {
         RunFault::NoMemory
     }
 }
+
+impl fmt::Display for RunFault {
+    ghost use Rattle.agc_bench.specs.Messages.{run_fault_text};
+
+    ghost output = { λ f. Some (run_fault_text f) };
+
+    fn fmt<W: fmt::Write>(&self, f: &mut fmt::Formatter<W>) -> fmt::Result {
+        match self {
+            RunFault::NoMemory => f.write_str("no memory"),
+            RunFault::Output => f.write_str("output"),
+            RunFault::NoThread => f.write_str("no thread"),
+            RunFault::Lost => f.write_str("lost"),
+        }
+    }
+}
+
+impl std::error::Error for RunFault {}

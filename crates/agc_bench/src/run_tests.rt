@@ -1,7 +1,5 @@
 use crate::writers::Narrow;
-use crate::{Output, RunFault, read_bench, read_script, report, run_script, serial};
-use agc_machine::Totals;
-use agc_word::Word;
+use crate::{RunFault, read_bench, read_script, run_script, serial};
 use std::test::Fail;
 
 const EMPTY_SCRIPT: (&str, &str) = (
@@ -38,9 +36,6 @@ const POWER_UP_BROKEN_PAIR: (&str, &str) = (
     "power = [\"77777\", \"00000\", \"77777\", \"00000\", \"77777\", \"00000\", \"77773\", \"00005\", \"77777\", \"00000\", \"77777\", \"00000\"]\n[[phase]]\ngroup = 4\nphase = 5\njob = \"novac 20 04000 00007\"\n",
     "SET 0 FREE\nSET 1 FREE\nSET 2 FREE\nSET 3 FREE\nSET 4 FREE\nSET 5 FREE\nSET 6 FREE\nVAC 00300 00354 00430 00504 00560\nNEWJOB 77777\nTIME3 00000\nLST1 57777 57777 57777 57777 57777 57777 57777 57777\nLST2 00000 00000 00000 00000 00000 00000 00000 00000 00000 00000 00000 00000 00000 00000 00000 00000 00000 00000\nPHASE 77777 00000 77777 00000 77777 00000 77777 00000 77777 00000 77777 00000\nFAILREG 01107 00000 01107\nSERVED 0\nALARMS 0 0 0\nRESTARTS 0\n",
 );
-
-const FULL: &str =
-    "SET 0 12345 12345 12345 12345 12345 12345 12345 12345 12345 12345 12345 12345\nSET 1 12345 12345 12345 12345 12345 12345 12345 12345 12345 12345 12345 12345\nSET 2 12345 12345 12345 12345 12345 12345 12345 12345 12345 12345 12345 12345\nSET 3 12345 12345 12345 12345 12345 12345 12345 12345 12345 12345 12345 12345\nSET 4 12345 12345 12345 12345 12345 12345 12345 12345 12345 12345 12345 12345\nSET 5 12345 12345 12345 12345 12345 12345 12345 12345 12345 12345 12345 12345\nSET 6 12345 12345 12345 12345 12345 12345 12345 12345 12345 12345 12345 12345\nVAC 12345 12345 12345 12345 12345\nNEWJOB 12345\nTIME3 12345\nLST1 12345 12345 12345 12345 12345 12345 12345 12345\nLST2 12345 12345 12345 12345 12345 12345 12345 12345 12345 12345 12345 12345 12345 12345 12345 12345 12345 12345\nPHASE 12345 12345 12345 12345 12345 12345 12345 12345 12345 12345 12345 12345\nFAILREG 12345 12345 12345\nSERVED 18446744073709551615\nALARMS 18446744073709551615 10 9\nRESTARTS 18446744073709551615\n";
 
 #[test]
 fn scripts(rt: HostRuntime) -> Result<(), Fail> {
@@ -102,37 +97,9 @@ fn a_write_fails_at_each_call(rt: HostRuntime) -> Result<(), Fail> {
 }
 
 #[test]
-fn a_write_takes_nothing(rt: HostRuntime) -> Result<(), Fail> {
+fn a_write_takes_nothing(rt: HostRuntime) {
     let mut writer = Narrow::new(rt.alloc(), 0, 1000);
     let done = run_script(rt.alloc(), &[], &mut writer);
     assert_eq!(rt; done, Err(RunFault::Output));
-    let totals = Totals {
-        served: 0,
-        a1201: 0,
-        a1202: 0,
-        a1203: 0,
-        restarts: 0,
-    };
-    assert_eq!(rt;
-        report(&[Word::zero(); 132], &totals, &mut writer),
-        Err(Output)
-    );
     assert!(rt; writer.taken.is_empty());
-    Ok(())
-}
-
-#[test]
-fn the_longest_lines(rt: HostRuntime) -> Result<(), Fail> {
-    let word = Word::new(0o12345).ok_or("word")?;
-    let totals = Totals {
-        served: u64::MAX,
-        a1201: u64::MAX,
-        a1202: 10,
-        a1203: 9,
-        restarts: u64::MAX,
-    };
-    let mut writer = Narrow::new(rt.alloc(), 1000, 1000);
-    report(&[word; 132], &totals, &mut writer).map_err(|_| "output")?;
-    assert_eq!(rt; writer.taken.as_slice(), FULL.as_bytes());
-    Ok(())
 }

@@ -6,11 +6,11 @@ ghost use Rattle.agc_bench.specs.Threads.{AsksOwn, EachAsks, IsEarly, IsRun, Wri
 
 use crate::asker::{ask_own, ask_script, count_askers};
 use crate::bench::Bench;
-use crate::reporting::report;
 use crate::run::machine_of;
 use crate::run_fault::RunFault;
 use agc_desk::{Blanks, Desk, Gate, Heard, Held, Names, Share, Shared, Sharing, gather};
 use agc_machine::{Machine, Totals};
+use agc_text::report;
 use std::alloc::Global;
 use std::io::Write;
 use std::marker::Brand;

@@ -8,37 +8,20 @@ ghost use Rattle.agc_plan.specs.declared.request.Action.{Action};
 ghost use Rattle.agc_plan.specs.declared.request.JobStart.{JobStart};
 ghost use Rattle.agc_plan.specs.Begins.{Begins};
 ghost use Rattle.agc_bench.specs.declared.device.Line.{Line};
-ghost use Rattle.agc_bench.specs.Numbers.{octal, IsAddress};
-ghost use Rattle.agc_bench.specs.Lines.{line_of, IsRequest};
-ghost use Rattle.agc_bench.specs.Benches.{job_request, timed_request, kind_text, row_texts, entry_texts, device_texts, power_texts, IsWord, IsRow, IsJob, IsTimed, IsEntry, IsDevice, IsPower, AreRequests};
-ghost use Rattle.agc_bench.specs.Reading.{job_of, timed_of};
+ghost use Rattle.agc_text.specs.Numbers.{octal, IsWord};
+ghost use Rattle.agc_text.specs.Lines.{line_of, IsRequest};
+ghost use Rattle.agc_bench.specs.Benches.{job_request, timed_request, kind_text, row_texts, entry_texts, device_texts, power_texts, IsRow, IsJob, IsTimed, IsEntry, IsDevice, IsPower, AreRequests};
+ghost use Rattle.agc_bench.specs.Kinds.{job_of, timed_of};
 ghost use Rattle.agc_bench.specs.Seen.{row_seen, entry_seen, device_seen};
 ghost use Rattle.agc_bench.specs.Faults.{RefusedLine};
 
 use crate::device::Line;
 use crate::fault::BenchFault;
-use crate::line::{parse_action, parse_line};
-use crate::numbers::{address, word};
 use crate::texts::{DeviceTexts, EntryTexts, RowTexts};
-use agc_plan::{Action, Address, Delay, Group, JobStart, Phase, PhaseEntry, Request, Task};
+use agc_plan::{Action, Delay, Group, JobStart, Phase, PhaseEntry, Request, Task};
+use agc_text::{parse_action, parse_address, parse_line, parse_word};
 use agc_word::Word;
 use std::alloc::Global;
-
-/// The address that five octal digits spell.
-fn parse_address(text: &str) -> Option<Address>
-    ensures found { IfSome result (λ a. IsAddress a × (text.now ≡ octal 5 a)) }
-    ensures only { (a : ℕ) → IsAddress a → text.now ≡ octal 5 a → result ≡ Some a }
-{
-    address(text)
-}
-
-/// The word that five octal digits spell.
-fn parse_word(text: &str) -> Option<Word>
-    ensures found { IfSome result (λ w. IsWord w × (text.now ≡ octal 5 w)) }
-    ensures only { (w : ℕ) → IsWord w → text.now ≡ octal 5 w → result ≡ Some w }
-{
-    word(text)
-}
 
 /// The requests that texts spell, in order.
 pub(crate) fn requests_of(alloc: Global, texts: &[&str]) -> Result<Vec<Request>, BenchFault>

@@ -1,4 +1,4 @@
-use Rattle.agc_bench.proofs.Sessions.{after_next, after_last}
+use Rattle.agc_text.proofs.Sessions.{after_next, after_last}
 use Rattle.agc_bench.proofs.Askers.{heard_next, heard_last}
 use Rattle.agc_bench.proofs.asker.ask_script.Goals as goal
 

@@ -5,11 +5,11 @@ use Rattle.std.proofs.lemmas.List.{get_or_default}
 use Rattle.agc_bench.specs.declared.device.Line.{Line}
 use Rattle.agc_bench.specs.declared.device.Line.TheVariants.{Timer}
 use Rattle.agc_machine.specs.Machines.{after_all}
-use Rattle.agc_bench.specs.Session.{answer_lines}
-use Rattle.agc_bench.specs.Writing.{Writes}
+use Rattle.agc_text.specs.Session.{answer_lines}
+use Rattle.agc_text.specs.Writing.{Writes}
 use Rattle.agc_bench.specs.Runs.{device_requests}
-use Rattle.agc_bench.proofs.Steps.{up_to_more, fails_next}
-use Rattle.agc_bench.proofs.Sessions.{after_item, after_items, line_item, line_items}
+use Rattle.agc_text.proofs.Steps.{up_to_more, fails_next}
+use Rattle.agc_text.proofs.Sessions.{after_item, after_items, line_item, line_items}
 use Rattle.agc_bench.proofs.bench_session.ask_devices.Goals as goal
 
 pub returns-in_err-ask_device-clause-writes : goal.returns-in_err-ask_device-clause-writes

@@ -1,8 +1,8 @@
 use Rattle.std.proofs.Common.{◌≡◌, drop}
 use Rattle.std.specs.List.{flat_map}
-use Rattle.agc_bench.specs.Writing.{AppendsUpTo}
+use Rattle.agc_text.specs.Writing.{AppendsUpTo}
 use Rattle.agc_machine.specs.Machines.{after_all}
-use Rattle.agc_bench.specs.Session.{answer_lines}
+use Rattle.agc_text.specs.Session.{answer_lines}
 use Rattle.agc_bench.specs.Runs.{device_requests}
 use Rattle.agc_bench.proofs.bench_session.ask_devices.Given as goal
 

@@ -1,7 +1,7 @@
 use Rattle.std.proofs.Common.{◌≡◌, replicate, drop}
-use Rattle.agc_bench.specs.Writing.{AppendsUpTo}
+use Rattle.agc_text.specs.Writing.{AppendsUpTo}
 use Rattle.agc_machine.specs.Machines.{after_all}
-use Rattle.agc_bench.specs.Session.{answer_lines}
+use Rattle.agc_text.specs.Session.{answer_lines}
 use Rattle.agc_bench.proofs.bench_session.ask_times.Given as goal
 
 abbrev pub invariant-loop-pulse : goal.invariant-loop-pulse

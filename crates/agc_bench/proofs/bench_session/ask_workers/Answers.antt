@@ -1,21 +1,21 @@
-use Rattle.agc_bench.proofs.Steps.{up_to_more, fails_next}
-use Rattle.agc_bench.proofs.Sessions.{after_item, after_items, line_item, line_items}
+use Rattle.agc_text.proofs.Steps.{up_to_more, fails_next}
+use Rattle.agc_text.proofs.Sessions.{after_item, after_items, line_item, line_items}
 use Rattle.agc_bench.proofs.bench_session.ask_workers.Goals as goal
 
-pub returns-in_err-ask_all-clause-writes : goal.returns-in_err-ask_all-clause-writes
-returns-in_err-ask_all-clause-writes g c =
+pub returns-in_err-write_answers-clause-writes : goal.returns-in_err-write_answers-clause-writes
+returns-in_err-write_answers-clause-writes g c =
     fails_next _ _ _ _ _ _ c.from_residual.result
     (line_item (λ w. w.items) _ _ _ c.loop-worker.machine c.args.workers.now c.loop-worker.worker-index c.worker-item.result c.loop-worker-test.true c.worker-item.is c.loop-worker.invariant.written)
-    (rw c.as_slice.ensures.value at c.in_err-ask_all.ensures.writes) c.from_residual.ensures.0
+    (rw c.as_slice.ensures.value at c.in_err-write_answers.ensures.writes) c.from_residual.ensures.0
 
 pub loop-worker-preserved : goal.loop-worker-preserved
 loop-worker-preserved g c =
-    let is = rw c.as_slice.ensures.value at c.in_ok-ask_all.ensures.after in
+    let is = rw c.as_slice.ensures.value at c.in_ok-write_answers.ensures.after in
     record {
-      rest = after_item (λ w. w.items) _ c.loop-worker.machine c.ask_all.new.machine c.args.workers.now c.loop-worker.worker-index c.worker-item.result c.loop-worker-test.true c.worker-item.is c.loop-worker.invariant.rest is;
+      rest = after_item (λ w. w.items) _ c.loop-worker.machine c.write_answers.new.machine c.args.workers.now c.loop-worker.worker-index c.worker-item.result c.loop-worker-test.true c.worker-item.is c.loop-worker.invariant.rest is;
       written = rw is (up_to_more _ _ _ _ _ _
           (line_item (λ w. w.items) _ _ _ c.loop-worker.machine c.args.workers.now c.loop-worker.worker-index c.worker-item.result c.loop-worker-test.true c.worker-item.is c.loop-worker.invariant.written)
-          (rw c.as_slice.ensures.value at c.in_ok-ask_all.ensures.writes));
+          (rw c.as_slice.ensures.value at c.in_ok-write_answers.ensures.writes));
     }
 
 pub returns-clause-after : goal.returns-clause-after

@@ -1,6 +1,6 @@
 use Rattle.std.proofs.Common.{◌≡◌, Some, None}
 use Rattle.agc_plan.specs.declared.request.Request.{Request}
-use Rattle.agc_bench.specs.Lines.{line_of, IsRequest}
+use Rattle.agc_text.specs.Lines.{line_of, IsRequest}
 use Rattle.agc_bench.proofs.Beside.{refused_at}
 use Rattle.agc_bench.proofs.values.requests_of.Goals as goal
 

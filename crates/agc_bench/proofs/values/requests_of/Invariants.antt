@@ -1,6 +1,6 @@
 use Rattle.std.proofs.Common.{◌≡◌, take, map}
 use Rattle.std.specs.List.{AllByRecursion}
-use Rattle.agc_bench.specs.Lines.{line_of, IsRequest}
+use Rattle.agc_text.specs.Lines.{line_of, IsRequest}
 use Rattle.agc_bench.proofs.values.requests_of.Given as goal
 
 abbrev pub invariant-loop-text : goal.invariant-loop-text

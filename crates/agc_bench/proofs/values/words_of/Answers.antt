@@ -1,6 +1,6 @@
 use Rattle.std.proofs.Common.{◌≡◌, ℕ, Some, None}
-use Rattle.agc_bench.specs.Numbers.{octal}
-use Rattle.agc_bench.specs.Benches.{IsWord}
+use Rattle.agc_text.specs.Numbers.{octal}
+use Rattle.agc_text.specs.Numbers.{IsWord}
 use Rattle.agc_bench.proofs.Beside.{refused_at}
 use Rattle.agc_bench.proofs.values.words_of.Goals as goal
 

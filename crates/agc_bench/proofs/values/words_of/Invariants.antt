@@ -1,7 +1,7 @@
 use Rattle.std.proofs.Common.{◌≡◌, length, take, map}
 use Rattle.std.specs.List.{AllByRecursion}
-use Rattle.agc_bench.specs.Numbers.{octal}
-use Rattle.agc_bench.specs.Benches.{IsWord}
+use Rattle.agc_text.specs.Numbers.{octal}
+use Rattle.agc_text.specs.Numbers.{IsWord}
 use Rattle.agc_bench.proofs.values.words_of.Given as goal
 
 abbrev pub invariant-loop-k : goal.invariant-loop-k

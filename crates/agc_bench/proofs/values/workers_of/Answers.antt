@@ -1,6 +1,6 @@
 use Rattle.std.proofs.Common.{ap, ◌∙◌, map}
 use Rattle.std.proofs.lemmas.Result.{err_from_is_err_and}
-use Rattle.agc_bench.specs.Lines.{line_of}
+use Rattle.agc_text.specs.Lines.{line_of}
 use Rattle.agc_bench.specs.Benches.{AreRequests}
 use Rattle.agc_bench.proofs.Beside.{refused_at}
 use Rattle.agc_bench.proofs.Refusals.{refused_because}

@@ -1,6 +1,6 @@
 use Rattle.std.proofs.Common.{◌≡◌, take, map}
 use Rattle.std.specs.List.{AllByRecursion}
-use Rattle.agc_bench.specs.Lines.{line_of}
+use Rattle.agc_text.specs.Lines.{line_of}
 use Rattle.agc_bench.specs.Benches.{AreRequests}
 use Rattle.agc_bench.proofs.values.workers_of.Given as goal
 

@@ -1,4 +1,0 @@
-use Rattle.agc_bench.proofs.numerals.+add_octal.Given as goal
-
-abbrev pub decreases-add_octal : goal.decreases-add_octal
-decreases-add_octal l = l.digits

@@ -1,8 +1,0 @@
-use Rattle.std.proofs.Common.{drop}
-use Rattle.std.specs.List.{flat_map}
-use Rattle.agc_bench.specs.Writing.{AppendsUpTo}
-use Rattle.agc_bench.specs.Report.{full_line, lines_text}
-use Rattle.agc_bench.proofs.reporting.put_lines.Given as goal
-
-abbrev pub invariant-loop-line : goal.invariant-loop-line
-invariant-loop-line g l = AppendsUpTo (g.W.Write.contents l.initial.writer) (g.W.Write.contents l.writer) (lines_text l.words l.totals) (flat_map (full_line l.words l.totals) (drop l.line-index l.line-items))

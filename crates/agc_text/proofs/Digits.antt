@@ -1,0 +1,27 @@
+-- Digits, the last one apart.
+use Rattle.std.proofs.Common.{◌≡◌, ℕ, zero, suc, ◌+◌, ◌-◌, ◌/◌, ◌%◌, ◌^◌, ◌<◌, ◌≤◌, List, [], ◌∷◌, ◌++◌, length, length-append, append_assoc, refl, sym, ap, ◌∙◌, arith}
+use Rattle.std.specs.Fmt.{decimal}
+use Rattle.std.proofs.lemmas.Fmt.{decimal_digit, decimal_step, length-decimal-le}
+use Rattle.agc_text.specs.Numbers.{octal}
+
+pub octal_more : (k n : ℕ) → 0 < k → octal k n ≡ octal (k - 1) (n / 8) ++ (48 + n % 8) ∷ []
+octal_more zero n h = absurd (omega arith)
+octal_more (suc k) n h = let e : suc k - 1 ≡ k = omega arith in rw e refl
+
+pub decimal_short : (n : ℕ) → n < 2 ^ 64 → length (decimal n) ≤ 20
+decimal_short n h = length-decimal-le 20 n (omega arith) (omega arith) h
+
+-- one digit, after none
+pub decimal_one : (n : ℕ) → n < 10 → decimal n ≡ (48 + n % 10) ∷ []
+decimal_one n h = let e : n % 10 ≡ n = omega arith in rw e (decimal_digit n h)
+
+pub length_one : (n : ℕ) → n < 10 → length (decimal n) ≡ 1
+length_one n h = ap length (decimal_digit n h)
+
+pub length_more : (n : ℕ) → 10 ≤ n → n < 2 ^ 64 → length (decimal n) ≡ length (decimal (n / 10)) + 1
+length_more n l h = ap length (decimal_step n l h) ∙ length-append (decimal (n / 10)) ((48 + n % 10) ∷ [])
+
+-- the digit after those of the rest
+pub after_rest : (line next last : List ℕ) (n : ℕ) → 10 ≤ n → n < 2 ^ 64 → next ≡ line ++ decimal (n / 10) → last ≡ next ++ (48 + n % 10) ∷ [] → last ≡ line ++ decimal n
+after_rest line next last n l h e f =
+    f ∙ ap (λ (s : List ℕ). s ++ (48 + n % 10) ∷ []) e ∙ append_assoc line (decimal (n / 10)) ((48 + n % 10) ∷ []) ∙ ap (λ (s : List ℕ). line ++ s) (sym (decimal_step n l h))

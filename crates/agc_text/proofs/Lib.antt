@@ -1,0 +1,11 @@
+pub mod Cuts
+pub mod Decimals
+pub mod Octals
+pub mod Ranges
+pub mod Requests
+pub mod Scripts
+pub mod Pieces
+pub mod Actions
+pub mod Steps
+pub mod Digits
+pub mod Sessions

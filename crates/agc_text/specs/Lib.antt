@@ -1,0 +1,12 @@
+pub mod Chain
+pub mod Numbers
+pub mod Lines
+pub mod Reading
+pub mod Script
+pub mod Input
+pub mod Faults
+pub mod Messages
+pub mod Writing
+pub mod Replies
+pub mod Report
+pub mod Session

@@ -1,0 +1,57 @@
+-- The report of a machine's words and totals.
+use Rattle.std.specs.Prelude.{ℕ, ◌*◌, List, [], ◌∷◌, ◌++◌, codes, if◌then◌else◌, ◌==◌, slice_index, take, drop}
+use Rattle.std.specs.List.{flat_map, range_with_len}
+use Rattle.std.specs.Fmt.{decimal}
+use Rattle.agc_machine.specs.declared.totals.Totals.{Totals}
+use Rattle.agc_text.specs.declared.reporting.ReportLine.{ReportLine}
+use Rattle.agc_text.specs.declared.reporting.ReportLine.TheVariants.{Vac, Newjob, Time3, Lst1, Lst2, Phase, Failreg, Served, Alarms, Restarts}
+use Rattle.agc_text.specs.Replies.{words_text}
+
+-- so many words, from this place on
+abbrev pub words_at : ℕ → ℕ → List ℕ → List ℕ
+words_at place count words = take count (drop place words)
+
+-- the twelve words of a core set, or that it is free: its last word, PRIORITY, is then 77777
+abbrev pub set_text : List ℕ → List ℕ
+set_text set = if slice_index set 11 == 32767 then codes " FREE" else words_text set
+
+-- the line of core set k
+unfoldable pub set_line : List ℕ → ℕ → List ℕ
+set_line words k = codes "SET " ++ decimal k ++ set_text (words_at (12 * k) 12 words) ++ 10 ∷ []
+
+-- a count: a space, and its decimal digits
+abbrev pub count_text : ℕ → List ℕ
+count_text count = 32 ∷ decimal count
+
+-- each other line, without its end
+unfoldable pub line_text : List ℕ → Totals → ReportLine → List ℕ
+line_text words totals Vac = codes "VAC" ++ words_text (words_at 84 5 words)
+line_text words totals Newjob = codes "NEWJOB" ++ words_text (words_at 89 1 words)
+line_text words totals Time3 = codes "TIME3" ++ words_text (words_at 90 1 words)
+line_text words totals Lst1 = codes "LST1" ++ words_text (words_at 91 8 words)
+line_text words totals Lst2 = codes "LST2" ++ words_text (words_at 99 18 words)
+line_text words totals Phase = codes "PHASE" ++ words_text (words_at 117 12 words)
+line_text words totals Failreg = codes "FAILREG" ++ words_text (words_at 129 3 words)
+line_text words totals Served = codes "SERVED" ++ count_text totals.served
+line_text words totals Alarms = codes "ALARMS" ++ count_text totals.a1201 ++ count_text totals.a1202 ++ count_text totals.a1203
+line_text words totals Restarts = codes "RESTARTS" ++ count_text totals.restarts
+
+-- with its end
+unfoldable pub full_line : List ℕ → Totals → ReportLine → List ℕ
+full_line words totals line = line_text words totals line ++ 10 ∷ []
+
+-- the lines of core sets 0 to 6
+unfoldable pub sets_text : List ℕ → List ℕ
+sets_text words = flat_map (set_line words) (range_with_len 0 7)
+
+-- the other lines, in their order
+abbrev pub lines : List ReportLine
+lines = Vac ∷ Newjob ∷ Time3 ∷ Lst1 ∷ Lst2 ∷ Phase ∷ Failreg ∷ Served ∷ Alarms ∷ Restarts ∷ []
+
+-- the text of these lines
+unfoldable pub lines_text : List ℕ → Totals → List ℕ
+lines_text words totals = flat_map (full_line words totals) lines
+
+-- the whole report
+abbrev pub report_text : List ℕ → Totals → List ℕ
+report_text words totals = sets_text words ++ lines_text words totals

@@ -1,0 +1,58 @@
+ghost use Rattle.std.specs.Prelude.{◌≡◌, ◌≤◌, length, IfOk, IfErr, string_bytes, MatchResult};
+ghost use Rattle.std.specs.Str.{IsUtf8};
+ghost use Rattle.std.specs.Io.KnownBytes.{Consumes, IsAtEnd};
+ghost use Rattle.agc_text.specs.Input.{ReadsAll, most_bytes};
+ghost use Rattle.agc_text.specs.Faults.{RefusesInput};
+
+use crate::fault::ReadFault;
+use std::alloc::Global;
+use std::io::Read;
+
+const MOST_BYTES: usize = 1_048_576;
+
+/// Bytes as a text.
+fn text_of(bytes: Vec<u8>) -> Result<String, ReadFault>
+    ensures { MatchResult result (λ s. string_bytes s ≡ bytes.items) (λ e. (e ≡ ReadFault.NotText) × (IsUtf8 bytes.items → ⊥)) }
+{
+    match String::from_utf8(bytes) {
+        Ok(text) => Ok(text),
+        Err(_) => Err(ReadFault::NotText),
+    }
+}
+
+/// All bytes up to the end of the input. Each read but the last brings a byte at least, so that there is at most one
+/// read more than there may be bytes.
+#[tactic(auto, using(crate::proofs::Pieces::consumes_none, crate::proofs::Pieces::consumes_both, crate::proofs::Pieces::consumes_kept))]
+fn read_bytes<R: Read>(alloc: Global, reader: &mut R) -> Result<Vec<u8>, ReadFault>
+    ensures whole { IfOk result (λ v. ReadsAll (R.remaining reader.old) (R.remaining reader.new) v.items) }
+    ensures refused { IfErr result (RefusesInput (R.remaining reader.old) (R.remaining reader.new)) }
+{
+    let mut bytes = Vec::new(alloc);
+    let mut piece = [0u8; 4096];
+    for _ in 0..=MOST_BYTES {
+        match reader.read(&mut piece) {
+            Ok(0) => return Ok(bytes),
+            Ok(count) => {
+                if count > MOST_BYTES - bytes.len() {
+                    return Err(ReadFault::TooLong);
+                }
+                bytes.extend_from_slice(&piece[..count])?;
+            }
+            Err(_) => return Err(ReadFault::Input),
+        }
+    }
+    unreachable!()
+}
+
+/// The whole input as a text, read to its end by at most 1,048,577 reads. Source: profile.
+///
+/// # Errors
+///
+/// `Input`: a read failed, one that was interrupted among them. `TooLong`: more than 1,048,576 bytes were read.
+/// `NotText`: the whole was read and is not UTF-8. `NoMemory`. The reader stands where it stopped.
+pub fn read_all<R: Read>(alloc: Global, reader: &mut R) -> Result<String, ReadFault>
+    ensures whole { IfOk result (λ s. ReadsAll (R.remaining reader.old) (R.remaining reader.new) (string_bytes s)) }
+    ensures refused { IfErr result (RefusesInput (R.remaining reader.old) (R.remaining reader.new)) }
+{
+    text_of(read_bytes(alloc, reader)?)
+}

@@ -1,0 +1,24 @@
+//! What is spelled: the lines of a script, and why a text or an input is refused; the lines that answer requests, and the
+//! report of a machine. Source: profile.
+#![tactic(auto)]
+
+mod fault;
+mod input;
+mod line;
+mod numbers;
+mod numerals;
+mod replies;
+mod reporting;
+mod script;
+mod session;
+#[cfg(test)]
+mod tests;
+mod writing;
+
+pub use fault::{Output, ReadFault, ScriptFault};
+pub use input::read_all;
+pub use line::{parse_action, parse_line};
+pub use numbers::{parse_address, parse_word};
+pub use reporting::report;
+pub use script::read_script;
+pub use session::{write_answer, write_answers};

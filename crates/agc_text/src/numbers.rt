@@ -1,0 +1,142 @@
+ghost use Rattle.std.specs.Prelude.{◌≡◌, ◌<◌, ◌↔◌, ℕ, true, IfSome, slice_index};
+ghost use Rattle.agc_text.specs.Numbers.{octal, IsAddress, IsWord, digit_of, octal_one_of, octal_pair_of, octal_five_of, decimal_of, priority_of, address_of, delay_of, group_of, phase_of, place_of};
+
+use agc_plan::{Address, Delay, Group, Phase, Place, Priority};
+use agc_word::Word;
+
+fn octal_digit(byte: u8) -> Option<u8>
+    ensures exact { result ≡ digit_of byte }
+    ensures small { IfSome result (λ d. d < 8) }
+{
+    match byte {
+        b'0'..=b'7' => Some(byte - b'0'),
+        _ => None,
+    }
+}
+
+/// One octal digit.
+fn octal_one(text: &str) -> Option<u8>
+    ensures { result ≡ octal_one_of text.now }
+{
+    match text.as_bytes() {
+        [a] => octal_digit(*a),
+        _ => None,
+    }
+}
+
+/// Two octal digits.
+fn octal_pair(text: &str) -> Option<u8>
+    ensures { result ≡ octal_pair_of text.now }
+{
+    match text.as_bytes() {
+        [a, b] => Some(8 * octal_digit(*a)? + octal_digit(*b)?),
+        _ => None,
+    }
+}
+
+/// Five octal digits.
+fn octal_five(text: &str) -> Option<u16>
+    ensures exact { result ≡ octal_five_of text.now }
+    ensures small { IfSome result (λ n. n < 32768) }
+{
+    match text.as_bytes() {
+        [a, b, c, d, e] => {
+            let front = 8 * (8 * octal_digit(*a)? as u16 + octal_digit(*b)? as u16)
+                + octal_digit(*c)? as u16;
+            Some(8 * (8 * front + octal_digit(*d)? as u16) + octal_digit(*e)? as u16)
+        }
+        _ => None,
+    }
+}
+
+fn begins_with(text: &str, byte: u8) -> bool
+    requires { 0 < byte }
+    ensures { (result ≡ true) ↔ (slice_index text.now 0 ≡ byte) }
+{
+    match text.as_bytes() {
+        [first, ..] => *first == byte,
+        [] => false,
+    }
+}
+
+/// A decimal number without leading zeros.
+#[tactic(auto, using(crate::proofs::Decimals::none_at_plus, crate::proofs::Decimals::none_at_zero, crate::proofs::Decimals::parsed_is))]
+fn decimal(text: &str) -> Option<u16>
+    ensures { result ≡ decimal_of text.now }
+{
+    if begins_with(text, b'+') {
+        return None;
+    }
+    if text.len() > 1 && begins_with(text, b'0') {
+        return None;
+    }
+    text.parse().ok()
+}
+
+#[tactic(auto, unfolding(crate::specs::Numbers::priority_of))]
+pub(crate) fn priority(text: &str) -> Option<Priority>
+    ensures { result ≡ priority_of text.now }
+{
+    Priority::new(octal_pair(text)?)
+}
+
+#[tactic(auto, unfolding(crate::specs::Numbers::address_of))]
+pub(crate) fn address(text: &str) -> Option<Address>
+    ensures { result ≡ address_of text.now }
+{
+    Address::new(octal_five(text)?)
+}
+
+pub(crate) fn word(text: &str) -> Option<Word>
+    ensures { result ≡ octal_five_of text.now }
+{
+    Word::new(octal_five(text)?)
+}
+
+#[tactic(auto, unfolding(crate::specs::Numbers::delay_of))]
+pub(crate) fn delay(text: &str) -> Option<Delay>
+    ensures { result ≡ delay_of text.now }
+{
+    Delay::new(decimal(text)?)
+}
+
+#[tactic(auto, unfolding(crate::specs::Numbers::group_of))]
+pub(crate) fn group(text: &str) -> Option<Group>
+    ensures { result ≡ group_of text.now }
+{
+    Group::new(octal_one(text)?)
+}
+
+#[tactic(auto, unfolding(crate::specs::Numbers::place_of))]
+pub(crate) fn place(text: &str) -> Option<Place>
+    ensures { result ≡ place_of text.now }
+{
+    Place::new(octal_one(text)?)
+}
+
+#[tactic(auto, unfolding(crate::specs::Numbers::phase_of))]
+pub(crate) fn phase(text: &str) -> Option<Phase>
+    ensures { result ≡ phase_of text.now }
+{
+    let number = decimal(text)?;
+    if number > 127 {
+        return None;
+    }
+    Phase::new(number as u8)
+}
+
+/// The address that five octal digits spell.
+pub fn parse_address(text: &str) -> Option<Address>
+    ensures found { IfSome result (λ a. IsAddress a × (text.now ≡ octal 5 a)) }
+    ensures only { (a : ℕ) → IsAddress a → text.now ≡ octal 5 a → result ≡ Some a }
+{
+    address(text)
+}
+
+/// The word that five octal digits spell.
+pub fn parse_word(text: &str) -> Option<Word>
+    ensures found { IfSome result (λ w. IsWord w × (text.now ≡ octal 5 w)) }
+    ensures only { (w : ℕ) → IsWord w → text.now ≡ octal 5 w → result ≡ Some w }
+{
+    word(text)
+}
