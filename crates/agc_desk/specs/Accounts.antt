@@ -1,7 +1,10 @@
--- Ledgers, as the desk holds them.
+-- Ledgers, as the desk holds them, and what shares were told.
 use Rattle.std.specs.Prelude.{ℕ, ◌≤◌, List, sum_by}
+use Rattle.std.specs.List.{fold}
 use Rattle.agc_machine.specs.declared.totals.Totals.{Totals}
-use Rattle.agc_desk.specs.declared.heard.Heard.{Heard}
+use Rattle.agc_machine.specs.Said.{Said}
+use Rattle.agc_machine.specs.Told.{add, nothing, told}
+use Rattle.agc_desk.specs.History.{Holder}
 
 -- a ledger: what was booked, how many of its parts were not given out, and what came back with the others
 pub record Account : Type 0 where
@@ -15,14 +18,18 @@ pub record Accounts : Type 0 where
   pub left : ℕ
   pub back : Totals
 
+-- what these answers tell together
+unfoldable pub told_in : List Said → Totals
+told_in heard = fold (λ total said. add total (told said.outcome)) nothing heard
+
 -- what the holders of all these shares were told together
-abbrev pub told_to : List Heard → Totals
+abbrev pub told_to : List Holder → Totals
 told_to shares = record {
-  served = sum_by (λ (h : Heard). h.told.served) shares;
-  a1201 = sum_by (λ (h : Heard). h.told.a1201) shares;
-  a1202 = sum_by (λ (h : Heard). h.told.a1202) shares;
-  a1203 = sum_by (λ (h : Heard). h.told.a1203) shares;
-  restarts = sum_by (λ (h : Heard). h.told.restarts) shares;
+  served = sum_by (λ (s : Holder). (told_in s.heard).served) shares;
+  a1201 = sum_by (λ (s : Holder). (told_in s.heard).a1201) shares;
+  a1202 = sum_by (λ (s : Holder). (told_in s.heard).a1202) shares;
+  a1203 = sum_by (λ (s : Holder). (told_in s.heard).a1203) shares;
+  restarts = sum_by (λ (s : Holder). (told_in s.heard).restarts) shares;
 }
 
 -- no number of the totals fell

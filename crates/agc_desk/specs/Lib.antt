@@ -1,6 +1,7 @@
 pub mod Accounts
 pub mod Desks
-pub mod Hearing
+pub mod History
 pub mod Naming
 pub mod Opening
 pub mod Runs
+pub mod Views

@@ -1,11 +1,12 @@
-ghost use Rattle.std.specs.Prelude.{◌≡◌, ◌+◌, ◌↔◌, IsOk, IsNone, IfOk, IfErr, IfSome, IfNone, vec_len};
-ghost use Rattle.agc_machine.specs.Machines.{IsLawful, LeadsTo, after, answer_of};
+ghost use Rattle.std.specs.Prelude.{◌≡◌, ◌+◌, ◌++◌, ◌∷◌, ◌↔◌, [], IsOk, IsNone, IfOk, IfErr, IfSome, IfNone, vec_len};
+ghost use Rattle.agc_machine.specs.Machines.{IsLawful, after, answer_of};
 ghost use Rattle.agc_machine.specs.Told.{add, nothing, told};
-ghost use Rattle.agc_desk.specs.Accounts.{told_to};
-ghost use Rattle.agc_desk.specs.Hearing.{hears, unheard};
+ghost use Rattle.agc_desk.specs.Accounts.{told_in, told_to};
+ghost use Rattle.agc_desk.specs.History.{IsHistory, Leads};
 ghost use Rattle.agc_desk.specs.Opening.{names_of};
 
-use crate::ledgers::{Ledgers, Share, growth};
+use crate::history::{History, Own};
+use crate::ledgers::{Amounts, Ledgers, growth};
 use crate::names::{Blanks, Names};
 use agc_machine::{Answer, Machine, Totals};
 use agc_plan::Request;
@@ -14,17 +15,17 @@ use std::marker::Model;
 /// How many shares a desk gives out.
 const SHARES: u64 = 64;
 
-/// A machine, with a book for each of its totals. Contracts see it as its machine, the books, and how many shares were
-/// given out.
+/// A machine, with the history of all that was asked of it, and a book for each of its totals. Contracts see it as its
+/// machine, its history, the books, and how many shares were given out.
 ///
-/// Of every desk it holds that requests led to its machine from the one with which it was made, and that each book is the
-/// machine's total less that one's. Source: profile.
+/// Of every desk it holds that the history leads to its machine from the one with which it was made, and that each book is
+/// the machine's total less that one's. The history has no bytes. Source: profile.
 #[derive(Drop)]
 pub struct Desk<N: Names> {
     machine: Machine,
     since: Totals,
-    given: u64,
     ledgers: Ledgers<N>,
+    history: History<N>,
 }
 
 impl<N: Names> Model for Desk<N> {
@@ -32,66 +33,99 @@ impl<N: Names> Model for Desk<N> {
 
     ghost Value = { Desked };
 
-    ghost view = { λ d. record { machine = d.machine; booked = d.ledgers.total; given = d.given } };
+    ghost view = { λ d. record { machine = d.machine; history = d.history.calls; booked = d.ledgers.total; given = d.history.given } };
 
-    ghost invariant = { λ d. IsBooked N.first d.machine d.since d.given d.ledgers };
+    ghost invariant = { λ d. IsBooked N.first d.machine d.history d.since d.ledgers };
+}
+
+/// What its holder asked of one desk, and was answered. Contracts see it as its number and these answers, of which it knows
+/// the totals alone when it runs. Source: profile.
+///
+/// It can't be copied, and a share of another desk has another type.
+#[derive(Drop)]
+pub struct Share<N: Names> {
+    amounts: Amounts<N>,
+    own: Own<N>,
+}
+
+impl<N: Names> Model for Share<N> {
+    ghost use Rattle.std.specs.Prelude.{◌≡◌};
+    ghost use Rattle.agc_desk.specs.Accounts.{told_in};
+    ghost use Rattle.agc_desk.specs.History.{Holder};
+
+    ghost Value = { Holder };
+
+    ghost view = { λ s. s.own };
+
+    ghost invariant = { λ s. s.amounts ≡ told_in s.own.heard };
+}
+
+impl<N: Names> Share<N> {
+    /// What its holder was told so far. Source: profile.
+    pub fn told(&self) -> Totals
+        ensures { result ≡ told_in self.now.heard }
+    {
+        self.amounts.told()
+    }
 }
 
 impl<N: Names> Desk<N> {
-    /// A desk that gave out no share, and booked nothing. Source: profile.
+    /// A desk that gave out no share, booked nothing, and of which nothing was asked. Source: profile.
     pub fn new(machine: Machine, blanks: Blanks) -> Desk<N>
         requires names { names_of blanks ≡ N.names }
         requires first { machine ≡ N.first }
-        ensures { result ≡ record { machine = machine; booked = nothing; given = 0 } }
+        ensures { result ≡ record { machine = machine; history = []; booked = nothing; given = 0 } }
     {
         let since = machine.totals();
-        let ledgers = Ledgers::open(blanks);
+        let (ledgers, opened) = Ledgers::open(blanks);
         Desk {
             machine,
             since,
-            given: 0,
             ledgers,
+            history: History::open(opened),
         }
     }
 
     /// The machine. Source: profile.
     pub fn machine(&self) -> &Machine
         ensures machine { result.now ≡ self.now.machine }
-        ensures leads { LeadsTo N.first result.now }
+        ensures leads { Leads N.first self.now.history result.now }
         ensures booked { add self.now.booked N.first.totals ≡ result.now.totals }
     {
         &self.machine
     }
 
-    /// A share whose holder heard nothing; none where 64 were given out. Source: profile.
+    /// A share with which nothing was asked, of the least number that was not given out; none where 64 were. Source: profile.
     pub fn share(&mut self) -> Option<Share<N>>
         ensures none { IsNone result ↔ (self.old.given ≡ 64) }
-        ensures heard { IfSome result (λ s. s ≡ unheard) }
+        ensures share { IfSome result (λ s. s ≡ record { number = self.old.given; heard = [] }) }
         ensures given { IfSome result (λ s. self.new ≡ record self.old { given = self.old.given + 1 }) }
         ensures same { IfNone result (self.new ≡ self.old) }
     {
-        if self.given == SHARES {
+        if self.history.given() == SHARES {
             return None;
         }
-        self.given += 1;
-        Some(self.ledgers.part())
+        Some(Share {
+            amounts: self.ledgers.part(),
+            own: self.history.part(),
+        })
     }
 
-    /// Asks the machine, and books what its answer tells in the share and in the desk's books. A refusal is the answer's
-    /// result; it books nothing, but the share knows of it. Source: profile.
+    /// Asks the machine, and books what its answer tells in the share and in the desk's books. The request and its answer
+    /// come into the history, and to what the share's holder was answered. A refusal is the answer's result, and books
+    /// nothing. Source: profile.
     pub fn serve(&mut self, share: &mut Share<N>, request: Request) -> Answer
         ensures request { result.request ≡ request }
         ensures outcome { result.outcome ≡ answer_of self.old.machine request }
         ensures lawful { IsLawful self.old.machine }
-        ensures leads { LeadsTo N.first self.old.machine }
-        ensures heard { share.new ≡ hears share.old result.outcome }
-        ensures desk { self.new ≡ record self.old { machine = after self.old.machine request; booked = add self.old.booked (told result.outcome) } }
+        ensures heard { share.new ≡ record share.old { heard = share.old.heard ++ result ∷ [] } }
+        ensures desk { self.new ≡ record self.old { machine = after self.old.machine request; history = self.old.history ++ record { by = share.old.number; answer = result } ∷ []; booked = add self.old.booked (told result.outcome) } }
     {
         let before = self.machine.totals();
         let answer = self.machine.apply(request);
         let told = growth(before, self.machine.totals());
-        self.ledgers.add(share, told);
-        share.note(answer.is_refused());
+        self.ledgers.add(&mut share.amounts, told);
+        self.history.note(&mut share.own, &answer);
         answer
     }
 }
@@ -105,8 +139,9 @@ pub struct Ungathered<N: Names> {
     pub shares: Vec<Share<N>>,
 }
 
-/// Ends a desk: gives its machine, unchanged, to which requests led from the one with which the desk was made, and what
-/// the holders of all its shares were told together, which is what the machine's totals grew by. Source: profile.
+/// Ends a desk: gives its machine, unchanged, and what the holders of all its shares were told together, which is what the
+/// machine's totals grew by. The history leads to that machine from the one with which the desk was made; of each share's
+/// number it has just what its holder asked and was answered, and it has no other calls. Source: profile.
 ///
 /// # Errors
 ///
@@ -117,25 +152,28 @@ pub fn gather<N: Names>(
 ) -> Result<(Machine, Totals), Ungathered<N>>
     ensures ok { IsOk result ↔ (vec_len shares ≡ desk.given) }
     ensures machine { IfOk result (λ r. r.0 ≡ desk.machine) }
+    ensures history { IfOk result (λ r. IsHistory N.first shares.items desk.history r.0) }
     ensures told { IfOk result (λ r. r.1 ≡ told_to shares.items) }
     ensures booked { IfOk result (λ r. r.1 ≡ desk.booked) }
-    ensures leads { IfOk result (λ r. LeadsTo N.first r.0) }
     ensures grown { IfOk result (λ r. add r.1 N.first.totals ≡ r.0.totals) }
     ensures back { IfErr result (λ u. (u.desk ≡ desk) × (u.shares ≡ shares)) }
 {
-    if shares.len() as u64 != desk.given {
+    if shares.len() as u64 != desk.history.given() {
         return Err(Ungathered { desk, shares });
     }
     let Desk {
         machine,
         since,
-        given: _,
         mut ledgers,
+        mut history,
     } = desk;
     for share in shares {
-        ledgers.merge(share);
+        let Share { amounts, own } = share;
+        ledgers.merge(amounts);
+        history.settle(own);
     }
     ledgers.audit();
+    history.check();
     let totals = growth(since, machine.totals());
     Ok((machine, totals))
 }

@@ -1,41 +1,36 @@
-ghost use Rattle.std.specs.Prelude.{◌≡◌, ◌+◌, ◌<◌, ◌^◌, ◌||◌};
+ghost use Rattle.std.specs.Prelude.{◌≡◌, ◌+◌, ◌<◌, ◌^◌};
 ghost use Rattle.agc_machine.specs.Told.{add, nothing};
 ghost use Rattle.agc_desk.specs.Accounts.{NoneFell};
-ghost use Rattle.agc_desk.specs.Hearing.{unheard};
 ghost use Rattle.agc_desk.specs.Opening.{names_of};
 
 use crate::column::{Column, Told};
-use crate::heard::Heard;
+use crate::history::Opened;
 use crate::names::{A1201, A1202, A1203, Blanks, Names, Restarts, Served};
 use agc_machine::Totals;
 use std::marker::Model;
 
-/// What its holder heard from one desk: five numbers that were told, and whether an answer was a refusal. Contracts see it
-/// as these. Source: profile.
-///
-/// It can't be copied, and a share of another desk's ledgers has another type.
+/// What one holder was told of each of the five numbers. Contracts see it as these.
 #[derive(Drop)]
-pub struct Share<N: Names> {
+pub(crate) struct Amounts<N: Names> {
     served: Told<Served<N>>,
     a1201: Told<A1201<N>>,
     a1202: Told<A1202<N>>,
     a1203: Told<A1203<N>>,
     restarts: Told<Restarts<N>>,
-    refused: bool,
 }
 
-impl<N: Names> Model for Share<N> {
-    ghost use Rattle.agc_desk.specs.declared.heard.Heard.{Heard};
+impl<N: Names> Model for Amounts<N> {
+    ghost use Rattle.agc_machine.specs.declared.totals.Totals.{Totals};
 
-    ghost Value = { Heard };
+    ghost Value = { Totals };
 
-    ghost view = { λ s. record { told = record { served = s.served; a1201 = s.a1201; a1202 = s.a1202; a1203 = s.a1203; restarts = s.restarts }; refused = s.refused } };
+    ghost view = { λ s. record { served = s.served; a1201 = s.a1201; a1202 = s.a1202; a1203 = s.a1203; restarts = s.restarts } };
 }
 
-impl<N: Names> Share<N> {
-    /// What its holder was told so far. Source: profile.
-    pub fn told(&self) -> Totals
-        ensures { result ≡ self.now.told }
+impl<N: Names> Amounts<N> {
+    /// What its holder was told so far.
+    pub(crate) fn told(&self) -> Totals
+        ensures { result ≡ self.now }
     {
         Totals {
             served: self.served.get(),
@@ -44,23 +39,6 @@ impl<N: Names> Share<N> {
             a1203: self.a1203.get(),
             restarts: self.restarts.get(),
         }
-    }
-
-    /// What its holder heard so far. Source: profile.
-    pub fn heard(&self) -> Heard
-        ensures { result ≡ self.now }
-    {
-        Heard {
-            told: self.told(),
-            refused: self.refused,
-        }
-    }
-
-    /// One more answer came, which was a refusal or not.
-    pub(crate) fn note(&mut self, refused: bool)
-        ensures { self.new ≡ record self.old { refused = self.old.refused || refused } }
-    {
-        self.refused = self.refused || refused;
     }
 }
 
@@ -90,10 +68,11 @@ impl<N: Names> Model for Ledgers<N> {
 }
 
 impl<N: Names> Ledgers<N> {
-    /// Ledgers of which nothing was booked and no part was given out.
-    pub(crate) fn open(blanks: Blanks) -> Ledgers<N>
+    /// Ledgers of which nothing was booked and no part was given out, and the history that came with them.
+    pub(crate) fn open(blanks: Blanks) -> (Ledgers<N>, Opened)
         requires { names_of blanks ≡ N.names }
-        ensures { result ≡ record { total = nothing; left = 65; back = nothing } }
+        ensures ledgers { result.0 ≡ record { total = nothing; left = 65; back = nothing } }
+        ensures history { result.1 ≡ blanks.history }
     {
         let Blanks {
             served,
@@ -101,67 +80,67 @@ impl<N: Names> Ledgers<N> {
             a1202,
             a1203,
             restarts,
+            history,
         } = blanks;
-        Ledgers {
+        let ledgers = Ledgers {
             served: Column::open(served),
             a1201: Column::open(a1201),
             a1202: Column::open(a1202),
             a1203: Column::open(a1203),
             restarts: Column::open(restarts),
-        }
+        };
+        (ledgers, history)
     }
 
-    /// A share whose holder heard nothing.
-    pub(crate) fn part(&mut self) -> Share<N>
+    /// Parts for a holder who was told nothing.
+    pub(crate) fn part(&mut self) -> Amounts<N>
         requires left { 1 < self.old.left }
-        ensures heard { result ≡ unheard }
+        ensures told { result ≡ nothing }
         ensures left { self.new.left + 1 ≡ self.old.left }
         ensures total { self.new.total ≡ self.old.total }
         ensures back { self.new.back ≡ self.old.back }
     {
-        Share {
+        Amounts {
             served: self.served.part(),
             a1201: self.a1201.part(),
             a1202: self.a1202.part(),
             a1203: self.a1203.part(),
             restarts: self.restarts.part(),
-            refused: false,
         }
     }
 
     /// Books what a holder was told.
-    pub(crate) fn add(&mut self, share: &mut Share<N>, told: Totals)
+    pub(crate) fn add(&mut self, amounts: &mut Amounts<N>, told: Totals)
         requires served { self.old.total.served + told.served < 2 ^ 64 }
         requires a1201 { self.old.total.a1201 + told.a1201 < 2 ^ 64 }
         requires a1202 { self.old.total.a1202 + told.a1202 < 2 ^ 64 }
         requires a1203 { self.old.total.a1203 + told.a1203 < 2 ^ 64 }
         requires restarts { self.old.total.restarts + told.restarts < 2 ^ 64 }
-        ensures told { share.new ≡ record share.old { told = add share.old.told told } }
+        ensures told { amounts.new ≡ add amounts.old told }
         ensures total { self.new.total ≡ add self.old.total told }
         ensures left { self.new.left ≡ self.old.left }
         ensures back { self.new.back ≡ self.old.back }
     {
-        self.served.add(&mut share.served, told.served);
-        self.a1201.add(&mut share.a1201, told.a1201);
-        self.a1202.add(&mut share.a1202, told.a1202);
-        self.a1203.add(&mut share.a1203, told.a1203);
-        self.restarts.add(&mut share.restarts, told.restarts);
+        self.served.add(&mut amounts.served, told.served);
+        self.a1201.add(&mut amounts.a1201, told.a1201);
+        self.a1202.add(&mut amounts.a1202, told.a1202);
+        self.a1203.add(&mut amounts.a1203, told.a1203);
+        self.restarts.add(&mut amounts.restarts, told.restarts);
     }
 
-    /// Takes a share back.
-    pub(crate) fn merge(&mut self, share: Share<N>)
-        ensures back { self.new.back ≡ add self.old.back share.told }
+    /// Takes a holder's parts back.
+    pub(crate) fn merge(&mut self, amounts: Amounts<N>)
+        ensures back { self.new.back ≡ add self.old.back amounts }
         ensures total { self.new.total ≡ self.old.total }
         ensures left { self.new.left ≡ self.old.left + 1 }
     {
-        let Share {
+        let Amounts {
             served,
             a1201,
             a1202,
             a1203,
             restarts,
-            refused: _,
-        } = share;
+        } = amounts;
         self.served.merge(served);
         self.a1201.merge(a1201);
         self.a1202.merge(a1202);

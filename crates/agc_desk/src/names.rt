@@ -1,20 +1,24 @@
-ghost use Rattle.std.specs.Prelude.{◌≡◌, ℕ};
+ghost use Rattle.std.specs.Prelude.{◌≡◌, ℕ, List, [], true, Bool};
 ghost use Rattle.agc_machine.specs.Machines.{Machined};
-ghost use Rattle.agc_desk.specs.Naming.{FiveNames, no_names, no_machine};
+ghost use Rattle.agc_desk.specs.declared.book.Call.{Call};
+ghost use Rattle.agc_desk.specs.Naming.{DeskNames, no_names, no_machine};
 
+use crate::history::Opened;
+use agc_machine::NoMemory;
+use std::alloc::Global;
 use std::marker::{Brand, PhantomData};
 use std::sync::ledger::{Blank, Ledger};
 
 /// Into how many parts each ledger is cut: one for each of 64 shares, and one that stays with the desk.
 const PARTS: u64 = 65;
 
-/// What the type of a desk says of it: which five ledgers it has, one for each number of [`Totals`], and with which machine
-/// it was made. Source: profile.
+/// What the type of a desk says of it: which five ledgers it has, one for each number of [`Totals`], which history, and with
+/// which machine it was made. Source: profile.
 ///
 /// A function that is generic over it is called with `Brand`, and the call picks names and machine.
 pub trait Names {
-    /// The name of each of the five ledgers. Source: profile.
-    ghost names: { FiveNames };
+    /// The names of the five ledgers and of the history. Source: profile.
+    ghost names: { DeskNames };
 
     /// The machine with which the desk is made. Source: profile.
     ghost first: { Machined };
@@ -26,15 +30,20 @@ impl Names for Brand {
     ghost first = { no_machine };
 }
 
-/// What the type of a desk under a lock says besides: how many of its shares are given out. A call with `Brand` picks it
-/// too. Source: profile.
+/// What the type of a desk under a lock says besides: how many of its shares may be given out while it is there, and with
+/// which calls its history begins. A call with `Brand` picks both too. Source: profile.
 pub trait Sharing: Names {
-    /// How many shares are given out while the desk is under the lock. Source: profile.
-    ghost shares: { ℕ };
+    /// Whether as many shares may be given out while the desk is under the lock. Source: profile.
+    ghost may_share: { ℕ → Bool };
+
+    /// The calls with which the history begins. Source: profile.
+    ghost begun: { List Call };
 }
 
 impl Sharing for Brand {
-    ghost shares = { 0 };
+    ghost may_share = { λ _. true };
+
+    ghost begun = { [] };
 }
 
 /// The ledger of `served`.
@@ -92,9 +101,10 @@ impl<N: Names> Ledger for Restarts<N> {
     ghost parts = { 65 };
 }
 
-/// Five ledgers that have no names in the types yet, of 65 parts each, in fields named as those of [`Totals`].
+/// Five ledgers that have no names in the types yet, of 65 parts each, in fields named as those of [`Totals`], and a history
+/// of no calls.
 ///
-/// They are made before the function that is generic over the ledgers' names is called. Source: profile.
+/// They are made before the function that is generic over their names is called. Source: profile.
 #[derive(Drop)]
 pub struct Blanks {
     /// For the requests that were served.
@@ -107,6 +117,8 @@ pub struct Blanks {
     pub a1203: Blank,
     /// For the requests with which an era began.
     pub restarts: Blank,
+    /// The history. Source: profile.
+    pub history: Opened,
     ghost served_parts: { served.parts ≡ 65 },
     ghost a1201_parts: { a1201.parts ≡ 65 },
     ghost a1202_parts: { a1202.parts ≡ 65 },
@@ -115,14 +127,20 @@ pub struct Blanks {
 }
 
 impl Blanks {
-    /// Five new ledgers, of which nothing was booked. Source: profile.
-    pub fn new() -> Blanks {
-        Blanks {
+    /// Five new ledgers, of which nothing was booked, and a new history. Source: profile.
+    ///
+    /// # Errors
+    ///
+    /// `NoMemory` where there is none for the word that stands for the history.
+    pub fn new(alloc: Global) -> Result<Blanks, NoMemory> {
+        let history = Opened::new(alloc)?;
+        Ok(Blanks {
             served: Blank::new(PARTS),
             a1201: Blank::new(PARTS),
             a1202: Blank::new(PARTS),
             a1203: Blank::new(PARTS),
             restarts: Blank::new(PARTS),
-        }
+            history,
+        })
     }
 }

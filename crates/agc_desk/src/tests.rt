@@ -1,4 +1,4 @@
-ghost use Rattle.std.specs.Prelude.{◌≡◌};
+ghost use Rattle.std.specs.Prelude.{◌≡◌, ℕ, [], true};
 ghost use Rattle.agc_desk.specs.Opening.{names_of};
 
 use crate::{
@@ -95,7 +95,8 @@ fn ask_through<N: Sharing, W: Wait>(
 ) -> Result<Outcome, Fault>
     requires names { names_of blanks ≡ N.names }
     requires first { machine ≡ N.first }
-    requires shares { N.shares ≡ 1 }
+    requires given { N.may_share 1 ≡ true }
+    requires begun { N.begun ≡ [] }
 {
     let mut desk: Desk<N> = Desk::new(machine, blanks);
     let share = desk.share().ok_or(Fault::NoShare)?;
@@ -118,7 +119,8 @@ fn ask_through<N: Sharing, W: Wait>(
 // Asks through a `Caller`.
 fn asked<W: Wait>(rt: &W, alloc: Global, requests: &[Request]) -> Result<Outcome, Fail> {
     let machine = new_machine(alloc)?;
-    Ok(ask_through::<Brand, W>(rt, alloc, machine, Blanks::new(), requests)?)
+    let blanks = Blanks::new(alloc)?;
+    Ok(ask_through::<Brand, W>(rt, alloc, machine, blanks, requests)?)
 }
 
 #[test]
@@ -212,7 +214,8 @@ fn worked_through<N: Sharing, W: Wait>(
 ) -> Result<(Machine, Totals), Fault>
     requires names { names_of blanks ≡ N.names }
     requires first { machine ≡ N.first }
-    requires shares { N.shares ≡ 1 }
+    requires given { N.may_share 1 ≡ true }
+    requires begun { N.begun ≡ [] }
 {
     let mut desk: Desk<N> = Desk::new(machine, blanks);
     let share = desk.share().ok_or(Fault::NoShare)?;
@@ -229,7 +232,8 @@ fn worked_through<N: Sharing, W: Wait>(
 
 fn worked<W: Wait>(rt: &W, alloc: Global, requests: &[Request]) -> Result<(Machine, Totals), Fail> {
     let machine = new_machine(alloc)?;
-    Ok(worked_through::<Brand, W>(rt, alloc, machine, Blanks::new(), requests)?)
+    let blanks = Blanks::new(alloc)?;
+    Ok(worked_through::<Brand, W>(rt, alloc, machine, blanks, requests)?)
 }
 
 fn bits(machine: &Machine, place: usize) -> u16 {
@@ -285,7 +289,8 @@ fn shares_given<N: Names>(machine: Machine, blanks: Blanks) -> u64
 #[test]
 fn the_65th_share_is_none(rt: HostRuntime) -> Result<(), Fail> {
     let machine = new_machine(rt.alloc())?;
-    assert_eq!(rt; shares_given::<Brand>(machine, Blanks::new()), 64);
+    let blanks = Blanks::new(rt.alloc())?;
+    assert_eq!(rt; shares_given::<Brand>(machine, blanks), 64);
     Ok(())
 }
 
@@ -325,7 +330,8 @@ fn refused<N: Names>(desk: Desk<N>, shares: Vec<Share<N>>) -> Result<Ungathered<
 #[test]
 fn a_missing_share_is_handed_back(rt: HostRuntime) -> Result<(), Fail> {
     let machine = new_machine(rt.alloc())?;
-    let (one, none, totals) = gathered_late::<Brand>(rt.alloc(), machine, Blanks::new())?;
+    let blanks = Blanks::new(rt.alloc())?;
+    let (one, none, totals) = gathered_late::<Brand>(rt.alloc(), machine, blanks)?;
     assert_eq!(rt; one, 1);
     assert_eq!(rt; none, 0);
     assert_eq!(rt; totals.served, 1);

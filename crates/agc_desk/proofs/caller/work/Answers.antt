@@ -1,8 +1,11 @@
-use Rattle.agc_desk.specs.Runs.{Asks}
-use Rattle.agc_desk.proofs.Runs.{reached_by}
+use Rattle.std.proofs.Common.{[], take, refl}
+use Rattle.agc_desk.proofs.Runs.{asks_none, asks_all}
 use Rattle.agc_desk.proofs.caller.work.Goals as goal
 
 -- what the calls did to the caller, seen at its share
 pub returns : goal.returns
-returns g c =
-    (c.drive.result, (c.drive.ensures.count, reached_by _ (Asks g.N.Names.first) (λ k. k.share) (λ s q a t h. h) _ _ _ c.drive.ensures.reached, c.drive.ensures.whole))
+returns g c = (
+  take c.drive.result c.args.requests.now,
+  record { count = c.drive.result; few = c.drive.ensures.count; front = refl; whole = c.drive.ensures.whole },
+  asks_all (λ k. k.share) c.args.share [] (take c.drive.result c.args.requests.now) _ _ (asks_none c.args.share) c.drive.ensures.reached,
+)

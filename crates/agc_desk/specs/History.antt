@@ -1,0 +1,37 @@
+-- The history of one machine: who asked what, and what was answered.
+use Rattle.std.specs.Prelude.{◌≡◌, ℕ, ◌==◌, List, [], ◌∷◌, map}
+use Rattle.std.specs.List.{All, Contains, filter}
+use Rattle.agc_machine.specs.Said.{Said}
+use Rattle.agc_machine.specs.Machines.{Machined, after, answer_of}
+use Rattle.agc_desk.specs.declared.book.Call.{Call}
+
+-- these calls lead in this order from the first machine to the last, each answered as the machine's step answers it there
+abbrev pub Leads : Machined → List Call → Machined → Type 0
+Leads first [] last = first ≡ last
+Leads first (call ∷ more) last =
+    (call.answer.outcome ≡ answer_of first call.answer.request) × Leads (after first call.answer.request) more last
+
+-- what was asked with the share of this number, and answered, in order
+abbrev pub calls_by : ℕ → List Call → List Said
+calls_by number calls = map (λ call. call.answer) (filter (λ call. call.by == number) calls)
+
+-- a share: its number, and what its holder asked and was answered, in order
+pub record Holder : Type 0 where
+  pub number : ℕ
+  pub heard : List Said
+
+-- what a desk knows of its history: the calls, how many shares were given out, and the numbers of those that were settled
+pub record Known : Type 0 where
+  pub calls : List Call
+  pub given : ℕ
+  pub settled : List ℕ
+
+-- the numbers of these shares
+abbrev pub numbers_of : List Holder → List ℕ
+numbers_of shares = map (λ share. share.number) shares
+
+-- the history of a machine that was asked with just these shares
+pub record IsHistory (first : Machined) (shares : List Holder) (calls : List Call) (last : Machined) : Type 0 where
+  pub leads : Leads first calls last
+  pub each : All (λ share. calls_by share.number calls ≡ share.heard) shares
+  pub no_other : All (λ call. Contains (numbers_of shares) call.by) calls

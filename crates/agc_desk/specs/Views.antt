@@ -1,0 +1,61 @@
+-- Of proofs alone: the rule of the table that ties what a desk and the holders of its shares know of one history.
+use Rattle.std.specs.Prelude.{◌≡◌, ℕ, ◌+◌, ◌<◌, List, [], ◌∷◌, ◌++◌, nat_eq, true, false}
+use Rattle.std.specs.List.{All}
+use mathlib.Core.Option.{some}
+use lib.ListN.{get_elem?}
+use Rattle.std.specs.List.{list_any}
+
+use Rattle.atomic_table.specs.Table.{Me, Step}
+use Rattle.agc_machine.specs.Said.{Said}
+use Rattle.agc_desk.specs.declared.book.Call.{Call}
+use Rattle.agc_desk.specs.declared.book.View.{View}
+use Rattle.agc_desk.specs.History.{calls_by}
+
+-- the desk's view: it knows the history
+abbrev pub knower : List Call → ℕ → List ℕ → View
+knower calls given settled = record { keeps = true; calls = calls; given = given; settled = settled; owns = false; number = 0; heard = [] }
+
+-- a share's: it has a number, and knows what was asked with it
+abbrev pub owner : ℕ → List Said → View
+owner number heard = record { keeps = false; calls = []; given = 0; settled = []; owns = true; number = number; heard = heard }
+
+abbrev pub nobody : View
+nobody = record { keeps = false; calls = []; given = 0; settled = []; owns = false; number = 0; heard = [] }
+
+-- the desk's, with what a share knows
+abbrev pub joined : View → View → View
+joined v w = record v { owns = w.owns; number = w.number; heard = w.heard }
+
+-- a number that was given out and settled, so that no seat has it
+pub record IsSettled (given : ℕ) (seat_of : ℕ → ℕ) (number : ℕ) : Type 0 where
+  pub given_out : number < given
+  pub nobody_has : seat_of number ≡ 0
+
+-- what the rule says of the view of this seat; seat_of is 0 of a number that no seat has, else greater by 1 than the seat
+pub record Fits (keeper given : ℕ) (seat_of : ℕ → ℕ) (calls : List Call) (seat : ℕ) (v : View) : Type 0 where
+  pub knows : v.keeps ≡ true → (seat ≡ keeper) × (v.calls ≡ calls) × (v.given ≡ given) × All (λ n. IsSettled given seat_of n) v.settled
+  pub own : v.owns ≡ true → (seat_of v.number ≡ seat + 1) × (v.number < given) × (calls_by v.number calls ≡ v.heard)
+
+-- there is one history, which one seat knows; each number has at most one seat, which knows the calls of that number; and all
+-- calls are of numbers that were given out
+pub record Kept (views : List View) : Type 0 where
+  pub keeper : ℕ
+  pub given : ℕ
+  pub seat_of : ℕ → ℕ
+  pub calls : List Call
+  pub below : All (λ call. call.by < given) calls
+  pub fits : (seat : ℕ) (v : View) → get_elem? views seat ≡ some v → Fits keeper given seat_of calls seat v
+
+-- the number is settled: what was heard with it is what the history has of it, and it was given out and not settled before
+pub record Settles (v w : View) : Type 0 where
+  pub new : w ≡ knower v.calls v.given (v.settled ++ v.number ∷ [])
+  pub heard : calls_by v.number v.calls ≡ v.heard
+  pub given_out : v.number < v.given
+  pub apart : list_any (nat_eq v.number) v.settled ≡ false
+
+abbrev pub Settled : {S : Type 0} → Step S → Me S View → ℕ → Me S View → Type 0
+Settled s v found w = Settles v.0 w.0 × (w.1 ≡ v.1)
+
+-- nothing changes, and all calls are of numbers that were given out
+abbrev pub Checked : {S : Type 0} → Step S → Me S View → ℕ → Me S View → Type 0
+Checked s v found w = (w ≡ v) × All (λ call. call.by < v.0.given) v.0.calls

@@ -1,0 +1,195 @@
+// The table that ties what a desk knows of its history to what the holders of its shares know. It has one word, which never
+// changes: all that its steps change is what its seats know, which has no bytes.
+ghost use Rattle.std.specs.Prelude.{◌≡◌, ◌<◌, ◌+◌, ◌++◌, ◌∷◌, [], ℕ, true, All, nat_eq, false};
+ghost use Rattle.std.specs.List.{list_any};
+ghost use Rattle.agc_desk.specs.History.{calls_by};
+ghost use Rattle.agc_desk.specs.Views.{joined, knower, nobody, owner};
+
+use agc_machine::{Answer, NoMemory};
+use atomic_table::{Join, Play, Seat, Split, Table, TableRule};
+use std::alloc::Global;
+use std::collections::LinkedList;
+use std::marker::{Brand, PhantomData};
+
+/// With which share a request was asked, and what it was and was answered. No value of it is made: the history of a desk
+/// stands in proofs alone. Source: profile.
+pub struct Call {
+    /// The share's number. Source: profile.
+    pub by: u64,
+    /// The request and its answer. Source: profile.
+    pub answer: Answer,
+}
+
+/// What a seat knows. No value of it is made.
+pub struct View {
+    pub keeps: bool,
+    pub calls: LinkedList<Call>,
+    pub given: u64,
+    pub settled: LinkedList<u64>,
+    pub owns: bool,
+    pub number: u64,
+    pub heard: LinkedList<Answer>,
+}
+
+/// Which answer is noted. A call with `Brand` picks it.
+trait Noting {
+    ghost use Rattle.agc_machine.specs.Said.{Said};
+
+    ghost answer: { Said };
+}
+
+impl Noting for Brand {
+    ghost use Rattle.agc_desk.specs.Naming.{no_answer};
+
+    ghost answer = { no_answer };
+}
+
+/// The rule of the table.
+pub struct Law;
+
+impl TableRule<u64, View, ()> for Law {
+    ghost use Rattle.std.specs.Prelude.{[]};
+    ghost use Rattle.agc_desk.specs.Views.{Kept, knower};
+
+    ghost holds = { λ _ s. Kept s.views };
+
+    ghost first = { λ _. knower [] 0 [] };
+}
+
+pub(crate) type Book = Table<u64, View, (), Law, Global>;
+
+pub(crate) type Pass = Seat<u64, View>;
+
+/// Gives out a number.
+struct Dealing;
+
+impl Split<View> for Dealing {
+    ghost use Rattle.std.specs.Prelude.{[], ◌+◌};
+    ghost use Rattle.agc_desk.specs.Views.{knower, owner};
+
+    ghost left = { λ v. knower v.calls (v.given + 1) v.settled };
+
+    ghost right = { λ v. owner v.given [] };
+}
+
+/// Gives a seat that knows nothing.
+struct Spare;
+
+impl Split<View> for Spare {
+    ghost use Rattle.agc_desk.specs.Views.{nobody};
+
+    ghost left = { λ v. v };
+
+    ghost right = { λ _. nobody };
+}
+
+/// Takes in what a share knows.
+struct Taking;
+
+impl Join<View> for Taking {
+    ghost use Rattle.agc_desk.specs.Views.{joined, nobody};
+
+    ghost both = { joined };
+
+    ghost spent = { nobody };
+}
+
+/// Adds a call, and gives back what the share knows.
+struct Adding<J: Noting> {
+    of: PhantomData<J>,
+}
+
+impl<J: Noting> Split<View> for Adding<J> {
+    ghost use Rattle.std.specs.Prelude.{[], ◌∷◌, ◌++◌};
+    ghost use Rattle.agc_desk.specs.Views.{knower, owner};
+
+    ghost left = { λ v. knower (v.calls ++ record { by = v.number; answer = J.answer } ∷ []) v.given v.settled };
+
+    ghost right = { λ v. owner v.number (v.heard ++ J.answer ∷ []) };
+}
+
+/// Settles the number of the share that was taken in.
+struct Settling;
+
+impl Play<u64, View> for Settling {
+    ghost use Rattle.agc_desk.specs.Views.{Settled};
+
+    ghost then = { Settled };
+}
+
+/// Tells what the desk knows.
+struct Checking;
+
+impl Play<u64, View> for Checking {
+    ghost use Rattle.agc_desk.specs.Views.{Checked};
+
+    ghost then = { Checked };
+}
+
+/// A table for a history of no calls, and the desk's seat.
+pub(crate) fn open_book(alloc: Global) -> Result<(Book, Pass), NoMemory>
+    ensures { Rattle.std.specs.Prelude.IfOk result (λ r. (0 < r.0.shared.table_id.words) × (r.1.table_id ≡ r.0.shared.table_id) × (r.1.me ≡ (knower [] 0 [], []))) }
+{
+    Ok(Book::of_words(alloc, &[0], &())?)
+}
+
+/// A new number's seat.
+pub(crate) fn deal(book: &Book, keeper: &mut Pass) -> Pass
+    requires table { (keeper.old.table_id ≡ book.now.shared.table_id) × (0 < book.now.shared.table_id.words) }
+    requires keeps { keeper.old.me.0.keeps ≡ true }
+    ensures keeper { (keeper.new.table_id ≡ keeper.old.table_id) × (keeper.new.me ≡ (knower keeper.old.me.0.calls (keeper.old.me.0.given + 1) keeper.old.me.0.settled, keeper.old.me.1)) }
+    ensures pass { (result.table_id ≡ keeper.old.table_id) × (result.me ≡ (owner keeper.old.me.0.given [], [])) }
+{
+    book.shared.split_seat::<Dealing>(keeper)
+}
+
+/// Adds a call under the pass's number to the history, and its answer to what the pass knows.
+fn noted<J: Noting>(book: &Book, keeper: &mut Pass, pass: Pass, answer: &Answer) -> Pass
+    requires answer { answer.now ≡ J.answer }
+    requires table { (keeper.old.table_id ≡ book.now.shared.table_id) × (pass.table_id ≡ book.now.shared.table_id) × (0 < book.now.shared.table_id.words) }
+    requires keeps { keeper.old.me.0.keeps ≡ true }
+    requires owns { (pass.me.0.owns ≡ true) × (pass.me.1 ≡ []) }
+    ensures keeper { (keeper.new.table_id ≡ keeper.old.table_id) × (keeper.new.me ≡ (knower (keeper.old.me.0.calls ++ record { by = pass.me.0.number; answer = answer.now } ∷ []) keeper.old.me.0.given keeper.old.me.0.settled, keeper.old.me.1)) }
+    ensures pass { (result.table_id ≡ pass.table_id) × (result.me ≡ (owner pass.me.0.number (pass.me.0.heard ++ answer.now ∷ []), [])) }
+{
+    let _ = answer;
+    book.shared.join_seat::<Taking>(keeper, pass);
+    book.shared.split_seat::<Adding<J>>(keeper)
+}
+
+/// Adds a call under the pass's number to the history, and its answer to what the pass knows.
+pub(crate) fn note(book: &Book, keeper: &mut Pass, pass: &mut Pass, answer: &Answer)
+    requires table { (keeper.old.table_id ≡ book.now.shared.table_id) × (pass.old.table_id ≡ book.now.shared.table_id) × (0 < book.now.shared.table_id.words) }
+    requires keeps { keeper.old.me.0.keeps ≡ true }
+    requires owns { (pass.old.me.0.owns ≡ true) × (pass.old.me.1 ≡ []) }
+    ensures keeper { (keeper.new.table_id ≡ keeper.old.table_id) × (keeper.new.me ≡ (knower (keeper.old.me.0.calls ++ record { by = pass.old.me.0.number; answer = answer.now } ∷ []) keeper.old.me.0.given keeper.old.me.0.settled, keeper.old.me.1)) }
+    ensures pass { (pass.new.table_id ≡ pass.old.table_id) × (pass.new.me ≡ (owner pass.old.me.0.number (pass.old.me.0.heard ++ answer.now ∷ []), [])) }
+{
+    let spare = book.shared.split_seat::<Spare>(keeper);
+    let own = std::mem::replace(pass, spare);
+    *pass = noted::<Brand>(book, keeper, own, answer);
+}
+
+/// Settles the pass's number: what the pass knows is what the history has of it, and no other pass has it.
+pub(crate) fn settle(book: &Book, keeper: &mut Pass, pass: Pass)
+    requires table { (keeper.old.table_id ≡ book.now.shared.table_id) × (pass.table_id ≡ book.now.shared.table_id) × (0 < book.now.shared.table_id.words) }
+    requires keeps { keeper.old.me.0.keeps ≡ true }
+    requires owns { (pass.me.0.owns ≡ true) × (pass.me.1 ≡ []) }
+    ensures keeper { (keeper.new.table_id ≡ keeper.old.table_id) × (keeper.new.me ≡ (knower keeper.old.me.0.calls keeper.old.me.0.given (keeper.old.me.0.settled ++ pass.me.0.number ∷ []), keeper.old.me.1)) }
+    ensures heard { calls_by pass.me.0.number keeper.old.me.0.calls ≡ pass.me.0.heard }
+    ensures given_out { pass.me.0.number < keeper.old.me.0.given }
+    ensures apart { list_any (nat_eq pass.me.0.number) keeper.old.me.0.settled ≡ false }
+{
+    book.shared.join_seat::<Taking>(keeper, pass);
+    book.shared.load::<Settling>(keeper, 0);
+}
+
+/// All calls of the history are of numbers that were given out.
+pub(crate) fn check(book: &Book, keeper: &mut Pass)
+    requires table { (keeper.old.table_id ≡ book.now.shared.table_id) × (0 < book.now.shared.table_id.words) }
+    requires keeps { keeper.old.me.0.keeps ≡ true }
+    ensures same { (keeper.new.table_id ≡ keeper.old.table_id) × (keeper.new.me ≡ keeper.old.me) }
+    ensures below { All (λ call. call.by < keeper.old.me.0.given) keeper.old.me.0.calls }
+{
+    book.shared.load::<Checking>(keeper, 0);
+}
