@@ -1,0 +1,4 @@
+-- The lemmas of the latch.
+pub mod Totals
+pub mod Keeps
+pub mod Joining

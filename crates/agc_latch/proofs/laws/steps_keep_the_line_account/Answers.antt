@@ -1,0 +1,20 @@
+use Rattle.agc_latch.proofs.Keeps.{post_keeps, take_keeps, split_keeps, join_keeps, takes_only_posted, is_bounded}
+use Rattle.agc_latch.proofs.laws.steps_keep_the_line_account.Goals as goal
+
+pub returns-clause-post : goal.returns-clause-post
+returns-clause-post c = post_keeps
+
+pub returns-clause-take : goal.returns-clause-take
+returns-clause-take c = take_keeps
+
+pub returns-clause-split : goal.returns-clause-split
+returns-clause-split c = split_keeps
+
+pub returns-clause-join : goal.returns-clause-join
+returns-clause-join c = join_keeps
+
+pub returns-clause-posted : goal.returns-clause-posted
+returns-clause-posted c = takes_only_posted
+
+pub returns-clause-bounded : goal.returns-clause-bounded
+returns-clause-bounded c = is_bounded

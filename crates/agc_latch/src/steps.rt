@@ -1,0 +1,53 @@
+use crate::views::View;
+use atomic_table::{Join, Play, Split, TableRule};
+
+/// The rule of the latch's table: between any two steps its words and views meet the line account.
+pub struct Rule;
+
+impl TableRule<(), View, ()> for Rule {
+    ghost use Rattle.agc_latch.specs.Steps.{Accounted, first_view};
+
+    ghost holds = { λ _. Accounted };
+
+    ghost first = { λ _. first_view };
+}
+
+/// One pulse is posted.
+pub struct Post;
+
+impl Play<(), View> for Post {
+    ghost use Rattle.agc_latch.specs.Steps.{Posted};
+
+    ghost then = { Posted };
+}
+
+/// All pulses of a line are taken.
+pub struct Take;
+
+impl Play<(), View> for Take {
+    ghost use Rattle.agc_latch.specs.Steps.{Taken};
+
+    ghost then = { Taken };
+}
+
+/// The taker gives a device out.
+pub struct GiveOut;
+
+impl Split<View> for GiveOut {
+    ghost use Rattle.agc_latch.specs.Steps.{after_split, device_view};
+
+    ghost left = { after_split };
+
+    ghost right = { λ _. device_view };
+}
+
+/// The taker takes a device back.
+pub struct TakeBack;
+
+impl Join<View> for TakeBack {
+    ghost use Rattle.agc_latch.specs.Steps.{after_join, spent_view};
+
+    ghost both = { after_join };
+
+    ghost spent = { spent_view };
+}
