@@ -1,6 +1,7 @@
 ghost use Rattle.std.specs.Prelude.{◌≡◌, ◌+◌, ◌++◌, ◌∷◌, ◌↔◌, ◌≤◌, ◌⊎◌, [], None};
-ghost use Rattle.std.specs.Prelude.{IsOk, IsNone, IfOk, IfErr, IfSome, IfNone, vec_len};
-ghost use Rattle.agc_latch.specs.Accounts.{Applies, Collects, Gives, IsBalanced, IsOf, with_taker};
+ghost use Rattle.std.specs.Prelude.{All, IsOk, IsNone, IfOk, IfErr, IfSome, IfNone, OnErr, OnOk, vec_len};
+ghost use Rattle.agc_latch.specs.Accounts.{Applies, AreAll, Collects, Gives, Settles};
+ghost use Rattle.agc_latch.specs.Accounts.{IsBalanced, IsOf, with_taker};
 ghost use Rattle.agc_latch.specs.Ends.{new_device};
 ghost use Rattle.agc_latch.specs.Lines.{on};
 ghost use Rattle.agc_machine.specs.Machines.{IsLawful, after, answer_of};
@@ -13,7 +14,7 @@ ghost use Rattle.agc_desk.specs.Opening.{names_of};
 use crate::history::{History, Own};
 use crate::ledgers::{Amounts, Ledgers, growth};
 use crate::names::{Blanks, Names};
-use agc_latch::{Accounts, Device, Latch, Line, Taker};
+use agc_latch::{Accounts, Device, Latch, Line, Settled, Taker, Unjoined};
 use agc_machine::{Answer, Machine, Totals};
 use agc_plan::Request;
 use std::marker::Model;
@@ -212,6 +213,26 @@ impl<N: Names> Desk<N> {
         ensures desk { self.new ≡ with_lines self.new.lines self.old }
     {
         self.lines.apply(line, pulses);
+    }
+
+    /// Settles the latch; what the lines had is kept where that is refused.
+    pub(crate) fn settle_lines(
+        &mut self,
+        latch: Latch,
+        devices: Vec<Device>,
+    ) -> Result<Settled, Unjoined>
+        requires taker { IsOf latch self.old.lines.taker }
+        requires devices { All (λ d. d.latch ≡ latch) devices.items }
+        ensures ok { IsOk result ↔ AreAll devices.items self.old.lines.taker }
+        ensures lines { OnOk result (Settles devices.items self.old.lines self.new.lines) }
+        ensures desk { self.new ≡ with_lines self.new.lines self.old }
+        ensures posted { IfOk result (λ s. s.posted ≡ self.new.lines.settled) }
+        ensures applied { IfOk result (λ s. s.applied ≡ self.new.lines.applied) }
+        ensures owed { IfOk result (λ s. s.owed ≡ self.new.lines.owed) }
+        ensures same { OnErr result (self.new ≡ self.old) }
+        ensures back { IfErr result (λ u. (u.latch ≡ latch) × (u.devices ≡ devices)) }
+    {
+        self.lines.settle(latch, devices)
     }
 }
 
