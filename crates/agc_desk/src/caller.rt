@@ -1,5 +1,6 @@
 ghost use Rattle.std.specs.Prelude.{◌≡◌, ℕ, List, length, take, true};
 ghost use Rattle.agc_plan.specs.declared.request.Request.{Request};
+ghost use Rattle.std.proofs.Props.{props};
 ghost use Rattle.agc_latch.specs.Accounts.{IsOf};
 ghost use Rattle.agc_desk.specs.Draining.{Attends};
 ghost use Rattle.agc_desk.specs.Runs.{Asks, AsksAll, IsFront};
@@ -22,7 +23,7 @@ pub struct Held<N: Sharing> {
     pub desk: Desk<N>,
     ghost given: { N.may_share desk.given ≡ true },
     ghost begun: { take (length N.begun) desk.history ≡ N.begun },
-    ghost latch: { IsOf N.latch desk.lines.taker },
+    ghost latch: { IsOf N.latch desk.lines.taker } by { Prim.hlevel props },
 }
 
 /// A desk that several threads share, under a lock. Source: profile.
