@@ -81,7 +81,8 @@ same_growth s t u e =
     let restarts : t.restarts ≡ u.restarts = omega (arith, ap (λ (x : Totals). x.restarts) e) in
     λ i. record { served = served i; a1201 = a1201 i; a1202 = a1202 i; a1203 = a1203 i; restarts = restarts i }
 
-with_nothing : (t : Totals) → t ≡ add t nothing
+-- nothing more was told
+pub with_nothing : (t : Totals) → t ≡ add t nothing
 with_nothing t = search rules
 
 -- a request adds to a machine's totals what its answer tells

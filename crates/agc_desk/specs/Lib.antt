@@ -1,7 +1,10 @@
 pub mod Accounts
 pub mod Desks
+pub mod Draining
 pub mod History
 pub mod Naming
 pub mod Opening
+pub mod Pulses
 pub mod Runs
+pub mod Stages
 pub mod Views

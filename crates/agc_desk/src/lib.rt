@@ -12,16 +12,23 @@ mod caller;
 mod column;
 mod console;
 mod desk;
+mod drain;
 mod history;
 mod ledgers;
 mod names;
+mod pulse;
+mod settling;
 
+pub use agc_latch::{Device, Latch, Line, PostSpent, Settled, Taker};
 pub use book::Call;
-pub use caller::{Caller, Held, Shared, ask, work};
+pub use caller::{Caller, Held, Shared, ask, attend, work};
 pub use console::{Console, Gate, OpenGate, drive};
 pub use desk::{Desk, Share, Ungathered, gather};
+pub use drain::Drained;
 pub use history::Opened;
 pub use names::{Blanks, Names, Sharing};
+pub use pulse::{action_request, pulse_request};
+pub use settling::{Unsettled, settle};
 
 #[cfg(test)]
 mod tests;

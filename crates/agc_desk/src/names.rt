@@ -1,4 +1,6 @@
 ghost use Rattle.std.specs.Prelude.{◌≡◌, ℕ, List, [], true, Bool};
+ghost use Rattle.atomic_table.specs.Seated.{TableId};
+ghost use Rattle.agc_latch.specs.Ends.{no_latch};
 ghost use Rattle.agc_machine.specs.Machines.{Machined};
 ghost use Rattle.agc_desk.specs.declared.book.Call.{Call};
 ghost use Rattle.agc_desk.specs.Naming.{DeskNames, no_names, no_machine};
@@ -30,20 +32,26 @@ impl Names for Brand {
     ghost first = { no_machine };
 }
 
-/// What the type of a desk under a lock says besides: how many of its shares may be given out while it is there, and with
-/// which calls its history begins. A call with `Brand` picks both too. Source: profile.
+/// What the type of a desk under a lock says besides: how many of its shares may be given out while
+/// it is there, with which calls its history begins, and of which latch its taker is. A call with
+/// `Brand` picks these too. Source: profile.
 pub trait Sharing: Names {
     /// Whether as many shares may be given out while the desk is under the lock. Source: profile.
     ghost may_share: { ℕ → Bool };
 
     /// The calls with which the history begins. Source: profile.
     ghost begun: { List Call };
+
+    /// The latch that the desk's taker is of, if it has one. Source: profile.
+    ghost latch: { TableId };
 }
 
 impl Sharing for Brand {
     ghost may_share = { λ _. true };
 
     ghost begun = { [] };
+
+    ghost latch = { no_latch };
 }
 
 /// The ledger of `served`.
