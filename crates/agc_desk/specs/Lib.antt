@@ -8,3 +8,4 @@ pub mod Pulses
 pub mod Runs
 pub mod Stages
 pub mod Views
+pub mod Lending

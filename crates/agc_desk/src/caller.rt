@@ -3,6 +3,7 @@ ghost use Rattle.agc_plan.specs.declared.request.Request.{Request};
 ghost use Rattle.std.proofs.Props.{props};
 ghost use Rattle.agc_latch.specs.Accounts.{IsOf};
 ghost use Rattle.agc_desk.specs.Draining.{Attends};
+ghost use Rattle.agc_desk.specs.Lending.{IsLent};
 ghost use Rattle.agc_desk.specs.Runs.{Asks, AsksAll, IsFront};
 
 use crate::console::{Console, Gate, drive};
@@ -15,8 +16,9 @@ use agc_plan::Request;
 use std::sync::{Mutex, Wait};
 
 /// What lies under the lock. Whenever the lock is free, as many of the desk's shares are given out
-/// as may be there, its history begins with the calls that the type names, and its taker, if it has
-/// one, is of the latch that the type names. Source: profile.
+/// as may be there, its history begins with the calls that the type names, its taker, if it has one,
+/// is of the latch that the type names, and its accounts of lines stay as far as the type says how.
+/// Source: profile.
 #[derive(Drop)]
 pub struct Held<N: Sharing> {
     /// The desk that is asked. Source: profile.
@@ -24,6 +26,7 @@ pub struct Held<N: Sharing> {
     ghost given: { N.may_share desk.given ≡ true },
     ghost begun: { take (length N.begun) desk.history ≡ N.begun },
     ghost latch: { IsOf N.latch desk.lines.taker } by { Prim.hlevel props },
+    ghost lent: { IsLent N.lent desk.lines } by { Prim.hlevel props },
 }
 
 /// A desk that several threads share, under a lock. Source: profile.

@@ -1,8 +1,9 @@
-ghost use Rattle.std.specs.Prelude.{◌≡◌, ℕ, List, [], true, Bool};
+ghost use Rattle.std.specs.Prelude.{◌≡◌, ℕ, List, [], None, Option, true, Bool};
 ghost use Rattle.atomic_table.specs.Seated.{TableId};
 ghost use Rattle.agc_latch.specs.Ends.{no_latch};
 ghost use Rattle.agc_machine.specs.Machines.{Machined};
 ghost use Rattle.agc_desk.specs.declared.book.Call.{Call};
+ghost use Rattle.agc_desk.specs.Lending.{Lent};
 ghost use Rattle.agc_desk.specs.Naming.{DeskNames, no_names, no_machine};
 
 use crate::history::Opened;
@@ -44,6 +45,10 @@ pub trait Sharing: Names {
 
     /// The latch that the desk's taker is of, if it has one. Source: profile.
     ghost latch: { TableId };
+
+    /// What stays of the desk's accounts of lines while it is under the lock, where anything is said
+    /// of them. Source: profile.
+    ghost lent: { Option Lent };
 }
 
 impl Sharing for Brand {
@@ -52,6 +57,8 @@ impl Sharing for Brand {
     ghost begun = { [] };
 
     ghost latch = { no_latch };
+
+    ghost lent = { None };
 }
 
 /// The ledger of `served`.
