@@ -13,9 +13,10 @@ use Rattle.agc_desk.specs.Runs.{AsksAll, requests_of}
 use Rattle.agc_desk.proofs.Calls.{calls_by_append}
 use Rattle.agc_text.proofs.Sessions.{rest_is, nothing_left}
 use Rattle.agc_bench.specs.Benches.{Benched}
-use Rattle.agc_bench.specs.Runs.{bench_machine}
-use Rattle.agc_bench.specs.Sharing.{AreFresh, AsksOwn, EachAsks, HaveMade, answers_to, first_calls}
-use Rattle.agc_bench.specs.Threads.{Asker, AskedOwn, IsRun, asker_at, askers_of}
+use Rattle.agc_bench.specs.Runs.{bench_machine, bench_plan}
+use Rattle.agc_desk.specs.Draining.{answers_to}
+use Rattle.agc_bench.specs.Sharing.{AreFresh, AsksOwn, AsksPulses, EachAsks, HaveMade, first_calls}
+use Rattle.agc_bench.specs.Threads.{Asker, AskedOwn, IsRun, asker_at, askers_of, thread_at}
 
 -- the next request's answer, and those of the requests after it
 answers_at : (m : Machined) (rs : List Request) (i : ℕ) (r : Request) (said : Said) → i < length rs → r ≡ get_or rs i r
@@ -72,7 +73,7 @@ made calls first others is none fresh (suc i) d below =
     fresh i d (omega arith) ∙ (λ k. record { number = number k; heard = sym (none i) k })
 
 -- each share stands at its number
-number_at : (calls : List Call) (may_stop : ℕ → ℕ → Type 0) (bench : Benched) (starts back : List Holder) → HaveMade calls starts → EachAsks may_stop bench starts back → length back ≡ length starts
+number_at : (calls : List Call) (may_stop : ℕ → ℕ → Type 0) (bench : Benched) (starts back : List Holder) → HaveMade calls starts → EachAsks may_stop (bench_plan bench) (asker_at bench) starts back → length back ≡ length starts
     → (i : ℕ) (d : Holder) → i < length back → (get_or back i d).number ≡ i
 number_at calls may_stop bench starts back begun asked many i d below =
     (asked i d d below).all.number ∙ ap (λ h. h.number) (begun i d (omega (arith, many, below)))
@@ -81,7 +82,7 @@ number_at calls may_stop bench starts back begun asked many i d below =
 pub run_of : (may_stop : ℕ → ℕ → Type 0) (bench : Benched) (first : Machined) (history : List Call) (last : Machined) (starts back : List Holder)
     → first ≡ bench_machine bench → IsHistory first back history last
     → take (length (first_calls (answers_to first bench.script))) history ≡ first_calls (answers_to first bench.script)
-    → HaveMade (first_calls (answers_to first bench.script)) starts → EachAsks may_stop bench starts back
+    → HaveMade (first_calls (answers_to first bench.script)) starts → EachAsks may_stop (bench_plan bench) (asker_at bench) starts back
     → length back ≡ length starts → length starts ≡ length (askers_of bench) → IsRun may_stop bench last
 run_of may_stop bench first history last starts back is whole begins begun asked many for_each =
     let begin : List Call = first_calls (answers_to first bench.script) in
@@ -92,7 +93,7 @@ run_of may_stop bench first history last starts back is whole begins begun asked
       leads = subst (λ m. Leads (after_all m bench.script) rest last) is (leads_past first bench.script rest last (subst (λ l. Leads first l last) parts whole.leads));
       each = λ i below.
           let d : Holder = record { number = i; heard = [] } in
-          let a : AsksOwn may_stop (asker_at bench i) (get_or starts i d) (get_or back i d) = asked i d d (omega (arith, many, for_each, below)) in
+          let a : AsksOwn may_stop (bench_plan bench) (asker_at bench i) (get_or starts i d) (get_or back i d) = asked i d d (omega (arith, many, for_each, below)) in
           let start = begun i d (omega (arith, for_each, below)) in
           let number : (get_or back i d).number ≡ i = number_at begin may_stop bench starts back begun asked many i d (omega (arith, many, for_each, below)) in
           let heard : calls_by i begin ++ calls_by i rest ≡ calls_by i begin ++ a.all.told =
@@ -101,7 +102,7 @@ run_of may_stop bench first history last starts back is whole begins begun asked
               ∙ (ap (λ n. calls_by n history) (sym number)
               ∙ (whole.each i d (omega (arith, many, for_each, below))
               ∙ (a.all.heard ∙ ap (λ h. h.heard ++ a.all.told) start)))) in
-          subst (λ l. AskedOwn may_stop (asker_at bench i) l) (sym a.all.asked ∙ ap requests_of (sym (append_cancel_left (calls_by i begin) _ _ heard))) a.own;
+          subst (λ l. AskedOwn may_stop (bench_plan bench) (asker_at bench i) l) (sym a.all.asked ∙ ap requests_of (sym (append_cancel_left (calls_by i begin) _ _ heard))) a.own;
       no_other = λ k d below.
           let among = All-drop (λ (call : Call). Contains (numbers_of back) call.by) (length begin) history whole.no_other k d below in
           let far : among.0 < length back = omega (arith, among.1, length-map back (λ (h : Holder). h.number)) in
@@ -125,3 +126,19 @@ take_own (x ∷ xs) = ap (λ l. x ∷ l) (take_own xs)
 -- a history that is these calls begins with them
 pub begins_with : (l history : List Call) → history ≡ l → take (length l) history ≡ l
 begins_with l history is = ap (take (length l)) is ∙ take_own l
+
+-- the caller attended, and each thread asked what is its own
+pub each_all : (may_stop : ℕ → ℕ → Type 0) (bench : Benched) (first mid : Holder) (others back : List Holder) → AsksPulses (bench_plan bench) first mid
+    → EachAsks may_stop (bench_plan bench) (thread_at bench) others back → EachAsks may_stop (bench_plan bench) (asker_at bench) (first ∷ others) (mid ∷ back)
+each_all may_stop bench first mid others back attended asked zero s t below =
+    record { asked = attended.asked; own = attended.own; all = attended.all }
+each_all may_stop bench first mid others back attended asked (suc i) s t below = asked i s t (omega arith)
+
+-- a history that begins with these calls begins with them as it goes on
+pub begins_on : (l history more : List Call) → take (length l) history ≡ l → take (length l) (history ++ more) ≡ l
+begins_on [] history more begins = refl
+begins_on (x ∷ l) [] more begins = cc
+begins_on (x ∷ l) (y ∷ history) more begins =
+    let rest : take (length l) history ≡ l = cc in
+    let next : take (length l) (history ++ more) ≡ l = begins_on l history more rest in
+    cc

@@ -6,7 +6,7 @@ ghost use Rattle.agc_bench.specs.Benches.{Benched, bench_texts, IsInRange, IsBen
 ghost use Rattle.agc_bench.specs.Faults.{bench_fault, HasTexts, RefusesBench};
 ghost use Rattle.agc_bench.specs.Gives.{RefusedLine};
 
-use crate::device::Line;
+use agc_desk::Line;
 use crate::fault::BenchFault;
 use crate::keys::texts_in;
 use crate::texts::Texts;

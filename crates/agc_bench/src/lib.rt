@@ -5,9 +5,9 @@
 mod asker;
 mod bench;
 mod bench_session;
-mod device;
 mod fault;
 mod keys;
+mod poster;
 mod run;
 mod run_fault;
 #[cfg(test)]
@@ -27,7 +27,7 @@ pub use agc_text::{
     read_script, report, write_answer, write_answers,
 };
 pub use bench::{Bench, read_bench};
-pub use device::Line;
+pub use agc_desk::Line;
 pub use fault::BenchFault;
 pub use run::{run_script, serial};
 pub use run_fault::RunFault;

@@ -95,7 +95,7 @@ fn put_sets<W: Write>(words: &[Word], writer: &mut W) -> Result<(), Output>
 }
 
 /// Appends a count, after a space.
-fn add_count(line: &mut ArrayString<128>, count: u64)
+pub(crate) fn add_count(line: &mut ArrayString<128>, count: u64)
     requires { length line.old.bytes + 21 ≤ 128 }
     ensures text { line.new.bytes ≡ line.old.bytes ++ count_text count }
     ensures len { length line.new.bytes ≤ length line.old.bytes + 21 }
