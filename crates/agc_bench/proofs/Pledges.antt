@@ -1,5 +1,7 @@
 use Rattle.std.proofs.Common.{◌≡◌, ℕ, ◌+◌, ◌<◌, zero, suc, List, [], ◌∷◌, ◌++◌, length, get_or, arith, sym, ◌∙◌}
 use Rattle.std.proofs.lemmas.List.{get_or_append_left}
+use Rattle.atomic_table.specs.Seated.{TableId}
+use Rattle.agc_latch.specs.declared.line.Line.{Line}
 use Rattle.agc_desk.specs.History.{Holder}
 use Rattle.agc_bench.specs.Benches.{Benched}
 
@@ -29,3 +31,8 @@ pledge_kept bench starts x gate k start its_bench thread its_gate below pledge =
   thread_is = pledge.thread_is;
   gate_is = pledge.gate_is;
 }
+
+-- the promise of a device's thread: its latch, and its line and pulses as the bench has them
+pub record IsPosts (latch : TableId) (bench : Benched) (k : ℕ) (its_latch : TableId) (planned : Line × ℕ) : Type 0 where
+  pub latch_is : its_latch ≡ latch
+  pub planned_is : (d : Line × ℕ) → planned ≡ get_or bench.devices k d

@@ -17,6 +17,7 @@ loop-request-preserved g c =
       heard = answers_next _ _ m script at r c.serve.result c.loop-request-test.true c.request-item.is c.serve.ensures.request c.serve.ensures.outcome i.heard;
       number = i.number;
       given = i.given;
+      lines = i.lines;
     })
 
 pub returns-clause-machine : goal.returns-clause-machine
