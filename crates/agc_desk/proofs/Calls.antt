@@ -96,7 +96,7 @@ all_numbers numbers n number apart below many within = by_test (list_any (nat_eq
         here k x lt is same = subst (λ y. slice_index_or numbers k y ≡ y) same is
     by_test false lacks =
         let longer = length-le_from_distinct_below (numbers ++ number ∷ []) n (IsDistinct-push nat_eq_equiv numbers number apart lacks)
-            (λ k has. ⊎_elim (λ old. below k old) (λ (same : k ≡ number). omega (arith, same, within)) (push_cases k number numbers has)) in
+        (λ k has. ⊎_elim (λ old. below k old) (λ (same : k ≡ number). omega (arith, same, within)) (push_cases k number numbers has)) in
         absurd (omega (arith, longer, length_push numbers number, many))
 
 -- a history is whole where as many shares were settled as were given out

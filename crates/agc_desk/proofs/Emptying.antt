@@ -23,7 +23,7 @@ use Rattle.agc_desk.specs.declared.book.Call.{Call}
 use Rattle.agc_desk.specs.Accounts.{told_in}
 use Rattle.agc_desk.specs.Desks.{Desked, with_lines}
 use Rattle.agc_desk.specs.declared.drain.Drained.{Drained}
-use Rattle.agc_desk.specs.Draining.{Drains, Moves, NoneRefused, ServesAll, drain_requests, answers_to, with_asked, with_heard}
+use Rattle.agc_desk.specs.Draining.{Drains, Moves, NoneRefused, ServesAll, drain_requests, answers_to, calls_of, with_asked, with_heard}
 use Rattle.agc_desk.specs.History.{Holder}
 use Rattle.agc_desk.specs.Pulses.{first_line, first_request, line_if_any, pulse_request, pulse_requests, repeated}
 use Rattle.agc_desk.specs.Stages.{DrainsLine, next_request, tried_after}
@@ -66,9 +66,6 @@ told_append : (a b : List Said) → told_in (a ++ b) ≡ add (told_in a) (told_i
 unfolding told_in
 told_append a b = fold-append (λ total said. add total (told said.outcome)) nothing a b ∙ told_from (told_in a) b
 
-abbrev calls_of : ℕ → List Said → List Call
-calls_of number said = map (λ s. record { by = number; answer = s }) said
-
 asked_none : (number : ℕ) (d : Desked) → d ≡ with_asked number [] d
 unfolding answers_to after_all told_in
 asked_none number d =
@@ -79,10 +76,10 @@ asked_append : (number : ℕ) (a b : List Request) (d : Desked)
 asked_append number a b d =
     let answers = answers_append d.machine a b in
     let history : (d.history ++ calls_of number (answers_to d.machine a)) ++ calls_of number (answers_to (after_all d.machine a) b) ≡ d.history ++ calls_of number (answers_to d.machine (a ++ b)) =
-        append_assoc d.history _ _
-        ∙ ap (λ (l : List Call). d.history ++ l) (sym (map-append (λ (s : Said). record { by = number; answer = s }) (answers_to d.machine a) (answers_to (after_all d.machine a) b)) ∙ ap (calls_of number) (sym answers)) in
+    append_assoc d.history _ _
+    ∙ ap (λ (l : List Call). d.history ++ l) (sym (map-append (λ (s : Said). record { by = number; answer = s }) (answers_to d.machine a) (answers_to (after_all d.machine a) b)) ∙ ap (calls_of number) (sym answers)) in
     let booked : add (add d.booked (told_in (answers_to d.machine a))) (told_in (answers_to (after_all d.machine a) b)) ≡ add d.booked (told_in (answers_to d.machine (a ++ b))) =
-        add_assoc d.booked _ _ ∙ ap (λ t. add d.booked t) (sym (told_append _ _) ∙ ap told_in (sym answers)) in
+    add_assoc d.booked _ _ ∙ ap (λ t. add d.booked t) (sym (told_append _ _) ∙ ap told_in (sym answers)) in
     λ i. record d { machine = sym (after_append d.machine a b) i; history = history i; booked = booked i }
 
 -- nothing was asked
@@ -214,7 +211,7 @@ applied_more line q n old s mid t said now new last reply before request outcome
     let next = serves_one q mid t said now new request outcome desk heard in
     let all = serves_append (replicate n q) (q ∷ []) old s mid t now new before.asked next in
     let served = All-append (λ (x : Said). IsOk x.outcome) _ _ before.served
-        (subst (λ (m : Machined). NoneRefused (answers_to m (q ∷ []))) machine (served_one mid.machine q reply (sym outcome ∙ ok))) in
+    (subst (λ (m : Machined). NoneRefused (answers_to m (q ∷ []))) machine (served_one mid.machine q reply (sym outcome ∙ ok))) in
     record {
       lines = applies_more line n old.lines mid.lines last.lines before.lines
           (subst (λ (l : LineAccounts). Applies line 1 l last.lines) (ap (λ (d : Desked). d.lines) desk) lines);

@@ -145,7 +145,7 @@ takes i v o w is_keeper s h at apart there =
         let own = theirs.own claims in
         let now = turned h.seat_of w.number (i + 1) in
         let settled : (n : ℕ) → IsSettled h.given h.seat_of n → IsSettled h.given now n =
-            λ n z. record { given_out = z.given_out; nobody_has = turned_else h.seat_of w.number (i + 1) n (λ same. omega (arith, z.nobody_has, own.0, ap h.seat_of same)) ∙ z.nobody_has } in
+        λ n z. record { given_out = z.given_out; nobody_has = turned_else h.seat_of w.number (i + 1) n (λ same. omega (arith, z.nobody_has, own.0, ap h.seat_of same)) ∙ z.nobody_has } in
         record {
           keeper = h.keeper;
           given = h.given;
@@ -239,7 +239,7 @@ settles_as slots i me is_keeper owns s h len at word =
     let now = turned h.seat_of v.number 0 in
     let apart : (n : ℕ) → IsSettled h.given h.seat_of n → n ≢ v.number = λ n z same. omega (arith, z.nobody_has, own.0, ap h.seat_of same) in
     let settled : (n : ℕ) → IsSettled h.given h.seat_of n → IsSettled h.given now n =
-        λ n z. record { given_out = z.given_out; nobody_has = turned_else h.seat_of v.number 0 n (apart n z) ∙ z.nobody_has } in
+    λ n z. record { given_out = z.given_out; nobody_has = turned_else h.seat_of v.number 0 n (apart n z) ∙ z.nobody_has } in
     let new : Kept (set s.views i w) = record {
       keeper = h.keeper;
       given = h.given;
@@ -258,13 +258,21 @@ settles_as slots i me is_keeper owns s h len at word =
             knows = λ _. (k.0, k.1, k.2, All-push (λ n. IsSettled h.given now n) v.settled v.number (λ n d l. settled _ (k.3 n d l)) (record { given_out = own.1; nobody_has = turned_here h.seat_of v.number 0 }));
             own = λ c. absurd (off c);
           });
-    } in
-    (w, keeps, tt, new, (record {
-      new = refl;
-      heard = subst (λ l. calls_by v.number l ≡ v.heard) (sym k.1) own.2;
-      given_out = subst (λ n. v.number < n) (sym k.2) own.1;
-      apart = list_any_none (nat_eq v.number) v.settled (λ n d l. other v.number _ (apart _ (k.3 n d l)));
-    }, refl))
+    } in (
+      w,
+      keeps,
+      tt,
+      new,
+      (
+        record {
+          new = refl;
+          heard = subst (λ l. calls_by v.number l ≡ v.heard) (sym k.1) own.2;
+          given_out = subst (λ n. v.number < n) (sym k.2) own.1;
+          apart = list_any_none (nat_eq v.number) v.settled (λ n d l. other v.number _ (apart _ (k.3 n d l)));
+        },
+        refl,
+      ),
+    )
   where
     other : (a b : ℕ) → b ≢ a → nat_eq a b ≡ false
     other a b apart = grind (arith, nat_tests)

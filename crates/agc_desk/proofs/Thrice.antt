@@ -64,10 +64,12 @@ moves found n1 n2 n3 l l0 l1 l2 l3 c a b d tk tr kr =
     owed Timer = omega (arith, c.owed Timer, a.owed, b.other_owed Timer timer_key, d.other_owed Timer timer_radar)
     owed Key = omega (arith, c.owed Key, a.other_owed Key (λ e. timer_key (sym e)), b.owed, d.other_owed Key key_radar)
     owed Radar = omega (arith, c.owed Radar, a.other_owed Radar (λ e. timer_radar (sym e)), b.other_owed Radar (λ e. key_radar (sym e)), d.owed)
+
     applied : (line : Line) → on line l3.applied ≡ on line l.applied + on line (n1 ∷ n2 ∷ n3 ∷ [])
     applied Timer = omega (arith, ap (on Timer) c.applied, a.applied, b.other_applied Timer timer_key, d.other_applied Timer timer_radar)
     applied Key = omega (arith, ap (on Key) c.applied, a.other_applied Key (λ e. timer_key (sym e)), b.applied, d.other_applied Key key_radar)
     applied Radar = omega (arith, ap (on Radar) c.applied, a.other_applied Radar (λ e. timer_radar (sym e)), b.other_applied Radar (λ e. key_radar (sym e)), d.applied)
+
     in_order : on Timer l3.owed ≡ on Timer l1.owed → on Key l3.owed ≡ on Key l2.owed
         → (line later : Line) → word_of line < word_of later → 0 < on line l3.owed → on later (n1 ∷ n2 ∷ n3 ∷ []) ≡ 0
     in_order t k Timer Timer below left = omega (arith, below)
@@ -125,8 +127,8 @@ serves_from asked d d0 s now new is all = record {
 key_tried : (a b c t : List Request) → c ≡ [] → (a ++ []) ++ ((b ++ t) ++ (c ++ [])) ≡ (a ++ (b ++ c)) ++ t
 key_tried a b c t none =
     let empty : (a ++ []) ++ ((b ++ t) ++ ([] ++ [])) ≡ (a ++ (b ++ [])) ++ t =
-        ap (λ l. l ++ ((b ++ t) ++ [])) (append-nil a)
-        ∙ (ap (λ l. a ++ l) (append-nil (b ++ t)) ∙ sym (ap (λ l. (a ++ l) ++ t) (append-nil b) ∙ append_assoc a b t)) in
+    ap (λ l. l ++ ((b ++ t) ++ [])) (append-nil a)
+    ∙ (ap (λ l. a ++ l) (append-nil (b ++ t)) ∙ sym (ap (λ l. (a ++ l) ++ t) (append-nil b) ∙ append_assoc a b t)) in
     subst (λ (l : List Request). (a ++ []) ++ ((b ++ t) ++ (l ++ [])) ≡ (a ++ (b ++ l)) ++ t) (sym none) empty
 
 timer_tried : (a b c t : List Request) → b ≡ [] → c ≡ [] → (a ++ t) ++ ((b ++ []) ++ (c ++ [])) ≡ (a ++ (b ++ c)) ++ t
@@ -151,8 +153,8 @@ served_thrice : (a b c : List Request) (m m1 m2 : Machined) → m1 ≡ after_all
     → NoneRefused (answers_to m (a ++ (b ++ c)))
 served_thrice a b c m m1 m2 first second one two three =
     let later : NoneRefused (answers_to m1 (b ++ c)) =
-        subst NoneRefused (sym (answers_append m1 b c))
-        (All-append (λ (x : Said). IsOk x.outcome) _ _ two (subst (λ (x : Machined). NoneRefused (answers_to x c)) second three)) in
+    subst NoneRefused (sym (answers_append m1 b c))
+    (All-append (λ (x : Said). IsOk x.outcome) _ _ two (subst (λ (x : Machined). NoneRefused (answers_to x c)) second three)) in
     subst NoneRefused (sym (answers_append m a (b ++ c)))
     (All-append (λ (x : Said). IsOk x.outcome) _ _ one (subst (λ (x : Machined). NoneRefused (answers_to x (b ++ c))) first later))
 
@@ -167,7 +169,7 @@ finish : (last : Line) (asked : List Request) (found done : List ℕ) (r : Optio
     → Drains d s (record { taken = found; applied = done; refused = r }) d3 s3
 finish last asked found done r d d0 d3 s s3 start lines serves first is served refusal left =
     let request : next_request d.machine.plan last d3.lines.owed ≡ first_request d.machine.plan d3.lines.owed =
-        ap (λ o. option_and_then (pulse_request d.machine.plan) o) (sym first) in
+    ap (λ o. option_and_then (pulse_request d.machine.plan) o) (sym first) in
     record {
       lines = lines;
       asked = subst (λ (l : List Request). ServesAll l d s d3 s3)
@@ -207,9 +209,9 @@ of_plan None None r3 found n1 n2 n3 d d0 d1 d2 d3 s s1 s2 s3 start collects a b 
     let three = repeated (pulse_request plan Radar) n3 in
     let last = option_to_list (next_request plan Radar d3.lines.owed) in
     let asked : (one ++ option_to_list (next_request plan Timer d1.lines.owed)) ++ ((two ++ option_to_list (next_request plan Key d2.lines.owed)) ++ (three ++ last)) ≡ (one ++ (two ++ three)) ++ last =
-        ap (λ (l : List Request). (one ++ l) ++ ((two ++ option_to_list (next_request plan Key d2.lines.owed)) ++ (three ++ last))) (nothing_tried plan Timer d1.lines.owed timer)
-        ∙ (ap (λ (l : List Request). (one ++ []) ++ ((two ++ l) ++ (three ++ last))) (nothing_tried plan Key d2.lines.owed key)
-        ∙ last_tried one two three last) in
+    ap (λ (l : List Request). (one ++ l) ++ ((two ++ option_to_list (next_request plan Key d2.lines.owed)) ++ (three ++ last))) (nothing_tried plan Timer d1.lines.owed timer)
+    ∙ (ap (λ (l : List Request). (one ++ []) ++ ((two ++ l) ++ (three ++ last))) (nothing_tried plan Key d2.lines.owed key)
+    ∙ last_tried one two three last) in
     finish Radar _ found (n1 ∷ n2 ∷ n3 ∷ []) r3 d d0 d3 s s3 start
     (moves found n1 n2 n3 d.lines d0.lines d1.lines d2.lines d3.lines collects a.lines b.lines c.lines
     (λ left. absurd (omega (arith, left, timer))) (λ left. absurd (omega (arith, left, timer))) (λ left. absurd (omega (arith, left, key))))
@@ -237,9 +239,9 @@ of_plan None (Some r) r3 found n1 n2 n3 d d0 d1 d2 d3 s s1 s2 s3 start collects 
     let empty : three ≡ [] = no_requests plan Radar n3 radar in
     let next : next_request plan Key d2.lines.owed ≡ next_request plan Key d3.lines.owed = next_same plan Key d2.lines.owed d3.lines.owed (sym same_key) in
     let asked : (one ++ option_to_list (next_request plan Timer d1.lines.owed)) ++ ((two ++ option_to_list (next_request plan Key d2.lines.owed)) ++ (three ++ [])) ≡ (one ++ (two ++ three)) ++ option_to_list (next_request plan Key d3.lines.owed) =
-        ap (λ (l : List Request). (one ++ l) ++ ((two ++ option_to_list (next_request plan Key d2.lines.owed)) ++ (three ++ []))) (nothing_tried plan Timer d1.lines.owed timer)
-        ∙ (ap (λ (o : Option Request). (one ++ []) ++ ((two ++ option_to_list o) ++ (three ++ []))) next
-        ∙ key_tried one two three (option_to_list (next_request plan Key d3.lines.owed)) empty) in
+    ap (λ (l : List Request). (one ++ l) ++ ((two ++ option_to_list (next_request plan Key d2.lines.owed)) ++ (three ++ []))) (nothing_tried plan Timer d1.lines.owed timer)
+    ∙ (ap (λ (o : Option Request). (one ++ []) ++ ((two ++ option_to_list o) ++ (three ++ []))) next
+    ∙ key_tried one two three (option_to_list (next_request plan Key d3.lines.owed)) empty) in
     let machine : d3.machine ≡ d2.machine = same_machine d2.machine d3.machine three c.machine empty in
     finish Key _ found (n1 ∷ n2 ∷ n3 ∷ []) r3 d d0 d3 s s3 start
     (moves found n1 n2 n3 d.lines d0.lines d1.lines d2.lines d3.lines collects a.lines b.lines c.lines
@@ -265,8 +267,8 @@ of_plan (Some r) (Some q) r3 found n1 n2 n3 d d0 d1 d2 d3 s s1 s2 s3 start colle
     let empty_three : three ≡ [] = no_requests plan Radar n3 no_radar in
     let next : next_request plan Timer d1.lines.owed ≡ next_request plan Timer d3.lines.owed = next_same plan Timer d1.lines.owed d3.lines.owed (sym same_timer) in
     let asked : (one ++ option_to_list (next_request plan Timer d1.lines.owed)) ++ ((two ++ []) ++ (three ++ [])) ≡ (one ++ (two ++ three)) ++ option_to_list (next_request plan Timer d3.lines.owed) =
-        ap (λ (o : Option Request). (one ++ option_to_list o) ++ ((two ++ []) ++ (three ++ []))) next
-        ∙ timer_tried one two three (option_to_list (next_request plan Timer d3.lines.owed)) empty_two empty_three in
+    ap (λ (o : Option Request). (one ++ option_to_list o) ++ ((two ++ []) ++ (three ++ []))) next
+    ∙ timer_tried one two three (option_to_list (next_request plan Timer d3.lines.owed)) empty_two empty_three in
     let machine : d3.machine ≡ d1.machine = same_machine d2.machine d3.machine three c.machine empty_three ∙ same_machine d1.machine d2.machine two b.machine empty_two in
     finish Timer _ found (n1 ∷ n2 ∷ n3 ∷ []) r3 d d0 d3 s s3 start
     (moves found n1 n2 n3 d.lines d0.lines d1.lines d2.lines d3.lines collects a.lines b.lines c.lines

@@ -24,13 +24,17 @@ tried_after (Some refusal) asked = None
 
 -- n pulses of a line are applied, where none of an earlier line was refused, and the next, if there
 -- is one, is refused
-pub record DrainsLine (before : Option Refusal) (plan : Planned) (line : Line) (old : Desked) (share : Holder) (n : ℕ) (refused : Option Refusal) (now : Desked) (new : Holder) : Type 0 where
+pub record DrainsLine (before : Option Refusal) (plan : Planned) (line : Line)
+    (old : Desked) (share : Holder) (n : ℕ) (refused : Option Refusal)
+    (now : Desked) (new : Holder) : Type 0 where
   pub lines : Applies line n old.lines now.lines
   pub asked : ServesAll
-      (repeated (pulse_request plan line) n ++ option_to_list (tried_after before (next_request plan line now.lines.owed)))
+      (repeated (pulse_request plan line) n
+      ++ option_to_list (tried_after before (next_request plan line now.lines.owed)))
       old share now new
   pub machine : now.machine ≡ after_all old.machine (repeated (pulse_request plan line) n)
   pub served : NoneRefused (answers_to old.machine (repeated (pulse_request plan line) n))
-  pub refusal : refused ≡ option_or before (option_and_then (refusal_of now.machine) (next_request plan line now.lines.owed))
+  pub refusal : refused ≡ option_or before
+      (option_and_then (refusal_of now.machine) (next_request plan line now.lines.owed))
   pub stopped : (r : Refusal) → before ≡ Some r → n ≡ 0
   pub none_left : before ≡ None → (IsNone refused ↔ on line now.lines.owed ≡ 0)

@@ -1,5 +1,6 @@
 ghost use Rattle.std.specs.Prelude.{◌≡◌, ◌+◌, ◌++◌, ◌∷◌, ◌↔◌, ◌≤◌, ◌⊎◌, [], None};
-ghost use Rattle.std.specs.Prelude.{All, IsOk, IsNone, IfOk, IfErr, IfSome, IfNone, OnErr, OnOk, vec_len};
+ghost use Rattle.std.specs.Prelude.{All, IsOk, IsNone, IfOk, IfErr, IfSome, IfNone, OnErr, OnOk};
+ghost use Rattle.std.specs.Prelude.{vec_len};
 ghost use Rattle.agc_latch.specs.Accounts.{Applies, AreAll, Collects, Gives, Settles};
 ghost use Rattle.agc_latch.specs.Accounts.{IsBalanced, IsOf, with_taker};
 ghost use Rattle.agc_latch.specs.Ends.{new_device};
@@ -154,7 +155,8 @@ impl<N: Names> Desk<N> {
     /// has a taker, the new one is handed back and nothing changes. Source: profile.
     pub fn attach(&mut self, taker: Taker) -> Option<Taker>
         ensures none { IsNone result ↔ (self.old.lines.taker ≡ None) }
-        ensures attached { IfNone result (self.new ≡ with_lines (with_taker taker self.old.lines) self.old) }
+        ensures attached { IfNone result
+            (self.new ≡ with_lines (with_taker taker self.old.lines) self.old) }
         ensures back { IfSome result (λ t. (t ≡ taker) × (self.new ≡ self.old)) }
     {
         self.lines.attach(taker)
@@ -164,7 +166,8 @@ impl<N: Names> Desk<N> {
     /// taker, or where 64 devices were given out over its whole life. Source: profile.
     pub fn device(&mut self, latch: &Latch, posts: u32) -> Option<Device>
         requires { IsOf latch.now self.old.lines.taker }
-        ensures none { IsNone result ↔ ((self.old.lines.taker ≡ None) ⊎ (self.old.lines.devices ≡ 64)) }
+        ensures none { IsNone result
+            ↔ ((self.old.lines.taker ≡ None) ⊎ (self.old.lines.devices ≡ 64)) }
         ensures device { IfSome result (λ d. d ≡ new_device latch.now posts) }
         ensures given { IfSome result (λ _. Gives self.old.lines self.new.lines) }
         ensures desk { self.new ≡ with_lines self.new.lines self.old }

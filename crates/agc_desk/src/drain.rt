@@ -33,7 +33,8 @@ impl<N: Names> Desk<N> {
         share: &mut Share<N>,
     ) -> (u64, Option<Refusal>)
         requires { pulse_request self.old.machine.plan line ≡ Some request.now }
-        ensures { DrainsLine None self.old.machine.plan line self.old share.old result.0 result.1 self.new share.new }
+        ensures { DrainsLine None self.old.machine.plan line
+            self.old share.old result.0 result.1 self.new share.new }
     {
         let owed = self.owed_on(line);
         for applied in 0..owed {
@@ -54,7 +55,8 @@ impl<N: Names> Desk<N> {
         refused: Option<Refusal>,
         share: &mut Share<N>,
     ) -> (u64, Option<Refusal>)
-        ensures { DrainsLine refused self.old.machine.plan line self.old share.old result.0 result.1 self.new share.new }
+        ensures { DrainsLine refused self.old.machine.plan line
+            self.old share.old result.0 result.1 self.new share.new }
     {
         if refused.is_some() {
             return (0, refused);

@@ -42,10 +42,10 @@ loop-share-preserved g c =
     let settled_are : c.loop-share.history.settled ≡ numbers_of old = ap (λ h. h.settled) i.history in
     let given_are : c.loop-share.history.given ≡ initial.given = ap (λ h. h.given) i.history in
     let heard : calls_by share.number initial.calls ≡ share.heard =
-        subst (λ (o : Holder). calls_by o.number initial.calls ≡ o.heard) own (subst (λ l. calls_by c.share.inside.own.number l ≡ c.share.inside.own.heard) calls_are c.settle.ensures.heard) in
+    subst (λ (o : Holder). calls_by o.number initial.calls ≡ o.heard) own (subst (λ l. calls_by c.share.inside.own.number l ≡ c.share.inside.own.heard) calls_are c.settle.ensures.heard) in
     let given_out : share.number < initial.given = omega (arith, c.settle.ensures.given_out, given_are, ap (λ (o : Holder). o.number) own) in
     let apart : list_any (nat_eq share.number) (numbers_of old) ≡ false =
-        subst (λ n. list_any (nat_eq n) (numbers_of old) ≡ false) (ap (λ (o : Holder). o.number) own) (subst (λ l. list_any (nat_eq c.share.inside.own.number) l ≡ false) settled_are c.settle.ensures.apart) in
+    subst (λ n. list_any (nat_eq n) (numbers_of old) ≡ false) (ap (λ (o : Holder). o.number) own) (subst (λ l. list_any (nat_eq c.share.inside.own.number) l ≡ false) settled_are c.settle.ensures.apart) in
     let steps : into_iter_items c.loop-share.share-iterator ≡ share ∷ into_iter_items c.next.new.self = c.in-Some.ensures.steps.0 in
     record {
       rest = append_assoc old (share ∷ []) _ ∙ rw (← steps) i.rest;
@@ -72,7 +72,7 @@ returns-clause-history g c =
     let calls : c.args.desk.history ≡ initial.calls = sym (ap (λ d. d.history) c.desk.view_is) in
     let many : length shares ≡ initial.given = search rules in
     let below : All (λ call. call.by < initial.given) initial.calls =
-        subst (λ (h : Known). All (λ call. call.by < h.given) h.calls) i.history c.check.ensures.below in
+    subst (λ (h : Known). All (λ call. call.by < h.given) h.calls) i.history c.check.ensures.below in
     subst (λ l. IsHistory g.N.Names.first shares l c.desk.inside.machine) (sym calls)
     (whole_history g.N.Names.first shares initial.calls c.desk.inside.machine initial.given c.desk.invariant.leads
     (subst (λ ss. All (λ s. calls_by s.number initial.calls ≡ s.heard) ss) all i.each)

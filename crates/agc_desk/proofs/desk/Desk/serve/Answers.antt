@@ -29,9 +29,9 @@ pub invariant_of-share : goal.invariant_of-share
 invariant_of-share g c =
     let heard = c.share.inside.own.heard in
     let same : c.growth-told.result ≡ told c.apply-answer.result.outcome =
-        same_growth c.totals-before.result c.growth-told.result (told c.apply-answer.result.outcome)
-        (c.growth-told.ensures ∙ (c.totals.ensures.totals ∙ (ap (λ m. m.totals) c.apply-answer.ensures.after ∙ (told_after c.self.inside.machine c.args.request
-        ∙ (ap (λ t. add t (told (answer_of c.self.inside.machine c.args.request))) (sym c.totals-before.ensures.totals) ∙ ap (λ o. add c.totals-before.result (told o)) (sym c.apply-answer.ensures.outcome)))))) in
+    same_growth c.totals-before.result c.growth-told.result (told c.apply-answer.result.outcome)
+    (c.growth-told.ensures ∙ (c.totals.ensures.totals ∙ (ap (λ m. m.totals) c.apply-answer.ensures.after ∙ (told_after c.self.inside.machine c.args.request
+    ∙ (ap (λ t. add t (told (answer_of c.self.inside.machine c.args.request))) (sym c.totals-before.ensures.totals) ∙ ap (λ o. add c.totals-before.result (told o)) (sym c.apply-answer.ensures.outcome)))))) in
     let grew : c.add.new.amounts ≡ add (told_in heard) (told c.apply-answer.result.outcome) =
-        c.add.ensures.told ∙ (ap (λ t. add t c.growth-told.result) c.share.invariant ∙ ap (λ t. add (told_in heard) t) same) in
+    c.add.ensures.told ∙ (ap (λ t. add t c.growth-told.result) c.share.invariant ∙ ap (λ t. add (told_in heard) t) same) in
     grew ∙ (sym (told_push heard c.apply-answer.result) ∙ sym (ap (λ o. told_in o.heard) c.note.ensures.own))
