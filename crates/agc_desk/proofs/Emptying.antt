@@ -1,32 +1,30 @@
 -- Requests that a desk is asked one after another, and lines that are drained one after another.
-use Rattle.std.proofs.Common.{◌≡◌, ◌≢◌, ℕ, ◌+◌, ◌<◌, ◌==◌, ◌↔◌, Bool, true, false, true≢false, if◌then◌else◌, List, [], ◌∷◌, ◌++◌, map, length, replicate, Option, None, Some, Result, Ok, Err, IsNone, IsOk, is_some, refl, sym, ap, ◌∙◌, subst, append_assoc, append-nil, arith, nat_eq}
-use Rattle.std.specs.List.{All, fold}
-use Rattle.std.specs.Option.{option_and_then, option_or, option_to_list}
+use Rattle.std.proofs.Common.{◌≡◌, ℕ, ◌+◌, ◌<◌, ◌==◌, Bool, true, false, true≢false, if◌then◌else◌, List, [], ◌∷◌, ◌++◌, replicate, Option, None, Some, Result, Ok, Err, IsOk, is_some, refl, sym, ap, ◌∙◌, subst, append_assoc, append-nil, arith}
+use Rattle.std.specs.List.{fold}
+use Rattle.std.specs.Option.{option_and_then, option_to_list}
 use Rattle.std.proofs.lemmas.Bool.Decides.{nat_tests}
 use Rattle.std.proofs.lemmas.List.{map-append, replicate_more}
 use Rattle.std.proofs.lemmas.List.Elements.{All-append, All-nil, All-push}
 use Rattle.std.proofs.lemmas.List.Sums.{fold-append}
 use Rattle.agc_latch.specs.declared.line.Line.{Line}
-use Rattle.agc_latch.specs.declared.line.Line.TheVariants.{Timer, Key, Radar}
-use Rattle.agc_latch.specs.Lines.{on, word_of}
-use Rattle.agc_latch.specs.Accounts.{Applies, Collects, LineAccounts, latch_of, given_of, taken_on}
+use Rattle.agc_latch.specs.Lines.{on}
+use Rattle.agc_latch.specs.Accounts.{Applies, LineAccounts}
 use Rattle.agc_plan.specs.declared.request.Request.{Request}
 use Rattle.agc_plan.specs.declared.reply.Reply.{Reply}
 use Rattle.agc_plan.specs.Plans.{Planned}
 use Rattle.agc_machine.specs.declared.answer.Refusal.{Refusal}
 use Rattle.agc_machine.specs.declared.totals.Totals.{Totals}
-use Rattle.agc_machine.specs.Machines.{Machined, after, after_all, after_unless, answer_of, refusal_of, result_of, served, stepped}
+use Rattle.agc_machine.specs.Machines.{Machined, after, after_all, after_unless, answer_of, refusal_of, result_of, stepped}
 use Rattle.agc_machine.specs.Said.{Said}
 use Rattle.agc_machine.specs.Told.{add, nothing, told}
 use Rattle.agc_machine.proofs.Leading.{after_append}
 use Rattle.agc_desk.specs.declared.book.Call.{Call}
 use Rattle.agc_desk.specs.Accounts.{told_in}
 use Rattle.agc_desk.specs.Desks.{Desked, with_lines}
-use Rattle.agc_desk.specs.declared.drain.Drained.{Drained}
-use Rattle.agc_desk.specs.Draining.{Drains, Moves, NoneRefused, ServesAll, drain_requests, answers_to, calls_of, with_asked, with_heard}
+use Rattle.agc_desk.specs.Draining.{NoneRefused, ServesAll, answers_to, calls_of, with_asked, with_heard}
 use Rattle.agc_desk.specs.History.{Holder}
-use Rattle.agc_desk.specs.Pulses.{first_line, first_request, line_if_any, pulse_request, pulse_requests, repeated}
-use Rattle.agc_desk.specs.Stages.{DrainsLine, next_request, tried_after}
+use Rattle.agc_desk.specs.Pulses.{pulse_request, repeated}
+use Rattle.agc_desk.specs.Stages.{DrainsLine, next_request}
 use Rattle.agc_desk.proofs.Calls.{with_nothing}
 
 -- the answers to one list of requests after another

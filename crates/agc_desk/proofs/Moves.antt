@@ -1,6 +1,6 @@
 -- Each step of the table keeps its rule.
 use Rattle.std.proofs.Common.{◌≡◌, ◌≢◌, ◌⊎◌, ℕ, zero, suc, ◌+◌, ◌<◌, ◌==◌, List, [], ◌∷◌, ◌++◌, length, map, set, Bool, true, false, cond, true≢false, refl, sym, ap, ◌∙◌, subst, ⊎_elim, inl, inr, arith, nat_eq}
-use Rattle.std.specs.List.{All, filter, list_any}
+use Rattle.std.specs.List.{All, filter}
 use Rattle.std.proofs.lemmas.List.{append-nil, map-append}
 use Rattle.std.proofs.lemmas.Bool.Decides.{nat_tests}
 use Rattle.std.proofs.lemmas.List.Elements.{All-append, All-push, filter-append}

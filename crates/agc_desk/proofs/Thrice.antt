@@ -1,5 +1,5 @@
 -- All three lines are drained, one after another.
-use Rattle.std.proofs.Common.{◌≡◌, ◌≢◌, ◌↔◌, ℕ, ◌+◌, ◌<◌, ◌==◌, Bool, true, false, true≢false, if◌then◌else◌, List, [], ◌∷◌, ◌++◌, Option, None, Some, IsNone, IsOk, is_some, zero, suc, refl, sym, ap, ◌∙◌, subst, append_assoc, append-nil, arith, nat_eq}
+use Rattle.std.proofs.Common.{◌≡◌, ◌≢◌, ◌↔◌, ℕ, ◌+◌, ◌<◌, ◌==◌, Bool, true, false, true≢false, if◌then◌else◌, List, [], ◌∷◌, ◌++◌, Option, None, Some, IsNone, IsOk, is_some, zero, suc, refl, sym, ap, ◌∙◌, subst, append_assoc, append-nil, arith}
 use Rattle.std.specs.Option.{option_and_then, option_or, option_to_list}
 use Rattle.std.proofs.lemmas.Bool.Decides.{nat_tests}
 use Rattle.std.proofs.lemmas.List.Elements.{All-append}
@@ -12,13 +12,11 @@ use Rattle.agc_plan.specs.Plans.{Planned}
 use Rattle.agc_machine.specs.declared.answer.Refusal.{Refusal}
 use Rattle.agc_machine.specs.Machines.{Machined, after, after_all, after_unless, refusal_of}
 use Rattle.agc_machine.specs.Said.{Said}
-use Rattle.agc_machine.proofs.Leading.{after_append}
-use Rattle.agc_desk.specs.declared.drain.Drained.{Drained}
 use Rattle.agc_desk.specs.Desks.{Desked, with_lines}
-use Rattle.agc_desk.specs.Draining.{Drains, Moves, NoneRefused, ServesAll, answers_to, drain_requests, with_asked}
+use Rattle.agc_desk.specs.Draining.{Drains, Moves, NoneRefused, ServesAll, answers_to, with_asked}
 use Rattle.agc_desk.specs.History.{Holder}
 use Rattle.agc_desk.specs.Pulses.{first_line, first_request, line_if_any, pulse_request, pulse_requests, repeated}
-use Rattle.agc_desk.specs.Stages.{DrainsLine, next_request, tried_after}
+use Rattle.agc_desk.specs.Stages.{DrainsLine, next_request}
 use Rattle.agc_desk.proofs.Emptying.{answers_append, next_none, repeated_none, serves_append}
 
 -- no request changes a machine's plan

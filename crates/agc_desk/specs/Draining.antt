@@ -1,5 +1,5 @@
 -- What a desk does as it is drained.
-use Rattle.std.specs.Prelude.{◌≡◌, ◌↔◌, ℕ, ◌+◌, ◌<◌, List, [], ◌∷◌, ◌++◌, map, Option, IsNone, IsOk}
+use Rattle.std.specs.Prelude.{◌≡◌, ◌↔◌, ℕ, ◌+◌, ◌<◌, List, [], ◌∷◌, ◌++◌, map, IsNone, IsOk}
 use Rattle.std.specs.List.{All}
 use Rattle.std.specs.Option.{option_and_then, option_to_list}
 use Rattle.atomic_table.specs.Seated.{TableId}

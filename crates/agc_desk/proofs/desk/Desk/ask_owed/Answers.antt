@@ -1,4 +1,4 @@
-use Rattle.std.proofs.Common.{rules, arith, sym, subst, ◌∙◌}
+use Rattle.std.proofs.Common.{rules, sym, subst, ◌∙◌}
 use Rattle.agc_desk.proofs.Emptying.{Applied, applied_none, applied_more, line_done, line_refused}
 use Rattle.agc_desk.proofs.desk.Desk.ask_owed.Goals as goal
 
