@@ -123,9 +123,9 @@ pub(crate) struct Texts<'a> {
 }
 
 impl<'a> Model for Texts<'a> {
-    ghost use Rattle.agc_bench.specs.Texts.{Texts as All};
+    ghost use Rattle.agc_bench.specs.Texts.{Texts as AllTexts};
 
-    ghost Value = { All };
+    ghost Value = { AllTexts };
 
     ghost view = { λ t. record { settings = t.settings; lists = t.lists } };
 }
