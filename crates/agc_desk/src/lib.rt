@@ -31,4 +31,6 @@ pub use pulse::{action_request, pulse_request};
 pub use settling::{Unsettled, settle};
 
 #[cfg(test)]
+mod line_tests;
+#[cfg(test)]
 mod tests;
