@@ -22,26 +22,6 @@ pub(crate) fn list(e: &mut Erasable, delay: Delay, task: Task) -> Reply
     }
 }
 
-/// The alarm that a reply tells, if any.
-fn alarm_of(reply: Reply) -> Option<Alarm>
-    ensures { result ≡ alarm_of reply }
-{
-    match reply {
-        Reply::Alarmed(alarm) => Some(alarm),
-        Reply::Ticked(_, alarm) => alarm,
-        Reply::Established(_) => None,
-        Reply::Left(_) => None,
-        Reply::Roused(_) => None,
-        Reply::NoSleeper => None,
-        Reply::NoJob => None,
-        Reply::Runs(_) => None,
-        Reply::Stored => None,
-        Reply::Listed => None,
-        Reply::Phased => None,
-        Reply::Restarted => None,
-    }
-}
-
 /// Does an action of the plan. Answers the alarm that it raised, if it did.
 fn perform(action: Action, e: &mut Erasable) -> Option<Alarm>
     requires { IsSound e.old }
@@ -49,10 +29,10 @@ fn perform(action: Action, e: &mut Erasable) -> Option<Alarm>
 {
     match action {
         Action::Nothing => None,
-        Action::Novac(priority, entry) => alarm_of(novac(e, priority, entry)),
-        Action::Findvac(priority, entry) => alarm_of(findvac(e, priority, entry)),
-        Action::Rouse(at) => alarm_of(job_wake(e, at)),
-        Action::List(delay, task) => alarm_of(list(e, delay, task)),
+        Action::Novac(priority, entry) => novac(e, priority, entry).alarm(),
+        Action::Findvac(priority, entry) => findvac(e, priority, entry).alarm(),
+        Action::Rouse(at) => job_wake(e, at).alarm(),
+        Action::List(delay, task) => list(e, delay, task).alarm(),
     }
 }
 
