@@ -1,63 +1,39 @@
-use Rattle.std.proofs.Common.{◌≡◌, ℕ, ◌+◌, ◌-◌, ◌<◌, ◌≤◌, max, zero, suc, List, [], ◌∷◌, ◌++◌, map, length, get_or, drop, replicate, arith, refl, sym, ap, subst, ◌∙◌, length-append}
+use Rattle.std.proofs.Common.{◌≡◌, ℕ, ◌+◌, ◌-◌, ◌<◌, ◌≤◌, zero, suc, List, [], ◌∷◌, map, length, get_or, arith, refl, sym, ap, ◌∙◌, length-append}
 use Rattle.std.specs.List.{enumerate_from}
-use Rattle.std.proofs.lemmas.List.{length-replicate, get_or_append_left, get_or-append_right, get_or_past, get_or-map, length-map, replicate-append-replicate}
+use Rattle.std.proofs.lemmas.List.{get_or_append_left, get_or-append_right, get_or-map, length-map}
 use Rattle.std.proofs.lemmas.List.FromFn.{get_or-enumerate_from, length-enumerate_from}
 use Rattle.agc_plan.specs.declared.request.Request.{Request}
-use Rattle.agc_bench.specs.declared.device.Line.{Line}
 use Rattle.agc_bench.specs.Benches.{Benched}
-use Rattle.agc_bench.specs.Runs.{device_requests}
-use Rattle.agc_bench.specs.Threads.{Asker, Worker, Device, idle, workers_of, devices_of, some_or_idle, askers_of, asker_at}
+use Rattle.agc_bench.specs.Threads.{Worker, Attends, workers_of, threads_of, thread_at}
 
--- the idle one is the same as nobody
-some_at : (askers : List Asker) (k : ℕ) → get_or (some_or_idle askers) k idle ≡ get_or askers k idle
-some_at [] zero = refl
-some_at [] (suc k) = refl
-some_at (asker ∷ more) k = refl
+-- how many workers there are
+workers_of_length : (bench : Benched) → length (workers_of bench) ≡ length bench.workers
+workers_of_length bench =
+    length-map (enumerate_from 0 bench.workers) (λ w. Worker w.0 w.1) ∙ length-enumerate_from 0 bench.workers
 
 -- a worker, in its thread
-pub worker_at : (bench : Benched) (k : ℕ) (r : List Request) → k < length bench.workers → asker_at bench k ≡ Worker k (get_or bench.workers k r)
+pub worker_at : (bench : Benched) (k : ℕ) (r : List Request) → k < length bench.workers → thread_at bench k ≡ Worker k (get_or bench.workers k r)
 worker_at bench k r below =
     let numbered = enumerate_from 0 bench.workers in
-    let many : length (workers_of bench) ≡ length bench.workers = length-map numbered (λ w. Worker w.0 w.1) ∙ length-enumerate_from 0 bench.workers in
-    some_at (workers_of bench ++ devices_of bench) k
-    ∙ (get_or_append_left (workers_of bench) (devices_of bench) idle k (omega (arith, many, below))
-    ∙ (get_or-map (λ w. Worker w.0 w.1) numbered k (0, r) idle (omega (arith, length-enumerate_from 0 bench.workers, below))
+    get_or_append_left (workers_of bench) (Attends ∷ []) Attends k (omega (arith, workers_of_length bench, below))
+    ∙ (get_or-map (λ w. Worker w.0 w.1) numbered k (0, r) Attends (omega (arith, length-enumerate_from 0 bench.workers, below))
     ∙ (ap (λ w. Worker w.0 w.1) (get_or-enumerate_from 0 bench.workers k (0, r) below)
-    ∙ ap (λ j. Worker j (get_or bench.workers k r)) (omega arith))))
+    ∙ ap (λ j. Worker j (get_or bench.workers k r)) (omega arith)))
 
--- a device, in its thread
-pub device_at : (bench : Benched) (k : ℕ) (d : Line × ℕ) → length bench.workers ≤ k → k - length bench.workers < length bench.devices
-    → asker_at bench k ≡ Device (device_requests bench (get_or bench.devices (k - length bench.workers) d))
-device_at bench k d past below =
-    let numbered = enumerate_from 0 bench.workers in
-    let many : length (workers_of bench) ≡ length bench.workers = length-map numbered (λ w. Worker w.0 w.1) ∙ length-enumerate_from 0 bench.workers in
-    some_at (workers_of bench ++ devices_of bench) k
-    ∙ (get_or-append_right (workers_of bench) (devices_of bench) (length bench.workers) k idle many past
-    ∙ get_or-map (λ e. Device (device_requests bench e)) bench.devices (k - length bench.workers) d idle below)
+-- one who attends is the same as nobody
+last_attends : (k : ℕ) → get_or (Attends ∷ []) k Attends ≡ Attends
+last_attends zero = refl
+last_attends (suc k) = refl
 
--- nobody, in a thread past them
-pub nobody_at : (bench : Benched) (k : ℕ) → length bench.workers ≤ k → length bench.devices ≤ k - length bench.workers → asker_at bench k ≡ idle
-nobody_at bench k past all =
-    let numbered = enumerate_from 0 bench.workers in
-    let many : length (workers_of bench) ≡ length bench.workers = length-map numbered (λ w. Worker w.0 w.1) ∙ length-enumerate_from 0 bench.workers in
-    let more : length (devices_of bench) ≡ length bench.devices = length-map bench.devices (λ e. Device (device_requests bench e)) in
-    some_at (workers_of bench ++ devices_of bench) k
-    ∙ (get_or-append_right (workers_of bench) (devices_of bench) (length bench.workers) k idle many past
-    ∙ get_or_past (devices_of bench) (k - length bench.workers) idle (omega (arith, more, all)))
+-- one who attends, past the workers
+pub attends_at : (bench : Benched) (k : ℕ) → length bench.workers ≤ k → thread_at bench k ≡ Attends
+attends_at bench k past =
+    get_or-append_right (workers_of bench) (Attends ∷ []) (length bench.workers) k Attends (workers_of_length bench) past
+    ∙ last_attends (k - length bench.workers)
 
--- how many there are of some, or an idle one
-some_length : (askers : List Asker) → length (some_or_idle askers) ≡ max (length askers) 1
-some_length [] = refl
-some_length (asker ∷ more) = omega arith
-
--- how many ask
-pub askers_length : (bench : Benched) → length (askers_of bench) ≡ max (length bench.workers + length bench.devices) 1
-askers_length bench =
-    let numbered = enumerate_from 0 bench.workers in
-    let many : length (workers_of bench) ≡ length bench.workers = length-map numbered (λ w. Worker w.0 w.1) ∙ length-enumerate_from 0 bench.workers in
-    let more : length (devices_of bench) ≡ length bench.devices = length-map bench.devices (λ e. Device (device_requests bench e)) in
-    some_length (workers_of bench ++ devices_of bench)
-    ∙ ap (λ n. max n 1) (omega (arith, length-append (workers_of bench) (devices_of bench), many, more))
+-- how many threads ask
+pub threads_length : (bench : Benched) → length (threads_of bench) ≡ length bench.workers + 1
+threads_length bench = length-append (workers_of bench) (Attends ∷ []) ∙ ap (λ n. n + 1) (workers_of_length bench)
 
 -- as many, as the code holds them
 workers_length : {W : Type 0} (bench : Benched) (ws : List W) (items : W → List Request) → map items ws ≡ bench.workers → length bench.workers ≡ length ws
@@ -65,29 +41,16 @@ workers_length bench ws items same = sym (ap length same) ∙ length-map ws item
 
 -- a worker, from what the code holds
 pub worker_held : {W : Type 0} (bench : Benched) (ws : List W) (items : W → List Request) (k : ℕ) (w : W) (asked : List Request)
-    → map items ws ≡ bench.workers → k < length ws → w ≡ get_or ws k w → asked ≡ items w → asker_at bench k ≡ Worker k asked
+    → map items ws ≡ bench.workers → k < length ws → w ≡ get_or ws k w → asked ≡ items w → thread_at bench k ≡ Worker k asked
 worker_held bench ws items k w asked same below is all =
     worker_at bench k [] (omega (arith, workers_length bench ws items same, below))
     ∙ ap (λ rs. Worker k rs) (sym (ap (λ xs. get_or xs k []) same) ∙ (get_or-map items ws k w [] below ∙ (sym (ap items is) ∙ sym all)))
 
--- a device, from what the code holds
-pub device_held : {W : Type 0} (bench : Benched) (ws : List W) (items : W → List Request) (ds : List (Line × ℕ)) (k : ℕ) (d : Line × ℕ)
-    → map items ws ≡ bench.workers → ds ≡ bench.devices → length ws ≤ k → k - length ws < length ds → d ≡ get_or ds (k - length ws) d
-    → asker_at bench k ≡ Device (device_requests bench d)
-device_held bench ws items ds k d same all past below is =
-    let many = workers_length bench ws items same in
-    device_at bench k d (omega (arith, many, past)) (omega (arith, many, ap length all, below))
-    ∙ ap (λ e. Device (device_requests bench e)) (ap (λ n. get_or bench.devices (k - n) d) many ∙ (sym (ap (λ xs. get_or xs (k - length ws) d) all) ∙ sym is))
+-- one who attends, from what the code holds
+pub attends_held : {W : Type 0} (bench : Benched) (ws : List W) (items : W → List Request) (k : ℕ)
+    → map items ws ≡ bench.workers → length ws ≤ k → thread_at bench k ≡ Attends
+attends_held bench ws items k same past = attends_at bench k (omega (arith, workers_length bench ws items same, past))
 
--- nobody, from what the code holds
-pub nobody_held : {W : Type 0} (bench : Benched) (ws : List W) (items : W → List Request) (ds : List (Line × ℕ)) (k : ℕ)
-    → map items ws ≡ bench.workers → ds ≡ bench.devices → length ws ≤ k → length ds ≤ k - length ws → asker_at bench k ≡ idle
-nobody_held bench ws items ds k same all past rest =
-    let many = workers_length bench ws items same in
-    nobody_at bench k (omega (arith, many, past)) (omega (arith, many, ap length all, rest))
-
--- how many ask, from what the code holds
-pub askers_held : {W : Type 0} (bench : Benched) (ws : List W) (items : W → List Request) (ds : List (Line × ℕ))
-    → map items ws ≡ bench.workers → ds ≡ bench.devices → length (askers_of bench) ≡ max (length ws + length ds) 1
-askers_held bench ws items ds same all =
-    askers_length bench ∙ ap (λ n. max n 1) (omega (arith, workers_length bench ws items same, ap length all))
+-- how many threads ask, from what the code holds
+pub threads_held : {W : Type 0} (bench : Benched) (ws : List W) (items : W → List Request) → map items ws ≡ bench.workers → length (threads_of bench) ≡ length ws + 1
+threads_held bench ws items same = threads_length bench ∙ ap (λ n. n + 1) (workers_length bench ws items same)

@@ -1,14 +1,17 @@
-use Rattle.std.proofs.Common.{◌≡◌, ◌⊎◌, ◌<◌, ◌≤◌, ℕ, IfErr, List, Option, Result, Ok, Err, inl, inr, refl, sym, ap, subst, arith, ◌∙◌}
+use Rattle.std.proofs.Common.{◌≡◌, ℕ, List, ◌++◌, Option, Result, Ok, Err, refl, sym, ap, subst}
 use Rattle.std.specs.Result.{IsErr, IsErrAnd}
 use Rattle.agc_bench.specs.declared.run_fault.RunFault.{RunFault}
 use Rattle.agc_bench.specs.declared.run_fault.RunFault.TheVariants.{NoMemory, Output, NoThread, Lost}
 use Rattle.agc_bench.specs.Benches.{Benched}
 use Rattle.agc_machine.specs.declared.totals.Totals.{Totals}
-use Rattle.agc_machine.specs.Image.{IsImage}
+use Rattle.agc_machine.specs.Image.{HandsOut}
 use Rattle.agc_machine.specs.Machines.{Machined}
+use Rattle.agc_latch.specs.declared.accounts.Settled.{Settled}
+use Rattle.std.specs.Io.KnownBytes.{Appends}
+use Rattle.agc_text.specs.Pulses.{pulses_text}
 use Rattle.agc_text.specs.Report.{report_text}
 use Rattle.agc_text.specs.Writing.{AppendsFront}
-use Rattle.agc_bench.specs.Threads.{IsEarly, IsRun, WritesRun}
+use Rattle.agc_bench.specs.Threads.{AreSettled, IsEarly, IsRun, IsRunReport, WritesRun}
 
 -- an early fault is handed on, and nothing was written
 pub early_writes : {T : Type 0} (may_stop : ℕ → ℕ → Type 0) (bench : Benched) (written : Option (List ℕ)) (fault : RunFault) (result : Result T RunFault)
@@ -19,23 +22,44 @@ early_writes may_stop bench written fault (Err NoThread) early is same = refl
 early_writes may_stop bench written fault (Err Lost) early is same = absurd (subst IsEarly (sym same) early)
 early_writes may_stop bench written fault (Err Output) early is same = absurd (subst IsEarly (sym same) early)
 
--- a front of the report was written where a write failed
-pub output_writes : {T : Type 0} (may_stop : ℕ → ℕ → Type 0) (bench : Benched) (machine : Machined) (words : List ℕ) (totals : Totals) (old new : Option (List ℕ)) (result : Result T RunFault)
-    → IsRun may_stop bench machine → totals ≡ machine.totals → IsImage machine words → AppendsFront old new (report_text words totals) → IsErr result → IsErrAnd result (λ e. e ≡ Output)
-    → WritesRun may_stop bench old new result
-output_writes may_stop bench machine words totals old new (Ok x) run same image front is output = absurd cc
-output_writes may_stop bench machine words totals old new (Err Output) run same image front is output =
-    (report_text words totals, record { machine = machine; run = run; words = words; words_are = image; text_is = ap (report_text words) same }, front)
-output_writes may_stop bench machine words totals old new (Err NoMemory) run same image front is output = absurd cc
-output_writes may_stop bench machine words totals old new (Err NoThread) run same image front is output = absurd cc
-output_writes may_stop bench machine words totals old new (Err Lost) run same image front is output = absurd cc
+-- the text of a run was written
+pub run_written : (may_stop : ℕ → ℕ → Type 0) (bench : Benched) (machine : Machined) (totals : Totals) (settled : Settled) (old new : Option (List ℕ))
+    → IsRun may_stop bench machine → totals ≡ machine.totals → AreSettled bench settled
+    → (words : List ℕ) × HandsOut machine words × Appends old new (report_text words totals ++ pulses_text settled.posted settled.applied settled.owed)
+    → (text : List ℕ) × IsRunReport may_stop bench text × Appends old new text
+run_written may_stop bench machine totals settled old new run same pulses written = (
+  report_text written.0 totals ++ pulses_text settled.posted settled.applied settled.owed,
+  record {
+    machine = machine;
+    run = run;
+    words = written.0;
+    words_are = written.1;
+    settled = settled;
+    pulses = pulses;
+    text_is = ap (λ t. report_text written.0 t ++ pulses_text settled.posted settled.applied settled.owed) same;
+  },
+  written.2,
+)
 
--- a desk of which no more than 64 shares are asked has them: where it gave none, memory was wanting
-pub early_share : {T : Type 0} (fault : RunFault) (given : ℕ) (result : Result T RunFault)
-    → (fault ≡ NoMemory) ⊎ ((fault ≡ Lost) × (64 < given)) → given ≤ 64 → IsErrAnd result (λ e. e ≡ fault)
-    → IfErr result (λ e. IsEarly e)
-early_share fault given (Ok x) why few same = absurd same
-early_share fault given (Err e) why few same = elim why [
-  | inl is ↦ subst IsEarly (sym (same ∙ is)) tt
-  | inr lost ↦ absurd (omega (arith, lost.1, few))
-]
+-- a front of it was written where a write failed
+pub output_writes : {T : Type 0} (may_stop : ℕ → ℕ → Type 0) (bench : Benched) (machine : Machined) (totals : Totals) (settled : Settled) (old new : Option (List ℕ)) (result : Result T RunFault)
+    → IsRun may_stop bench machine → totals ≡ machine.totals → AreSettled bench settled
+    → (words : List ℕ) × HandsOut machine words × AppendsFront old new (report_text words totals ++ pulses_text settled.posted settled.applied settled.owed)
+    → IsErr result → IsErrAnd result (λ e. e ≡ Output) → WritesRun may_stop bench old new result
+output_writes may_stop bench machine totals settled old new (Ok x) run same pulses written is output = absurd cc
+output_writes may_stop bench machine totals settled old new (Err Output) run same pulses written is output = (
+  report_text written.0 totals ++ pulses_text settled.posted settled.applied settled.owed,
+  record {
+    machine = machine;
+    run = run;
+    words = written.0;
+    words_are = written.1;
+    settled = settled;
+    pulses = pulses;
+    text_is = ap (λ t. report_text written.0 t ++ pulses_text settled.posted settled.applied settled.owed) same;
+  },
+  written.2,
+)
+output_writes may_stop bench machine totals settled old new (Err NoMemory) run same pulses written is output = absurd cc
+output_writes may_stop bench machine totals settled old new (Err NoThread) run same pulses written is output = absurd cc
+output_writes may_stop bench machine totals settled old new (Err Lost) run same pulses written is output = absurd cc

@@ -1,21 +1,26 @@
 -- The history of a run: the script's calls, and those of the threads.
-use Rattle.std.proofs.Common.{◌≡◌, ℕ, zero, suc, ◌+◌, ◌<◌, ◌≤◌, ◌==◌, true, false, nat_eq, List, [], ◌∷◌, ◌++◌, map, length, get_or, take, drop, arith, refl, sym, ap, subst, ◌∙◌, append_assoc}
-use Rattle.std.specs.List.{All, Contains}
+use Rattle.std.proofs.Common.{rules, ◌≡◌, ℕ, zero, suc, ◌+◌, ◌<◌, ◌≤◌, ◌==◌, true, false, nat_eq, List, [], ◌∷◌, ◌++◌, length, get_or, take, drop, arith, refl, sym, ap, subst, ◌∙◌, append_assoc}
+use Rattle.std.specs.List.{Contains}
 use Rattle.std.proofs.lemmas.Bool.Decides.{nat_tests}
 use Rattle.std.proofs.lemmas.List.{append-nil, append_cancel_left, get_or-map, length-map, take-append-drop}
 use Rattle.std.proofs.lemmas.List.Elements.{All-drop}
 use Rattle.agc_plan.specs.declared.request.Request.{Request}
+use Rattle.atomic_table.specs.Seated.{TableId}
+use Rattle.agc_latch.specs.Ends.{Posting}
+use Rattle.agc_machine.specs.declared.totals.Totals.{Totals}
+use Rattle.agc_machine.specs.Told.{add, nothing}
 use Rattle.agc_machine.specs.Machines.{Machined, after, after_all, answer_of}
 use Rattle.agc_machine.specs.Said.{Said}
 use Rattle.agc_desk.specs.declared.book.Call.{Call}
 use Rattle.agc_desk.specs.History.{Holder, IsHistory, Leads, calls_by, numbers_of}
-use Rattle.agc_desk.specs.Runs.{AsksAll, requests_of}
+use Rattle.agc_desk.specs.Runs.{requests_of}
 use Rattle.agc_desk.proofs.Calls.{calls_by_append}
 use Rattle.agc_text.proofs.Sessions.{rest_is, nothing_left}
 use Rattle.agc_bench.specs.Benches.{Benched}
-use Rattle.agc_bench.specs.Runs.{bench_machine}
-use Rattle.agc_bench.specs.Sharing.{AreFresh, AsksOwn, EachAsks, HaveMade, answers_to, first_calls}
-use Rattle.agc_bench.specs.Threads.{Asker, AskedOwn, IsRun, asker_at, askers_of}
+use Rattle.agc_bench.specs.Runs.{bench_machine, bench_plan}
+use Rattle.agc_desk.specs.Draining.{answers_to}
+use Rattle.agc_bench.specs.Sharing.{AreFresh, AsksOwn, AsksPulses, EachAsks, Finishes, HaveMade, HaveRun, first_calls}
+use Rattle.agc_bench.specs.Threads.{AskedOwn, IsRun, asker_at, askers_of, thread_at}
 
 -- the next request's answer, and those of the requests after it
 answers_at : (m : Machined) (rs : List Request) (i : ℕ) (r : Request) (said : Said) → i < length rs → r ≡ get_or rs i r
@@ -72,7 +77,7 @@ made calls first others is none fresh (suc i) d below =
     fresh i d (omega arith) ∙ (λ k. record { number = number k; heard = sym (none i) k })
 
 -- each share stands at its number
-number_at : (calls : List Call) (may_stop : ℕ → ℕ → Type 0) (bench : Benched) (starts back : List Holder) → HaveMade calls starts → EachAsks may_stop bench starts back → length back ≡ length starts
+number_at : (calls : List Call) (may_stop : ℕ → ℕ → Type 0) (bench : Benched) (starts back : List Holder) → HaveMade calls starts → EachAsks may_stop (bench_plan bench) (asker_at bench) starts back → length back ≡ length starts
     → (i : ℕ) (d : Holder) → i < length back → (get_or back i d).number ≡ i
 number_at calls may_stop bench starts back begun asked many i d below =
     (asked i d d below).all.number ∙ ap (λ h. h.number) (begun i d (omega (arith, many, below)))
@@ -81,7 +86,7 @@ number_at calls may_stop bench starts back begun asked many i d below =
 pub run_of : (may_stop : ℕ → ℕ → Type 0) (bench : Benched) (first : Machined) (history : List Call) (last : Machined) (starts back : List Holder)
     → first ≡ bench_machine bench → IsHistory first back history last
     → take (length (first_calls (answers_to first bench.script))) history ≡ first_calls (answers_to first bench.script)
-    → HaveMade (first_calls (answers_to first bench.script)) starts → EachAsks may_stop bench starts back
+    → HaveMade (first_calls (answers_to first bench.script)) starts → EachAsks may_stop (bench_plan bench) (asker_at bench) starts back
     → length back ≡ length starts → length starts ≡ length (askers_of bench) → IsRun may_stop bench last
 run_of may_stop bench first history last starts back is whole begins begun asked many for_each =
     let begin : List Call = first_calls (answers_to first bench.script) in
@@ -92,7 +97,7 @@ run_of may_stop bench first history last starts back is whole begins begun asked
       leads = subst (λ m. Leads (after_all m bench.script) rest last) is (leads_past first bench.script rest last (subst (λ l. Leads first l last) parts whole.leads));
       each = λ i below.
           let d : Holder = record { number = i; heard = [] } in
-          let a : AsksOwn may_stop (asker_at bench i) (get_or starts i d) (get_or back i d) = asked i d d (omega (arith, many, for_each, below)) in
+          let a : AsksOwn may_stop (bench_plan bench) (asker_at bench i) (get_or starts i d) (get_or back i d) = asked i d d (omega (arith, many, for_each, below)) in
           let start = begun i d (omega (arith, for_each, below)) in
           let number : (get_or back i d).number ≡ i = number_at begin may_stop bench starts back begun asked many i d (omega (arith, many, for_each, below)) in
           let heard : calls_by i begin ++ calls_by i rest ≡ calls_by i begin ++ a.all.told =
@@ -101,7 +106,7 @@ run_of may_stop bench first history last starts back is whole begins begun asked
           ∙ (ap (λ n. calls_by n history) (sym number)
           ∙ (whole.each i d (omega (arith, many, for_each, below))
           ∙ (a.all.heard ∙ ap (λ h. h.heard ++ a.all.told) start)))) in
-          subst (λ l. AskedOwn may_stop (asker_at bench i) l) (sym a.all.asked ∙ ap requests_of (sym (append_cancel_left (calls_by i begin) _ _ heard))) a.own;
+          subst (λ l. AskedOwn may_stop (bench_plan bench) (asker_at bench i) l) (sym a.all.asked ∙ ap requests_of (sym (append_cancel_left (calls_by i begin) _ _ heard))) a.own;
       no_other = λ k d below.
           let among = All-drop (λ (call : Call). Contains (numbers_of back) call.by) (length begin) history whole.no_other k d below in
           let far : among.0 < length back = omega (arith, among.1, length-map back (λ (h : Holder). h.number)) in
@@ -125,3 +130,48 @@ take_own (x ∷ xs) = ap (λ l. x ∷ l) (take_own xs)
 -- a history that is these calls begins with them
 pub begins_with : (l history : List Call) → history ≡ l → take (length l) history ≡ l
 begins_with l history is = ap (take (length l)) is ∙ take_own l
+
+-- the caller attended, and each thread asked what is its own
+pub each_all : (may_stop : ℕ → ℕ → Type 0) (bench : Benched) (first mid : Holder) (others back : List Holder) → AsksPulses (bench_plan bench) first mid
+    → EachAsks may_stop (bench_plan bench) (thread_at bench) others back → EachAsks may_stop (bench_plan bench) (asker_at bench) (first ∷ others) (mid ∷ back)
+each_all may_stop bench first mid others back attended asked zero s t below =
+    record { asked = attended.asked; own = attended.own; all = attended.all }
+each_all may_stop bench first mid others back attended asked (suc i) s t below = asked i s t (omega arith)
+
+-- a history that begins with these calls begins with them as it goes on
+pub begins_on : (l history more : List Call) → take (length l) history ≡ l → take (length l) (history ++ more) ≡ l
+begins_on [] history more begins = refl
+begins_on (x ∷ l) [] more begins = cc
+begins_on (x ∷ l) (y ∷ history) more begins =
+    let rest : take (length l) history ≡ l = cc in
+    let next : take (length l) (history ++ more) ≡ l = begins_on l history more rest in
+    cc
+
+-- the plan of a bench's machine
+pub plan_is : (bench : Benched) (m : Machined) → m ≡ bench_machine bench → m.plan ≡ bench_plan bench
+unfolding bench_machine
+plan_is bench m is = ap (λ (m : Machined). m.plan) is
+
+-- nothing was told before the run
+with_nothing : (t : Totals) → add t nothing ≡ t
+with_nothing t = search rules
+
+pub none_before : (bench : Benched) (first : Machined) (told total : Totals) → first ≡ bench_machine bench → add told first.totals ≡ total → told ≡ total
+unfolding bench_machine
+none_before bench first told total is grown = sym (with_nothing told) ∙ (sym (ap (λ (m : Machined). add told m.totals) is) ∙ grown)
+
+-- when the threads have ended, and then the caller attended, it is a run
+pub run_finished : (may_stop : ℕ → ℕ → Type 0) (bench : Benched) (first : Machined) (latch : TableId) (calls : List Call) (caller : Holder) (shares : List Holder) (devices : List Posting) (last : Machined)
+    → first ≡ bench_machine bench
+    → take (length (first_calls (answers_to first bench.script))) calls ≡ first_calls (answers_to first bench.script)
+    → HaveRun may_stop first bench latch caller shares devices → Finishes first calls caller shares last → IsRun may_stop bench last
+run_finished may_stop bench first latch calls caller shares devices last is begins ran ends =
+    let answers : List Said = answers_to first bench.script in
+    let starts : List Holder = caller ∷ ran.starts in
+    let caller_is : caller ≡ record { number = 0; heard = calls_by 0 (first_calls answers) } =
+    ran.ready.caller_is ∙ ap (λ l. record { number = 0; heard = l }) (sym (calls_by_first answers)) in
+    let begun : HaveMade (first_calls answers) starts = made (first_calls answers) caller ran.starts caller_is (λ n. calls_by_others n answers) ran.ready.fresh in
+    let attended : AsksPulses (bench_plan bench) caller ends.now = subst (λ p. AsksPulses p caller ends.now) (plan_is bench first is) ends.attended in
+    let asked : EachAsks may_stop (bench_plan bench) (asker_at bench) starts (ends.now ∷ shares) = each_all may_stop bench caller ends.now ran.starts shares attended ran.each in
+    run_of may_stop bench first (calls ++ ends.more) last starts (ends.now ∷ shares) is ends.whole
+    (begins_on (first_calls answers) calls ends.more begins) begun asked (omega (arith, ran.for_each)) (omega (arith, ran.ready.for_each))

@@ -1,7 +1,11 @@
-use Rattle.std.proofs.Common.{◌≡◌, ℕ, ◌+◌, ◌<◌, zero, suc, List, [], ◌∷◌, ◌++◌, length, get_or, arith, sym, ◌∙◌}
-use Rattle.std.proofs.lemmas.List.{get_or_append_left}
+use Rattle.std.proofs.Common.{◌≡◌, ℕ, ◌+◌, ◌<◌, zero, suc, List, [], ◌∷◌, ◌++◌, length, map, get_or, arith, refl, sym, ◌∙◌}
+use Rattle.std.proofs.lemmas.List.{get_or_append_left, get_or-map}
+use Rattle.atomic_table.specs.Seated.{TableId}
+use Rattle.agc_latch.specs.declared.line.Line.{Line}
+use Rattle.agc_latch.specs.Ends.{Posting}
 use Rattle.agc_desk.specs.History.{Holder}
 use Rattle.agc_bench.specs.Benches.{Benched}
+use Rattle.agc_bench.specs.Sharing.{spent_device}
 
 -- one element more
 pub each_push : {T : Type 0} (P : ℕ → T → Type 0) (xs : List T) (x : T)
@@ -29,3 +33,20 @@ pledge_kept bench starts x gate k start its_bench thread its_gate below pledge =
   thread_is = pledge.thread_is;
   gate_is = pledge.gate_is;
 }
+
+-- the promise of a device's thread: its latch, and its line and pulses as the bench has them
+pub record IsPosts (latch : TableId) (bench : Benched) (k : ℕ) (its_latch : TableId) (planned : Line × ℕ) : Type 0 where
+  pub latch_is : its_latch ≡ latch
+  pub planned_is : (d : Line × ℕ) → planned ≡ get_or bench.devices k d
+
+-- a device that a thread gave back, as its promise says
+pub spent_at : (latch : TableId) (bench : Benched) (back : List Posting) (k : ℕ) (d : Posting) (its_latch : TableId) (planned : Line × ℕ)
+    → k < length bench.devices → IsPosts latch bench k its_latch planned → get_or back k d ≡ spent_device its_latch planned
+    → get_or back k d ≡ get_or (map (spent_device latch) bench.devices) k d
+spent_at latch bench back k d its_latch planned below posts kept =
+    kept ∙ ((λ i. spent_device (posts.latch_is i) (posts.planned_is planned i))
+    ∙ sym (get_or-map (spent_device latch) bench.devices k planned d below))
+
+pub nothing_left : {X : Type 0} (l : List X) → length l ≡ 0 → l ≡ []
+nothing_left [] h = refl
+nothing_left (x ∷ xs) h = absurd (omega arith)

@@ -1,26 +1,24 @@
 -- The machines of a script and of a bench, and what they are asked for.
-use Rattle.std.specs.Prelude.{ℕ, ◌==◌, ◌&&◌, nat_le, Bool, List, [], ◌++◌, Option, Some, None, replicate}
+use Rattle.std.specs.Prelude.{ℕ, ◌==◌, ◌&&◌, nat_le, Bool, List, [], ◌++◌, Option, Some, None}
 use Rattle.std.specs.List.{flat_map}
 use Rattle.agc_word.specs.Words.{complement}
-use Rattle.agc_plan.specs.declared.request.Action.{Action}
 use Rattle.agc_plan.specs.declared.request.Action.TheVariants as action
 use Rattle.agc_plan.specs.declared.request.Request.{Request}
-use Rattle.agc_plan.specs.declared.request.Request.TheVariants as request
 use Rattle.agc_plan.specs.Base.{Base, fresh_base}
-use Rattle.agc_plan.specs.Plans.{Planned}
+use Rattle.agc_plan.specs.Plans.{Written, Planned, planned_with}
 use Rattle.agc_phase.specs.Image.{minus_in, phase_in}
 use Rattle.agc_machine.specs.Machines.{Machined, begun_with, power_base}
-use Rattle.agc_bench.specs.declared.device.Line.{Line}
-use Rattle.agc_bench.specs.declared.device.Line.TheVariants.{Timer, Key, Radar}
+use Rattle.agc_latch.specs.declared.line.Line.{Line}
+use Rattle.agc_desk.specs.Pulses.{pulse_request, repeated}
 use Rattle.agc_bench.specs.Benches.{Benched}
 
 -- a plan in which nothing is planned
-abbrev pub empty_plan : Planned
+abbrev pub empty_plan : Written
 empty_plan = record { rows = []; entries = []; key = action.Nothing; radar = action.Nothing }
 
--- the machine of a script: nothing is planned, the log holds 1000 requests, and 1,000,000 are served
+-- the machine of a script: it has seven core sets, nothing is planned, the log holds 1000 requests, and 1,000,000 are served
 unfoldable pub script_machine : Machined
-script_machine = begun_with empty_plan 1000 1000000 fresh_base
+script_machine = begun_with (planned_with empty_plan 7) 1000 1000000 fresh_base
 
 -- whether the words -PHASE and PHASE of a group, counted from 0, are complements, and the phase is at most 127
 abbrev pub pair_agrees : List ℕ → ℕ → Bool
@@ -35,36 +33,21 @@ abbrev pub bench_base : Option (List ℕ) → Base
 bench_base None = fresh_base
 bench_base (Some words) = power_base (pairs_agree words) words
 
--- a bench's plan
-abbrev pub bench_plan : Benched → Planned
-bench_plan bench = record { rows = bench.rows; entries = bench.entries; key = bench.key; radar = bench.radar }
+-- what a bench plans
+abbrev pub plan_of : Benched → Written
+plan_of bench = record { rows = bench.rows; entries = bench.entries; key = bench.key; radar = bench.radar }
 
--- the machine of a bench
+-- and on how many core sets: seven
+abbrev pub bench_plan : Benched → Planned
+bench_plan bench = planned_with (plan_of bench) 7
+
+-- the machine of a bench, which has seven core sets
 unfoldable pub bench_machine : Benched → Machined
 bench_machine bench = begun_with (bench_plan bench) bench.limit bench.allowance (bench_base bench.power)
 
--- the request by which an action is asked for, if it does anything
-abbrev pub action_request : Action → Option Request
-action_request action.Nothing = None
-action_request (action.Novac priority entry) = Some (request.Novac priority entry)
-action_request (action.Findvac priority entry) = Some (request.Findvac priority entry)
-action_request (action.Rouse at) = Some (request.Rouse at)
-action_request (action.List delay task) = Some (request.List delay task)
-
--- what a pulse of a line asks for, if anything: a tick, or the plan's action
-abbrev pub pulse_request : Benched → Line → Option Request
-pulse_request bench Timer = Some request.Tick
-pulse_request bench Key = action_request bench.key
-pulse_request bench Radar = action_request bench.radar
-
--- the same request so many times, if there is one
-abbrev pub repeated : Option Request → ℕ → List Request
-repeated None times = []
-repeated (Some asked) times = replicate times asked
-
 -- the requests of a device, one for each of its pulses
 abbrev pub device_requests : Benched → Line × ℕ → List Request
-device_requests bench device = repeated (pulse_request bench device.0) device.1
+device_requests bench device = repeated (pulse_request (bench_plan bench) device.0) device.1
 
 -- the requests of a bench: its script, then each worker's, then each device's, in order
 unfoldable pub bench_requests : Benched → List Request

@@ -6,11 +6,11 @@ ghost use Rattle.agc_bench.specs.Benches.{Benched, bench_texts, IsInRange, IsBen
 ghost use Rattle.agc_bench.specs.Faults.{bench_fault, HasTexts, RefusesBench};
 ghost use Rattle.agc_bench.specs.Gives.{RefusedLine};
 
-use crate::device::Line;
 use crate::fault::BenchFault;
 use crate::keys::texts_in;
 use crate::texts::Texts;
 use crate::values::{devices_of, entries_of, power_of, requests_of, rows_of, workers_of};
+use agc_desk::Line;
 use agc_plan::{Action, Limit, PhaseEntry, Plan, Request, Task};
 use agc_text::parse_action;
 use agc_word::Word;
@@ -86,7 +86,7 @@ impl Bench {
         self.parts.allowance
     }
 
-    /// A number from 0 to 1000. Read and kept; nothing uses it yet. Source: profile.
+    /// How often one thread attends to pulses while [`threads`](crate::threads) runs, 0 to 1000. Source: profile.
     pub fn attends(&self) -> u32
         ensures value { result ≡ self.now.attends }
         ensures range { result ≤ 1000 }

@@ -3,31 +3,19 @@ ghost use Rattle.std.specs.List.{flat_map};
 ghost use Rattle.agc_text.specs.Writing.{Writes};
 ghost use Rattle.agc_machine.specs.Machines.{after_all};
 ghost use Rattle.agc_text.specs.Session.{answer_lines};
-ghost use Rattle.agc_bench.specs.Runs.{action_request, pulse_request, device_requests, bench_requests};
+ghost use Rattle.agc_desk.specs.Pulses.{pulse_request};
+ghost use Rattle.agc_bench.specs.Runs.{bench_plan, bench_requests, device_requests};
 
 use crate::bench::Bench;
-use crate::device::Line;
+use agc_desk::{Line, action_request};
 use agc_machine::Machine;
-use agc_plan::{Action, Request};
-use agc_text::{Output, write_answer, write_answers};
+use agc_plan::Request;
+use agc_text::{Output, write_answer_to, write_answers};
 use std::io::Write;
 
-/// The request by which an action is asked for.
-fn action_request(action: Action) -> Option<Request>
-    ensures { result ≡ action_request action }
-{
-    match action {
-        Action::Nothing => None,
-        Action::Novac(priority, entry) => Some(Request::Novac(priority, entry)),
-        Action::Findvac(priority, entry) => Some(Request::Findvac(priority, entry)),
-        Action::Rouse(at) => Some(Request::Rouse(at)),
-        Action::List(delay, task) => Some(Request::List(delay, task)),
-    }
-}
-
 /// The request for which a pulse of the line asks.
-pub(crate) fn pulse_request(bench: &Bench, line: Line) -> Option<Request>
-    ensures { result ≡ pulse_request bench.now line }
+fn pulse_request(bench: &Bench, line: Line) -> Option<Request>
+    ensures { result ≡ pulse_request (bench_plan bench.now) line }
 {
     match line {
         Line::Timer => Some(Request::Tick),
@@ -47,7 +35,7 @@ fn ask_times<W: Write>(
     ensures writes { Writes (W.contents writer.old) (W.contents writer.new) (answer_lines machine.old (replicate times request.now)) result }
 {
     for _pulse in 0..times {
-        write_answer(machine, *request, writer)?;
+        write_answer_to(machine, request, writer)?;
     }
     Ok(())
 }

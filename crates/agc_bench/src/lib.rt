@@ -5,9 +5,11 @@
 mod asker;
 mod bench;
 mod bench_session;
-mod device;
+mod closing;
 mod fault;
 mod keys;
+mod opening;
+mod poster;
 mod run;
 mod run_fault;
 #[cfg(test)]
@@ -22,12 +24,12 @@ mod values;
 #[cfg(test)]
 mod writers;
 
+pub use agc_desk::Line;
 pub use agc_text::{
     Output, ReadFault, ScriptFault, parse_action, parse_address, parse_line, parse_word, read_all,
     read_script, report, write_answer, write_answers,
 };
 pub use bench::{Bench, read_bench};
-pub use device::Line;
 pub use fault::BenchFault;
 pub use run::{run_script, serial};
 pub use run_fault::RunFault;

@@ -1,11 +1,20 @@
-ghost use Rattle.std.specs.Prelude.{◌≡◌};
+ghost use Rattle.std.specs.Prelude.{◌≡◌, ℕ, [], IfOk, None, true};
+ghost use Rattle.agc_latch.specs.Accounts.{IsOf};
+ghost use Rattle.agc_desk.specs.Opening.{names_of};
+ghost use Rattle.agc_bench.specs.Runs.{bench_machine};
 
+use crate::asker::ask_own;
+use crate::opening::desk_of;
+use crate::poster::post_all;
+use crate::run::machine_of;
 use crate::writers::Narrow;
-use crate::{RunFault, read_bench, threads};
-use agc_desk::{Gate, OpenGate};
+use crate::{Bench, Line, RunFault, read_bench, threads};
+use agc_desk::{Blanks, Desk, Gate, Held, Latch, Names, OpenGate, Shared, Sharing, Taker};
+use agc_machine::Machine;
 use std::alloc::Global;
-use std::sync::Wait;
+use std::marker::Brand;
 use std::sync::atomic::{AtomicBool, AtomicU64, Ordering};
+use std::sync::{Mutex, Wait};
 use std::test::Fail;
 use std::thread::Threads;
 
@@ -13,6 +22,8 @@ const ALL_FREE: &str =
     "SET 0 FREE\nSET 1 FREE\nSET 2 FREE\nSET 3 FREE\nSET 4 FREE\nSET 5 FREE\nSET 6 FREE\nVAC 00300 00354 00430 00504 00560\nNEWJOB 77777\nTIME3 00000\nLST1 57777 57777 57777 57777 57777 57777 57777 57777\nLST2 00000 00000 00000 00000 00000 00000 00000 00000 00000 00000 00000 00000 00000 00000 00000 00000 00000 00000\nPHASE 77777 00000 77777 00000 77777 00000 77777 00000 77777 00000 77777 00000\n";
 
 const NO_ALARMS: &str = "FAILREG 00000 00000 00000\n";
+
+const NO_PULSES: &str = "POSTED 0 0 0\nAPPLIED 0 0 0\nOWED 0 0 0\n";
 
 const TWO_WORKERS: &str =
     "[[worker]]\nscript = [\"change\", \"change\"]\n[[worker]]\nscript = [\"change\", \"change\"]\n";
@@ -22,6 +33,8 @@ const ALARMS_OF_A_SCRIPT: &str =
 
 const THREE_DEVICES: &str =
     "limit = 10000\nkey = \"rouse 03000\"\nradar = \"rouse 03000\"\n[[device]]\nline = \"timer\"\npulses = 1000\n[[device]]\nline = \"key\"\npulses = 1000\n[[device]]\nline = \"radar\"\npulses = 1000\n";
+
+const A_SHORT_LOG: &str = "limit = 10\nattends = 1000\n[[device]]\nline = \"timer\"\npulses = 25\n";
 
 const IDLE_DEVICE: &str = "script = [\"tick\"]\n[[device]]\nline = \"key\"\npulses = 5\n";
 
@@ -40,9 +53,9 @@ fn run<R: Threads + Wait + Sync, G: Gate + Sync>(
 }
 
 // The report of all tables as at the start, but for these last lines.
-fn report_ending(alloc: Global, ending: [&str; 2]) -> Result<Vec<u8>, Fail> {
+fn report_ending(alloc: Global, ending: [&str; 3]) -> Result<Vec<u8>, Fail> {
     let mut text = Vec::new(alloc);
-    for part in [ALL_FREE, ending[0], ending[1]] {
+    for part in [ALL_FREE, ending[0], ending[1], ending[2]] {
         text.extend_from_slice(part.as_bytes())?;
     }
     Ok(text)
@@ -107,7 +120,11 @@ fn thirty_two_workers_run_at_the_same_time(rt: HostRuntime) -> Result<(), Fail> 
     assert_eq!(rt; ended, Ok(()));
     let wanted = report_ending(
         rt.alloc(),
-        [NO_ALARMS, "SERVED 64\nALARMS 0 0 0\nRESTARTS 0\n"],
+        [
+            NO_ALARMS,
+            "SERVED 64\nALARMS 0 0 0\nRESTARTS 0\n",
+            NO_PULSES,
+        ],
     )?;
     assert_eq!(rt; text.as_slice(), wanted.as_slice());
     Ok(())
@@ -119,7 +136,7 @@ fn two_workers_run_at_the_same_time(rt: HostRuntime) -> Result<(), Fail> {
     assert_eq!(rt; ended, Ok(()));
     let wanted = report_ending(
         rt.alloc(),
-        [NO_ALARMS, "SERVED 4\nALARMS 0 0 0\nRESTARTS 0\n"],
+        [NO_ALARMS, "SERVED 4\nALARMS 0 0 0\nRESTARTS 0\n", NO_PULSES],
     )?;
     assert_eq!(rt; text.as_slice(), wanted.as_slice());
     Ok(())
@@ -173,7 +190,11 @@ fn a_gate_is_passed_at_each_of_300_calls(rt: HostRuntime) -> Result<(), Fail> {
     assert_eq!(rt; ended, Ok(()));
     let wanted = report_ending(
         rt.alloc(),
-        [NO_ALARMS, "SERVED 600\nALARMS 0 0 0\nRESTARTS 0\n"],
+        [
+            NO_ALARMS,
+            "SERVED 600\nALARMS 0 0 0\nRESTARTS 0\n",
+            NO_PULSES,
+        ],
     )?;
     assert_eq!(rt; text.as_slice(), wanted.as_slice());
     for counts in [&gate.asked, &gate.told] {
@@ -204,7 +225,7 @@ fn a_gate_stops_one_worker(rt: HostRuntime) -> Result<(), Fail> {
     assert_eq!(rt; ended, Ok(()));
     let wanted = report_ending(
         rt.alloc(),
-        [NO_ALARMS, "SERVED 3\nALARMS 0 0 0\nRESTARTS 0\n"],
+        [NO_ALARMS, "SERVED 3\nALARMS 0 0 0\nRESTARTS 0\n", NO_PULSES],
     )?;
     assert_eq!(rt; text.as_slice(), wanted.as_slice());
     Ok(())
@@ -221,6 +242,7 @@ fn three_alarms_by_script_and_by_worker(rt: HostRuntime) -> Result<(), Fail> {
         [
             "FAILREG 01201 01202 01203\n",
             "SERVED 24\nALARMS 1 1 1\nRESTARTS 3\n",
+            NO_PULSES,
         ],
     )?;
     for document in [ALARMS_OF_A_SCRIPT, by_worker] {
@@ -232,12 +254,16 @@ fn three_alarms_by_script_and_by_worker(rt: HostRuntime) -> Result<(), Fail> {
 }
 
 #[test]
-fn each_device_sends_its_pulses(rt: HostRuntime) -> Result<(), Fail> {
+fn each_device_posts_its_pulses(rt: HostRuntime) -> Result<(), Fail> {
     let (text, ended) = run(&rt, rt.alloc(), THREE_DEVICES, &OpenGate, 1000)?;
     assert_eq!(rt; ended, Ok(()));
     let wanted = report_ending(
         rt.alloc(),
-        [NO_ALARMS, "SERVED 3000\nALARMS 0 0 0\nRESTARTS 0\n"],
+        [
+            NO_ALARMS,
+            "SERVED 3000\nALARMS 0 0 0\nRESTARTS 0\n",
+            "POSTED 1000 1000 1000\nAPPLIED 1000 1000 1000\nOWED 0 0 0\n",
+        ],
     )?;
     assert_eq!(rt; text.as_slice(), wanted.as_slice());
     Ok(())
@@ -245,14 +271,94 @@ fn each_device_sends_its_pulses(rt: HostRuntime) -> Result<(), Fail> {
 
 #[test]
 fn pulses_without_an_action_ask_nothing(rt: HostRuntime) -> Result<(), Fail> {
-    let wanted = report_ending(
-        rt.alloc(),
-        [NO_ALARMS, "SERVED 1\nALARMS 0 0 0\nRESTARTS 0\n"],
-    )?;
-    for document in [IDLE_DEVICE, "script = [\"tick\"]\n"] {
+    let idle = "POSTED 0 5 0\nAPPLIED 0 5 0\nOWED 0 0 0\n";
+    for (document, pulses) in [(IDLE_DEVICE, idle), ("script = [\"tick\"]\n", NO_PULSES)] {
         let (text, ended) = run(&rt, rt.alloc(), document, &OpenGate, 1000)?;
         assert_eq!(rt; ended, Ok(()));
+        let wanted = report_ending(
+            rt.alloc(),
+            [NO_ALARMS, "SERVED 1\nALARMS 0 0 0\nRESTARTS 0\n", pulses],
+        )?;
         assert_eq!(rt; text.as_slice(), wanted.as_slice());
+    }
+    Ok(())
+}
+
+#[test]
+fn what_a_full_log_refuses_is_owed(rt: HostRuntime) -> Result<(), Fail> {
+    let (text, ended) = run(&rt, rt.alloc(), A_SHORT_LOG, &OpenGate, 1000)?;
+    assert_eq!(rt; ended, Ok(()));
+    let wanted = report_ending(
+        rt.alloc(),
+        [
+            NO_ALARMS,
+            "SERVED 10\nALARMS 0 0 0\nRESTARTS 0\n",
+            "POSTED 25 0 0\nAPPLIED 10 0 0\nOWED 15 0 0\n",
+        ],
+    )?;
+    assert_eq!(rt; text.as_slice(), wanted.as_slice());
+    Ok(())
+}
+
+// The desk when three timer pulses were posted.
+fn with_posts<N: Names>(desk: Desk<N>, latch: &Latch) -> Result<Desk<N>, Fail>
+    requires { IsOf latch.now desk.lines.taker }
+    ensures { IfOk result (λ d. IsOf latch.now d.lines.taker) }
+{
+    let mut desk = desk;
+    let device = desk.device(latch, 3).ok_or("a device")?;
+    let _device = post_all(latch, device, (Line::Timer, 3));
+    Ok(desk)
+}
+
+// What is applied and owed of three timer pulses when the thread that attends has ended.
+fn attended<N: Sharing>(
+    rt: &impl Wait,
+    machine: Machine,
+    blanks: Blanks,
+    latch: &Latch,
+    taker: Taker,
+    bench: &Bench,
+) -> Result<([u64; 3], [u64; 3]), Fail>
+    requires names { names_of blanks ≡ N.names }
+    requires first { machine ≡ N.first }
+    requires bench { N.first ≡ bench_machine bench.now }
+    requires shares { (given : ℕ) → N.may_share given ≡ true }
+    requires begun { N.begun ≡ [] }
+    requires taker { taker ≡ latch.now }
+    requires latch { latch.now ≡ N.latch }
+    requires lent { N.lent ≡ None }
+{
+    let (desk, share) = desk_of::<N>(machine, blanks, taker);
+    let desk = with_posts(desk, latch)?;
+    let shared: Shared<N> = Mutex::new(Held { desk });
+    let _share = ask_own(
+        rt,
+        &shared,
+        latch,
+        share,
+        bench,
+        bench.workers().len(),
+        &OpenGate,
+    );
+    let held = shared.into_inner();
+    Ok((held.desk.applied(), held.desk.owed()))
+}
+
+#[test]
+fn the_attending_thread_attends(rt: HostRuntime) -> Result<(), Fail> {
+    for (document, applied, owed) in [
+        ("limit = 2\nattends = 1000\n", [2, 0, 0], [1, 0, 0]),
+        ("limit = 3\nattends = 1\n", [3, 0, 0], [0, 0, 0]),
+        ("limit = 3\nattends = 0\n", [0, 0, 0], [0, 0, 0]),
+    ] {
+        let bench = read_bench(rt.alloc(), document)?;
+        let machine = machine_of(rt.alloc(), &bench)?;
+        let blanks = Blanks::new(rt.alloc())?;
+        let (latch, taker) = Latch::new(rt.alloc())?;
+        let became = attended::<Brand>(&rt, machine, blanks, &latch, taker, &bench)?;
+        assert_eq!(rt; became.0, applied, "{document}");
+        assert_eq!(rt; became.1, owed, "{document}");
     }
     Ok(())
 }
@@ -261,9 +367,9 @@ fn pulses_without_an_action_ask_nothing(rt: HostRuntime) -> Result<(), Fail> {
 fn a_write_of_the_gathered_report_fails(rt: HostRuntime) -> Result<(), Fail> {
     let wanted = report_ending(
         rt.alloc(),
-        [NO_ALARMS, "SERVED 4\nALARMS 0 0 0\nRESTARTS 0\n"],
+        [NO_ALARMS, "SERVED 4\nALARMS 0 0 0\nRESTARTS 0\n", NO_PULSES],
     )?;
-    for calls in 0..17 {
+    for calls in 0..20 {
         let (text, ended) = run(&rt, rt.alloc(), TWO_WORKERS, &OpenGate, calls)?;
         assert_eq!(rt; ended, Err(RunFault::Output), "{calls}");
         let ends = text.iter().filter(|byte| **byte == b'\n').count();

@@ -1,16 +1,24 @@
-ghost use Rattle.std.specs.Prelude.{◌≡◌, ◌⊎◌, ◌+◌, ◌<◌, ℕ, IfOk, IfErr, OnOk, length, nat_eq, vec_len};
+ghost use Rattle.std.specs.Prelude.{◌≡◌, ℕ, IfOk, IfErr, Some, length, map, nat_eq, vec_len};
+ghost use Rattle.agc_latch.specs.Ends.{new_device};
+ghost use Rattle.agc_latch.specs.Lines.{zeros};
+ghost use Rattle.agc_desk.specs.Draining.{answers_to};
 ghost use Rattle.agc_desk.specs.Opening.{names_of};
-ghost use Rattle.agc_bench.specs.Runs.{bench_machine};
-ghost use Rattle.agc_bench.specs.Sharing.{AreFresh, AsksOwn, EachAsks, answers_to, first_calls};
-ghost use Rattle.agc_bench.specs.Threads.{IsEarly, IsRun, WritesRun, asker_at, askers_of};
+ghost use Rattle.agc_bench.specs.Runs.{bench_machine, bench_plan};
+ghost use Rattle.agc_bench.specs.Sharing.{AreReady, AsksOwn, EachAsks, HaveRun, first_calls, spent_device};
+ghost use Rattle.agc_bench.specs.Threads.{AreSettled, IsEarly, IsRun, WritesRun, WritesSettled, askers_of, thread_at};
 
-use crate::asker::{ask_own, ask_script, count_askers};
+use crate::asker::ask_own;
 use crate::bench::Bench;
+use crate::closing::finish;
+use crate::opening::{RunParts, open};
+use crate::poster::post_all;
 use crate::run::machine_of;
 use crate::run_fault::RunFault;
-use agc_desk::{Blanks, Desk, Gate, Held, Names, Share, Shared, Sharing, gather};
+use agc_desk::{
+    Blanks, Device, Gate, Held, Latch, Line, Names, Settled, Share, Shared, Sharing, Taker,
+};
 use agc_machine::{Machine, Totals};
-use agc_text::report;
+use agc_text::{Output, report, report_pulses};
 use std::alloc::Global;
 use std::io::Write;
 use std::marker::Brand;
@@ -29,50 +37,47 @@ struct Pledge<'b, 'g, N: Names, G: Gate> {
 }
 
 impl<'b, 'g, N: Names, G: Gate> Promise<Share<N>> for Pledge<'b, 'g, N, G> {
-    ghost kept_by = { λ pledge told. AsksOwn (λ n call. G.may_stop pledge.gate.now n call) (asker_at pledge.bench.now pledge.thread) pledge.start.value told };
+    ghost kept_by = { λ pledge told. AsksOwn (λ n call. G.may_stop pledge.gate.now n call) (bench_plan pledge.bench.now) (thread_at pledge.bench.now pledge.thread) pledge.start.value told };
 }
 
-/// So many new shares of a desk. `Lost` comes only where the desk has fewer left.
-fn shares_of<N: Names>(
-    alloc: Global,
-    desk: &mut Desk<N>,
-    count: usize,
-) -> Result<Vec<Share<N>>, RunFault>
-    ensures count { IfOk result (λ v. vec_len v ≡ count) }
-    ensures fresh { IfOk result (λ v. AreFresh desk.old.given v.items) }
-    ensures given { OnOk result (desk.new ≡ record desk.old { given = desk.old.given + count }) }
-    ensures early { IfErr result (λ fault. (fault ≡ RunFault.NoMemory) ⊎ ((fault ≡ RunFault.Lost) × (64 < desk.old.given + count))) }
-{
-    let mut shares = Vec::new(alloc);
-    for _given in 0..count {
-        match desk.share() {
-            Some(share) => shares.push(share)?,
-            None => return Err(RunFault::Lost),
-        }
-    }
-    Ok(shares)
+/// What a device's thread promises of its device: that it posts all its pulses, on its line.
+#[derive(Drop)]
+struct Posts<'l> {
+    latch: &'l Latch,
+    planned: (Line, u32),
 }
 
-/// Has all workers and devices ask at once, each in a thread of its own with the share at its
-/// place, and joins them.
+impl<'l> Promise<Device> for Posts<'l> {
+    ghost kept_by = { λ pledge device. device ≡ spent_device pledge.latch.now pledge.planned };
+}
+
+/// Has all workers ask at once, and one more thread attend, each in a thread of its own with the
+/// share at its place, and joins them.
 fn ask_at_once<N: Sharing + Send + Sync, G: Gate + Sync, W: Threads + Wait + Sync>(
     rt: &W,
     alloc: Global,
     shared: &Shared<N>,
+    latch: &Latch,
     shares: Vec<Share<N>>,
     bench: &Bench,
     gate: &G,
 ) -> Result<Vec<Share<N>>, RunFault>
+    requires latch { latch.now ≡ N.latch }
+    requires bench { N.first ≡ bench_machine bench.now }
     ensures len { IfOk result (λ v. vec_len v ≡ vec_len shares) }
-    ensures each { IfOk result (λ v. EachAsks (λ n call. G.may_stop gate.now n call) bench.now shares.items v.items) }
+    ensures each { IfOk result (λ v. EachAsks (λ n call. G.may_stop gate.now n call)
+        (bench_plan bench.now) (thread_at bench.now) shares.items v.items) }
     ensures early { IfErr result (λ fault. IsEarly fault) }
 {
     thread::scope(
         thread::scope_env(),
         rt,
         move |scope| -> Result<Vec<Share<N>>, RunFault>
+            requires latch { latch.now ≡ N.latch }
+            requires bench { N.first ≡ bench_machine bench.now }
             ensures len { IfOk result (λ v. vec_len v ≡ vec_len shares) }
-            ensures each { IfOk result (λ v. EachAsks (λ n call. G.may_stop gate.entry.now n call) bench.entry.now shares.items v.items) }
+            ensures each { IfOk result (λ v. EachAsks (λ n call. G.may_stop gate.entry.now n call)
+                (bench_plan bench.entry.now) (thread_at bench.entry.now) shares.items v.items) }
             ensures early { IfErr result (λ fault. IsEarly fault) }
         {
             let mut running = Vec::new(alloc);
@@ -85,8 +90,12 @@ fn ask_at_once<N: Sharing + Send + Sync, G: Gate + Sync, W: Threads + Wait + Syn
                     gate,
                 };
                 let own = move || -> Share<N>
-                    ensures { AsksOwn (λ n call. G.may_stop gate.entry.now n call) (asker_at bench.entry.now thread) share result }
-                { ask_own(rt, shared, share, bench, thread, gate) };
+                    requires latch { latch.now ≡ N.latch }
+                    requires bench { N.first ≡ bench_machine bench.now }
+                    ensures { AsksOwn (λ n call. G.may_stop gate.entry.now n call)
+                        (bench_plan bench.entry.now)
+                        (thread_at bench.entry.now thread) share result }
+                { ask_own(rt, shared, latch, share, bench, thread, gate) };
                 match scope.spawn_with(pledge, own) {
                     Ok(thread) => running.push(thread)?,
                     Err(_refused) => return Err(RunFault::NoThread),
@@ -100,46 +109,163 @@ fn ask_at_once<N: Sharing + Send + Sync, G: Gate + Sync, W: Threads + Wait + Syn
     )
 }
 
-/// Asks the script with the first share, then, under a lock, all workers and devices at once, and
-/// gathers the shares.
+/// Has all devices post at once, each in a thread of its own, while the workers ask and one more
+/// thread attends, and joins them all.
+fn run_at_once<N: Sharing + Send + Sync, G: Gate + Sync, W: Threads + Wait + Sync>(
+    rt: &W,
+    alloc: Global,
+    shared: &Shared<N>,
+    latch: &Latch,
+    shares: Vec<Share<N>>,
+    devices: Vec<Device>,
+    bench: &Bench,
+    gate: &G,
+) -> Result<(Vec<Share<N>>, Vec<Device>), RunFault>
+    requires latch { latch.now ≡ N.latch }
+    requires bench { N.first ≡ bench_machine bench.now }
+    requires devices { devices.items ≡ map (λ d. new_device latch.now d.1) bench.now.devices }
+    ensures len { IfOk result (λ r. vec_len r.0 ≡ vec_len shares) }
+    ensures each { IfOk result (λ r. EachAsks (λ n call. G.may_stop gate.now n call)
+        (bench_plan bench.now) (thread_at bench.now) shares.items r.0.items) }
+    ensures devices { IfOk result (λ r. r.1.items ≡ map
+        (spent_device latch.now) bench.now.devices) }
+    ensures early { IfErr result (λ fault. IsEarly fault) }
+{
+    thread::scope(
+        thread::scope_env(),
+        rt,
+        move |scope| -> Result<(Vec<Share<N>>, Vec<Device>), RunFault>
+            requires latch { latch.now ≡ N.latch }
+            requires bench { N.first ≡ bench_machine bench.now }
+            requires devices { devices.items ≡ map
+                (λ d. new_device latch.now d.1) bench.now.devices }
+            ensures len { IfOk result (λ r. vec_len r.0 ≡ vec_len shares) }
+            ensures each { IfOk result (λ r. EachAsks (λ n call. G.may_stop gate.entry.now n call)
+                (bench_plan bench.entry.now) (thread_at bench.entry.now) shares.items r.0.items) }
+            ensures devices { IfOk result (λ r. r.1.items ≡ map
+                (spent_device latch.entry.now) bench.entry.now.devices) }
+            ensures early { IfErr result (λ fault. IsEarly fault) }
+        {
+            let mut posting = Vec::new(alloc);
+            for device in devices {
+                let planned = bench.devices()[posting.len()];
+                let pledge = Posts { latch, planned };
+                let own = move || -> Device
+                    requires { device ≡ new_device latch.now planned.1 }
+                    ensures { result ≡ spent_device latch.entry.now planned }
+                { post_all(latch, device, planned) };
+                match scope.spawn_with(pledge, own) {
+                    Ok(thread) => posting.push(thread)?,
+                    Err(_unstarted) => return Err(RunFault::NoThread),
+                }
+            }
+            let back = ask_at_once(rt, alloc, shared, latch, shares, bench, gate)?;
+            match thread::join_promised(rt, posting) {
+                Ok(devices) => Ok((back, devices)),
+                Err(_failed) => Err(RunFault::NoMemory),
+            }
+        },
+    )
+}
+
+/// Has all threads of a run do what is theirs, with the desk under a lock, until all have ended.
+fn run_locked<N: Sharing + Send + Sync, G: Gate + Sync, W: Threads + Wait + Sync>(
+    rt: &W,
+    alloc: Global,
+    parts: RunParts<N>,
+    latch: &Latch,
+    bench: &Bench,
+    gate: &G,
+) -> Result<RunParts<N>, RunFault>
+    requires latch { latch.now ≡ N.latch }
+    requires bench { N.first ≡ bench_machine bench.now }
+    requires ready { AreReady N.first bench.now latch.now parts.first parts.shares.items
+        parts.devices.items }
+    ensures run { IfOk result (λ p. HaveRun (λ n call. G.may_stop gate.now n call) N.first bench.now
+        latch.now p.first p.shares.items p.devices.items) }
+    ensures early { IfErr result (λ fault. IsEarly fault) }
+{
+    let RunParts {
+        held,
+        first,
+        shares,
+        devices,
+    } = parts;
+    let shared: Shared<N> = Mutex::new(held);
+    let (shares, devices) = run_at_once(rt, alloc, &shared, latch, shares, devices, bench, gate)?;
+    Ok(RunParts {
+        held: shared.into_inner(),
+        first,
+        shares,
+        devices,
+    })
+}
+
+/// Runs a bench's machine with threads: the script is asked, all threads do what is theirs, and
+/// when they have ended the caller attends, settles and gathers.
 fn gathered<N: Sharing + Send + Sync, G: Gate + Sync, W: Threads + Wait + Sync>(
     rt: &W,
     alloc: Global,
     machine: Machine,
     blanks: Blanks,
+    latch: Latch,
+    taker: Taker,
     bench: &Bench,
     gate: &G,
-) -> Result<(Machine, Totals), RunFault>
+) -> Result<(Machine, Totals, Settled), RunFault>
     requires names { names_of blanks ≡ N.names }
     requires first { machine ≡ N.first }
-    requires bench { machine ≡ bench_machine bench.now }
-    requires shares { (given : ℕ) → N.may_share given ≡ nat_eq given (length (askers_of bench.now)) }
-    requires begun { N.begun ≡ first_calls (answers_to machine bench.now.script) }
+    requires bench { N.first ≡ bench_machine bench.now }
+    requires shares { (given : ℕ) → N.may_share given ≡ nat_eq given
+        (length (askers_of bench.now)) }
+    requires begun { N.begun ≡ first_calls (answers_to N.first bench.now.script) }
+    requires taker { taker ≡ latch }
+    requires latch { latch ≡ N.latch }
+    requires lent { N.lent ≡ Some record {
+      latch = Some latch;
+      given = length bench.now.devices;
+      settled = zeros;
+    } }
     ensures run { IfOk result (λ r. IsRun (λ n call. G.may_stop gate.now n call) bench.now r.0) }
     ensures totals { IfOk result (λ r. r.1 ≡ r.0.totals) }
+    ensures pulses { IfOk result (λ r. AreSettled bench.now r.2) }
     ensures early { IfErr result (λ fault. IsEarly fault) }
 {
-    let mut desk: Desk<N> = Desk::new(machine, blanks);
-    let mut first = desk.share().ok_or(RunFault::Lost)?;
-    let mut shares = shares_of(alloc, &mut desk, count_askers(bench) - 1)?;
-    ask_script(&mut desk, &mut first, bench.script());
-    shares.insert(0, first)?;
-    let shared: Shared<N> = Mutex::new(Held { desk });
-    let back = ask_at_once(rt, alloc, &shared, shares, bench, gate)?;
-    let Held { desk } = shared.into_inner();
-    match gather(desk, back) {
-        Ok(all) => Ok(all),
-        Err(_left) => Err(RunFault::Lost),
-    }
+    let parts = open::<N>(alloc, machine, blanks, &latch, taker, bench)?;
+    let RunParts {
+        held,
+        first,
+        shares,
+        devices,
+    } = run_locked(rt, alloc, parts, &latch, bench, gate)?;
+    let Held { desk } = held;
+    let (machine, totals, settled) = finish(desk, latch, first, shares, devices)?;
+    Ok((machine, totals, settled))
 }
 
-/// Runs a bench with threads: its machine is asked for the requests of the script, and then, under
-/// a lock, by all workers and devices at once, each in a thread of its own. A worker passes the
-/// gate before and after each call, under its number in the order of the bench from 0; a device
-/// passes no gate. When all have ended, their shares are gathered, and the report is written: of
-/// the machine that some order of all these requests reaches, in which each thread's stand in its
-/// own order. The writer is not flushed. It may wait for the lock and for the threads. Source:
-/// profile.
+/// Writes the report of a run, and then the lines of what became of its pulses.
+fn report_run<W: Write>(
+    machine: &Machine,
+    totals: &Totals,
+    settled: &Settled,
+    writer: &mut W,
+) -> Result<(), Output>
+    ensures { WritesSettled (W.contents writer.old)
+        (W.contents writer.new) machine.now totals.now settled.now result }
+{
+    report(&machine.words(), totals, writer)?;
+    report_pulses(&settled.posted, &settled.applied, &settled.owed, writer)
+}
+
+/// Runs a bench with threads: its machine is asked for the requests of the script, and then all
+/// workers and devices start at once, each in a thread of its own. A worker asks under a lock, and
+/// passes the gate before and after each call, under its number in the order of the bench from 0. A
+/// device posts its pulses on its line without the lock, and asks nothing; one more thread attends
+/// to the pulses as often as the bench says. When all have ended, the caller attends once more and
+/// settles, the shares are gathered, and the report is written: of the machine that some order of
+/// all these requests reaches, in which each worker's stand in its own order; and then the lines of
+/// how many pulses were posted, how many of these were applied, and how many are owed.
+/// The writer is not flushed. It may wait for the lock and for the threads. Source: profile.
 ///
 /// # Errors
 ///
@@ -153,11 +279,15 @@ pub fn threads<R: Threads + Wait + Sync, W: Write, G: Gate + Sync>(
     writer: &mut W,
     gate: &G,
 ) -> Result<(), RunFault>
-    ensures { WritesRun (λ n call. G.may_stop gate.now n call) bench.now (W.contents writer.old) (W.contents writer.new) result }
+    ensures { WritesRun (λ n call. G.may_stop gate.now n call) bench.now (W.contents writer.old)
+        (W.contents writer.new) result }
 {
     let machine = machine_of(alloc, bench)?;
     let blanks = Blanks::new(alloc)?;
-    let (machine, totals) = gathered::<Brand, G, R>(rt, alloc, machine, blanks, bench, gate)?;
-    report(&machine.words(), &totals, writer)?;
+    let (latch, taker) = Latch::new(alloc)?;
+    let (machine, totals, settled) = gathered::<Brand, G, R>(
+        rt, alloc, machine, blanks, latch, taker, bench, gate,
+    )?;
+    report_run(&machine, &totals, &settled, writer)?;
     Ok(())
 }

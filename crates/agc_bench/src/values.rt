@@ -8,16 +8,16 @@ ghost use Rattle.agc_plan.specs.declared.request.Action.{Action};
 ghost use Rattle.agc_plan.specs.declared.request.JobStart.{JobStart};
 ghost use Rattle.agc_plan.specs.Begins.{Begins};
 ghost use Rattle.agc_plan.specs.Ranges.{IsRequest};
-ghost use Rattle.agc_bench.specs.declared.device.Line.{Line};
+ghost use Rattle.agc_latch.specs.declared.line.Line.{Line};
 ghost use Rattle.agc_text.specs.Numbers.{octal, IsWord};
 ghost use Rattle.agc_text.specs.Lines.{line_of};
 ghost use Rattle.agc_bench.specs.Benches.{job_request, timed_request, kind_text, row_texts, entry_texts, device_texts, power_texts, IsRow, IsJob, IsTimed, IsEntry, IsDevice, IsPower, AreRequests};
 ghost use Rattle.agc_bench.specs.Kinds.{job_of, timed_of};
 ghost use Rattle.agc_bench.specs.Gives.{RefusedLine};
 
-use crate::device::Line;
 use crate::fault::BenchFault;
 use crate::texts::{DeviceTexts, EntryTexts, RowTexts};
+use agc_desk::Line;
 use agc_plan::{Action, Delay, Group, JobStart, Phase, PhaseEntry, Request, Task};
 use agc_text::{parse_action, parse_address, parse_line, parse_word};
 use agc_word::Word;

@@ -1,5 +1,5 @@
 -- Histories that go on, and those that are whole.
-use Rattle.std.proofs.Common.{◌≡◌, ℕ, ◌+◌, ◌<◌, ◌≤◌, ◌⊎◌, ◌||◌, ◌==◌, List, [], ◌∷◌, ◌++◌, length, map, Bool, true, false, Option, Some, None, refl, sym, ap, ◌∙◌, subst, arith, rules, nat_eq, ⊎_elim, inl, inr, slice_index_or}
+use Rattle.std.proofs.Common.{◌≡◌, ℕ, ◌+◌, ◌<◌, ◌⊎◌, ◌||◌, ◌==◌, List, [], ◌∷◌, ◌++◌, length, map, Bool, true, false, Option, Some, None, refl, sym, ap, ◌∙◌, subst, arith, rules, nat_eq, ⊎_elim, inl, inr, slice_index_or}
 use Rattle.std.specs.List.{All, Contains, IsDistinct, filter, list_any}
 use Rattle.std.proofs.lemmas.Bool.Decides.{nat_tests}
 use Rattle.std.proofs.lemmas.Cmp.{nat_eq_equiv}
@@ -81,7 +81,8 @@ same_growth s t u e =
     let restarts : t.restarts ≡ u.restarts = omega (arith, ap (λ (x : Totals). x.restarts) e) in
     λ i. record { served = served i; a1201 = a1201 i; a1202 = a1202 i; a1203 = a1203 i; restarts = restarts i }
 
-with_nothing : (t : Totals) → t ≡ add t nothing
+-- nothing more was told
+pub with_nothing : (t : Totals) → t ≡ add t nothing
 with_nothing t = search rules
 
 -- a request adds to a machine's totals what its answer tells

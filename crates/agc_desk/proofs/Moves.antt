@@ -1,6 +1,6 @@
 -- Each step of the table keeps its rule.
 use Rattle.std.proofs.Common.{◌≡◌, ◌≢◌, ◌⊎◌, ℕ, zero, suc, ◌+◌, ◌<◌, ◌==◌, List, [], ◌∷◌, ◌++◌, length, map, set, Bool, true, false, cond, true≢false, refl, sym, ap, ◌∙◌, subst, ⊎_elim, inl, inr, arith, nat_eq}
-use Rattle.std.specs.List.{All, filter, list_any}
+use Rattle.std.specs.List.{All, filter}
 use Rattle.std.proofs.lemmas.List.{append-nil, map-append}
 use Rattle.std.proofs.lemmas.Bool.Decides.{nat_tests}
 use Rattle.std.proofs.lemmas.List.Elements.{All-append, All-push, filter-append}
@@ -13,7 +13,8 @@ use Rattle.agc_machine.specs.Said.{Said}
 use Rattle.agc_desk.specs.declared.book.Call.{Call}
 use Rattle.agc_desk.specs.declared.book.View.{View}
 use Rattle.agc_desk.specs.History.{calls_by}
-use Rattle.agc_desk.specs.Views.{knower, owner, nobody, joined, IsSettled, Fits, Kept, Settled, Checked}
+use Rattle.agc_desk.specs.Views.{owner, nobody, joined, IsSettled, Fits, Kept, Settled, Checked}
+use Rattle.agc_desk.specs.Knowing.{knower}
 
 abbrev pub Holds : State ℕ View → Type 0
 Holds s = Kept s.views

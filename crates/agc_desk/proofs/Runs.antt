@@ -4,7 +4,7 @@ use Rattle.agc_plan.specs.declared.request.Request.{Request}
 use Rattle.agc_machine.specs.Machines.{Machined}
 use Rattle.agc_machine.specs.Said.{Said}
 use Rattle.agc_desk.specs.History.{Holder}
-use Rattle.agc_desk.specs.Runs.{Asks, AsksAll, Reached, requests_of}
+use Rattle.agc_desk.specs.Runs.{Asks, AsksAll, Reached}
 
 -- one request more
 pub reached_more : {S : Type 0} (R : S → Request → Said → S → Type 0) (s : S) (qs : List Request) (t : S) (q : Request) (a : Said) (u : S)

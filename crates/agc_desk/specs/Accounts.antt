@@ -1,17 +1,10 @@
 -- Ledgers, as the desk holds them, and what shares were told.
-use Rattle.std.specs.Prelude.{ℕ, ◌≤◌, List, sum_by}
+use Rattle.std.specs.Prelude.{ℕ, List, sum_by}
 use Rattle.std.specs.List.{fold}
 use Rattle.agc_machine.specs.declared.totals.Totals.{Totals}
 use Rattle.agc_machine.specs.Said.{Said}
 use Rattle.agc_machine.specs.Told.{add, nothing, told}
 use Rattle.agc_desk.specs.History.{Holder}
-
--- a ledger: what was booked, how many of its parts were not given out, and what came back with the
--- others
-pub record Account : Type 0 where
-  pub total : ℕ
-  pub left : ℕ
-  pub back : ℕ
 
 -- five ledgers, one for each number of the totals, with as many parts left of each
 pub record Accounts : Type 0 where
@@ -32,11 +25,3 @@ told_to shares = record {
   a1203 = sum_by (λ (s : Holder). (told_in s.heard).a1203) shares;
   restarts = sum_by (λ (s : Holder). (told_in s.heard).restarts) shares;
 }
-
--- no number of the totals fell
-pub record NoneFell (old new : Totals) : Type 0 where
-  pub served : old.served ≤ new.served
-  pub a1201 : old.a1201 ≤ new.a1201
-  pub a1202 : old.a1202 ≤ new.a1202
-  pub a1203 : old.a1203 ≤ new.a1203
-  pub restarts : old.restarts ≤ new.restarts

@@ -1,5 +1,6 @@
 -- The desk, as callers see it.
 use Rattle.std.specs.Prelude.{◌≡◌, ℕ, ◌+◌, ◌≤◌, List, []}
+use Rattle.agc_latch.specs.Accounts.{LineAccounts, no_accounts}
 use Rattle.agc_machine.specs.declared.totals.Totals.{Totals}
 use Rattle.agc_machine.specs.Machines.{Machined}
 use Rattle.agc_machine.specs.Told.{add, nothing}
@@ -7,12 +8,28 @@ use Rattle.agc_desk.specs.declared.book.Call.{Call}
 use Rattle.agc_desk.specs.Accounts.{Accounts}
 use Rattle.agc_desk.specs.History.{Known, Leads}
 
--- a desk: its machine, the calls that led to it, the books, and how many shares were given out
+-- a desk: its machine, the calls that led to it, the books, how many shares were given out, and the
+-- accounts of the lines on which devices post
 pub record Desked : Type 0 where
   pub machine : Machined
   pub history : List Call
   pub booked : Totals
   pub given : ℕ
+  pub lines : LineAccounts
+
+-- a desk as it is made: nothing was asked, booked, given out or posted
+abbrev pub new_desk : Machined → Desked
+new_desk machine = record {
+  machine = machine;
+  history = [];
+  booked = nothing;
+  given = 0;
+  lines = no_accounts;
+}
+
+-- the desk with these accounts of lines, and nothing else changed
+abbrev pub with_lines : LineAccounts → Desked → Desked
+with_lines lines d = record d { lines = lines }
 
 -- what a desk keeps that was made with the first machine: its history leads from that one to its
 -- machine, and no share was settled; each book is the machine's total less its value as the desk

@@ -1,7 +1,15 @@
 pub mod Accounts
+pub mod Ledgers
 pub mod Desks
+pub mod Draining
 pub mod History
 pub mod Naming
+pub mod Unpicked
 pub mod Opening
+pub mod Pulses
 pub mod Runs
+pub mod Stages
 pub mod Views
+pub mod Knowing
+pub mod Lending
+pub mod Keeping

@@ -1,13 +1,6 @@
--- The names of the five ledgers and of the history of a desk, and what stands where nothing is
--- picked.
-use Rattle.std.specs.Prelude.{ℕ, [], Err}
+-- The names of the five ledgers and of the history of a desk.
+use Rattle.std.specs.Prelude.{ℕ}
 use Rattle.atomic_table.specs.Seated.{TableId}
-use Rattle.agc_plan.specs.declared.request.Action.TheVariants.{Nothing}
-use Rattle.agc_plan.specs.declared.request.Request.TheVariants.{Fresh}
-use Rattle.agc_plan.specs.Base.{fresh_base}
-use Rattle.agc_machine.specs.declared.answer.Refusal.TheVariants.{Spent}
-use Rattle.agc_machine.specs.Machines.{Machined, begun_with}
-use Rattle.agc_machine.specs.Said.{Said}
 
 -- a name for the ledger of each number of the totals, and one for the history
 pub record DeskNames : Type 0 where
@@ -17,19 +10,3 @@ pub record DeskNames : Type 0 where
   pub a1203 : ℕ
   pub restarts : ℕ
   pub history : TableId
-
--- a name of no history
-abbrev pub no_history : TableId
-no_history = record { words = 0; slots = 0; views_name = 0; atom = 0; block = 0; offset = 0; slot_names = [] }
-
--- names for where nothing is picked
-abbrev pub no_names : DeskNames
-no_names = record { served = 0; a1201 = 0; a1202 = 0; a1203 = 0; restarts = 0; history = no_history }
-
--- a machine for where nothing is picked
-abbrev pub no_machine : Machined
-no_machine = begun_with (record { rows = []; entries = []; key = Nothing; radar = Nothing }) 1 0 fresh_base
-
--- an answer for where nothing is picked
-abbrev pub no_answer : Said
-no_answer = record { request = Fresh; outcome = Err Spent }

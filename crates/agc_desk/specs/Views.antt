@@ -10,10 +10,7 @@ use Rattle.agc_machine.specs.Said.{Said}
 use Rattle.agc_desk.specs.declared.book.Call.{Call}
 use Rattle.agc_desk.specs.declared.book.View.{View}
 use Rattle.agc_desk.specs.History.{calls_by}
-
--- the desk's view: it knows the history
-abbrev pub knower : List Call → ℕ → List ℕ → View
-knower calls given settled = record { keeps = true; calls = calls; given = given; settled = settled; owns = false; number = 0; heard = [] }
+use Rattle.agc_desk.specs.Knowing.{knower}
 
 -- a share's: it has a number, and knows what was asked with it
 abbrev pub owner : ℕ → List Said → View

@@ -4,7 +4,8 @@
 ghost use Rattle.std.specs.Prelude.{◌≡◌, ◌<◌, ◌+◌, ◌++◌, ◌∷◌, [], ℕ, true, All, nat_eq, false};
 ghost use Rattle.std.specs.List.{list_any};
 ghost use Rattle.agc_desk.specs.History.{calls_by};
-ghost use Rattle.agc_desk.specs.Views.{joined, knower, nobody, owner};
+ghost use Rattle.agc_desk.specs.Views.{joined, nobody, owner};
+ghost use Rattle.agc_desk.specs.Knowing.{knower};
 
 use agc_machine::{Answer, NoMemory};
 use atomic_table::{Join, Play, Seat, Split, Table, TableRule};
@@ -40,7 +41,7 @@ trait Noting {
 }
 
 impl Noting for Brand {
-    ghost use Rattle.agc_desk.specs.Naming.{no_answer};
+    ghost use Rattle.agc_desk.specs.Unpicked.{no_answer};
 
     ghost answer = { no_answer };
 }
@@ -50,7 +51,8 @@ pub struct Law;
 
 impl TableRule<u64, View, ()> for Law {
     ghost use Rattle.std.specs.Prelude.{[]};
-    ghost use Rattle.agc_desk.specs.Views.{Kept, knower};
+    ghost use Rattle.agc_desk.specs.Views.{Kept};
+    ghost use Rattle.agc_desk.specs.Knowing.{knower};
 
     ghost holds = { λ _ s. Kept s.views };
 
@@ -66,7 +68,8 @@ struct Dealing;
 
 impl Split<View> for Dealing {
     ghost use Rattle.std.specs.Prelude.{[], ◌+◌};
-    ghost use Rattle.agc_desk.specs.Views.{knower, owner};
+    ghost use Rattle.agc_desk.specs.Views.{owner};
+    ghost use Rattle.agc_desk.specs.Knowing.{knower};
 
     ghost left = { λ v. knower v.calls (v.given + 1) v.settled };
 
@@ -102,7 +105,8 @@ struct Adding<J: Noting> {
 
 impl<J: Noting> Split<View> for Adding<J> {
     ghost use Rattle.std.specs.Prelude.{[], ◌∷◌, ◌++◌};
-    ghost use Rattle.agc_desk.specs.Views.{knower, owner};
+    ghost use Rattle.agc_desk.specs.Views.{owner};
+    ghost use Rattle.agc_desk.specs.Knowing.{knower};
 
     ghost left = { λ v. knower (v.calls ++ record { by = v.number; answer = J.answer } ∷ []) v.given v.settled };
 

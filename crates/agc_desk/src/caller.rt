@@ -1,22 +1,32 @@
 ghost use Rattle.std.specs.Prelude.{◌≡◌, ℕ, List, length, take, true};
 ghost use Rattle.agc_plan.specs.declared.request.Request.{Request};
+ghost use Rattle.std.proofs.Props.{props};
+ghost use Rattle.agc_latch.specs.Accounts.{IsOf};
+ghost use Rattle.agc_desk.specs.Draining.{Attends};
+ghost use Rattle.agc_desk.specs.Keeping.{IsLent};
 ghost use Rattle.agc_desk.specs.Runs.{Asks, AsksAll, IsFront};
 
 use crate::console::{Console, Gate, drive};
 use crate::desk::{Desk, Share};
+use crate::drain::Drained;
 use crate::names::Sharing;
+use agc_latch::Latch;
 use agc_machine::Answer;
 use agc_plan::Request;
 use std::sync::{Mutex, Wait};
 
 /// What lies under the lock. Whenever the lock is free, as many of the desk's shares are given out
-/// as may be there, and its history begins with the calls that the type names. Source: profile.
+/// as may be there, its history begins with the calls that the type names, its taker, if it has
+/// one, is of the latch that the type names, and its accounts of lines stay as far as the type says
+/// how. Source: profile.
 #[derive(Drop)]
 pub struct Held<N: Sharing> {
     /// The desk that is asked. Source: profile.
     pub desk: Desk<N>,
     ghost given: { N.may_share desk.given ≡ true },
     ghost begun: { take (length N.begun) desk.history ≡ N.begun },
+    ghost latch: { IsOf N.latch desk.lines.taker } by { Prim.hlevel props },
+    ghost lent: { IsLent N.lent desk.lines } by { Prim.hlevel props },
 }
 
 /// A desk that several threads share, under a lock. Source: profile.
@@ -34,6 +44,22 @@ pub fn ask<N: Sharing, W: Wait>(
     ensures { Asks N.first share.old request result share.new }
 {
     shared.lock(rt).desk.serve(share, request)
+}
+
+/// Drains the locked desk, with this share: what devices posted is taken, and what is owed is
+/// applied, as [`Desk::drain`] says. It may wait for the lock. Source: profile.
+pub fn attend<N: Sharing, W: Wait>(
+    rt: &W,
+    shared: &Shared<N>,
+    latch: &Latch,
+    share: &mut Share<N>,
+) -> Drained
+    requires { latch.now ≡ N.latch }
+    ensures { Attends N.first N.latch share.old result share.new }
+{
+    let mut held = shared.lock(rt);
+    let _ = held.desk.machine();
+    held.desk.drain(latch, share)
 }
 
 /// A shared desk with the share of one who asks: a [`Console`]. Source: profile.

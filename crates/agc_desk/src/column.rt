@@ -40,7 +40,7 @@ pub(crate) struct Column<L: Ledger> {
 
 impl<L: Ledger> Model for Column<L> {
     ghost use Rattle.std.specs.Prelude.{◌≡◌};
-    ghost use Rattle.agc_desk.specs.Accounts.{Account};
+    ghost use Rattle.agc_desk.specs.Ledgers.{Account};
 
     ghost Value = { Account };
 

@@ -1,7 +1,14 @@
-ghost use Rattle.std.specs.Prelude.{◌≡◌, ◌+◌, ◌++◌, ◌∷◌, ◌↔◌, [], IsOk, IsNone, IfOk, IfErr, IfSome, IfNone, vec_len};
+ghost use Rattle.std.specs.Prelude.{◌≡◌, ◌+◌, ◌++◌, ◌∷◌, ◌↔◌, ◌≤◌, ◌⊎◌, [], None};
+ghost use Rattle.std.specs.Prelude.{All, IsOk, IsNone, IfOk, IfErr, IfSome, IfNone, OnErr, OnOk};
+ghost use Rattle.std.specs.Prelude.{vec_len};
+ghost use Rattle.agc_latch.specs.Accounts.{Applies, AreAll, Collects, Gives, Settles};
+ghost use Rattle.agc_latch.specs.Accounts.{IsBalanced, IsOf, with_taker};
+ghost use Rattle.agc_latch.specs.Ends.{new_device};
+ghost use Rattle.agc_latch.specs.Lines.{on};
 ghost use Rattle.agc_machine.specs.Machines.{IsLawful, after, answer_of};
-ghost use Rattle.agc_machine.specs.Told.{add, nothing, told};
+ghost use Rattle.agc_machine.specs.Told.{add, told};
 ghost use Rattle.agc_desk.specs.Accounts.{told_in, told_to};
+ghost use Rattle.agc_desk.specs.Desks.{new_desk, with_lines};
 ghost use Rattle.agc_desk.specs.History.{IsHistory, Leads};
 ghost use Rattle.agc_desk.specs.Opening.{names_of};
 ghost use Rattle.agc_desk.specs.Runs.{IsGiven};
@@ -9,6 +16,7 @@ ghost use Rattle.agc_desk.specs.Runs.{IsGiven};
 use crate::history::{History, Own};
 use crate::ledgers::{Amounts, Ledgers, growth};
 use crate::names::{Blanks, Names};
+use agc_latch::{Accounts, Device, Latch, Line, Settled, Taker, Unjoined};
 use agc_machine::{Answer, Machine, Totals};
 use agc_plan::Request;
 use std::marker::Model;
@@ -16,18 +24,21 @@ use std::marker::Model;
 /// How many shares a desk gives out.
 const SHARES: u64 = 64;
 
-/// A machine, with the history of all that was asked of it, and a book for each of its totals.
-/// Contracts see it as its machine, its history, the books, and how many shares were given out.
+/// A machine, with the history of all that was asked of it, a book for each of its totals, and the
+/// accounts of the lines on which devices post. Contracts see it as its machine, its history, the
+/// books, how many shares were given out, and these accounts.
 ///
 /// Of every desk it holds that the history leads to its machine from the one with which it was
-/// made, and that each book is the machine's total less that one's. The history has no bytes.
-/// Source: profile.
+/// made, that each book is the machine's total less that one's, and that on each line what is
+/// applied and what is owed are the pulses of settled latches and those that its taker took. The
+/// history has no bytes. Source: profile.
 #[derive(Drop)]
 pub struct Desk<N: Names> {
     machine: Machine,
     since: Totals,
     ledgers: Ledgers<N>,
     history: History<N>,
+    lines: Accounts,
 }
 
 impl<N: Names> Model for Desk<N> {
@@ -35,7 +46,13 @@ impl<N: Names> Model for Desk<N> {
 
     ghost Value = { Desked };
 
-    ghost view = { λ d. record { machine = d.machine; history = d.history.calls; booked = d.ledgers.total; given = d.history.given } };
+    ghost view = { λ d. record {
+      machine = d.machine;
+      history = d.history.calls;
+      booked = d.ledgers.total;
+      given = d.history.given;
+      lines = d.lines;
+    } };
 
     ghost invariant = { λ d. IsBooked N.first d.machine d.history d.since d.ledgers };
 }
@@ -72,12 +89,12 @@ impl<N: Names> Share<N> {
 }
 
 impl<N: Names> Desk<N> {
-    /// A desk that gave out no share, booked nothing, and of which nothing was asked. Source:
-    /// profile.
+    /// A desk that gave out no share, booked nothing, of which nothing was asked, and to which no
+    /// pulse came. Source: profile.
     pub fn new(machine: Machine, blanks: Blanks) -> Desk<N>
         requires names { names_of blanks ≡ N.names }
         requires first { machine ≡ N.first }
-        ensures { result ≡ record { machine = machine; history = []; booked = nothing; given = 0 } }
+        ensures { result ≡ new_desk machine }
     {
         let since = machine.totals();
         let (ledgers, opened) = Ledgers::open(blanks);
@@ -86,6 +103,7 @@ impl<N: Names> Desk<N> {
             since,
             ledgers,
             history: History::open(opened),
+            lines: Accounts::new(),
         }
     }
 
@@ -135,6 +153,95 @@ impl<N: Names> Desk<N> {
     }
 }
 
+impl<N: Names> Desk<N> {
+    /// Attaches a latch's taker, so that the desk drains what devices post there; where the desk
+    /// has a taker, the new one is handed back and nothing changes. Source: profile.
+    pub fn attach(&mut self, taker: Taker) -> Option<Taker>
+        ensures none { IsNone result ↔ (self.old.lines.taker ≡ None) }
+        ensures attached { IfNone result
+            (self.new ≡ with_lines (with_taker taker self.old.lines) self.old) }
+        ensures back { IfSome result (λ t. (t ≡ taker) × (self.new ≡ self.old)) }
+    {
+        self.lines.attach(taker)
+    }
+
+    /// A new device of the taker's latch, which may post so many pulses; none where the desk has no
+    /// taker, or where 64 devices were given out over its whole life. Source: profile.
+    pub fn device(&mut self, latch: &Latch, posts: u32) -> Option<Device>
+        requires { IsOf latch.now self.old.lines.taker }
+        ensures none { IsNone result
+            ↔ ((self.old.lines.taker ≡ None) ⊎ (self.old.lines.devices ≡ 64)) }
+        ensures device { IfSome result (λ d. d ≡ new_device latch.now posts) }
+        ensures given { IfSome result (λ _. Gives self.old.lines self.new.lines) }
+        ensures desk { self.new ≡ with_lines self.new.lines self.old }
+        ensures same { IfNone result (self.new ≡ self.old) }
+    {
+        self.lines.device(latch, posts)
+    }
+
+    /// How many pulses were applied, per line: the timer's, the keyboard's, the radar's. Source:
+    /// profile.
+    pub fn applied(&self) -> [u64; 3]
+        ensures applied { result ≡ self.now.lines.applied }
+        ensures balanced { IsBalanced self.now.lines }
+    {
+        self.lines.applied()
+    }
+
+    /// How many pulses were taken and not yet applied, per line. Source: profile.
+    pub fn owed(&self) -> [u64; 3]
+        ensures owed { result ≡ self.now.lines.owed }
+        ensures balanced { IsBalanced self.now.lines }
+    {
+        self.lines.owed()
+    }
+
+    /// Takes what was posted, and answers how many pulses per line.
+    pub(crate) fn collect(&mut self, latch: &Latch) -> [u64; 3]
+        requires { IsOf latch.now self.old.lines.taker }
+        ensures lines { Collects result self.old.lines self.new.lines }
+        ensures desk { self.new ≡ with_lines self.new.lines self.old }
+    {
+        self.lines.collect(latch)
+    }
+
+    /// How many pulses of a line are owed.
+    pub(crate) fn owed_on(&self, line: Line) -> u64
+        ensures { result ≡ on line self.now.lines.owed }
+    {
+        self.lines.owed_on(line)
+    }
+
+    /// So many pulses of a line that were owed are applied from now on.
+    pub(crate) fn mark_applied(&mut self, line: Line, pulses: u64)
+        requires { pulses ≤ on line self.old.lines.owed }
+        ensures lines { Applies line pulses self.old.lines self.new.lines }
+        ensures desk { self.new ≡ with_lines self.new.lines self.old }
+    {
+        self.lines.apply(line, pulses);
+    }
+
+    /// Settles the latch; what the lines had is kept where that is refused.
+    pub(crate) fn settle_lines(
+        &mut self,
+        latch: Latch,
+        devices: Vec<Device>,
+    ) -> Result<Settled, Unjoined>
+        requires taker { IsOf latch self.old.lines.taker }
+        requires devices { All (λ d. d.latch ≡ latch) devices.items }
+        ensures ok { IsOk result ↔ AreAll devices.items self.old.lines.taker }
+        ensures lines { OnOk result (Settles devices.items self.old.lines self.new.lines) }
+        ensures desk { self.new ≡ with_lines self.new.lines self.old }
+        ensures posted { IfOk result (λ s. s.posted ≡ self.new.lines.settled) }
+        ensures applied { IfOk result (λ s. s.applied ≡ self.new.lines.applied) }
+        ensures owed { IfOk result (λ s. s.owed ≡ self.new.lines.owed) }
+        ensures same { OnErr result (self.new ≡ self.old) }
+        ensures back { IfErr result (λ u. (u.latch ≡ latch) × (u.devices ≡ devices)) }
+    {
+        self.lines.settle(latch, devices)
+    }
+}
+
 /// What [`gather`] hands back where it refuses: not as many shares came as the desk gave out.
 /// Source: profile.
 #[derive(Drop)]
@@ -148,7 +255,8 @@ pub struct Ungathered<N: Names> {
 /// Ends a desk: gives its machine, unchanged, and what the holders of all its shares were told
 /// together, which is what the machine's totals grew by. The history leads to that machine from the
 /// one with which the desk was made; of each share's number it has just what its holder asked and
-/// was answered, and it has no other calls. Source: profile.
+/// was answered, and it has no other calls. A taker that the desk has, and pulses that are owed,
+/// end with it. Source: profile.
 ///
 /// # Errors
 ///
@@ -174,6 +282,7 @@ pub fn gather<N: Names>(
         since,
         mut ledgers,
         mut history,
+        lines: _,
     } = desk;
     for share in shares {
         let Share { amounts, own } = share;

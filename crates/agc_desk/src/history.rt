@@ -2,7 +2,7 @@ ghost use Rattle.std.specs.Prelude.{◌≡◌, ◌<◌, ◌+◌, ◌++◌, ◌�
 ghost use Rattle.std.specs.List.{list_any};
 ghost use Rattle.agc_desk.specs.History.{calls_by};
 ghost use Rattle.agc_desk.specs.Runs.{Asks};
-ghost use Rattle.agc_desk.specs.Views.{knower};
+ghost use Rattle.agc_desk.specs.Knowing.{knower};
 
 use crate::book::{Book, Pass, check, deal, note, open_book, settle};
 use crate::names::Names;
@@ -21,7 +21,7 @@ pub struct Opened {
 impl Model for Opened {
     ghost use Rattle.std.specs.Prelude.{◌≡◌, ◌<◌, []};
     ghost use Rattle.atomic_table.specs.Seated.{TableId};
-    ghost use Rattle.agc_desk.specs.Views.{knower};
+    ghost use Rattle.agc_desk.specs.Knowing.{knower};
 
     ghost Value = { TableId };
 

@@ -1,6 +1,6 @@
 ghost use Rattle.std.specs.Prelude.{◌≡◌, ◌+◌, ◌<◌, ◌^◌};
 ghost use Rattle.agc_machine.specs.Told.{add, nothing};
-ghost use Rattle.agc_desk.specs.Accounts.{NoneFell};
+ghost use Rattle.agc_desk.specs.Ledgers.{NoneFell};
 ghost use Rattle.agc_desk.specs.Opening.{names_of};
 
 use crate::column::{Column, Told};

@@ -5,7 +5,11 @@
 //! answer into the desk's history, which stands in proofs alone; what the answer tells of the
 //! machine's totals is added to that share and to the desk's books. Callers in several threads ask
 //! the desk under a lock ([`ask`], [`Caller`], [`work`]). When all shares are back, [`gather`]
-//! gives the machine, to which the history leads, and what all were told together. Source: profile.
+//! gives the machine, to which the history leads, and what all were told together.
+//!
+//! Devices post pulses without the lock, on the lines of a latch whose taker the desk has. The desk
+//! takes them and asks what they ask for ([`Desk::drain`], [`attend`]). When all devices are back,
+//! [`settle`] tells what became of each line's pulses. Source: profile.
 #![tactic(auto)]
 
 mod book;
@@ -13,16 +17,31 @@ mod caller;
 mod column;
 mod console;
 mod desk;
+mod drain;
 mod history;
 mod ledgers;
 mod names;
+mod pulse;
+mod settling;
 
+pub use agc_latch::{Device, Latch, Line, PostSpent, Settled, Taker};
 pub use book::Call;
-pub use caller::{Caller, Held, Shared, ask, work};
+pub use caller::{Caller, Held, Shared, ask, attend, work};
 pub use console::{Console, Gate, OpenGate, drive};
 pub use desk::{Desk, Share, Ungathered, gather};
+pub use drain::Drained;
 pub use history::Opened;
 pub use names::{Blanks, Names, Sharing};
+pub use pulse::{action_request, pulse_request};
+pub use settling::{Unsettled, settle};
 
+#[cfg(test)]
+mod line_tests;
+#[cfg(test)]
+mod line_thread_tests;
+#[cfg(test)]
+mod settling_tests;
+#[cfg(test)]
+mod testing;
 #[cfg(test)]
 mod tests;

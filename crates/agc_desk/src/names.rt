@@ -1,7 +1,11 @@
-ghost use Rattle.std.specs.Prelude.{◌≡◌, ℕ, List, [], true, Bool};
+ghost use Rattle.std.specs.Prelude.{◌≡◌, ℕ, List, [], None, Option, true, Bool};
+ghost use Rattle.atomic_table.specs.Seated.{TableId};
+ghost use Rattle.agc_latch.specs.Holders.{no_latch};
 ghost use Rattle.agc_machine.specs.Machines.{Machined};
 ghost use Rattle.agc_desk.specs.declared.book.Call.{Call};
-ghost use Rattle.agc_desk.specs.Naming.{DeskNames, no_names, no_machine};
+ghost use Rattle.agc_desk.specs.Lending.{Lent};
+ghost use Rattle.agc_desk.specs.Naming.{DeskNames};
+ghost use Rattle.agc_desk.specs.Unpicked.{no_names, no_machine};
 
 use crate::history::Opened;
 use agc_machine::NoMemory;
@@ -32,20 +36,31 @@ impl Names for Brand {
 }
 
 /// What the type of a desk under a lock says besides: how many of its shares may be given out while
-/// it is there, and with which calls its history begins. A call with `Brand` picks both too.
-/// Source: profile.
+/// it is there, with which calls its history begins, and of which latch its taker is. A call with
+/// `Brand` picks these too. Source: profile.
 pub trait Sharing: Names {
     /// Whether as many shares may be given out while the desk is under the lock. Source: profile.
     ghost may_share: { ℕ → Bool };
 
     /// The calls with which the history begins. Source: profile.
     ghost begun: { List Call };
+
+    /// The latch that the desk's taker is of, if it has one. Source: profile.
+    ghost latch: { TableId };
+
+    /// What stays of the desk's accounts of lines while it is under the lock, where anything is
+    /// said of them. Source: profile.
+    ghost lent: { Option Lent };
 }
 
 impl Sharing for Brand {
     ghost may_share = { λ _. true };
 
     ghost begun = { [] };
+
+    ghost latch = { no_latch };
+
+    ghost lent = { None };
 }
 
 /// The ledger of `served`.

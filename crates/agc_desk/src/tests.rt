@@ -1,4 +1,4 @@
-ghost use Rattle.std.specs.Prelude.{◌≡◌, ℕ, [], true};
+ghost use Rattle.std.specs.Prelude.{◌≡◌, ℕ, [], None, true};
 ghost use Rattle.agc_desk.specs.Opening.{names_of};
 
 use crate::{
@@ -9,7 +9,7 @@ use agc_machine::{Answer, Machine, Totals};
 use agc_plan::{
     Action, Address, Delay, Entry, Group, Limit, Phase, Place, Plan, Priority, Reply, Request, Task,
 };
-use agc_word::Word;
+use agc_word::{Sets, Word};
 use std::alloc::{AllocError, AllocFailed, Global};
 use std::marker::Brand;
 use std::sync::atomic::{AtomicU64, Ordering};
@@ -41,7 +41,7 @@ impl<T: Drop> From<AllocFailed<T>> for Fault {
 fn new_machine(alloc: Global) -> Result<Machine, Fail> {
     let plan = Plan::new(alloc, &[], &[], Action::Nothing, Action::Nothing)?;
     let limit = Limit::new(1000).ok_or("a limit")?;
-    Ok(Machine::new(alloc, plan, limit, 1_000_000)?)
+    Ok(Machine::new(alloc, plan, Sets::Seven, limit, 1_000_000)?)
 }
 
 fn entry(at: u16) -> Result<Entry, Fail> {
@@ -99,6 +99,7 @@ fn ask_through<N: Sharing, W: Wait>(
     requires first { machine ≡ N.first }
     requires given { N.may_share 1 ≡ true }
     requires begun { N.begun ≡ [] }
+    requires lent { N.lent ≡ None }
 {
     let mut desk: Desk<N> = Desk::new(machine, blanks);
     let share = desk.share().ok_or(Fault::NoShare)?;
@@ -218,6 +219,7 @@ fn worked_through<N: Sharing, W: Wait>(
     requires first { machine ≡ N.first }
     requires given { N.may_share 1 ≡ true }
     requires begun { N.begun ≡ [] }
+    requires lent { N.lent ≡ None }
 {
     let mut desk: Desk<N> = Desk::new(machine, blanks);
     let share = desk.share().ok_or(Fault::NoShare)?;
@@ -323,8 +325,8 @@ fn gathered_with<N: Names>(
     }
 }
 
-// Two shares were given out, and a tick is served with the first. `gather` refuses the second
-// alone, and then takes both.
+// Two shares were given out, and a tick is served with the first. `gather` refuses none, then the
+// second alone, and then takes both.
 fn gathered_late<N: Names>(
     alloc: Global,
     desk: Desk<N>,
@@ -334,6 +336,7 @@ fn gathered_late<N: Names>(
     let mut desk = desk;
     let mut first = first;
     desk.serve(&mut first, Request::Tick);
+    let Ungathered { desk, shares: _ } = refused(desk, Vec::new(alloc))?;
     let shares = only(alloc, second)?;
     let Ungathered { desk, shares } = refused(desk, shares)?;
     let handed_back = shares.len();
@@ -357,17 +360,6 @@ fn one_missing<N: Names>(
     }
 }
 
-// How many shares come back where one was given out and none comes.
-fn all_missing<N: Names>(alloc: Global, machine: Machine, blanks: Blanks) -> Result<usize, Fault>
-    requires names { names_of blanks ≡ N.names }
-    requires first { machine ≡ N.first }
-{
-    let mut desk: Desk<N> = Desk::new(machine, blanks);
-    let _first = desk.share();
-    let Ungathered { desk: _, shares } = refused(desk, Vec::new(alloc))?;
-    Ok(shares.len())
-}
-
 #[test]
 fn a_missing_share_is_handed_back(rt: HostRuntime) -> Result<(), Fail> {
     let machine = new_machine(rt.alloc())?;
@@ -375,14 +367,6 @@ fn a_missing_share_is_handed_back(rt: HostRuntime) -> Result<(), Fail> {
     let (handed_back, totals) = one_missing::<Brand>(rt.alloc(), machine, blanks)?;
     assert_eq!(rt; handed_back, 1);
     assert_eq!(rt; totals.served, 1);
-    Ok(())
-}
-
-#[test]
-fn all_shares_are_missing(rt: HostRuntime) -> Result<(), Fail> {
-    let machine = new_machine(rt.alloc())?;
-    let blanks = Blanks::new(rt.alloc())?;
-    assert_eq!(rt; all_missing::<Brand>(rt.alloc(), machine, blanks)?, 0);
     Ok(())
 }
 
@@ -566,7 +550,7 @@ fn a_worker_asks_each_kind_and_comes_back(rt: HostRuntime) -> Result<(), Fail> {
 fn small_machine(alloc: Global) -> Result<Machine, Fail> {
     let plan = Plan::new(alloc, &[], &[], Action::Nothing, Action::Nothing)?;
     let limit = Limit::new(3).ok_or("a limit")?;
-    Ok(Machine::new(alloc, plan, limit, 1_000_000)?)
+    Ok(Machine::new(alloc, plan, Sets::Seven, limit, 1_000_000)?)
 }
 
 #[test]
@@ -605,6 +589,7 @@ fn shared_later<N: Sharing, W: Wait>(
     requires first { machine ≡ N.first }
     requires given { (given : ℕ) → N.may_share given ≡ true }
     requires begun { N.begun ≡ [] }
+    requires lent { N.lent ≡ None }
 {
     let mut desk: Desk<N> = Desk::new(machine, blanks);
     let first = desk.share().ok_or(Fault::NoShare)?;

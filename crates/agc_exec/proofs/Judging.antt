@@ -3,7 +3,7 @@ use Rattle.std.proofs.Common.{◌≡◌, ◌≢◌, ℕ, zero, suc, ◌∷◌, �
 use Rattle.std.proofs.lemmas.Bool.{cases_eq, cases_lt}
 use Rattle.std.proofs.lemmas.Option.{same_Some}
 use Rattle.std.proofs.lemmas.Grind.{common_steps}
-use Rattle.agc_word.specs.Layout.{sets_in, set_place, area_of}
+use Rattle.agc_word.specs.Layout.{IsSized, sets_in, set_place, area_of}
 use Rattle.agc_word.specs.Words.{complement}
 use Rattle.agc_exec.specs.Held.{Held}
 use Rattle.agc_exec.specs.Blocks.{block_in, blocks_of}
@@ -31,12 +31,12 @@ area_held-word block w ne = elim (cases_lt w 16384) [
 ]
 
 -- what a job's words are
-pub record IsJob (block : List ℕ) (r : Held) : Type 0 where
+pub record IsJob (sets : ℕ) (block : List ℕ) (r : Held) : Type 0 where
   pub coded : IsCoded block r
   pub low : 1 ≤ r.number
-  pub high : r.number ≤ 7
+  pub high : r.number ≤ sets
 
-awake_job : (words : List ℕ) (k : ℕ) → let w = slice_index words (set_place k + 11) in w < sign → AreSound (slice_index words (set_place k + 0)) (slice_index words (set_place k + 8)) w → IsJob (block_in words k) (record_of (block_in words k) w false)
+awake_job : (words : List ℕ) (k : ℕ) → let w = slice_index words (set_place k + 11) in w < sign → AreSound (sets_in words) (slice_index words (set_place k + 0)) (slice_index words (set_place k + 8)) w → IsJob (sets_in words) (block_in words k) (record_of (block_in words k) w false)
 awake_job words k lt s =
     let number : slice_index (block_in words k) 0 ≡ slice_index words (set_place k + 0) = get-block_in words k 0 0 (omega arith) in
     let at : slice_index (block_in words k) 8 ≡ slice_index words (set_place k + 8) = get-block_in words k 8 0 (omega arith) in
@@ -47,7 +47,7 @@ awake_job words k lt s =
       high = omega arith;
     }
 
-asleep_job : (words : List ℕ) (k : ℕ) → let w = slice_index words (set_place k + 11) in sign ≤ w → AreSound (slice_index words (set_place k + 0)) (slice_index words (set_place k + 8)) (complement w) → IsJob (block_in words k) (record_of (block_in words k) (complement w) true)
+asleep_job : (words : List ℕ) (k : ℕ) → let w = slice_index words (set_place k + 11) in sign ≤ w → AreSound (sets_in words) (slice_index words (set_place k + 0)) (slice_index words (set_place k + 8)) (complement w) → IsJob (sets_in words) (block_in words k) (record_of (block_in words k) (complement w) true)
 asleep_job words k ge s =
     let number : slice_index (block_in words k) 0 ≡ slice_index words (set_place k + 0) = get-block_in words k 0 0 (omega arith) in
     let at : slice_index (block_in words k) 8 ≡ slice_index words (set_place k + 8) = get-block_in words k 8 0 (omega arith) in
@@ -59,7 +59,7 @@ asleep_job words k ge s =
     }
 
 -- a set whose words are sound is free, or its words are a job's
-pub sound_job : (words : List ℕ) (k : ℕ) → k < sets_in words → IsSoundAt words k → (r : Held) → Holds (sets_of words) k r → IsJob (block_in words k) r
+pub sound_job : (words : List ℕ) (k : ℕ) → k < sets_in words → IsSoundAt words k → (r : Held) → Holds (sets_of words) k r → IsJob (sets_in words) (block_in words k) r
 sound_job words k lt sound r here =
     let held : held_by (block_in words k) (slice_index words (set_place k + 11)) ≡ Some r = sym (at_words words k lt) ∙ here in
     elim (cases_eq (slice_index words (set_place k + 11)) 32767) [
@@ -75,14 +75,14 @@ sound_job words k lt sound r here =
     ]
 
 -- and the other way round
-job_sound : (words : List ℕ) (k : ℕ) → k < sets_in words → ((r : Held) → Holds (sets_of words) k r → IsJob (block_in words k) r) → IsSoundAt words k
+job_sound : (words : List ℕ) (k : ℕ) → k < sets_in words → ((r : Held) → Holds (sets_of words) k r → IsJob (sets_in words) (block_in words k) r) → IsSoundAt words k
 job_sound words k lt jobs ne =
     let number : slice_index (block_in words k) 0 ≡ slice_index words (set_place k + 0) = get-block_in words k 0 0 (omega arith) in
     let at : slice_index (block_in words k) 8 ≡ slice_index words (set_place k + 8) = get-block_in words k 8 0 (omega arith) in
     let priority : slice_index (block_in words k) 11 ≡ slice_index words (set_place k + 11) = get-block_in words k 11 0 (omega arith) in
     elim (cases_lt (slice_index words (set_place k + 11)) 16384) [
       | inl low ↦
-          let job : IsJob (block_in words k) (record_of (block_in words k) (slice_index words (set_place k + 11)) false) = jobs _ (at_words words k lt ∙ held_by-awake (block_in words k) (slice_index words (set_place k + 11)) low) in
+          let job : IsJob (sets_in words) (block_in words k) (record_of (block_in words k) (slice_index words (set_place k + 11)) false) = jobs _ (at_words words k lt ∙ held_by-awake (block_in words k) (slice_index words (set_place k + 11)) low) in
           let coded : IsCoded (block_in words k) (record_of (block_in words k) (slice_index words (set_place k + 11)) false) = job.coded in
           rw (unsigned-low (slice_index words (set_place k + 11)) low) (record {
             number_low = omega arith;
@@ -94,7 +94,7 @@ job_sound words k lt jobs ne =
             address = omega arith;
           })
       | inr high ↦
-          let job : IsJob (block_in words k) (record_of (block_in words k) (complement (slice_index words (set_place k + 11))) true) = jobs _ (at_words words k lt ∙ held_by-asleep (block_in words k) (slice_index words (set_place k + 11)) high ne) in
+          let job : IsJob (sets_in words) (block_in words k) (record_of (block_in words k) (complement (slice_index words (set_place k + 11))) true) = jobs _ (at_words words k lt ∙ held_by-asleep (block_in words k) (slice_index words (set_place k + 11)) high ne) in
           let coded : IsCoded (block_in words k) (record_of (block_in words k) (complement (slice_index words (set_place k + 11))) true) = job.coded in
           let (p, a, below) = urgency_word-parts (complement (slice_index words (set_place k + 11)) / 512) (area_of (complement (slice_index words (set_place k + 11)) % 512)) coded.five coded.high in
           rw (unsigned-high (slice_index words (set_place k + 11)) high) (record {
@@ -109,7 +109,7 @@ job_sound words k lt jobs ne =
     ]
 
 -- lawful core sets are sound
-pub set_sound : (words : List ℕ) → length words ≡ 132 → IsSet words → AreSoundSets words
+pub set_sound : (words : List ℕ) → IsSized words → IsSet words → AreSoundSets words
 set_sound words all set k lt =
     let len : length (sets_of words) ≡ sets_in words = length-sets words in
     job_sound words k (omega arith) (λ r here.
@@ -137,7 +137,7 @@ set_apart words set k lt j lt_j = record {
     areas (Some r) (Some s) at_j at_k positive same = let is : j ≡ k = set.standing.lawful.areas j k r s at_j at_k positive same in omega arith
 
 -- with nobody in set 0 nobody is awake
-pub set_awake : (words : List ℕ) → length words ≡ 132 → IsSet words → running_in (sets_of words) ≡ None → NobodyAwake words
+pub set_awake : (words : List ℕ) → IsSized words → IsSet words → running_in (sets_of words) ≡ None → NobodyAwake words
 set_awake words all set idle k lt = elim (cases_lt (slice_index words (set_place k + 11)) 16384) [
   | inr high ↦ high
   | inl low ↦
@@ -151,7 +151,7 @@ set_awake words all set idle k lt = elim (cases_lt (slice_index words (set_place
 pub fronted_runs : (sets : List (Option Held)) → FrontRuns sets → IsFronted sets
 fronted_runs sets runs i r at awake = runs
 
-pub fronted_nobody : (words : List ℕ) → length words ≡ 132 → NobodyAwake words → IsFronted (sets_of words)
+pub fronted_nobody : (words : List ℕ) → IsSized words → NobodyAwake words → IsFronted (sets_of words)
 fronted_nobody words all nobody i r at awake =
     let lt : i < length (sets_of words) = Holds-within (sets_of words) i r at in
     let len : length (sets_of words) ≡ sets_in words = length-sets words in
@@ -160,11 +160,11 @@ fronted_nobody words all nobody i r at awake =
     absurd (cc)
 
 -- sound sets that share nothing, with set 0 awake where anybody is, are lawful
-pub lawful_sets : (words : List ℕ) → length words ≡ 132 → AreSoundSets words → AllApart (sets_of words) → IsFronted (sets_of words) → IsSet words
+pub lawful_sets : (words : List ℕ) → IsSized words → AreSoundSets words → AllApart (sets_of words) → IsFronted (sets_of words) → IsSet words
 lawful_sets words all sound apart fronted =
     let len : length (sets_of words) ≡ sets_in words = length-sets words in
     record {
-      sized = inl all;
+      sized = all;
       coded = λ k lt.
           let len_blocks : length (blocks_of words) ≡ sets_in words = length-blocks_of words in
           let is : slice_index_or (blocks_of words) k [] ≡ block_in words k = get-blocks_of words k [] (omega arith) in
@@ -173,7 +173,7 @@ lawful_sets words all sound apart fronted =
         lawful = record {
           distinct = λ i j r s at_i at_j same. distinct i j r s at_i at_j same;
           low = λ i r at. (job i r at).low;
-          high = λ i r at. let high : r.number ≤ 7 = (job i r at).high in omega arith;
+          high = λ i r at. let high : r.number ≤ sets_in words = (job i r at).high in omega arith;
           areas = λ i j r s at_i at_j positive same. areas i j r s at_i at_j positive same;
           five = λ i r at. (job i r at).coded.five;
         };
@@ -181,17 +181,17 @@ lawful_sets words all sound apart fronted =
       };
     }
   where
-    within : (i : ℕ) (r : Held) → Holds (sets_of words) i r → i < 7
+    within : (i : ℕ) (r : Held) → Holds (sets_of words) i r → i < sets_in words
     within i r at = let lt : i < length (sets_of words) = Holds-within (sets_of words) i r at in let len : length (sets_of words) ≡ sets_in words = length-sets words in omega arith
 
-    job : (i : ℕ) (r : Held) → Holds (sets_of words) i r → IsJob (block_in words i) r
-    job i r at = let lt : i < 7 = within i r at in sound_job words i (omega arith) (sound i lt) r at
+    job : (i : ℕ) (r : Held) → Holds (sets_of words) i r → IsJob (sets_in words) (block_in words i) r
+    job i r at = let lt : i < sets_in words = within i r at in sound_job words i (omega arith) (sound i lt) r at
 
     number : (i j : ℕ) (r s : Held) → Holds (sets_of words) i r → Holds (sets_of words) j s → r.number ≡ s.number → i < j → ⊥
     number i j r s at_i at_j same lt =
         let low : 1 ≤ r.number = (job i r at_i).low in
         let x : number_in (slice_index_or (sets_of words) i None) ≡ r.number = ap number_in at_i in
-        (apart j (within j s at_j) i lt).numbers (omega arith) (x ∙ same ∙ sym (ap number_in at_j))
+        (apart j (let at : j < sets_in words = within j s at_j in let len : length (sets_of words) ≡ sets_in words = length-sets words in omega arith) i lt).numbers (omega arith) (x ∙ same ∙ sym (ap number_in at_j))
 
     distinct : (i j : ℕ) (r s : Held) → Holds (sets_of words) i r → Holds (sets_of words) j s → r.number ≡ s.number → i ≡ j
     distinct i j r s at_i at_j same = elim (cases_lt i j) [
@@ -202,7 +202,7 @@ lawful_sets words all sound apart fronted =
     area : (i j : ℕ) (r s : Held) → Holds (sets_of words) i r → Holds (sets_of words) j s → 0 < r.area → r.area ≡ s.area → i < j → ⊥
     area i j r s at_i at_j positive same lt =
         let x : area_held (slice_index_or (sets_of words) i None) ≡ r.area = ap area_held at_i in
-        (apart j (within j s at_j) i lt).areas (omega arith) (x ∙ same ∙ sym (ap area_held at_j))
+        (apart j (let at : j < sets_in words = within j s at_j in let len : length (sets_of words) ≡ sets_in words = length-sets words in omega arith) i lt).areas (omega arith) (x ∙ same ∙ sym (ap area_held at_j))
 
     areas : (i j : ℕ) (r s : Held) → Holds (sets_of words) i r → Holds (sets_of words) j s → 0 < r.area → r.area ≡ s.area → i ≡ j
     areas i j r s at_i at_j positive same = elim (cases_lt i j) [

@@ -24,13 +24,8 @@ use Rattle.agc_exec.proofs.Finishing.{newjob_of-best, front_priority-is, Near, R
 use Rattle.agc_exec.proofs.Decoding.{length-sets_of, sets_of-swap, Each-swap}
 use Rattle.agc_exec.proofs.Coming.{uses-kept, fronted-stays}
 use Rattle.agc_exec.proofs.Reading.{blocks_of-kept}
+use Rattle.agc_exec.proofs.Leads.{Yields-trans}
 use Rattle.std.proofs.lemmas.List.{get_or-set_same, get_or-set_other, length-set}
-
-Yields-trans : (a b c : Held) → Yields a b → Yields b c → Yields a c
-Yields-trans a b c x y = elim x [
-  | inl lt ↦ elim y [ inl lt2 ↦ inl (omega arith) | inr both2 ↦ inl (omega arith) ]
-  | inr both ↦ elim y [ inl lt2 ↦ inl (omega arith) | inr both2 ↦ inr (omega arith, omega arith) ]
-]
 
 precedes-true : (b r : Held) → precedes b r ≡ true → Yields r b
 precedes-true b r e = elim (cases_lt r.priority b.priority) [

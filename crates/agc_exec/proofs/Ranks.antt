@@ -1,5 +1,5 @@
 -- Ranks: the greatest is the best job's, or the first sleeper's.
-use Rattle.std.proofs.Common.{◌≡◌, ◌≢◌, ◌⊎◌, ℕ, ◌+◌, ◌-◌, ◌*◌, ◌/◌, ◌%◌, ◌<◌, ◌≤◌, ◌==◌, nat_lt, cond, Bool, true, false, List, Option, Some, None, length, slice_index, slice_index_or, slice_set, is_some, replicate, refl, ap, sym, ◌∙◌, inl, inr, arith}
+use Rattle.std.proofs.Common.{◌≡◌, ◌≢◌, ◌⊎◌, ℕ, ◌+◌, ◌-◌, ◌*◌, ◌%◌, ◌<◌, ◌≤◌, ◌==◌, nat_lt, cond, Bool, true, false, List, Option, Some, None, length, slice_index, slice_index_or, slice_set, is_some, replicate, refl, ap, sym, ◌∙◌, inl, inr, arith}
 use Rattle.std.proofs.lemmas.Bool.{cases_eq, cases_lt}
 use Rattle.std.proofs.lemmas.List.{get_or-set_same, get_or-set_other, get_or-replicate, length-set}
 use Rattle.std.proofs.lemmas.Option.{same_Some}
@@ -9,10 +9,9 @@ use Rattle.agc_word.specs.Words.{complement}
 use Rattle.agc_plan.specs.Jobs.{Job, is_sleeper}
 use Rattle.agc_exec.specs.Held.{Held}
 use Rattle.agc_exec.specs.Blocks.{block_in}
-use Rattle.agc_exec.specs.Image.{minus_zero, sign, priority_unit, record_of, held_by, held_of, sets_of, IsSet, newjob_of}
+use Rattle.agc_exec.specs.Image.{minus_zero, sign, priority_unit, record_of, held_by, held_of, sets_of}
 use Rattle.agc_exec.specs.Sets.{job_of, job_numbered, number_in, Holds, IsLawful}
-use Rattle.agc_exec.specs.Stages.{rank_in, sleeper_rank, IsMost, IsBestRank, IsSleeperRank, IsMarked, BestBelow, IsBestBelow, FirstBelow, IsFirstBelow}
-use Rattle.agc_exec.proofs.Finishing.{newjob_of-best}
+use Rattle.agc_exec.specs.Stages.{sleeper_rank, IsMost, IsSleeperRank, IsMarked, FirstBelow, IsFirstBelow}
 use Rattle.agc_exec.proofs.Decoding.{held_at, length-sets}
 use Rattle.agc_exec.proofs.Slots.{job_numbered-none, None-job_numbered}
 use Rattle.agc_exec.proofs.Swaps.{Holds-within}
@@ -69,19 +68,6 @@ lives_number words k lawful lt ne =
       | inr asleep ↦ (record_of (block_in words k) (complement (slice_index words (set_place k + 11))) true, at_words words k lt ∙ held_by-asleep (block_in words k) (slice_index words (set_place k + 11)) asleep ne)
     ]
 
--- the rank of an awake job, by its words
-pub rank_in-words : (words : List ℕ) (k : ℕ) → k < sets_in words → slice_index words (set_place k + 11) < sign → rank_in k (slice_index_or (sets_of words) k None) ≡ 64 * (slice_index words (set_place k + 11) / priority_unit) + 8 * (8 - slice_index words (set_place k + 0)) + k
-rank_in-words words k lt awake =
-    ap (rank_in k) (at_words words k lt ∙ held_by-awake (block_in words k) (slice_index words (set_place k + 11)) awake)
-    ∙ ap (λ n. 64 * (slice_index words (set_place k + 11) / priority_unit) + 8 * (8 - n) + k) (get-block_in words k 0 0 (omega arith))
-
--- no awake job is held with this PRIORITY word
-pub rank_in-none : (block : List ℕ) (w k : ℕ) → sign ≤ w → rank_in k (held_by block w) ≡ 0
-rank_in-none block w k ge = elim (cases_eq w 32767) [
-  | inl free ↦ ap (rank_in k) (held_by-free block w free)
-  | inr ne ↦ ap (rank_in k) (held_by-asleep block w ge ne)
-]
-
 -- one more number
 pub IsMost-more : (f : ℕ → ℕ) (n most next : ℕ) → next ≡ f n → IsMost f n most → IsMost f (n + 1) (cond (nat_lt most next) next most)
 IsMost-more f n most next e h = elim (cases_lt most next) [
@@ -106,90 +92,37 @@ bool_cases : (b : Bool) → (b ≡ true) ⊎ (b ≡ false)
 bool_cases true = inl refl
 bool_cases false = inr refl
 
-rank_in-awake : (k : ℕ) (o : Option Held) (r : Held) → o ≡ Some r → r.asleep ≡ false → rank_in k o ≡ 64 * r.priority + 8 * (8 - r.number) + k
-rank_in-awake k o r e a = rw (e, a)
-
--- with greatest rank 0 nobody is awake
-pub best_nobody : (sets : List (Option Held)) (best : ℕ) → IsLawful sets → length sets ≡ 7 → IsBestRank sets (length sets) best → best ≡ 0 → BestBelow sets (length sets) None
-best_nobody sets best lawful seven is zero_is j s lt at = elim (bool_cases s.asleep) [
-  | inl asleep ↦ asleep
-  | inr awake ↦
-      let high : s.number ≤ length sets = lawful.high j s at in
-      let rank : rank_in j (slice_index_or sets j None) ≡ 64 * s.priority + 8 * (8 - s.number) + j = rank_in-awake j (slice_index_or sets j None) s at awake in
-      let bound : rank_in j (slice_index_or sets j None) ≤ best = is.bound j lt in
-      absurd (omega arith)
-]
-
-yields : (p q m n i j : ℕ) → m ≤ 7 → n ≤ 7 → i < 7 → j < 7 → 64 * q + 8 * (8 - n) + j ≤ 64 * p + 8 * (8 - m) + i → (q < p) ⊎ ((q ≡ p) × (m ≤ n))
-yields p q m n i j low_m low_n lt_i lt_j le = elim (cases_lt q p) [
-  | inl lt ↦ inl lt
-  | inr ge ↦ inr (omega arith, omega arith)
-]
-
--- set j's rank is the greatest
-best_at : (sets : List (Option Held)) (best j : ℕ) (r : Held) → IsLawful sets → length sets ≡ 7 → IsBestRank sets (length sets) best → j < length sets → Holds sets j r → r.asleep ≡ false → best ≡ 64 * r.priority + 8 * (8 - r.number) + j → IsBestBelow sets (length sets) j r
-best_at sets best j r lawful seven is lt here awake at =
-    record {
-      here = here;
-      awake = awake;
-      first = λ i s lt_i here_i awake_i.
-          let rank : rank_in i (slice_index_or sets i None) ≡ 64 * s.priority + 8 * (8 - s.number) + i = rank_in-awake i (slice_index_or sets i None) s here_i awake_i in
-          let bound : rank_in i (slice_index_or sets i None) ≤ best = is.bound i lt_i in
-          let high_r : r.number ≤ length sets = lawful.high j r here in
-          let high_s : s.number ≤ length sets = lawful.high i s here_i in
-          yields r.priority s.priority r.number s.number j i (omega arith) (omega arith) (omega arith) (omega arith) (omega arith);
-    }
-
--- the set and priority of the best job, by its rank
-pub best_found : (sets : List (Option Held)) (best : ℕ) → IsLawful sets → length sets ≡ 7 → IsBestRank sets (length sets) best → 0 < best → (r : Held) × IsBestBelow sets (length sets) (best % 8) r × (best / 64 ≡ r.priority)
-best_found sets best lawful seven is positive = elim is.found [
-  | inl z ↦ absurd (omega arith)
-  | inr (j, lt, at) ↦ go j lt (slice_index_or sets j None) refl at
-] where
-  by : (j : ℕ) (r : Held) → j < length sets → Holds sets j r → best ≡ rank_in j (Some r) → (b : Bool) → r.asleep ≡ b → (r : Held) × IsBestBelow sets (length sets) (best % 8) r × (best / 64 ≡ r.priority)
-  by j r lt here at true sleeps = let none : best ≡ 0 = rw sleeps at at in absurd (omega arith)
-  by j r lt here at false awake =
-      let is_rank : best ≡ 64 * r.priority + 8 * (8 - r.number) + j = rw awake at at in
-      let low : 1 ≤ r.number = lawful.low j r here in
-      let place : best % 8 ≡ j = omega arith in
-      let priority : best / 64 ≡ r.priority = omega arith in
-      (r, rw place (best_at sets best j r lawful seven is lt here awake is_rank), priority)
-
-  go : (j : ℕ) → j < length sets → (o : Option Held) → slice_index_or sets j None ≡ o → best ≡ rank_in j o → (r : Held) × IsBestBelow sets (length sets) (best % 8) r × (best / 64 ≡ r.priority)
-  go j lt None e at = absurd (omega arith)
-  go j lt (Some r) e at = by j r lt e at r.asleep refl
-
-sleeper_rank-is : (at k : ℕ) (o : Option Held) (r : Held) → o ≡ Some r → is_sleeper at (job_of r) ≡ true → sleeper_rank at k o ≡ 8 * (8 - r.number) + k
+sleeper_rank-is : (at k : ℕ) (o : Option Held) (r : Held) → o ≡ Some r → is_sleeper at (job_of r) ≡ true → sleeper_rank at k o ≡ 8 * (9 - r.number) + k
 sleeper_rank-is at k o r e a = rw (e, a)
 
 -- with greatest rank 0 nobody sleeps there
-pub first_nobody : (sets : List (Option Held)) (at first : ℕ) → IsLawful sets → length sets ≡ 7 → IsSleeperRank sets at (length sets) first → first ≡ 0 → FirstBelow sets at (length sets) None
-first_nobody sets at first lawful seven is zero_is j s lt here = elim (bool_cases (is_sleeper at (job_of s))) [
+pub first_nobody : (sets : List (Option Held)) (at first : ℕ) → IsLawful sets → length sets ≤ 8 → IsSleeperRank sets at (length sets) first → first ≡ 0 → FirstBelow sets at (length sets) None
+first_nobody sets at first lawful few is zero_is j s lt here = elim (bool_cases (is_sleeper at (job_of s))) [
   | inl sleeps ↦
       let high : s.number ≤ length sets = lawful.high j s here in
-      let rank : sleeper_rank at j (slice_index_or sets j None) ≡ 8 * (8 - s.number) + j = sleeper_rank-is at j (slice_index_or sets j None) s here sleeps in
+      let rank : sleeper_rank at j (slice_index_or sets j None) ≡ 8 * (9 - s.number) + j = sleeper_rank-is at j (slice_index_or sets j None) s here sleeps in
       let bound : sleeper_rank at j (slice_index_or sets j None) ≤ first = is.bound j lt in
       absurd (omega arith)
   | inr no_sleeper ↦ no_sleeper
 ]
 
 -- the set of the least-numbered sleeper, by its rank
-pub first_found : (sets : List (Option Held)) (at first : ℕ) → IsLawful sets → length sets ≡ 7 → IsSleeperRank sets at (length sets) first → 0 < first → (r : Held) × IsFirstBelow sets at (length sets) (first % 8) r
-first_found sets at first lawful seven is positive = elim is.found [
+pub first_found : (sets : List (Option Held)) (at first : ℕ) → IsLawful sets → length sets ≤ 8 → IsSleeperRank sets at (length sets) first → 0 < first → (r : Held) × IsFirstBelow sets at (length sets) (first % 8) r
+first_found sets at first lawful few is positive = elim is.found [
   | inl z ↦ absurd (omega arith)
   | inr (j, lt, found) ↦ go j lt (slice_index_or sets j None) refl found
 ] where
   by : (j : ℕ) (r : Held) → j < length sets → Holds sets j r → first ≡ sleeper_rank at j (Some r) → (b : Bool) → is_sleeper at (job_of r) ≡ b → (r : Held) × IsFirstBelow sets at (length sets) (first % 8) r
   by j r lt here found false sleeps = let none : first ≡ 0 = rw sleeps at found in absurd (omega arith)
   by j r lt here found true sleeps =
-      let is_rank : first ≡ 8 * (8 - r.number) + j = rw sleeps at found in
+      let is_rank : first ≡ 8 * (9 - r.number) + j = rw sleeps at found in
       let place : first % 8 ≡ j = omega arith in (
         r,
         rw place (record {
           here = here;
           sleeps = sleeps;
           first = λ i s lt_i here_i sleeps_i.
-              let rank : sleeper_rank at i (slice_index_or sets i None) ≡ 8 * (8 - s.number) + i = sleeper_rank-is at i (slice_index_or sets i None) s here_i sleeps_i in
+              let rank : sleeper_rank at i (slice_index_or sets i None) ≡ 8 * (9 - s.number) + i = sleeper_rank-is at i (slice_index_or sets i None) s here_i sleeps_i in
               let bound : sleeper_rank at i (slice_index_or sets i None) ≤ first = is.bound i lt_i in
               let high_r : r.number ≤ length sets = lawful.high j r here in
               let high_s : s.number ≤ length sets = lawful.high i s here_i in
@@ -202,12 +135,12 @@ first_found sets at first lawful seven is positive = elim is.found [
   go j lt (Some r) e found = by j r lt e found (is_sleeper at (job_of r)) refl
 
 -- the rank of a sleeper, by its words
-pub sleeper_rank-words : (words : List ℕ) (at k : ℕ) → k < sets_in words → slice_index words (set_place k + 8) ≡ at → sign ≤ slice_index words (set_place k + 11) → slice_index words (set_place k + 11) ≢ minus_zero → sleeper_rank at k (slice_index_or (sets_of words) k None) ≡ 8 * (8 - slice_index words (set_place k + 0)) + k
+pub sleeper_rank-words : (words : List ℕ) (at k : ℕ) → k < sets_in words → slice_index words (set_place k + 8) ≡ at → sign ≤ slice_index words (set_place k + 11) → slice_index words (set_place k + 11) ≢ minus_zero → sleeper_rank at k (slice_index_or (sets_of words) k None) ≡ 8 * (9 - slice_index words (set_place k + 0)) + k
 sleeper_rank-words words at k lt loc asleep ne =
     let loc_is : slice_index (block_in words k) 8 ≡ at = get-block_in words k 8 0 (omega arith) ∙ loc in
     let there : (slice_index (block_in words k) 8 == at) ≡ true = grind (arith, common_steps) in
     sleeper_rank-is at k (slice_index_or (sets_of words) k None) (record_of (block_in words k) (complement (slice_index words (set_place k + 11))) true) (at_words words k lt ∙ held_by-asleep (block_in words k) (slice_index words (set_place k + 11)) asleep ne) there
-    ∙ ap (λ n. 8 * (8 - n) + k) (get-block_in words k 0 0 (omega arith))
+    ∙ ap (λ n. 8 * (9 - n) + k) (get-block_in words k 0 0 (omega arith))
 
 -- with another LOC
 pub sleeper_rank-elsewhere : (words : List ℕ) (at k : ℕ) → k < sets_in words → slice_index words (set_place k + 8) ≢ at → sleeper_rank at k (slice_index_or (sets_of words) k None) ≡ 0
@@ -250,11 +183,11 @@ entry_range sets k lawful = go (slice_index_or sets k None) refl where
   go (Some r) e = lawful.high k r e
 
 -- one more number is marked
-pub IsMarked-more : (sets : List (Option Held)) (n number : ℕ) (used : List Bool) → number ≡ number_in (slice_index_or sets n None) → number < 8 → IsMarked sets n used → IsMarked sets (n + 1) (slice_set used number true)
+pub IsMarked-more : (sets : List (Option Held)) (n number : ℕ) (used : List Bool) → number ≡ number_in (slice_index_or sets n None) → number < 9 → IsMarked sets n used → IsMarked sets (n + 1) (slice_set used number true)
 IsMarked-more sets n number used is lt m = record {
-  eight = length-set used number true ∙ m.eight;
+  nine = length-set used number true ∙ m.nine;
   marked = λ j lt_j. elim (cases_eq (number_in (slice_index_or sets j None)) number) [
-    | inl same ↦ rw same (get_or-set_same used number true false (let e : length used ≡ 8 = m.eight in omega arith))
+    | inl same ↦ rw same (get_or-set_same used number true false (let e : length used ≡ 9 = m.nine in omega arith))
     | inr ne ↦ elim (cases_eq j n) [
       | inl at_n ↦ absurd (ne (ap (λ i. number_in (slice_index_or sets i None)) at_n ∙ sym is))
       | inr before ↦ get_or-set_other used number (number_in (slice_index_or sets j None)) true false ne ∙ m.marked j (omega arith)
@@ -268,15 +201,15 @@ IsMarked-more sets n number used is lt m = record {
   ];
 }
 
-pub IsMarked-none : (sets : List (Option Held)) → IsMarked sets 0 (replicate 8 false)
+pub IsMarked-none : (sets : List (Option Held)) → IsMarked sets 0 (replicate 9 false)
 IsMarked-none sets = record {
-  eight = refl;
+  nine = refl;
   marked = λ j lt. absurd (omega arith);
-  only = λ number lt yes_used. absurd (let no : false ≡ true = sym (get_or-replicate 8 number false false lt) ∙ yes_used in cc);
+  only = λ number lt yes_used. absurd (let no : false ≡ true = sym (get_or-replicate 9 number false false lt) ∙ yes_used in cc);
 }
 
 -- a number that is marked is a job's, and one that isn't is nobody's
-pub marked_used : (sets : List (Option Held)) (used : List Bool) (number : ℕ) → 1 ≤ number → number < 8 → IsMarked sets (length sets) used → slice_index_or used number false ≡ true → is_some (job_numbered sets number) ≡ true
+pub marked_used : (sets : List (Option Held)) (used : List Bool) (number : ℕ) → 1 ≤ number → number < 9 → IsMarked sets (length sets) used → slice_index_or used number false ≡ true → is_some (job_numbered sets number) ≡ true
 marked_used sets used number low lt m yes_used =
     let (j, lt_j, at) = m.only number lt yes_used in
     go j at (slice_index_or sets j None) refl (job_numbered sets number) refl
@@ -293,24 +226,9 @@ unmarked_unused sets used number m no_used = job_numbered-none sets number (λ i
     let no : true ≡ false = sym marked ∙ ap (λ n. slice_index_or used n false) is ∙ no_used in
     cc)
 
--- the priority of an awake job in set 0, by its PRIORITY word
-pub front_priority_word : (words : List ℕ) (job : Held) → 0 < sets_in words → Holds (sets_of words) 0 job → job.asleep ≡ false → slice_index words (set_place 0 + 11) / priority_unit ≡ job.priority
-front_priority_word words job lt here awake = elim (cases_lt (slice_index words (set_place 0 + 11)) 16384) [
-  | inl low ↦ ap (λ h. h.priority) (same_Some _ job (sym (held_by-awake (block_in words 0) (slice_index words (set_place 0 + 11)) low) ∙ sym (at_words words 0 lt) ∙ here))
-  | inr high ↦ absurd (let sleeps : job.asleep ≡ true = held_asleep (block_in words 0) (slice_index words (set_place 0 + 11)) job high (sym (at_words words 0 lt) ∙ here) in let no : true ≡ false = sym sleeps ∙ awake in cc)
-]
-
 -- the area of an awake job in set 0, by its PRIORITY word
 pub front_area_word : (words : List ℕ) (job : Held) → 0 < sets_in words → Holds (sets_of words) 0 job → job.asleep ≡ false → area_of (slice_index words (set_place 0 + 11) % priority_unit) ≡ job.area
 front_area_word words job lt here awake = elim (cases_lt (slice_index words (set_place 0 + 11)) 16384) [
   | inl low ↦ ap (λ h. h.area) (same_Some _ job (sym (held_by-awake (block_in words 0) (slice_index words (set_place 0 + 11)) low) ∙ sym (at_words words 0 lt) ∙ here))
   | inr high ↦ absurd (let sleeps : job.asleep ≡ true = held_asleep (block_in words 0) (slice_index words (set_place 0 + 11)) job high (sym (at_words words 0 lt) ∙ here) in let no : true ≡ false = sym sleeps ∙ awake in cc)
 ]
-
--- NEWJOB where somebody is awake, by the best job's rank
-pub newjob_by_rank : (words : List ℕ) (best : ℕ) → IsSet words → length (sets_of words) ≡ 7 → IsBestRank (sets_of words) (length (sets_of words)) best → 0 < best → newjob_of (sets_of words) ≡ cond (nat_lt (slice_index words (set_place 0 + 11) / priority_unit) (best / 64)) (12 * (best % 8)) 0
-newjob_by_rank words best set seven is positive =
-    let len : length (sets_of words) ≡ sets_in words = length-sets words in
-    let (r, first, priority) = best_found (sets_of words) best set.standing.lawful seven is positive in
-    let (job, here, awake) = set.standing.in_front (best % 8) r first.here first.awake in
-    rw (front_priority_word words job (omega arith) here awake, priority) (newjob_of-best (sets_of words) (best % 8) r job set.standing.lawful first here)

@@ -86,7 +86,7 @@ blocks_of-kept words j w sized low high =
     outside s i j lt_s lt_i low high e = omega arith
 
 -- one word of a set was written
-pub blocks_of-word : (words : List ℕ) (k i w : ℕ) → IsSized words → k < 7 → i < 12 → blocks_of (slice_set words (set_place k + i) w) ≡ slice_set (blocks_of words) k (slice_set (block_in words k) i w)
+pub blocks_of-word : (words : List ℕ) (k i w : ℕ) → IsSized words → k < sets_in words → i < 12 → blocks_of (slice_set words (set_place k + i) w) ≡ slice_set (blocks_of words) k (slice_set (block_in words k) i w)
 blocks_of-word words k i w sized lt lt_i =
     let twelve : length (block_in words k) ≡ 12 = length-block_in words k in
     let most : sets_in words ≤ 8 = IsSized-most words sized in
@@ -100,8 +100,22 @@ blocks_of-word words k i w sized lt lt_i =
       after = λ j le. get_or-set_other words (set_place k + i) j w 0 (omega arith);
     })
 
+-- a set's words are those that were written
+pub block_in-written : (old new : List ℕ) (k : ℕ) (block : List ℕ) → k < sets_in old → length new ≡ length old → blocks_of new ≡ slice_set (blocks_of old) k block → block_in new k ≡ block
+block_in-written old new k block lt len written =
+    let len_old : length (blocks_of old) ≡ sets_in old = length-blocks_of old in
+    let same_count : sets_in new ≡ sets_in old = ap (λ n. (n - 48) / 12) len in
+    sym (get-blocks_of new k [] (omega arith)) ∙ ap (λ bs. get_or bs k []) written ∙ get_or-set_same (blocks_of old) k block [] (omega arith)
+
+-- one word more of a set was written
+pub blocks_of-more : (old mid new : List ℕ) (k i w : ℕ) (block : List ℕ) → k < sets_in old → length mid ≡ length old → blocks_of mid ≡ slice_set (blocks_of old) k block → blocks_of new ≡ slice_set (blocks_of mid) k (slice_set (block_in mid k) i w) → blocks_of new ≡ slice_set (blocks_of old) k (slice_set block i w)
+blocks_of-more old mid new k i w block lt len first second =
+    second ∙ ap (λ b. slice_set (blocks_of mid) k (slice_set b i w)) (block_in-written old mid k block lt len first)
+    ∙ ap (λ bs. slice_set bs k (slice_set block i w)) first
+    ∙ set-set (blocks_of old) k block (slice_set block i w)
+
 -- two words of a set were written
-pub blocks_of-twice : (old mid new : List ℕ) (k i j v w : ℕ) → IsSized old → length mid ≡ length old → k < 7 → blocks_of mid ≡ slice_set (blocks_of old) k (slice_set (block_in old k) i v) → blocks_of new ≡ slice_set (blocks_of mid) k (slice_set (block_in mid k) j w) → blocks_of new ≡ slice_set (blocks_of old) k (slice_set (slice_set (block_in old k) i v) j w)
+pub blocks_of-twice : (old mid new : List ℕ) (k i j v w : ℕ) → IsSized old → length mid ≡ length old → k < sets_in old → blocks_of mid ≡ slice_set (blocks_of old) k (slice_set (block_in old k) i v) → blocks_of new ≡ slice_set (blocks_of mid) k (slice_set (block_in mid k) j w) → blocks_of new ≡ slice_set (blocks_of old) k (slice_set (slice_set (block_in old k) i v) j w)
 blocks_of-twice old mid new k i j v w sized len lt first second =
     let len_old : length (blocks_of old) ≡ sets_in old = length-blocks_of old in
     let least : k < sets_in old = omega arith in
@@ -124,7 +138,7 @@ pub record Exchanged (old new : List ℕ) (k : ℕ) : Type 0 where
   pub front_rest : (j : ℕ) → 12 ≤ j → j < set_place k → slice_index new j ≡ slice_index old j
   pub other_rest : (j : ℕ) → set_place k + 12 ≤ j → slice_index new j ≡ slice_index old j
 
-pub blocks_of-exchanged : (old new : List ℕ) (k : ℕ) → IsSized old → 0 < k → k < 7 → Exchanged old new k → blocks_of new ≡ swap (blocks_of old) 0 k
+pub blocks_of-exchanged : (old new : List ℕ) (k : ℕ) → IsSized old → 0 < k → k < sets_in old → Exchanged old new k → blocks_of new ≡ swap (blocks_of old) 0 k
 blocks_of-exchanged old new k sized positive lt x =
     let len_old : length (blocks_of old) ≡ sets_in old = length-blocks_of old in
     let len_new : length (blocks_of new) ≡ sets_in new = length-blocks_of new in

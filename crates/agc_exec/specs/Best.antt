@@ -4,10 +4,12 @@ use Rattle.agc_exec.specs.Held.{Held}
 
 -- more urgent, or as urgent and of a lower number
 abbrev pub precedes : Held → Held → Bool
-precedes r s = nat_lt s.priority r.priority || ((r.priority == s.priority) && nat_lt r.number s.number)
+precedes r s =
+    nat_lt s.priority r.priority || ((r.priority == s.priority) && nat_lt r.number s.number)
 
 -- the better of the best so far and what set k holds
 abbrev pub better_of : Option (ℕ × Held) → ℕ → Option Held → Option (ℕ × Held)
 better_of best k None = best
 better_of None k (Some r) = if r.asleep then None else Some (k, r)
-better_of (Some best) k (Some r) = if r.asleep then Some best else if precedes best.1 r then Some best else Some (k, r)
+better_of (Some best) k (Some r) =
+    if r.asleep then Some best else if precedes best.1 r then Some best else Some (k, r)

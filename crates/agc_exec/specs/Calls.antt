@@ -1,5 +1,6 @@
 -- What each call does to the words.
-use Rattle.std.specs.Prelude.{◌≡◌, ℕ, ◌+◌, ◌*◌, ◌%◌, List, [], ◌∷◌, Option, Some, None, slice_index, slice_index_or, slice_set, swap, replicate}
+use Rattle.std.specs.Prelude.{◌≡◌, ℕ, ◌+◌, ◌*◌, ◌%◌, List, [], ◌∷◌, Option, Some, None, slice_index}
+use Rattle.std.specs.Prelude.{slice_index_or, slice_set, swap, replicate}
 use Rattle.agc_word.specs.Layout.{OutsideCores, Keeps, sets_in}
 use Rattle.agc_word.specs.Words.{complement}
 use Rattle.agc_plan.specs.declared.request.Entry.{Entry}
@@ -9,12 +10,17 @@ use Rattle.agc_plan.specs.Jobs as plain
 use Rattle.agc_plan.specs.Jobs.{Outcome, least_unowned, no_jobs, established}
 use Rattle.agc_plan.specs.Places.{place_of, with_new, without, placed_new, placed_end, fronted}
 use Rattle.agc_exec.specs.Blocks.{blocks_of}
-use Rattle.agc_exec.specs.Image.{minus_zero, priority_unit, urgency_word, IsTidy, IsLawfulWords, jobs_in, entries_in, runner_in}
+use Rattle.agc_exec.specs.Image.{minus_zero, priority_unit, urgency_word, IsTidy, IsLawfulWords}
+use Rattle.agc_exec.specs.Image.{jobs_in, entries_in, runner_in}
 
--- the twelve words of a new job: its work words, MODE and PUSHLOC are 00000
+-- the twelve words of a new job with this PRIORITY word: its work words, MODE and PUSHLOC are 00000
+abbrev pub block_with : ℕ → Entry → ℕ → List ℕ
+block_with number entry urgency =
+    number ∷ 0 ∷ 0 ∷ 0 ∷ 0 ∷ 0 ∷ 0 ∷ 0 ∷ entry.at ∷ entry.bank ∷ 0 ∷ urgency ∷ []
+
+-- the twelve words of a new job
 abbrev pub new_block : ℕ → ℕ → Entry → ℕ → List ℕ
-new_block number priority entry area =
-    number ∷ 0 ∷ 0 ∷ 0 ∷ 0 ∷ 0 ∷ 0 ∷ 0 ∷ entry.at ∷ entry.bank ∷ 0 ∷ urgency_word priority area ∷ []
+new_block number priority entry area = block_with number entry (urgency_word priority area)
 
 -- the twelve words of set 0
 abbrev pub front_block : List (List ℕ) → List ℕ
@@ -34,34 +40,41 @@ woken_block block = slice_set block 11 (complement (slice_index block 11))
 
 -- a job's twelve words, with this priority, and the area's address as it was
 abbrev pub urgent_block : ℕ → List ℕ → List ℕ
-urgent_block priority block = slice_set block 11 (priority_unit * priority + slice_index block 11 % priority_unit)
+urgent_block priority block =
+    slice_set block 11 (priority_unit * priority + slice_index block 11 % priority_unit)
 
 -- the running job's twelve words are exchanged with those of set 0
 abbrev pub fronted_blocks : Option ℕ → List ℕ → List (List ℕ) → List (List ℕ)
 fronted_blocks None entries blocks = blocks
 fronted_blocks (Some number) entries blocks = swap blocks 0 (place_of number entries)
 
--- after a new job of this number, if there is one, came to the first free set, and with this one running
+-- after a new job of this number, if there is one, came to the first free set, and with this one
+-- running
 abbrev pub blocks_new : Option ℕ → ℕ → Entry → ℕ → Option ℕ → List ℕ → List (List ℕ) → List (List ℕ)
 blocks_new None priority entry area running entries blocks = blocks
 blocks_new (Some number) priority entry area running entries blocks =
-    fronted_blocks running (with_new number entries) (slice_set blocks (place_of 0 entries) (new_block number priority entry area))
+    fronted_blocks running (with_new number entries)
+    (slice_set blocks (place_of 0 entries) (new_block number priority entry area))
 
 -- the same with the least unowned area, if there is one
-abbrev pub blocks_found : Option ℕ → Option ℕ → ℕ → Entry → Option ℕ → List ℕ → List (List ℕ) → List (List ℕ)
+abbrev pub blocks_found : Option ℕ → Option ℕ → ℕ → Entry → Option ℕ → List ℕ → List (List ℕ)
+    → List (List ℕ)
 blocks_found None number priority entry running entries blocks = blocks
-blocks_found (Some area) number priority entry running entries blocks = blocks_new number priority entry area running entries blocks
+blocks_found (Some area) number priority entry running entries blocks =
+    blocks_new number priority entry area running entries blocks
 
 -- after the job in set 0 ended, if one ran, and with this one running
 abbrev pub blocks_end : Option ℕ → Option ℕ → List ℕ → List (List ℕ) → List (List ℕ)
 blocks_end None running entries blocks = blocks
 blocks_end (Some number) running entries blocks =
-    fronted_blocks running (without number entries) (slice_set blocks 0 (freed_block (front_block blocks)))
+    fronted_blocks running (without number entries)
+    (slice_set blocks 0 (freed_block (front_block blocks)))
 
 -- after the words of set 0 became these, if a job ran, and with this one running
 abbrev pub blocks_changed : Option ℕ → List ℕ → Option ℕ → List ℕ → List (List ℕ) → List (List ℕ)
 blocks_changed None block running entries blocks = blocks
-blocks_changed (Some number) block running entries blocks = fronted_blocks running entries (slice_set blocks 0 block)
+blocks_changed (Some number) block running entries blocks =
+    fronted_blocks running entries (slice_set blocks 0 block)
 
 -- the number of the job that was awakened, if the reply tells one
 abbrev pub roused : Reply → Option ℕ
@@ -72,10 +85,12 @@ roused reply = None
 abbrev pub blocks_roused : Option ℕ → Option ℕ → List ℕ → List (List ℕ) → List (List ℕ)
 blocks_roused None running entries blocks = blocks
 blocks_roused (Some number) running entries blocks =
-    fronted_blocks running entries (slice_set blocks (place_of number entries) (woken_block (slice_index_or blocks (place_of number entries) [])))
+    fronted_blocks running entries (slice_set blocks (place_of number entries)
+    (woken_block (slice_index_or blocks (place_of number entries) [])))
 
 -- what a call does: from the old words to the new, with this reply
-pub record Does (outcome : Outcome) (entries : List ℕ) (blocks : List (List ℕ)) (old new : List ℕ) (reply : Reply) : Type 0 where
+pub record Does (outcome : Outcome) (entries : List ℕ) (blocks : List (List ℕ)) (old new : List ℕ)
+    (reply : Reply) : Type 0 where
   -- the new words are lawful
   pub lawful : IsLawfulWords new
   -- they stand for the jobs of the outcome, with its running job, and the reply is its reply
@@ -94,7 +109,8 @@ abbrev pub DoesNovac : ℕ → Entry → List ℕ → List ℕ → Reply → Typ
 DoesNovac priority entry old new reply =
     Does (plain.novac priority entry (jobs_in old))
     (placed_new (established reply) (runner_in new) (entries_in old))
-    (blocks_new (established reply) priority entry 0 (runner_in new) (entries_in old) (blocks_of old))
+    (blocks_new (established reply) priority entry 0 (runner_in new) (entries_in old)
+    (blocks_of old))
     old new reply
 
 -- FINDVAC
@@ -102,7 +118,8 @@ abbrev pub DoesFindvac : ℕ → Entry → List ℕ → List ℕ → Reply → T
 DoesFindvac priority entry old new reply =
     Does (plain.findvac priority entry (jobs_in old))
     (placed_new (established reply) (runner_in new) (entries_in old))
-    (blocks_found (least_unowned 5 1 (jobs_in old).slots) (established reply) priority entry (runner_in new) (entries_in old) (blocks_of old))
+    (blocks_found (least_unowned 5 1 (jobs_in old).slots) (established reply) priority entry
+    (runner_in new) (entries_in old) (blocks_of old))
     old new reply
 
 -- end of job
@@ -118,7 +135,8 @@ abbrev pub DoesSleep : ℕ → List ℕ → List ℕ → Reply → Type 0
 DoesSleep at old new reply =
     Does (plain.sleep at (jobs_in old))
     (fronted (runner_in new) (entries_in old))
-    (blocks_changed (runner_in old) (slept_block at (front_block (blocks_of old))) (runner_in new) (entries_in old) (blocks_of old))
+    (blocks_changed (runner_in old) (slept_block at (front_block (blocks_of old))) (runner_in new)
+    (entries_in old) (blocks_of old))
     old new reply
 
 -- JOBWAKE
@@ -134,7 +152,8 @@ abbrev pub DoesPrio : ℕ → List ℕ → List ℕ → Reply → Type 0
 DoesPrio priority old new reply =
     Does (plain.prio priority (jobs_in old))
     (fronted (runner_in new) (entries_in old))
-    (blocks_changed (runner_in old) (urgent_block priority (front_block (blocks_of old))) (runner_in new) (entries_in old) (blocks_of old))
+    (blocks_changed (runner_in old) (urgent_block priority (front_block (blocks_of old)))
+    (runner_in new) (entries_in old) (blocks_of old))
     old new reply
 
 -- change of job
@@ -150,7 +169,8 @@ abbrev pub DoesStore : ℕ → ℕ → List ℕ → List ℕ → Reply → Type 
 DoesStore place word old new reply =
     Does (plain.store place word (jobs_in old))
     (entries_in old)
-    (blocks_changed (runner_in old) (slice_set (front_block (blocks_of old)) place word) (runner_in new) (entries_in old) (blocks_of old))
+    (blocks_changed (runner_in old) (slice_set (front_block (blocks_of old)) place word)
+    (runner_in new) (entries_in old) (blocks_of old))
     old new reply
 
 -- all sets and areas became free, and nobody runs

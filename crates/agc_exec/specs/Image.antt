@@ -1,5 +1,7 @@
 -- The core sets, use words and NEWJOB, read from the words, and when these are lawful.
-use Rattle.std.specs.Prelude.{◌≡◌, ℕ, ◌+◌, ◌*◌, ◌/◌, ◌%◌, ◌<◌, ◌≤◌, ◌==◌, nat_lt, Bool, true, false, if◌then◌else◌, List, [], ◌∷◌, Option, Some, None, map, length, slice_index, slice_index_or}
+use Rattle.std.specs.Prelude.{◌≡◌, ℕ, ◌+◌, ◌*◌, ◌/◌, ◌%◌, ◌<◌, ◌≤◌, ◌==◌, nat_lt, Bool, true, false}
+use Rattle.std.specs.Prelude.{if◌then◌else◌, List, [], ◌∷◌, Option, Some, None, map, length}
+use Rattle.std.specs.Prelude.{slice_index, slice_index_or}
 use Rattle.agc_word.specs.Layout as layout
 use Rattle.agc_word.specs.Layout.{IsSized, use_place, set_size, address_of, area_of}
 use Rattle.agc_word.specs.Words.{complement}
@@ -30,10 +32,12 @@ record_of block priority asleep = record {
   priority = priority / priority_unit;
   asleep = asleep;
   area = area_of (priority % priority_unit);
-  work = slice_index block 1 ∷ slice_index block 2 ∷ slice_index block 3 ∷ slice_index block 4 ∷ slice_index block 5 ∷ slice_index block 6 ∷ [];
+  work = slice_index block 1 ∷ slice_index block 2 ∷ slice_index block 3 ∷ slice_index block 4
+      ∷ slice_index block 5 ∷ slice_index block 6 ∷ [];
 }
 
--- a set with this PRIORITY word: free where it is minus zero, awake where it is positive, else asleep
+-- a set with this PRIORITY word: free where it is minus zero, awake where it is positive, else
+-- asleep
 abbrev pub held_by : List ℕ → ℕ → Option Held
 held_by block priority =
     if priority == minus_zero then None
@@ -54,7 +58,8 @@ urgency_word priority area = priority_unit * priority + address_of area
 
 -- the PRIORITY word of a job: complemented where it sleeps
 abbrev pub priority_word : ℕ → ℕ → Bool → ℕ
-priority_word priority area asleep = if asleep then complement (urgency_word priority area) else urgency_word priority area
+priority_word priority area asleep =
+    if asleep then complement (urgency_word priority area) else urgency_word priority area
 
 -- these twelve words are those of this job
 pub record IsCoded (block : List ℕ) (r : Held) : Type 0 where
@@ -72,7 +77,8 @@ IsLawfulBlock block = (r : Held) → held_of block ≡ Some r → IsCoded block 
 
 -- MODE and PUSHLOC of a job are 00000
 abbrev pub IsTidyBlock : List ℕ → Type 0
-IsTidyBlock block = (r : Held) → held_of block ≡ Some r → (slice_index block 7 ≡ 0) × (slice_index block 10 ≡ 0)
+IsTidyBlock block =
+    (r : Held) → held_of block ≡ Some r → (slice_index block 7 ≡ 0) × (slice_index block 10 ≡ 0)
 
 -- each of the blocks is so
 abbrev pub Each : (List ℕ → Type 0) → List (List ℕ) → Type 0
@@ -94,7 +100,8 @@ use_word area slots = if is_owned area slots then 0 else address_of area
 
 -- each use word says whether its area is owned
 abbrev pub UsesAgree : List ℕ → List (Option Job) → Type 0
-UsesAgree words slots = (area : ℕ) → 1 ≤ area → area ≤ 5 → slice_index words (use_place area) ≡ use_word area slots
+UsesAgree words slots =
+    (area : ℕ) → 1 ≤ area → area ≤ 5 → slice_index words (use_place area) ≡ use_word area slots
 
 -- the priority of the job in set 0
 abbrev pub front_priority : List (Option Held) → ℕ
@@ -102,10 +109,13 @@ front_priority [] = 0
 front_priority (None ∷ sets) = 0
 front_priority (Some r ∷ sets) = r.priority
 
--- NEWJOB with this best job: its set's name, where it is strictly more urgent than the job in set 0, else 00000
+-- NEWJOB with this best job: its set's name, where it is strictly more urgent than the job in set
+-- 0, else 00000
 abbrev pub newjob_for : Option Ready → List (Option Held) → ℕ
 newjob_for None sets = minus_zero
-newjob_for (Some first) sets = if nat_lt (front_priority sets) first.priority then set_size * place_of first.number (entries_of sets) else 0
+newjob_for (Some first) sets =
+    if nat_lt (front_priority sets) first.priority
+    then set_size * place_of first.number (entries_of sets) else 0
 
 -- NEWJOB: 77777 where no job is awake
 abbrev pub newjob_of : List (Option Held) → ℕ

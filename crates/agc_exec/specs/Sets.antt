@@ -1,17 +1,26 @@
 -- Core sets, seen as a plain list of jobs and their places.
-use Rattle.std.specs.Prelude.{◌≡◌, ℕ, zero, suc, ◌+◌, ◌<◌, ◌≤◌, ◌==◌, false, if◌then◌else◌, List, [], ◌∷◌, Option, Some, None, map, length, slice_index_or}
+use Rattle.std.specs.Prelude.{◌≡◌, ℕ, zero, suc, ◌+◌, ◌<◌, ◌≤◌, ◌==◌, false, if◌then◌else◌, List}
+use Rattle.std.specs.Prelude.{[], ◌∷◌, Option, Some, None, map, length, slice_index_or}
 use Rattle.agc_plan.specs.Jobs.{Job, Jobs}
 use Rattle.agc_exec.specs.Held.{Held}
 
 -- the job that a set holds, without its number
 abbrev pub job_of : Held → Job
-job_of r = record { at = r.at; bank = r.bank; priority = r.priority; asleep = r.asleep; area = r.area; work = r.work }
+job_of r = record {
+  at = r.at;
+  bank = r.bank;
+  priority = r.priority;
+  asleep = r.asleep;
+  area = r.area;
+  work = r.work;
+}
 
 -- the job of this number
 abbrev pub job_numbered : List (Option Held) → ℕ → Option Job
 job_numbered [] number = None
 job_numbered (None ∷ sets) number = job_numbered sets number
-job_numbered (Some r ∷ sets) number = if r.number == number then Some (job_of r) else job_numbered sets number
+job_numbered (Some r ∷ sets) number =
+    if r.number == number then Some (job_of r) else job_numbered sets number
 
 -- the jobs of so many numbers, from this one on
 abbrev pub slots_from : ℕ → ℕ → List (Option Held) → List (Option Job)
@@ -51,15 +60,19 @@ Holds sets k r = slice_index_or sets k None ≡ Some r
 
 -- each job has a number of its own, in range, and an area of its own, if one
 pub record IsLawful (sets : List (Option Held)) : Type 0 where
-  pub distinct : (i j : ℕ) (r s : Held) → Holds sets i r → Holds sets j s → r.number ≡ s.number → i ≡ j
+  pub distinct : (i j : ℕ) (r s : Held) → Holds sets i r → Holds sets j s → r.number ≡ s.number
+      → i ≡ j
   pub low : (i : ℕ) (r : Held) → Holds sets i r → 1 ≤ r.number
   pub high : (i : ℕ) (r : Held) → Holds sets i r → r.number ≤ length sets
-  pub areas : (i j : ℕ) (r s : Held) → Holds sets i r → Holds sets j s → 0 < r.area → r.area ≡ s.area → i ≡ j
+  pub areas : (i j : ℕ) (r s : Held) → Holds sets i r → Holds sets j s → 0 < r.area
+      → r.area ≡ s.area → i ≡ j
   pub five : (i : ℕ) (r : Held) → Holds sets i r → r.area ≤ 5
 
 -- where anybody is awake, the job in set 0 is
 abbrev pub IsFronted : List (Option Held) → Type 0
-IsFronted sets = (i : ℕ) (r : Held) → Holds sets i r → r.asleep ≡ false → (s : Held) × Holds sets 0 s × (s.asleep ≡ false)
+IsFronted sets =
+    (i : ℕ) (r : Held) → Holds sets i r → r.asleep ≡ false
+    → (s : Held) × Holds sets 0 s × (s.asleep ≡ false)
 
 -- what holds of the sets between two requests
 pub record IsStanding (sets : List (Option Held)) : Type 0 where

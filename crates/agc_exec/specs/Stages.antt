@@ -1,15 +1,23 @@
 -- Helpers of proofs: what the steps of a call do, one after the other.
-use Rattle.std.specs.Prelude.{◌≡◌, ◌≢◌, ◌⊎◌, ◌%◌, nat_lt, slice_index, ℕ, ◌+◌, ◌-◌, ◌*◌, ◌<◌, ◌≤◌, ◌==◌, ◌∷◌, Bool, true, false, if◌then◌else◌, List, [], Option, None, Some, length, slice_index_or}
-use Rattle.agc_word.specs.Layout.{set_place, address_of, area_of}
+use Rattle.std.specs.Prelude.{◌≡◌, ◌≢◌, ◌⊎◌, ◌%◌, nat_lt, slice_index, ℕ, ◌+◌, ◌-◌, ◌*◌, ◌/◌, ◌<◌}
+use Rattle.std.specs.Prelude.{◌≤◌, ◌==◌, ◌∷◌, Bool, true, false, if◌then◌else◌, List, [], Option}
+use Rattle.std.specs.Prelude.{None, Some, length, slice_index_or}
+use Rattle.agc_word.specs.Layout as layout
+use Rattle.agc_word.specs.Layout.{sets_in, set_place, address_of, area_of}
 use Rattle.agc_word.specs.Words.{complement}
-use Rattle.agc_plan.specs.Jobs.{Job, Outcome, best, best_from, job_in, outrun_by, is_owned, is_sleeper}
+use Rattle.agc_plan.specs.Jobs.{Job, Outcome, best, best_from, job_in, outrun_by, is_owned}
+use Rattle.agc_plan.specs.Jobs.{is_sleeper, establish_at, least_unused, new_job, established}
+use Rattle.agc_plan.specs.declared.request.Entry.{Entry}
+use Rattle.agc_plan.specs.declared.reply.Alarm.TheVariants.{A1202}
+use Rattle.agc_plan.specs.declared.reply.Reply.TheVariants.{Alarmed, Established}
 use Rattle.agc_plan.specs.declared.reply.Reply.{Reply}
-use Rattle.agc_plan.specs.Places.{fronted}
+use Rattle.agc_plan.specs.Places.{fronted, placed_new}
 use Rattle.agc_exec.specs.Held.{Held}
 use Rattle.agc_exec.specs.Blocks.{blocks_of}
-use Rattle.agc_exec.specs.Image.{minus_zero, sign, held_of, sets_of}
-use Rattle.agc_exec.specs.Calls.{fronted_blocks}
-use Rattle.agc_exec.specs.Sets.{job_of, number_in, Holds, slots_of, entries_of, running_in, jobs_of, IsLawful, IsFronted, IsStanding}
+use Rattle.agc_exec.specs.Image.{minus_zero, sign, held_of, sets_of, jobs_in, entries_in, runner_in}
+use Rattle.agc_exec.specs.Calls.{fronted_blocks, blocks_new, Does}
+use Rattle.agc_exec.specs.Sets.{job_of, number_in, Holds, slots_of, entries_of, running_in, jobs_of}
+use Rattle.agc_exec.specs.Sets.{IsLawful, IsFronted, IsStanding}
 
 -- core set k is free
 abbrev pub IsFreeAt : List (Option Held) → ℕ → Type 0
@@ -25,7 +33,8 @@ pub record IsBestBelow (sets : List (Option Held)) (n k : ℕ) (r : Held) : Type
   pub awake : r.asleep ≡ false
   pub first : (j : ℕ) (s : Held) → j < n → Holds sets j s → s.asleep ≡ false → Yields s r
 
--- of the first sets, up to n: nobody is awake, or set k holds an awake job to which each awake job yields
+-- of the first sets, up to n: nobody is awake, or set k holds an awake job to which each awake job
+-- yields
 abbrev pub BestBelow : List (Option Held) → ℕ → Option (ℕ × Held) → Type 0
 BestBelow sets n None = (j : ℕ) (s : Held) → j < n → Holds sets j s → s.asleep ≡ true
 BestBelow sets n (Some best) = IsBestBelow sets n best.0 best.1
@@ -40,7 +49,8 @@ pub record BringsBest (old new : List (Option Held)) : Type 0 where
   pub entries : entries_of new ≡ fronted (best (slots_of old)) (entries_of old)
 
 -- the new sets stand for this outcome, with the jobs in these places
-pub record Gives (outcome : Outcome) (entries : List ℕ) (new : List (Option Held)) (reply : Reply) : Type 0 where
+pub record Gives (outcome : Outcome) (entries : List ℕ) (new : List (Option Held))
+    (reply : Reply) : Type 0 where
   pub standing : IsStanding new
   pub outcome_is : ◌≡◌ {A = Outcome} (record { jobs = jobs_of new; reply = reply }) outcome
   pub entries_is : entries_of new ≡ entries
@@ -67,11 +77,14 @@ pub record GivesWay (number : ℕ) (old new : List (Option Held)) (now : ℕ) : 
 pub record IsFirstBelow (sets : List (Option Held)) (at n k : ℕ) (r : Held) : Type 0 where
   pub here : Holds sets k r
   pub sleeps : is_sleeper at (job_of r) ≡ true
-  pub first : (j : ℕ) (s : Held) → j < n → Holds sets j s → is_sleeper at (job_of s) ≡ true → r.number ≤ s.number
+  pub first : (j : ℕ) (s : Held) → j < n → Holds sets j s → is_sleeper at (job_of s) ≡ true
+      → r.number ≤ s.number
 
--- of the sets below set n: nobody sleeps at this address, or set k holds the least-numbered sleeper there
+-- of the sets below set n: nobody sleeps at this address, or set k holds the least-numbered sleeper
+-- there
 abbrev pub FirstBelow : List (Option Held) → ℕ → ℕ → Option (ℕ × Held) → Type 0
-FirstBelow sets at n None = (j : ℕ) (s : Held) → j < n → Holds sets j s → is_sleeper at (job_of s) ≡ false
+FirstBelow sets at n None =
+    (j : ℕ) (s : Held) → j < n → Holds sets j s → is_sleeper at (job_of s) ≡ false
 FirstBelow sets at n (Some found) = IsFirstBelow sets at n found.0 found.1
 
 -- the same areas are owned
@@ -86,7 +99,8 @@ pub record Waits (sets : List (Option Held)) (job : Held) (k : ℕ) : Type 0 whe
 
 -- no set holds a job
 abbrev pub AllFree : List ℕ → Type 0
-AllFree words = (k : ℕ) → k < length (blocks_of words) → held_of (slice_index_or (blocks_of words) k []) ≡ None
+AllFree words =
+    (k : ℕ) → k < length (blocks_of words) → held_of (slice_index_or (blocks_of words) k []) ≡ None
 
 -- set k holds a job
 abbrev pub IsHeldAt : List (Option Held) → ℕ → Type 0
@@ -96,24 +110,22 @@ IsHeldAt sets k = (r : Held) × Holds sets k r
 abbrev pub FrontRuns : List (Option Held) → Type 0
 FrontRuns sets = (r : Held) × Holds sets 0 r × (r.asleep ≡ false)
 
--- the rank of set k, by which the best job is found: 0 unless it holds an awake job; else by priority, then the lower number
-abbrev pub rank_in : ℕ → Option Held → ℕ
-rank_in k None = 0
-rank_in k (Some r) = if r.asleep then 0 else (64 * r.priority + 8 * (8 - r.number) + k)
-
--- the rank of set k among the sleepers of an address: 0 unless it holds one; else by the lower number
+-- the rank of set k among the sleepers of an address: 0 unless it holds one; else by the lower
+-- number
 abbrev pub sleeper_rank : ℕ → ℕ → Option Held → ℕ
 sleeper_rank at k None = 0
-sleeper_rank at k (Some r) = if is_sleeper at (job_of r) then (8 * (8 - r.number) + k) else 0
+sleeper_rank at k (Some r) = if is_sleeper at (job_of r) then (8 * (9 - r.number) + k) else 0
 
 -- the greatest of n numbers, 0 where there is none but 0
 pub record IsMost (f : ℕ → ℕ) (n most : ℕ) : Type 0 where
   pub bound : (j : ℕ) → j < n → f j ≤ most
   pub found : (most ≡ 0) ⊎ ((j : ℕ) × (j < n) × (most ≡ f j))
 
--- the greatest rank of the first n sets
-abbrev pub IsBestRank : List (Option Held) → ℕ → ℕ → Type 0
-IsBestRank sets n best = IsMost (λ k. rank_in k (slice_index_or sets k None)) n best
+-- the rank of the best job of the first n sets: 0 where nobody is awake, else 8 times (its priority
+-- + 1), plus its set
+pub record IsBestRank (sets : List (Option Held)) (n rank : ℕ) : Type 0 where
+  pub nobody : rank ≡ 0 → BestBelow sets n None
+  pub found : 0 < rank → (r : Held) × IsBestBelow sets n (rank % 8) r × (rank / 8 ≡ r.priority + 1)
 
 -- the greatest rank among the sleepers of an address
 abbrev pub IsSleeperRank : List (Option Held) → ℕ → ℕ → ℕ → Type 0
@@ -121,9 +133,16 @@ IsSleeperRank sets at n first = IsMost (λ k. sleeper_rank at k (slice_index_or 
 
 -- of the first n sets, these numbers are in use: one that no set has isn't marked
 pub record IsMarked (sets : List (Option Held)) (n : ℕ) (used : List Bool) : Type 0 where
-  pub eight : length used ≡ 8
-  pub marked : (j : ℕ) → j < n → slice_index_or used (number_in (slice_index_or sets j None)) false ≡ true
-  pub only : (number : ℕ) → number < 8 → slice_index_or used number false ≡ true → (j : ℕ) × (j < n) × (number_in (slice_index_or sets j None) ≡ number)
+  pub nine : length used ≡ 9
+  pub marked : (j : ℕ) → j < n → slice_index_or used (number_in (slice_index_or sets j None)) false
+      ≡ true
+  pub only : (number : ℕ) → number < 9 → slice_index_or used number false ≡ true
+      → (j : ℕ) × (j < n) × (number_in (slice_index_or sets j None) ≡ number)
+
+-- of the first n sets this is the first free one; none is, where it is 8
+pub record IsFirstFree (sets : List (Option Held)) (n free : ℕ) : Type 0 where
+  pub before : (j : ℕ) → j < n → j < free → number_in (slice_index_or sets j None) ≢ 0
+  pub here : free < 8 → (free < n) × (number_in (slice_index_or sets free None) ≡ 0)
 
 -- set k holds the least-numbered sleeper of this address
 abbrev pub IsFirstAt : List (Option Held) → ℕ → ℕ → Type 0
@@ -131,7 +150,8 @@ IsFirstAt sets at k = (r : Held) × IsFirstBelow sets at (length sets) k r
 
 -- the job in set 0 is to run on
 abbrev pub Stays : List (Option Held) → Type 0
-Stays sets = (job : Held) → Holds sets 0 job → job.asleep ≡ false → GivesWay job.number sets sets job.number
+Stays sets =
+    (job : Held) → Holds sets 0 job → job.asleep ≡ false → GivesWay job.number sets sets job.number
 
 -- the job in set 0 is to give way to that of set k
 abbrev pub GivesWayTo : List (Option Held) → ℕ → Type 0
@@ -140,7 +160,8 @@ GivesWayTo sets k = (job : Held) → Holds sets 0 job → job.asleep ≡ false �
 -- where nobody ran, the best job came to set 0; else nothing changed
 pub record TookOver (ran : Bool) (old new : List ℕ) : Type 0 where
   pub idle : ran ≡ false → BringsBest (sets_of old) (sets_of new)
-  pub idle_blocks : ran ≡ false → blocks_of new ≡ fronted_blocks (best (slots_of (sets_of old))) (entries_of (sets_of old)) (blocks_of old)
+  pub idle_blocks : ran ≡ false → blocks_of new
+      ≡ fronted_blocks (best (slots_of (sets_of old))) (entries_of (sets_of old)) (blocks_of old)
   pub busy : ran ≡ true → new ≡ old
 
 -- whether the job in set 0 ran
@@ -152,10 +173,11 @@ pub record Tells (ran : Bool) (words : List ℕ) : Type 0 where
 abbrev pub unsigned : ℕ → ℕ
 unsigned word = if nat_lt word sign then word else complement word
 
--- these words of a set are a job's: its number, its LOC, and PRIORITY with its sign taken off
-pub record AreSound (number at urgency : ℕ) : Type 0 where
+-- with so many core sets these words of a set are a job's: its number, its LOC, and PRIORITY with
+-- its sign taken off
+pub record AreSound (sets number at urgency : ℕ) : Type 0 where
   pub number_low : 1 ≤ number
-  pub number_high : number ≤ 7
+  pub number_high : number ≤ sets
   pub at_low : 1 ≤ at
   pub at_high : at ≤ 16383
   pub low : 512 ≤ urgency
@@ -166,11 +188,12 @@ pub record AreSound (number at urgency : ℕ) : Type 0 where
 abbrev pub IsSoundAt : List ℕ → ℕ → Type 0
 IsSoundAt words k =
     slice_index words (set_place k + 11) ≢ minus_zero
-    → AreSound (slice_index words (set_place k + 0)) (slice_index words (set_place k + 8)) (unsigned (slice_index words (set_place k + 11)))
+    → AreSound (sets_in words) (slice_index words (set_place k + 0))
+    (slice_index words (set_place k + 8)) (unsigned (slice_index words (set_place k + 11)))
 
 -- each set is
 abbrev pub AreSoundSets : List ℕ → Type 0
-AreSoundSets words = (k : ℕ) → k < 7 → IsSoundAt words k
+AreSoundSets words = (k : ℕ) → k < sets_in words → IsSoundAt words k
 
 -- the area of a set's job, 0 for none
 abbrev pub area_held : Option Held → ℕ
@@ -183,8 +206,10 @@ Differs x y = 0 < x → x ≢ y
 
 -- two sets share no number and no area
 pub record AreApart (sets : List (Option Held)) (j k : ℕ) : Type 0 where
-  pub numbers : Differs (number_in (slice_index_or sets j None)) (number_in (slice_index_or sets k None))
-  pub areas : Differs (area_held (slice_index_or sets j None)) (area_held (slice_index_or sets k None))
+  pub numbers : Differs (number_in (slice_index_or sets j None))
+      (number_in (slice_index_or sets k None))
+  pub areas : Differs (area_held (slice_index_or sets j None))
+      (area_held (slice_index_or sets k None))
 
 -- set k shares none with those before it
 abbrev pub IsApart : List (Option Held) → ℕ → Type 0
@@ -192,8 +217,67 @@ IsApart sets k = (j : ℕ) → j < k → AreApart sets j k
 
 -- no two sets share any
 abbrev pub AllApart : List (Option Held) → Type 0
-AllApart sets = (k : ℕ) → k < 7 → IsApart sets k
+AllApart sets = (k : ℕ) → k < length sets → IsApart sets k
 
 -- no PRIORITY word is an awake job's
 abbrev pub NobodyAwake : List ℕ → Type 0
-NobodyAwake words = (k : ℕ) → k < 7 → sign ≤ slice_index words (set_place k + 11)
+NobodyAwake words = (k : ℕ) → k < sets_in words → sign ≤ slice_index words (set_place k + 11)
+
+-- set k holds the best job
+abbrev pub IsBestAt : List (Option Held) → ℕ → Type 0
+IsBestAt sets k = (r : Held) × IsBestBelow sets (length sets) k r
+
+-- but for the job of set k, no awake job is more urgent than this one, in set 0, and NEWJOB is 0
+pub record StaysBut (sets : List (Option Held)) (k : ℕ) (job : Held) (newjob : ℕ) : Type 0 where
+  pub none : newjob ≡ 0
+  pub most : (j : ℕ) (s : Held) → j ≢ k → Holds sets j s → s.asleep ≡ false
+      → s.priority ≤ job.priority
+
+-- but for the job of set k, set i holds the best job, which is more urgent than this one, in set 0,
+-- and NEWJOB names it
+pub record NamesBut (sets : List (Option Held)) (k : ℕ) (job : Held) (newjob : ℕ) : Type 0 where
+  pub place : ℕ
+  pub name : newjob ≡ 12 * place
+  pub behind : 1 ≤ place
+  pub first : Held
+  pub here : Holds sets place first
+  pub awake : first.asleep ≡ false
+  pub urgent : job.priority < first.priority
+  pub yields : (j : ℕ) (s : Held) → j ≢ k → Holds sets j s → s.asleep ≡ false → Yields s first
+
+-- a job runs; that of set k became awake, and NEWJOB doesn't know of it yet
+pub record IsNewcomer (words : List ℕ) (k : ℕ) : Type 0 where
+  pub job : Held
+  pub front : Holds (sets_of words) 0 job
+  pub runs : job.asleep ≡ false
+  pub comer : Held
+  pub here : Holds (sets_of words) k comer
+  pub awake : comer.asleep ≡ false
+  pub behind : 0 < k
+  pub named : StaysBut (sets_of words) k job (slice_index words layout.newjob)
+      ⊎ NamesBut (sets_of words) k job (slice_index words layout.newjob)
+
+-- the best job runs
+pub record IsLed (sets : List (Option Held)) : Type 0 where
+  pub runs : FrontRuns sets
+  pub first : running_in sets ≡ best (slots_of sets)
+
+-- the reply to a new job: its number, or that all are used
+abbrev pub told : Option ℕ → Reply
+told None = Alarmed A1202
+told (Some number) = Established number
+
+-- one more job, with this area, if there is room
+abbrev pub DoesEstablish : ℕ → Entry → ℕ → List ℕ → List ℕ → Reply → Type 0
+DoesEstablish priority entry area old new reply =
+    Does (establish_at (least_unused 1 (jobs_in old).slots) (new_job priority entry area)
+    (jobs_in old))
+    (placed_new (established reply) (runner_in new) (entries_in old))
+    (blocks_new (established reply) priority entry area (runner_in new) (entries_in old)
+    (blocks_of old))
+    old new reply
+
+-- the new job has this number
+abbrev pub DoesSettle : ℕ → ℕ → Entry → ℕ → List ℕ → List ℕ → Type 0
+DoesSettle number priority entry area old new =
+    DoesEstablish priority entry area old new (Established number)

@@ -1,6 +1,8 @@
 // The VAC areas, by their use words.
-ghost use Rattle.std.specs.Prelude.{◌≡◌, ◌<◌, ◌≤◌, ◌&&◌, ◌==◌, ℕ, IfSome, slice_index, if◌then◌else◌};
-ghost use Rattle.agc_word.specs.Layout.{address_of, area_of, IsSized, OutsideCores, use_place, Keeps};
+ghost use Rattle.std.specs.Prelude.{◌≡◌, ◌<◌, ◌≤◌, ◌==◌, ℕ, IfSome, slice_index, if◌then◌else◌};
+ghost use Rattle.agc_word.specs.Layout as layout;
+ghost use Rattle.agc_word.specs.Layout.{address_of, area_of, IsSized, OutsideCores, use_place};
+ghost use Rattle.agc_word.specs.Layout.{Keeps};
 ghost use Rattle.agc_plan.specs.Jobs.{least_unowned};
 ghost use Rattle.agc_exec.specs.Blocks.{blocks_of};
 ghost use Rattle.agc_exec.specs.Held.{Held};
@@ -16,7 +18,8 @@ use agc_word::{Erasable, Word};
 pub fn free_area(e: &Erasable) -> Option<u16>
     requires { IsLawfulWords e.now }
     ensures area { result ≡ least_unowned 5 1 (slots_of (sets_of e.now)) }
-    ensures free { IfSome result (λ area. (1 ≤ area) × (area ≤ 5) × IsUnowned (sets_of e.now) area) }
+    ensures free { IfSome result (λ area. (1 ≤ area) × (area ≤ 5)
+        × IsUnowned (sets_of e.now) area) }
 {
     for area in 1..6u16 {
         if e.get(use_place(area as usize)).bits() != 0 {
@@ -26,15 +29,17 @@ pub fn free_area(e: &Erasable) -> Option<u16>
     None
 }
 
-/// Marks the area of a new job as owned, if there is one.
-pub fn take_area(e: &mut Erasable, area: u16, made: bool)
+/// Marks the area of a new job as owned, if it has one.
+pub fn take_area(e: &mut Erasable, area: u16)
     requires sized { IsSized e.old }
-    requires range { (1 ≤ area) × (area ≤ 5) }
+    requires range { area ≤ 5 }
     ensures words { blocks_of e.new ≡ blocks_of e.old }
-    ensures uses { (a : ℕ) → 1 ≤ a → a ≤ 5 → slice_index e.new (use_place a) ≡ (if made && (a == area) then 0 else slice_index e.old (use_place a)) }
+    ensures uses { (a : ℕ) → 1 ≤ a → a ≤ 5 → slice_index e.new (use_place a)
+        ≡ (if a == area then 0 else slice_index e.old (use_place a)) }
+    ensures newjob { slice_index e.new layout.newjob ≡ slice_index e.old layout.newjob }
     ensures others { Keeps OutsideCores e.old e.new }
 {
-    if made {
+    if area > 0 {
         e.set(use_place(area as usize), Word::zero());
     }
 }
@@ -54,7 +59,8 @@ pub fn release_area(e: &mut Erasable, area: u16)
     requires sized { IsSized e.old }
     requires five { area ≤ 5 }
     ensures words { blocks_of e.new ≡ blocks_of e.old }
-    ensures uses { (a : ℕ) → 1 ≤ a → a ≤ 5 → slice_index e.new (use_place a) ≡ (if a == area then address_of area else slice_index e.old (use_place a)) }
+    ensures uses { (a : ℕ) → 1 ≤ a → a ≤ 5 → slice_index e.new (use_place a)
+        ≡ (if a == area then address_of area else slice_index e.old (use_place a)) }
     ensures others { Keeps OutsideCores e.old e.new }
 {
     if area > 0 {

@@ -10,7 +10,8 @@ use agc_plan::{JobNo, Place, Priority, Reply};
 use agc_word::layout::NEWJOB;
 use agc_word::{Erasable, Word};
 
-/// The number of the running job, None where nobody runs. Source: the listings' EXECUTIVE section; numbers: profile.
+/// The number of the running job, None where nobody runs. Source: the listings' EXECUTIVE section;
+/// numbers: profile.
 pub fn running(e: &Erasable) -> Option<JobNo>
     requires { IsLawfulWords e.now }
     ensures { result ≡ runner_in e.now }
@@ -18,8 +19,9 @@ pub fn running(e: &Erasable) -> Option<JobNo>
     runner(e)
 }
 
-/// Change of job: where NEWJOB names a set, its job takes set 0. `Runs` with who runs then, or `NoJob` where nobody ran,
-/// and then nothing changes. Source: the listings' EXECUTIVE section; of equal priorities the least number: profile.
+/// Change of job: where NEWJOB names a set, its job takes set 0. `Runs` with who runs then, or
+/// `NoJob` where nobody ran, and then nothing changes. Source: the listings' EXECUTIVE section; of
+/// equal priorities the least number: profile.
 pub fn change_job(e: &mut Erasable) -> Reply
     requires { IsLawfulWords e.old }
     ensures { DoesChange e.old e.new result }
@@ -37,9 +39,10 @@ pub fn change_job(e: &mut Erasable) -> Reply
     Reply::Runs(number)
 }
 
-/// PRIOCHNG: sets the running job's priority; where an awake job is then strictly more urgent, the best takes set 0.
-/// `Runs` with who runs then, or `NoJob` where nobody ran, and then nothing changes. Source: the listings' EXECUTIVE
-/// section; the change at once, and of equal priorities the least number: profile.
+/// PRIOCHNG: sets the running job's priority; where an awake job is then strictly more urgent, the
+/// best takes set 0. `Runs` with who runs then, or `NoJob` where nobody ran, and then nothing
+/// changes. Source: the listings' EXECUTIVE section; the change at once, and of equal priorities
+/// the least number: profile.
 pub fn prio_change(e: &mut Erasable, priority: Priority) -> Reply
     requires { IsLawfulWords e.old }
     ensures { DoesPrio priority e.old e.new result }
@@ -54,8 +57,8 @@ pub fn prio_change(e: &mut Erasable, priority: Priority) -> Reply
     change_job(e)
 }
 
-/// Sets a work word of the running job, MPAC+1 to MPAC+6. `Stored`, or `NoJob` where nobody runs, and then nothing
-/// changes. Source: profile.
+/// Sets a work word of the running job, MPAC+1 to MPAC+6. `Stored`, or `NoJob` where nobody runs,
+/// and then nothing changes. Source: profile.
 pub fn store(e: &mut Erasable, place: Place, word: Word) -> Reply
     requires { IsLawfulWords e.old }
     ensures { DoesStore place word e.old e.new result }

@@ -1,6 +1,7 @@
 // All sets and areas free.
 ghost use Rattle.std.specs.Prelude.{◌≡◌, ◌≤◌, ℕ, length, slice_index};
-ghost use Rattle.agc_word.specs.Layout.{address_of, IsSized, OutsideSets, OutsideCores, use_place, Keeps};
+ghost use Rattle.agc_word.specs.Layout.{address_of, IsSized, OutsideSets, OutsideCores, use_place};
+ghost use Rattle.agc_word.specs.Layout.{Keeps};
 ghost use Rattle.agc_exec.specs.Blocks.{blocks_of};
 ghost use Rattle.agc_exec.specs.Calls.{Clears};
 ghost use Rattle.agc_exec.specs.Stages.{AllFree};
@@ -16,7 +17,7 @@ fn clear_sets(e: &mut Erasable)
     ensures free { AllFree e.new }
     ensures others { Keeps OutsideSets e.old e.new }
 {
-    for k in 0..e.sets() {
+    for k in 0..e.sets().count() {
         set_word(e, k, PRIORITY, Word::of_bits(MINUS_ZERO));
     }
 }
@@ -33,10 +34,11 @@ fn clear_areas(e: &mut Erasable)
     }
 }
 
-/// Frees all core sets and VAC areas, so nobody runs, from any words. Source: the listings' EXECUTIVE section.
+/// Frees all core sets and VAC areas, so nobody runs, from any words. Source: the listings'
+/// EXECUTIVE section.
 pub fn clear(e: &mut Erasable)
     ensures clears { Clears e.old e.new }
-    ensures all { length e.new ≡ 132 }
+    ensures all { IsSized e.new }
 {
     let _all = e.sets();
     clear_sets(e);

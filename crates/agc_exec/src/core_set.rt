@@ -1,15 +1,24 @@
 // The twelve words of a core set: the only functions that know where they stand.
-ghost use Rattle.std.specs.Prelude.{◌≡◌, ◌+◌, ◌<◌, length, slice_index, slice_index_or, slice_set, swap, None};
-ghost use Rattle.agc_word.specs.Layout.{IsSized, set_place, OutsideSets, Keeps};
+ghost use Rattle.std.specs.Prelude.{◌≡◌, ◌+◌, ◌<◌, ◌≤◌, length, slice_index, slice_index_or};
+ghost use Rattle.std.specs.Prelude.{slice_set, swap, replicate, None};
+ghost use Rattle.agc_word.specs.Layout.{IsSized, sets_in, set_place, OutsideSets, Keeps};
 ghost use Rattle.agc_exec.specs.Blocks.{block_in, blocks_of};
+ghost use Rattle.agc_exec.specs.Calls.{block_with};
 ghost use Rattle.agc_exec.specs.Image.{sets_of};
 ghost use Rattle.agc_exec.specs.Sets.{number_in};
 
+use agc_plan::{Entry, JobNo};
 use agc_word::layout::{SET_SIZE, set_place};
 use agc_word::{Erasable, Word};
 
+/// The core sets before core set 7, which stand in both profiles.
+pub const COMMON_SETS: usize = 7;
+
 /// LOC, from a set's first word.
 pub const LOC: usize = 8;
+
+/// BANKSET, from a set's first word.
+const BANKSET: usize = 9;
 
 /// PRIORITY, from a set's first word.
 pub const PRIORITY: usize = 11;
@@ -25,18 +34,18 @@ pub const PRIORITY_UNIT: u16 = 0o1000;
 
 /// The word at a place of a set.
 pub fn word_of(e: &Erasable, k: usize, i: usize) -> u16
-    requires set { k < 7 }
+    requires set { k < sets_in e.now }
     requires place { i < 12 }
+    requires sized { IsSized e.now }
     ensures value { result ≡ slice_index e.now (set_place k + i) }
     ensures range { result < 32768 }
-    ensures all { length e.now ≡ 132 }
 {
     e.get(set_place(k) + i).bits()
 }
 
 /// The number of a set's job, 0 for none.
 pub fn entry(e: &Erasable, k: usize) -> u16
-    requires set { k < 7 }
+    requires set { k < sets_in e.now }
     requires sized { IsSized e.now }
     ensures { result ≡ number_in (slice_index_or (sets_of e.now) k None) }
 {
@@ -49,32 +58,49 @@ pub fn entry(e: &Erasable, k: usize) -> u16
 
 /// Sets the word at a place of a set.
 pub fn set_word(e: &mut Erasable, k: usize, i: usize, word: Word)
-    requires set { k < 7 }
+    requires set { k < sets_in e.old }
     requires place { i < 12 }
     requires sized { IsSized e.old }
-    ensures blocks { blocks_of e.new ≡ slice_set (blocks_of e.old) k (slice_set (block_in e.old k) i word) }
+    ensures blocks { blocks_of e.new ≡ slice_set (blocks_of e.old) k
+        (slice_set (block_in e.old k) i word) }
     ensures others { Keeps OutsideSets e.old e.new }
 {
     e.set(set_place(k) + i, word);
 }
 
-/// Writes the twelve words of a set.
-pub fn write_block(e: &mut Erasable, k: usize, block: &[Word; 12])
+/// Sets the twelve words of a set to 00000.
+fn blank(e: &mut Erasable, k: usize)
     requires sized { IsSized e.old }
-    requires set { k < 7 }
-    ensures blocks { blocks_of e.new ≡ slice_set (blocks_of e.old) k block.now }
+    requires set { k < sets_in e.old }
+    ensures blocks { blocks_of e.new ≡ slice_set (blocks_of e.old) k (replicate 12 0) }
     ensures others { Keeps OutsideSets e.old e.new }
 {
     let first = set_place(k);
     for i in 0..SET_SIZE {
-        e.set(first + i, block[i]);
+        e.set(first + i, Word::zero());
     }
+}
+
+/// Writes the twelve words of a new job, of this PRIORITY word.
+pub fn write_new(e: &mut Erasable, k: usize, number: JobNo, entry: Entry, urgency: Word)
+    requires sized { IsSized e.old }
+    requires set { k < sets_in e.old }
+    ensures blocks { blocks_of e.new ≡ slice_set (blocks_of e.old) k
+        (block_with number entry urgency) }
+    ensures range { (1 ≤ entry.at) × (entry.at ≤ 16383) }
+    ensures others { Keeps OutsideSets e.old e.new }
+{
+    blank(e, k);
+    set_word(e, k, 0, Word::of_bits(number.get() as u16));
+    set_word(e, k, LOC, Word::of_bits(entry.at.get()));
+    set_word(e, k, BANKSET, entry.bank);
+    set_word(e, k, PRIORITY, urgency);
 }
 
 /// Exchanges the twelve words of set 0 and of another.
 fn exchange_words(e: &mut Erasable, k: usize)
     requires sized { IsSized e.old }
-    requires set { (0 < k) × (k < 7) }
+    requires set { (0 < k) × (k < sets_in e.old) }
     ensures blocks { blocks_of e.new ≡ swap (blocks_of e.old) 0 k }
     ensures others { Keeps OutsideSets e.old e.new }
 {
@@ -90,7 +116,7 @@ fn exchange_words(e: &mut Erasable, k: usize)
 /// Exchanges the twelve words of set 0 and of a set, which may be set 0 itself.
 pub fn exchange(e: &mut Erasable, k: usize)
     requires sized { IsSized e.old }
-    requires set { k < 7 }
+    requires set { k < sets_in e.old }
     ensures blocks { blocks_of e.new ≡ swap (blocks_of e.old) 0 k }
     ensures others { Keeps OutsideSets e.old e.new }
 {

@@ -1,10 +1,13 @@
 // Whether words are lawful, for those that come from outside.
-ghost use Rattle.std.specs.Prelude.{◌≡◌, ◌<◌, ◌≤◌, ◌↔◌, true, false, IsTrue, nat_lt, if◌then◌else◌, None, slice_index_or};
-ghost use Rattle.agc_word.specs.Layout.{IsSized, address_of};
+ghost use Rattle.std.specs.Prelude.{◌≡◌, ◌<◌, ◌≤◌, ◌↔◌, true, false, IsTrue, nat_lt, if◌then◌else◌};
+ghost use Rattle.std.specs.Prelude.{None, slice_index_or};
+ghost use Rattle.agc_word.specs.Layout.{IsSized, sets_in, address_of};
 ghost use Rattle.agc_word.specs.Words.{complement};
 ghost use Rattle.agc_exec.specs.Image.{sets_of, IsSet, IsLawfulWords, UsesAgree};
 ghost use Rattle.agc_exec.specs.Sets.{slots_of};
-ghost use Rattle.agc_exec.specs.Stages.{unsigned, AreSound, IsSoundAt, AreSoundSets, area_held, Differs, AreApart, IsApart, AllApart, NobodyAwake, owned_in};
+ghost use Rattle.agc_exec.specs.Stages.{unsigned, AreSound, IsSoundAt, AreSoundSets, area_held};
+ghost use Rattle.agc_exec.specs.Stages.{Differs, AreApart, IsApart, AllApart, NobodyAwake};
+ghost use Rattle.agc_exec.specs.Stages.{owned_in};
 
 use crate::core_set::{LOC, MINUS_ZERO, PRIORITY, PRIORITY_UNIT, SIGN, entry, word_of};
 use crate::newjob::newjob;
@@ -20,15 +23,15 @@ fn unsigned(word: u16) -> u16
     if word < SIGN { word } else { MINUS_ZERO - word }
 }
 
-/// Whether a number, LOC and PRIORITY with its sign taken off are a job's.
-fn are_sound(number: u16, at: u16, urgency: u16) -> bool
-    ensures yes { result ≡ true → AreSound number at urgency }
-    ensures no { AreSound number at urgency → result ≡ true }
+/// Whether a number, LOC and PRIORITY with its sign taken off are a job's, with so many core sets.
+fn are_sound(sets: u16, number: u16, at: u16, urgency: u16) -> bool
+    ensures yes { result ≡ true → AreSound sets number at urgency }
+    ensures no { AreSound sets number at urgency → result ≡ true }
 {
     if number < 1 {
         return false;
     }
-    if number > 7 {
+    if number > sets {
         return false;
     }
     if at < 1 {
@@ -50,7 +53,8 @@ fn are_sound(number: u16, at: u16, urgency: u16) -> bool
 
 /// Whether a set is free, or its words are a job's.
 fn is_sound_set(e: &Erasable, k: usize) -> bool
-    requires { k < 7 }
+    requires set { k < sets_in e.now }
+    requires sized { IsSized e.now }
     ensures yes { result ≡ true → IsSoundAt e.now k }
     ensures no { IsSoundAt e.now k → result ≡ true }
 {
@@ -58,15 +62,22 @@ fn is_sound_set(e: &Erasable, k: usize) -> bool
     if priority == MINUS_ZERO {
         return true;
     }
-    are_sound(word_of(e, k, 0), word_of(e, k, LOC), unsigned(priority))
+    let sets = e.sets().count() as u16;
+    are_sound(
+        sets,
+        word_of(e, k, 0),
+        word_of(e, k, LOC),
+        unsigned(priority),
+    )
 }
 
 /// Whether each set is free, or its words are a job's.
 fn are_sound_sets(e: &Erasable) -> bool
+    requires { IsSized e.now }
     ensures yes { result ≡ true → AreSoundSets e.now }
     ensures no { AreSoundSets e.now → result ≡ true }
 {
-    for k in 0..7 {
+    for k in 0..e.sets().count() {
         if !is_sound_set(e, k) {
             return false;
         }
@@ -76,7 +87,7 @@ fn are_sound_sets(e: &Erasable) -> bool
 
 /// The area of a set's job, 0 for none.
 fn area_in(e: &Erasable, k: usize) -> u16
-    requires set { k < 7 }
+    requires set { k < sets_in e.now }
     requires sized { IsSized e.now }
     ensures { result ≡ area_held (slice_index_or (sets_of e.now) k None) }
 {
@@ -101,7 +112,7 @@ fn differs(x: u16, y: u16) -> bool
 
 /// Whether two sets share no number and no area.
 fn are_apart(e: &Erasable, j: usize, k: usize) -> bool
-    requires set { (j < 7) × (k < 7) }
+    requires set { (j < sets_in e.now) × (k < sets_in e.now) }
     requires sized { IsSized e.now }
     ensures yes { result ≡ true → AreApart (sets_of e.now) j k }
     ensures no { AreApart (sets_of e.now) j k → result ≡ true }
@@ -114,7 +125,7 @@ fn are_apart(e: &Erasable, j: usize, k: usize) -> bool
 
 /// Whether a set shares no number and no area with those before it.
 fn is_apart(e: &Erasable, k: usize) -> bool
-    requires set { k < 7 }
+    requires set { k < sets_in e.now }
     requires sized { IsSized e.now }
     ensures yes { result ≡ true → IsApart (sets_of e.now) k }
     ensures no { IsApart (sets_of e.now) k → result ≡ true }
@@ -133,7 +144,7 @@ fn all_apart(e: &Erasable) -> bool
     ensures yes { result ≡ true → AllApart (sets_of e.now) }
     ensures no { AllApart (sets_of e.now) → result ≡ true }
 {
-    for k in 0..7 {
+    for k in 0..e.sets().count() {
         if !is_apart(e, k) {
             return false;
         }
@@ -143,10 +154,11 @@ fn all_apart(e: &Erasable) -> bool
 
 /// Whether no job is awake.
 fn nobody_awake(e: &Erasable) -> bool
+    requires { IsSized e.now }
     ensures yes { result ≡ true → NobodyAwake e.now }
     ensures no { NobodyAwake e.now → result ≡ true }
 {
-    for k in 0..7 {
+    for k in 0..e.sets().count() {
         if word_of(e, k, PRIORITY) < SIGN {
             return false;
         }
@@ -179,7 +191,7 @@ fn is_owned(e: &Erasable, area: u16) -> bool
     requires low { 1 ≤ area }
     ensures { result ≡ owned_in area (sets_of e.now) }
 {
-    for k in 0..e.sets() {
+    for k in 0..e.sets().count() {
         if area_in(e, k) == area {
             return true;
         }
@@ -214,12 +226,13 @@ fn uses_agree(e: &Erasable) -> bool
     true
 }
 
-/// Whether core sets, use words and NEWJOB are lawful: PRIORITY of each set is 77777 (free), or 512 times a priority from
-/// 1 to 31 plus an area's address or 0 (awake), or the complement of such a word (asleep); a job's number is 1 to 7 and
-/// its LOC 1 to 16383; no two jobs share a number or an area; where anybody is awake, the job in set 0 is; a use word is
-/// its area's address where nobody owns the area, else 00000; NEWJOB is 77777 where nobody is awake, 12 times the best
-/// job's set where that is strictly more urgent than set 0's, else 00000. An image from outside is tested by this before
-/// any other call. Source: profile.
+/// Whether core sets, use words and NEWJOB are lawful: PRIORITY of each set is 77777 (free), or 512
+/// times a priority from 1 to 31 plus an area's address or 0 (awake), or the complement of such a
+/// word (asleep); a job's number is from 1 to the number of sets, and its LOC 1 to 16383; no two
+/// jobs share a number or an area; where anybody is awake, the job in set 0 is; a use word is its
+/// area's address where nobody owns the area, else 00000; NEWJOB is 77777 where nobody is awake, 12
+/// times the best job's set where that is strictly more urgent than set 0's, else 00000. An image
+/// from outside is tested by this before any other call. Source: profile.
 pub fn is_lawful(e: &Erasable) -> bool
     ensures { IsTrue result ↔ IsLawfulWords e.now }
 {

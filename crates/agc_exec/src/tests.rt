@@ -5,7 +5,7 @@ use crate::{
     running, store,
 };
 use agc_plan::{Address, Alarm, Entry, Place, Priority, Reply};
-use agc_word::{Erasable, Word};
+use agc_word::{Erasable, Sets, Word};
 use std::process::Abort;
 use std::test::Fail;
 
@@ -91,16 +91,16 @@ fn in_numbers(reply: Reply) -> Told {
     }
 }
 
-/// Words of no job.
-fn cleared() -> Erasable {
-    let mut e = Erasable::new();
+/// Words of so many sets and no job.
+fn cleared(sets: Sets) -> Erasable {
+    let mut e = Erasable::new(sets);
     clear(&mut e);
     e
 }
 
 /// Asks the requests of words of no job, and compares the replies.
-fn asked(rt: &impl Abort, cases: &[(Ask, Told)]) -> Result<Erasable, Fail> {
-    let mut e = cleared();
+fn asked(rt: &impl Abort, sets: Sets, cases: &[(Ask, Told)]) -> Result<Erasable, Fail> {
+    let mut e = cleared(sets);
     for (i, case) in cases.iter().enumerate() {
         assert_eq!(rt;
             in_numbers(answer(rt, &mut e, case.0)?),
@@ -111,27 +111,42 @@ fn asked(rt: &impl Abort, cases: &[(Ask, Told)]) -> Result<Erasable, Fail> {
     Ok(e)
 }
 
-/// Compares the words of the first sets, of which all others are free, the use words and NEWJOB, and that no other place
-/// has a word.
+/// The bits at a place, 0 for one that there isn't.
+fn bits(e: &Erasable, place: usize) -> u16 {
+    match e.words().get(place) {
+        Some(word) => word.bits(),
+        None => 0,
+    }
+}
+
+/// Where a word of a set stands: set 7 after all other tables.
+const fn place(k: usize, i: usize) -> usize
+    requires { (k < 8) × (i < 12) }
+{
+    if k < 7 { 12 * k + i } else { 132 + i }
+}
+
+/// Compares the words of the first sets, of which all others are free, the use words and NEWJOB,
+/// and that no other place has a word.
 fn compare(rt: &impl Abort, e: &Erasable, sets: &[[u16; 12]], uses: [u16; 5], newjob: u16) {
-    for k in 0..7usize {
+    for k in 0..e.sets().count() {
         match sets.get(k) {
             Some(set) => {
-                for (i, bits) in set.iter().enumerate() {
+                for (i, want) in set.iter().enumerate() {
                     assert!(rt; i < 12);
-                    assert_eq!(rt; e.get(12 * k + i).bits(), *bits, "set {k}, word {i}");
+                    assert_eq!(rt; bits(e, place(k, i)), *want, "set {k}, word {i}");
                 }
             }
-            None => assert_eq!(rt; e.get(12 * k + 11).bits(), 0o77777, "set {k}"),
+            None => assert_eq!(rt; bits(e, place(k, 11)), 0o77777, "set {k}"),
         }
     }
-    for (i, bits) in uses.iter().enumerate() {
+    for (i, want) in uses.iter().enumerate() {
         assert!(rt; i < 5);
-        assert_eq!(rt; e.get(84 + i).bits(), *bits, "use word {i}");
+        assert_eq!(rt; bits(e, 84 + i), *want, "use word {i}");
     }
-    assert_eq!(rt; e.get(89).bits(), newjob);
+    assert_eq!(rt; bits(e, 89), newjob);
     for place in 90..132usize {
-        assert_eq!(rt; e.get(place).bits(), 0, "place {place}");
+        assert_eq!(rt; bits(e, place), 0, "place {place}");
     }
     assert!(rt; is_lawful(e));
 }
@@ -144,50 +159,67 @@ const fn set(number: u16, at: u16, priority: u16) -> [u16; 12] {
     [number, 0, 0, 0, 0, 0, 0, 0, at, 5, 0, priority]
 }
 
+fn one_job_of(rt: &impl Abort, sets: Sets) -> Result<(), Fail> {
+    let e = asked(rt, sets, &[(Novac(0o20, 0o2000), Told::Job(1))])?;
+    compare(rt, &e, &[set(1, 0o2000, 0o20000)], FREE, 0);
+    Ok(())
+}
+
 #[test]
 fn one_job(rt: HostRuntime) -> Result<(), Fail> {
-    let e = asked(&rt, &[(Novac(0o20, 0o2000), Told::Job(1))])?;
-    compare(&rt, &e, &[set(1, 0o2000, 0o20000)], FREE, 0);
+    one_job_of(&rt, Sets::Seven)?;
+    one_job_of(&rt, Sets::Eight)
+}
+
+fn one_job_ends_of(rt: &impl Abort, sets: Sets) -> Result<(), Fail> {
+    let mut e = asked(
+        rt,
+        sets,
+        &[(Novac(0o20, 0o2000), Told::Job(1)), (End, Told::Idle)],
+    )?;
+    compare(rt, &e, &[], FREE, 0o77777);
+    assert_eq!(rt; in_numbers(answer(rt, &mut e, End)?), Told::NoJob);
+    assert_eq!(rt; in_numbers(answer(rt, &mut e, Store(1, 1))?), Told::NoJob);
+    compare(rt, &e, &[], FREE, 0o77777);
     Ok(())
 }
 
 #[test]
 fn one_job_ends(rt: HostRuntime) -> Result<(), Fail> {
-    let mut e = asked(
-        &rt,
-        &[(Novac(0o20, 0o2000), Told::Job(1)), (End, Told::Idle)],
-    )?;
-    compare(&rt, &e, &[], FREE, 0o77777);
-    assert_eq!(rt; in_numbers(answer(&rt, &mut e, End)?), Told::NoJob);
-    assert_eq!(rt; in_numbers(answer(&rt, &mut e, Store(1, 1))?), Told::NoJob);
-    compare(&rt, &e, &[], FREE, 0o77777);
-    Ok(())
+    one_job_ends_of(&rt, Sets::Seven)?;
+    one_job_ends_of(&rt, Sets::Eight)
 }
 
-#[test]
-fn end_hands_over(rt: HostRuntime) -> Result<(), Fail> {
+fn end_hands_over_of(rt: &impl Abort, sets: Sets) -> Result<(), Fail> {
     let mut e = asked(
-        &rt,
+        rt,
+        sets,
         &[
             (Novac(0o20, 0o2000), Told::Job(1)),
             (Novac(0o30, 0o2100), Told::Job(2)),
         ],
     )?;
     compare(
-        &rt,
+        rt,
         &e,
         &[set(1, 0o2000, 0o20000), set(2, 0o2100, 0o30000)],
         FREE,
         0o14,
     );
-    assert_eq!(rt; in_numbers(answer(&rt, &mut e, End)?), Told::Left(2));
-    compare(&rt, &e, &[set(2, 0o2100, 0o30000)], FREE, 0);
+    assert_eq!(rt; in_numbers(answer(rt, &mut e, End)?), Told::Left(2));
+    compare(rt, &e, &[set(2, 0o2100, 0o30000)], FREE, 0);
     Ok(())
 }
 
 #[test]
+fn end_hands_over(rt: HostRuntime) -> Result<(), Fail> {
+    end_hands_over_of(&rt, Sets::Seven)?;
+    end_hands_over_of(&rt, Sets::Eight)
+}
+
+#[test]
 fn seven_jobs_and_alarm_1202(rt: HostRuntime) -> Result<(), Fail> {
-    let mut e = cleared();
+    let mut e = cleared(Sets::Seven);
     for number in 1..8u8 {
         assert_eq!(rt;
             in_numbers(answer(&rt, &mut e, Novac(0o10, 0o2000))?),
@@ -222,10 +254,10 @@ fn seven_jobs_and_alarm_1202(rt: HostRuntime) -> Result<(), Fail> {
     Ok(())
 }
 
-#[test]
-fn change_of_job(rt: HostRuntime) -> Result<(), Fail> {
+fn change_of_job_of(rt: &impl Abort, sets: Sets) -> Result<(), Fail> {
     let mut e = asked(
-        &rt,
+        rt,
+        sets,
         &[
             (Novac(0o20, 0o2000), Told::Job(1)),
             (Store(1, 0o123), Told::Stored),
@@ -233,26 +265,37 @@ fn change_of_job(rt: HostRuntime) -> Result<(), Fail> {
         ],
     )?;
     let stored = [1, 0o123, 0, 0, 0, 0, 0, 0, 0o2000, 5, 0, 0o20000];
-    compare(&rt, &e, &[stored, set(2, 0o2100, 0o30000)], FREE, 0o14);
-    assert_eq!(rt; in_numbers(answer(&rt, &mut e, Change)?), Told::Runs(2));
-    compare(&rt, &e, &[set(2, 0o2100, 0o30000), stored], FREE, 0);
+    compare(rt, &e, &[stored, set(2, 0o2100, 0o30000)], FREE, 0o14);
+    assert_eq!(rt; in_numbers(answer(rt, &mut e, Change)?), Told::Runs(2));
+    compare(rt, &e, &[set(2, 0o2100, 0o30000), stored], FREE, 0);
+    Ok(())
+}
+
+#[test]
+fn change_of_job(rt: HostRuntime) -> Result<(), Fail> {
+    change_of_job_of(&rt, Sets::Seven)?;
+    change_of_job_of(&rt, Sets::Eight)
+}
+
+fn sleeper_keeps_set_0_of(rt: &impl Abort, sets: Sets) -> Result<(), Fail> {
+    let mut e = asked(rt, sets, &[(Findvac(0o37, 0o3000), Told::Job(1))])?;
+    let owned = [0, 0o354, 0o430, 0o504, 0o560];
+    compare(rt, &e, &[set(1, 0o3000, 0o37300)], owned, 0);
+    assert_eq!(rt; in_numbers(answer(rt, &mut e, Sleep(0o3010))?), Told::Idle);
+    compare(rt, &e, &[set(1, 0o3010, 0o40477)], owned, 0o77777);
     Ok(())
 }
 
 #[test]
 fn sleeper_keeps_set_0(rt: HostRuntime) -> Result<(), Fail> {
-    let mut e = asked(&rt, &[(Findvac(0o37, 0o3000), Told::Job(1))])?;
-    let owned = [0, 0o354, 0o430, 0o504, 0o560];
-    compare(&rt, &e, &[set(1, 0o3000, 0o37300)], owned, 0);
-    assert_eq!(rt; in_numbers(answer(&rt, &mut e, Sleep(0o3010))?), Told::Idle);
-    compare(&rt, &e, &[set(1, 0o3010, 0o40477)], owned, 0o77777);
-    Ok(())
+    sleeper_keeps_set_0_of(&rt, Sets::Seven)?;
+    sleeper_keeps_set_0_of(&rt, Sets::Eight)
 }
 
-#[test]
-fn equal_priorities(rt: HostRuntime) -> Result<(), Fail> {
+fn equal_priorities_of(rt: &impl Abort, sets: Sets) -> Result<(), Fail> {
     let e = asked(
-        &rt,
+        rt,
+        sets,
         &[
             (Novac(0o37, 0o2000), Told::Job(1)),
             (Novac(0o20, 0o2010), Told::Job(2)),
@@ -262,19 +305,25 @@ fn equal_priorities(rt: HostRuntime) -> Result<(), Fail> {
             (Prio(0o10), Told::Runs(1)),
         ],
     )?;
-    let sets = [
+    let held = [
         set(1, 0o2030, 0o20000),
         set(2, 0o2010, 0o10000),
         set(3, 0o2020, 0o20000),
     ];
-    compare(&rt, &e, &sets, FREE, 0);
+    compare(rt, &e, &held, FREE, 0);
     Ok(())
 }
 
 #[test]
-fn rouse_tells_newjob(rt: HostRuntime) -> Result<(), Fail> {
+fn equal_priorities(rt: HostRuntime) -> Result<(), Fail> {
+    equal_priorities_of(&rt, Sets::Seven)?;
+    equal_priorities_of(&rt, Sets::Eight)
+}
+
+fn rouse_tells_newjob_of(rt: &impl Abort, sets: Sets) -> Result<(), Fail> {
     let mut e = asked(
-        &rt,
+        rt,
+        sets,
         &[
             (Novac(0o20, 0o2000), Told::Job(1)),
             (Sleep(0o2044), Told::Idle),
@@ -282,22 +331,22 @@ fn rouse_tells_newjob(rt: HostRuntime) -> Result<(), Fail> {
         ],
     )?;
     compare(
-        &rt,
+        rt,
         &e,
         &[set(2, 0o2100, 0o10000), set(1, 0o2044, 0o57777)],
         FREE,
         0,
     );
     assert_eq!(rt;
-        in_numbers(answer(&rt, &mut e, Rouse(0o2044))?),
+        in_numbers(answer(rt, &mut e, Rouse(0o2044))?),
         Told::Roused(1)
     );
     assert_eq!(rt;
-        in_numbers(answer(&rt, &mut e, Rouse(0o2044))?),
+        in_numbers(answer(rt, &mut e, Rouse(0o2044))?),
         Told::NoSleeper
     );
     compare(
-        &rt,
+        rt,
         &e,
         &[set(2, 0o2100, 0o10000), set(1, 0o2044, 0o20000)],
         FREE,
@@ -307,34 +356,45 @@ fn rouse_tells_newjob(rt: HostRuntime) -> Result<(), Fail> {
 }
 
 #[test]
-fn areas_before_sets(rt: HostRuntime) -> Result<(), Fail> {
-    let mut e = cleared();
+fn rouse_tells_newjob(rt: HostRuntime) -> Result<(), Fail> {
+    rouse_tells_newjob_of(&rt, Sets::Seven)?;
+    rouse_tells_newjob_of(&rt, Sets::Eight)
+}
+
+fn areas_before_sets_of(rt: &impl Abort, sets: Sets) -> Result<(), Fail> {
+    let mut e = cleared(sets);
     for number in 1..6u8 {
         assert_eq!(rt;
-            in_numbers(answer(&rt, &mut e, Findvac(0o10, 0o2000))?),
+            in_numbers(answer(rt, &mut e, Findvac(0o10, 0o2000))?),
             Told::Job(number)
         );
     }
     assert_eq!(rt;
-        in_numbers(answer(&rt, &mut e, Findvac(0o10, 0o2000))?),
+        in_numbers(answer(rt, &mut e, Findvac(0o10, 0o2000))?),
         Told::Alarm(Alarm::A1201)
     );
     for number in 6..8u8 {
         assert_eq!(rt;
-            in_numbers(answer(&rt, &mut e, Novac(0o10, 0o2000))?),
+            in_numbers(answer(rt, &mut e, Novac(0o10, 0o2000))?),
             Told::Job(number)
         );
     }
     assert_eq!(rt;
-        in_numbers(answer(&rt, &mut e, Findvac(0o10, 0o2000))?),
+        in_numbers(answer(rt, &mut e, Findvac(0o10, 0o2000))?),
         Told::Alarm(Alarm::A1201)
     );
     Ok(())
 }
 
 #[test]
+fn areas_before_sets(rt: HostRuntime) -> Result<(), Fail> {
+    areas_before_sets_of(&rt, Sets::Seven)?;
+    areas_before_sets_of(&rt, Sets::Eight)
+}
+
+#[test]
 fn sets_full_with_an_area_free(rt: HostRuntime) -> Result<(), Fail> {
-    let mut e = cleared();
+    let mut e = cleared(Sets::Seven);
     for number in 1..5u8 {
         assert_eq!(rt;
             in_numbers(answer(&rt, &mut e, Findvac(0o10, 0o2000))?),
@@ -354,10 +414,10 @@ fn sets_full_with_an_area_free(rt: HostRuntime) -> Result<(), Fail> {
     Ok(())
 }
 
-#[test]
-fn least_number_and_least_area(rt: HostRuntime) -> Result<(), Fail> {
+fn least_number_and_least_area_of(rt: &impl Abort, sets: Sets) -> Result<(), Fail> {
     let e = asked(
-        &rt,
+        rt,
+        sets,
         &[
             (Findvac(0o10, 0o2000), Told::Job(1)),
             (Findvac(0o10, 0o2010), Told::Job(2)),
@@ -365,9 +425,15 @@ fn least_number_and_least_area(rt: HostRuntime) -> Result<(), Fail> {
             (Findvac(0o10, 0o2020), Told::Job(1)),
         ],
     )?;
-    let sets = [set(2, 0o2010, 0o10354), set(1, 0o2020, 0o10300)];
-    compare(&rt, &e, &sets, [0, 0, 0o430, 0o504, 0o560], 0);
+    let held = [set(2, 0o2010, 0o10354), set(1, 0o2020, 0o10300)];
+    compare(rt, &e, &held, [0, 0, 0o430, 0o504, 0o560], 0);
     Ok(())
+}
+
+#[test]
+fn least_number_and_least_area(rt: HostRuntime) -> Result<(), Fail> {
+    least_number_and_least_area_of(&rt, Sets::Seven)?;
+    least_number_and_least_area_of(&rt, Sets::Eight)
 }
 
 /// Sets a word of any place below 132.
@@ -377,33 +443,40 @@ fn put(rt: &impl Abort, e: &mut Erasable, place: usize, bits: u16) -> Result<(),
     Ok(())
 }
 
-#[test]
-fn new_job_over_old_words(rt: HostRuntime) -> Result<(), Fail> {
-    let mut e = cleared();
+fn new_job_over_old_words_of(rt: &impl Abort, sets: Sets) -> Result<(), Fail> {
+    let mut e = cleared(sets);
     for place in 0..11usize {
-        put(&rt, &mut e, place, 0o12345)?;
+        put(rt, &mut e, place, 0o12345)?;
     }
     assert_eq!(rt;
-        in_numbers(answer(&rt, &mut e, Novac(0o20, 0o2000))?),
+        in_numbers(answer(rt, &mut e, Novac(0o20, 0o2000))?),
         Told::Job(1)
     );
-    compare(&rt, &e, &[set(1, 0o2000, 0o20000)], FREE, 0);
-    put(&rt, &mut e, 7, 0o7)?;
-    put(&rt, &mut e, 10, 0o11)?;
+    compare(rt, &e, &[set(1, 0o2000, 0o20000)], FREE, 0);
+    put(rt, &mut e, 7, 0o7)?;
+    put(rt, &mut e, 10, 0o11)?;
     assert_eq!(rt;
-        in_numbers(answer(&rt, &mut e, Novac(0o30, 0o2100))?),
+        in_numbers(answer(rt, &mut e, Novac(0o30, 0o2100))?),
         Told::Job(2)
     );
-    assert_eq!(rt; in_numbers(answer(&rt, &mut e, Change)?), Told::Runs(2));
+    assert_eq!(rt; in_numbers(answer(rt, &mut e, Change)?), Told::Runs(2));
     let moved = [1, 0, 0, 0, 0, 0, 0, 0o7, 0o2000, 5, 0o11, 0o20000];
-    compare(&rt, &e, &[set(2, 0o2100, 0o30000), moved], FREE, 0);
+    compare(rt, &e, &[set(2, 0o2100, 0o30000), moved], FREE, 0);
     Ok(())
 }
 
-/// Words of four jobs: 2 runs with area 2, 1 sleeps with area 1, 3 and 4 wait, and 4 is to run next.
-fn four_jobs(rt: &impl Abort) -> Result<Erasable, Fail> {
+#[test]
+fn new_job_over_old_words(rt: HostRuntime) -> Result<(), Fail> {
+    new_job_over_old_words_of(&rt, Sets::Seven)?;
+    new_job_over_old_words_of(&rt, Sets::Eight)
+}
+
+/// Words of four jobs: 2 runs with area 2, 1 sleeps with area 1, 3 and 4 wait, and 4 is to run
+/// next.
+fn four_jobs(rt: &impl Abort, sets: Sets) -> Result<Erasable, Fail> {
     let e = asked(
         rt,
+        sets,
         &[
             (Findvac(0o20, 0o2000), Told::Job(1)),
             (Findvac(0o30, 0o2100), Told::Job(2)),
@@ -412,13 +485,13 @@ fn four_jobs(rt: &impl Abort) -> Result<Erasable, Fail> {
             (Novac(0o37, 0o4000), Told::Job(4)),
         ],
     )?;
-    let sets = [
+    let held = [
         set(2, 0o2100, 0o30354),
         set(1, 0o3010, 0o57477),
         set(3, 0o3000, 0o10000),
         set(4, 0o4000, 0o37000),
     ];
-    compare(rt, &e, &sets, [0, 0, 0o430, 0o504, 0o560], 0o44);
+    compare(rt, &e, &held, [0, 0, 0o430, 0o504, 0o560], 0o44);
     Ok(e)
 }
 
@@ -477,7 +550,7 @@ const BROKEN: [(usize, u16); 41] = [
 
 #[test]
 fn broken_images(rt: HostRuntime) -> Result<(), Fail> {
-    let mut e = four_jobs(&rt)?;
+    let mut e = four_jobs(&rt, Sets::Seven)?;
     for (place, bits) in BROKEN {
         assert!(rt; place < 132);
         let kept = e.get(place);
@@ -486,8 +559,8 @@ fn broken_images(rt: HostRuntime) -> Result<(), Fail> {
         e.set(place, kept);
         assert!(rt; is_lawful(&e));
     }
-    assert!(rt; !is_lawful(&Erasable::new()));
-    let mut none = cleared();
+    assert!(rt; !is_lawful(&Erasable::new(Sets::Seven)));
+    let mut none = cleared(Sets::Seven);
     assert!(rt; is_lawful(&none));
     assert!(rt; running(&none).is_none());
     put(&rt, &mut none, 89, 0)?;
@@ -538,13 +611,113 @@ impl Random {
     }
 }
 
-#[test]
-fn ten_thousand_requests(rt: HostRuntime) -> Result<(), Fail> {
+fn ten_thousand_requests_of(rt: &impl Abort, sets: Sets) -> Result<(), Fail> {
     let mut random = Random::new();
-    let mut e = cleared();
+    let mut e = cleared(sets);
     for _ in 0..10000u32 {
-        answer(&rt, &mut e, random.ask())?;
+        answer(rt, &mut e, random.ask())?;
     }
     assert!(rt; is_lawful(&e));
     Ok(())
+}
+
+#[test]
+fn ten_thousand_requests(rt: HostRuntime) -> Result<(), Fail> {
+    ten_thousand_requests_of(&rt, Sets::Seven)?;
+    ten_thousand_requests_of(&rt, Sets::Eight)
+}
+
+/// Eight sets with eight jobs: the last is to run next.
+fn eight_jobs(rt: &impl Abort) -> Result<Erasable, Fail> {
+    let cases = [
+        (Novac(0o10, 0o2000), Told::Job(1)),
+        (Novac(0o10, 0o2000), Told::Job(2)),
+        (Novac(0o10, 0o2000), Told::Job(3)),
+        (Novac(0o10, 0o2000), Told::Job(4)),
+        (Novac(0o10, 0o2000), Told::Job(5)),
+        (Novac(0o10, 0o2000), Told::Job(6)),
+        (Novac(0o10, 0o2000), Told::Job(7)),
+        (Novac(0o20, 0o2010), Told::Job(8)),
+    ];
+    asked(rt, Sets::Eight, &cases)
+}
+
+/// Seven jobs of priority octal 10, and this one last.
+fn with_last(last: [u16; 12]) -> [[u16; 12]; 8] {
+    let job = [1, 2, 3, 4, 5, 6, 7].map(|number| set(number, 0o2000, 0o10000));
+    [job[0], job[1], job[2], job[3], job[4], job[5], job[6], last]
+}
+
+#[test]
+fn the_eighth_job_of_eight_sets(rt: HostRuntime) -> Result<(), Fail> {
+    let mut e = eight_jobs(&rt)?;
+    compare(&rt, &e, &with_last(set(8, 0o2010, 0o20000)), FREE, 0o124);
+    assert_eq!(rt; bits(&e, 143), 0o20000);
+    let full = in_numbers(answer(&rt, &mut e, Novac(0o10, 0o2000))?);
+    assert_eq!(rt; full, Told::Alarm(Alarm::A1202));
+    compare(&rt, &e, &with_last(set(8, 0o2010, 0o20000)), FREE, 0o124);
+    assert_eq!(rt; in_numbers(answer(&rt, &mut e, Change)?), Told::Runs(8));
+    let mut changed = with_last(set(1, 0o2000, 0o10000));
+    changed[0] = set(8, 0o2010, 0o20000);
+    compare(&rt, &e, &changed, FREE, 0);
+    assert_eq!(rt; (bits(&e, 0), bits(&e, 132), bits(&e, 89)), (8, 1, 0));
+    clear(&mut e);
+    compare(&rt, &e, &[], FREE, 0o77777);
+    Ok(())
+}
+
+#[test]
+fn a_sleeper_in_set_7_wakes(rt: HostRuntime) -> Result<(), Fail> {
+    let mut e = eight_jobs(&rt)?;
+    assert_eq!(rt; in_numbers(answer(&rt, &mut e, Change)?), Told::Runs(8));
+    assert_eq!(rt;
+        in_numbers(answer(&rt, &mut e, Sleep(0o3000))?),
+        Told::Left(1)
+    );
+    compare(&rt, &e, &with_last(set(8, 0o3000, 0o57777)), FREE, 0);
+    assert_eq!(rt;
+        in_numbers(answer(&rt, &mut e, Rouse(0o3000))?),
+        Told::Roused(8)
+    );
+    compare(&rt, &e, &with_last(set(8, 0o3000, 0o20000)), FREE, 0o124);
+    Ok(())
+}
+
+#[test]
+fn eight_jobs_with_a_word_of_set_7_broken(rt: HostRuntime) -> Result<(), Fail> {
+    let kept = eight_jobs(&rt)?.words();
+    for (broken, wrong) in [
+        (132, 0),
+        (132, 1),
+        (132, 9),
+        (140, 0),
+        (140, 0o40000),
+        (143, 0o00000),
+        (143, 0o20001),
+        (143, 0o20300),
+        (143, 0o10000),
+        (143, 0o57777),
+        (143, 0o77777),
+        (89, 0o140),
+        (89, 0o110),
+        (89, 0),
+    ] {
+        let e = image(&rt, &kept, broken, word(wrong)?);
+        assert!(rt; !is_lawful(&e), "place {broken}, {wrong:05o}");
+    }
+    assert!(rt; is_lawful(&image(&rt, &kept, 0, word(1)?)));
+    Ok(())
+}
+
+/// Eight sets with these words, but for one place.
+fn image(rt: &impl Abort, words: &[Word; 144], broken: usize, wrong: Word) -> Erasable {
+    let mut e = Erasable::new(Sets::Eight);
+    for (place, word) in words.iter().enumerate() {
+        assert!(rt; place < 144);
+        match e.sets() {
+            Sets::Seven => {}
+            Sets::Eight => e.set(place, if place == broken { wrong } else { *word }),
+        }
+    }
+    e
 }

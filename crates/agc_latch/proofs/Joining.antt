@@ -6,7 +6,8 @@ use Rattle.atomic_table.specs.Seated.{TableId}
 use Rattle.agc_latch.specs.declared.line.Line.{Line}
 use Rattle.agc_latch.specs.declared.line.Line.TheVariants.{Timer, Key, Radar}
 use Rattle.agc_latch.specs.Lines.{added, on, word_of}
-use Rattle.agc_latch.specs.Ends.{Joining, Posting}
+use Rattle.agc_latch.specs.Ends.{Posting}
+use Rattle.agc_latch.specs.Holders.{Joining}
 use Rattle.agc_latch.specs.Accounts.{posted_by}
 use Rattle.agc_latch.proofs.Totals.{added_at}
 

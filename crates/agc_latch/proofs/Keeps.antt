@@ -11,7 +11,8 @@ use Rattle.agc_latch.specs.declared.views.Role.{Role}
 use Rattle.agc_latch.specs.declared.views.Role.TheVariants.{Takes, Posts, Spent}
 use Rattle.agc_latch.specs.Lines.{zeros}
 use Rattle.agc_latch.specs.Account.{total, takers_as, takers, seats, given, posted_at, taken_at, HasTakenNothing, FitsRole, Fits, LineAccount}
-use Rattle.agc_latch.specs.Steps.{Accounted, Seated, after_post, after_take, after_split, after_join, device_view, spent_view, Posted, Taken}
+use Rattle.agc_latch.specs.Steps.{Seated, after_post, after_take, after_split, after_join, device_view, spent_view}
+use Rattle.agc_latch.specs.Tellings.{Accounted, Posted, Taken}
 use Rattle.agc_latch.specs.Laws.{PostKeeps, TakeKeeps, SplitKeeps, JoinKeeps, TakesOnlyPosted, IsBounded}
 use Rattle.agc_latch.proofs.Totals.{total-append, total-set, terms_le, total_alone, total_below, sum_raised, raised_here, raised_else, one_le_sum, added_at, length_added, sum_added}
 

@@ -1,6 +1,8 @@
 pub mod Lines
 pub mod Account
 pub mod Steps
+pub mod Tellings
 pub mod Ends
+pub mod Holders
 pub mod Accounts
 pub mod Laws

@@ -5,7 +5,7 @@ use atomic_table::{Join, Play, Split, TableRule};
 pub struct Rule;
 
 impl TableRule<(), View, ()> for Rule {
-    ghost use Rattle.agc_latch.specs.Steps.{Accounted, first_view};
+    ghost use Rattle.agc_latch.specs.Tellings.{Accounted, first_view};
 
     ghost holds = { λ _. Accounted };
 
@@ -16,7 +16,7 @@ impl TableRule<(), View, ()> for Rule {
 pub struct Post;
 
 impl Play<(), View> for Post {
-    ghost use Rattle.agc_latch.specs.Steps.{Posted};
+    ghost use Rattle.agc_latch.specs.Tellings.{Posted};
 
     ghost then = { Posted };
 }
@@ -25,7 +25,7 @@ impl Play<(), View> for Post {
 pub struct Take;
 
 impl Play<(), View> for Take {
-    ghost use Rattle.agc_latch.specs.Steps.{Taken};
+    ghost use Rattle.agc_latch.specs.Tellings.{Taken};
 
     ghost then = { Taken };
 }

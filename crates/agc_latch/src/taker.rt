@@ -1,8 +1,9 @@
 ghost use Rattle.std.specs.Prelude.{◌≡◌, ◌+◌, ◌*◌, ◌<◌, ◌≤◌, ℕ, [], All, length, sum_by};
 ghost use Rattle.agc_latch.specs.Accounts.{posted_by};
-ghost use Rattle.agc_latch.specs.Ends.{new_device, new_taker, with_one_given, with_taken};
+ghost use Rattle.agc_latch.specs.Ends.{new_device, new_taker};
+ghost use Rattle.agc_latch.specs.Holders.{with_one_given, with_taken};
 ghost use Rattle.agc_latch.specs.Lines.{added, on, raised, word_of};
-ghost use Rattle.agc_latch.specs.Steps.{IsTake, first_view};
+ghost use Rattle.agc_latch.specs.Tellings.{IsTake, first_view};
 ghost use Rattle.agc_latch.specs.declared.line.Line.{Line};
 
 use crate::device::Device;
@@ -20,7 +21,7 @@ pub struct TakerSeat {
 }
 
 impl Model for TakerSeat {
-    ghost use Rattle.agc_latch.specs.Ends.{Joining, IsTaker};
+    ghost use Rattle.agc_latch.specs.Holders.{Joining, IsTaker};
 
     ghost Value = { Joining };
 

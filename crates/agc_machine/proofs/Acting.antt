@@ -18,6 +18,7 @@ use Rattle.agc_machine.proofs.Frames.{sound_by_phases, stands_by_phases}
 pub acts_work : (plan : Planned) (asked : Request) (f : Work → Acted) (seat : Work → List ℕ → List ℕ) (old : List ℕ) (reply : Reply) (new : List ℕ) → Works f seat old reply new → ((plain : Plain) → acted plan asked plain ≡ with_work (f plain.work) plain) → ((plain : Plain) (places : List ℕ) → places_acted plan asked plain places ≡ seat plain.work places) → Acts plan asked old reply new
 acts_work plan asked f seat old reply new works acted_is seat_is = record {
   sound = works.changes.sound;
+  same_length = works.changes.same_length;
   steps = λ plain places stands.
       let here : Steps new reply (with_work (f plain.work) plain) (seat plain.work places) = record {
         state = record { work = works.changes.stands plain.work places stands.work; base_is = stands.base_is ∙ sym works.changes.same_base };
@@ -31,6 +32,7 @@ acts_work plan asked f seat old reply new works acted_is seat_is = record {
 pub acts_base : (plan : Planned) (asked : Request) (change : Base → Base) (old : List ℕ) (reply : Reply) (new : List ℕ) → IsSound old → Becomes (change (base_of old)) old new → ((plain : Plain) → acted plan asked plain ≡ record { plain = record plain { base = change plain.base }; reply = reply }) → ((plain : Plain) (places : List ℕ) → places_acted plan asked plain places ≡ places) → Acts plan asked old reply new
 acts_base plan asked change old reply new sound becomes acted_is seat_is = record {
   sound = sound_by_phases old new becomes.others sound becomes.lawful;
+  same_length = becomes.others.same_length;
   steps = λ plain places stands.
       let here : Steps new reply (record { plain = record plain { base = change plain.base }; reply = reply }) places = record {
         state = record { work = stands_by_phases old new becomes.others plain.work places stands.work; base_is = ap change stands.base_is ∙ sym becomes.base_is };
@@ -45,6 +47,7 @@ pub performs_work : (action : Action) (f : Work → Acted) (seat : Work → List
 performs_work action f seat old reply alarm new works due alarm_is done_is seat_is = record {
   changes = record {
     sound = works.changes.sound;
+    same_length = works.changes.same_length;
     same_base = works.changes.same_base;
     stands = λ work places stands.
         let here = works.changes.stands work places stands in record {

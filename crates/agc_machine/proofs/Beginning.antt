@@ -6,6 +6,7 @@ use Rattle.agc_plan.specs.Eras.{Work, no_work, active, begun_from, group_begun}
 use Rattle.agc_plan.specs.Jobs.{no_jobs}
 use Rattle.agc_plan.specs.Seats.{no_places, places_from}
 use Rattle.agc_exec.specs.Calls as cores
+use Rattle.agc_exec.proofs.Decoding.{IsSized-kept}
 use Rattle.agc_exec.proofs.Agreeing.{kept_by_waitlist, jobs_in-agrees, entries_in-agrees, IsTidy-agrees, IsLawfulWords-agrees}
 use Rattle.agc_wait.specs.Calls as table
 use Rattle.agc_wait.specs.Table.{waits_of}
@@ -32,17 +33,19 @@ one_more entries phases k phase group entry work places lt phase_is group_is ent
 -- nobody lives, nothing waits, and phases and codes stay
 pub record Cleared (old new : List ℕ) : Type 0 where
   pub sound : IsSound new
-  pub clear : Stands new no_work no_places
+  pub same_length : length new ≡ length old
+  pub clear : Stands new (no_work (sets_in old)) (no_places (sets_in old))
   pub same_base : base_of new ≡ base_of old
   pub none_due : due_now (waits_of new) ≡ 0
 
-seven : (words : List ℕ) → length words ≡ 132 → sets_in words ≡ 7
-seven words size = ap (λ (n : ℕ). (n - others_size) / set_size) size
+-- the number of core sets stays with the number of words
+pub same_sets : (old new : List ℕ) → length new ≡ length old → sets_in new ≡ sets_in old
+same_sets old new same = ap (λ (n : ℕ). (n - others_size) / set_size) same
 
-pub cleared : (old mid new : List ℕ) → IsLawfulTable old → cores.Clears old mid → length mid ≡ 132 → table.Clears mid new → Cleared old new
-cleared old mid new lawful exec size wait = record {
+pub cleared : (old mid new : List ℕ) → IsLawfulTable old → cores.Clears old mid → table.Clears mid new → Cleared old new
+cleared old mid new lawful exec wait = record {
   sound = record {
-    size = wait.others.same_length ∙ size;
+    size = IsSized-kept mid new wait.others.same_length exec.lawful.sets.sized;
     tidy_cores = IsTidy-agrees mid new (kept_by_waitlist mid new wait.others) exec.tidy;
     tidy_waits = wait.tidy;
     cores = IsLawfulWords-agrees mid new (kept_by_waitlist mid new wait.others) exec.lawful;
@@ -50,10 +53,11 @@ cleared old mid new lawful exec size wait = record {
     phases = IsLawfulTable-kept mid new (phases_by_waits mid new wait.others) (IsLawfulTable-kept old mid (phases_by_cores old mid exec.others) lawful);
   };
   clear = record {
-    jobs_is = sym (jobs_in-agrees mid new (kept_by_waitlist mid new wait.others) ∙ exec.jobs ∙ ap no_jobs (seven mid size));
-    places_is = sym (entries_in-agrees mid new (kept_by_waitlist mid new wait.others) ∙ exec.placed ∙ ap (λ (n : ℕ). replicate n 0) (seven mid size));
+    jobs_is = sym (jobs_in-agrees mid new (kept_by_waitlist mid new wait.others) ∙ exec.jobs ∙ ap no_jobs (same_sets old mid exec.others.same_length));
+    places_is = sym (entries_in-agrees mid new (kept_by_waitlist mid new wait.others) ∙ exec.placed ∙ ap (λ (n : ℕ). replicate n 0) (same_sets old mid exec.others.same_length));
     agenda = wait.stands 0;
   };
+  same_length = wait.others.same_length ∙ exec.others.same_length;
   same_base = base_by_waits mid new wait.others ∙ base_by_cores old mid exec.others;
   none_due = wait.none_due;
 }

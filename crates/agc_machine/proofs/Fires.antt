@@ -1,5 +1,5 @@
 -- What fires in a tick, one task at a time.
-use Rattle.std.proofs.Common.{◌≡◌, ℕ, Bool, suc, ◌+◌, List, [], ◌∷◌, ◌++◌, Option, Some, None, refl, ap, sym, ◌∙◌, subst, arith}
+use Rattle.std.proofs.Common.{◌≡◌, ℕ, Bool, suc, ◌+◌, List, [], ◌∷◌, ◌++◌, Option, Some, None, length, refl, ap, sym, ◌∙◌, subst, arith}
 use Rattle.std.proofs.lemmas.List.Sums.{fold_push}
 use Rattle.agc_plan.specs.declared.reply.Alarm.{Alarm}
 use Rattle.agc_plan.specs.declared.reply.Reply.TheVariants.{Ticked}
@@ -124,9 +124,9 @@ finished rows start whole fired words on none_due =
     subst (λ (f : Fires). Ends words fired None f (seated_fired rows start fired).places) (sym same) (record { stands = on.stands; fired_is = refl; alarm_is = refl })
 
 -- what is due fired, from what it did to each work
-pub fires_by : (rows : List (Task × Action)) (old : List ℕ) (fired : List Task) (alarm : Option Alarm) (new : List ℕ) → IsSound new → base_of new ≡ base_of old → (alarm ≡ None → due_now (waits_of new) ≡ 0) → ((work : Work) (places : List ℕ) → Stands old work places → Ends new fired alarm (fire_all rows work []) (places_fired rows fired work places)) → FiresDue rows old fired alarm new
-fires_by rows old fired alarm new sound same_base none_due ends = record {
-  changes = record { sound = sound; same_base = same_base; stands = λ work places stands. (ends work places stands).stands };
+pub fires_by : (rows : List (Task × Action)) (old : List ℕ) (fired : List Task) (alarm : Option Alarm) (new : List ℕ) → IsSound new → length new ≡ length old → base_of new ≡ base_of old → (alarm ≡ None → due_now (waits_of new) ≡ 0) → ((work : Work) (places : List ℕ) → Stands old work places → Ends new fired alarm (fire_all rows work []) (places_fired rows fired work places)) → FiresDue rows old fired alarm new
+fires_by rows old fired alarm new sound same_length same_base none_due ends = record {
+  changes = record { sound = sound; same_length = same_length; same_base = same_base; stands = λ work places stands. (ends work places stands).stands };
   fired_is = λ work places stands. (ends work places stands).fired_is;
   alarm_is = λ work places stands. (ends work places stands).alarm_is;
   none_due = none_due;
@@ -139,6 +139,7 @@ works_ticked rows old mid answer fired alarm new counts fires same_base =
     record {
       changes = record {
         sound = fires.changes.sound;
+        same_length = fires.changes.same_length ∙ counts.others.same_length;
         same_base = fires.changes.same_base ∙ same_base;
         stands = λ work places stands.
             subst (λ (x : List Task). Stands new (tick_fires rows work).work (places_fired rows x work places)) (fires.fired_is (later_work work) places (later_stands work places stands))

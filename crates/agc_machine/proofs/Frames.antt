@@ -17,6 +17,7 @@ use Rattle.agc_plan.specs.Tasks as tasks
 use Rattle.agc_exec.specs.Calls.{Does}
 use Rattle.agc_exec.specs.Image.{jobs_in, entries_in, runner_in}
 use Rattle.agc_exec.specs.Image as cores
+use Rattle.agc_exec.proofs.Decoding.{IsSized-kept}
 use Rattle.agc_exec.proofs.Agreeing.{kept_by_waitlist, kept_by_phases, jobs_in-agrees, entries_in-agrees, IsTidy-agrees, IsLawfulWords-agrees}
 use Rattle.agc_wait.specs.Calls.{Lists, Becomes}
 use Rattle.agc_wait.specs.Table.{waits_of, SameTable}
@@ -46,7 +47,7 @@ phases_by_waits old new kept = kept_also OutsideWaitlist InPhases old new (λ pl
 -- sound words stay sound, if a call leaves its own part lawful and tidy
 pub sound_by_cores : (old new : List ℕ) → Keeps OutsideCores old new → IsSound old → cores.IsLawfulWords new → cores.IsTidy new → IsSound new
 sound_by_cores old new kept sound lawful tidy = record {
-  size = kept.same_length ∙ sound.size;
+  size = IsSized-kept old new kept.same_length sound.size;
   cores = lawful;
   waits = IsLawfulTable-same new old (table_by_cores old new kept) sound.waits;
   phases = IsLawfulTable-kept old new (phases_by_cores old new kept) sound.phases;
@@ -56,7 +57,7 @@ sound_by_cores old new kept sound lawful tidy = record {
 
 pub sound_by_waits : (old new : List ℕ) → Keeps OutsideWaitlist old new → IsSound old → table.IsLawfulTable new → table.IsTidy new → IsSound new
 sound_by_waits old new kept sound lawful tidy = record {
-  size = kept.same_length ∙ sound.size;
+  size = IsSized-kept old new kept.same_length sound.size;
   cores = IsLawfulWords-agrees old new (kept_by_waitlist old new kept) sound.cores;
   waits = lawful;
   phases = IsLawfulTable-kept old new (phases_by_waits old new kept) sound.phases;
@@ -66,7 +67,7 @@ sound_by_waits old new kept sound lawful tidy = record {
 
 pub sound_by_phases : (old new : List ℕ) → Keeps OutsidePhases old new → IsSound old → phases.IsLawfulTable new → IsSound new
 sound_by_phases old new kept sound lawful = record {
-  size = kept.same_length ∙ sound.size;
+  size = IsSized-kept old new kept.same_length sound.size;
   cores = IsLawfulWords-agrees old new (kept_by_phases old new kept) sound.cores;
   waits = IsLawfulTable-same new old (table_by_phases old new kept) sound.waits;
   phases = lawful;
@@ -125,6 +126,7 @@ works_by : (f : Jobs → Outcome) (seat : Work → List ℕ → List ℕ) (entri
 works_by f seat entries blocks old new reply sound did seats = record {
   changes = record {
     sound = sound_by_cores old new did.others sound did.lawful (did.tidy sound.tidy_cores);
+    same_length = did.others.same_length;
     same_base = base_by_cores old new did.others;
     stands = λ work places stands. record {
       jobs_is = ap (λ (o : Outcome). o.jobs) (outcome_of f entries blocks old new reply did work places stands);
@@ -169,6 +171,7 @@ pub works_listed : (delay : ℕ) (task : Task) (old new : List ℕ) (accepted : 
 works_listed delay task old new accepted reply sound lists reply_is = record {
   changes = record {
     sound = sound_by_waits old new lists.others sound lists.lawful (lists.tidy sound.tidy_waits);
+    same_length = lists.others.same_length;
     same_base = base_by_waits old new lists.others;
     stands = stands_by_waits _ old new lists.others lists.listed;
   };
@@ -179,10 +182,11 @@ works_listed delay task old new accepted reply sound lists reply_is = record {
 pub changes_twice : (f g : Work → Work) (s t : Work → List ℕ → List ℕ) (old mid new : List ℕ) → Changes f s old mid → Changes g t mid new → Changes (λ work. g (f work)) (λ work places. t (f work) (s work places)) old new
 changes_twice f g s t old mid new first second = record {
   sound = second.sound;
+  same_length = second.same_length ∙ first.same_length;
   same_base = second.same_base ∙ first.same_base;
   stands = λ work places stands. second.stands (f work) (s work places) (first.stands work places stands);
 }
 
 -- nothing changes
 pub changes_nothing : (words : List ℕ) → IsSound words → Changes (λ work. work) same_places words words
-changes_nothing words sound = record { sound = sound; same_base = refl; stands = λ work places stands. stands }
+changes_nothing words sound = record { sound = sound; same_length = refl; same_base = refl; stands = λ work places stands. stands }

@@ -5,3 +5,4 @@ pub mod Beginning
 pub mod Stepping
 pub mod Serving
 pub mod Leading
+pub mod Briefs

@@ -1,5 +1,5 @@
 -- What a served request leaves is kept.
-use Rattle.std.proofs.Common.{◌≡◌, ◌≢◌, ℕ, ◌+◌, ◌<◌, ◌≤◌, ◌^◌, ◌==◌, ◌&&◌, not, if◌then◌else◌, Bool, true, false, ◌⊎◌, inl, inr, List, [], ◌∷◌, ◌++◌, Some, None, length, refl, ap, sym, ◌∙◌, subst, arith}
+use Rattle.std.proofs.Common.{◌≡◌, ◌≢◌, ℕ, ◌+◌, ◌-◌, ◌/◌, ◌<◌, ◌≤◌, ◌^◌, ◌==◌, ◌&&◌, not, if◌then◌else◌, Bool, true, false, ◌⊎◌, inl, inr, List, [], ◌∷◌, ◌++◌, Some, None, length, refl, ap, sym, ◌∙◌, subst, arith}
 use Rattle.std.proofs.lemmas.Grind.{common_steps}
 use Rattle.std.proofs.lemmas.List.{length-append}
 use Rattle.std.specs.List.{fold}
@@ -10,7 +10,8 @@ use Rattle.agc_plan.specs.declared.reply.Reply.{Reply}
 use Rattle.agc_plan.specs.declared.reply.Reply.TheVariants.{Alarmed, Ticked, Restarted}
 use Rattle.agc_plan.specs.declared.request.Request.{Request}
 use Rattle.agc_plan.specs.declared.request.Request.TheVariants.{Restart, Fresh}
-use Rattle.agc_plan.specs.Plans.{Planned, fault_of}
+use Rattle.agc_word.specs.Layout.{sets_in}
+use Rattle.agc_plan.specs.Plans.{Written, Planned, planned_with, fault_of}
 use Rattle.agc_plan.specs.Base.{Base}
 use Rattle.agc_plan.specs.Seats.{Placed, placed, placed_step, places_after, era_places}
 use Rattle.agc_machine.specs.declared.totals.Totals.{Totals}
@@ -95,6 +96,16 @@ served_if m asked e = elim (bool_cases (m.totals.served == m.allowance)) [
   ]
 ]
 
+-- no count overflows
+pub counts_fit : (m : Machined) (asked : Request) → IsLawful m → refusal_of m asked ≡ None → (m.totals.served + 1 < 2 ^ 64) × (m.totals.a1201 + 1 < 2 ^ 64) × (m.totals.a1202 + 1 < 2 ^ 64) × (m.totals.a1203 + 1 < 2 ^ 64) × (m.totals.restarts + 1 < 2 ^ 64)
+counts_fit m asked lawful e =
+    let unspent : m.totals.served ≢ m.allowance = (served_if m asked e).unspent in
+    let allowed : m.totals.served ≤ m.allowance = lawful.allowed in
+    let fits : m.allowance < 2 ^ 64 = lawful.fits in
+    let restarts : m.totals.restarts ≤ m.totals.served = lawful.restarts in
+    let alarms : m.totals.a1201 + m.totals.a1202 + m.totals.a1203 ≤ m.totals.restarts = lawful.alarms in
+    (omega arith, omega arith, omega arith, omega arith, omega arith)
+
 -- there is room in the log for a request that begins no era
 pub room_left : (m : Machined) (asked : Request) (plain : Plain) → length m.log ≤ m.limit → refusal_of m asked ≡ None → begins (step m.plan asked plain).reply ≡ false → length m.log < m.limit
 room_left m asked plain short e goes = elim (bool_cases (starts_over asked)) [
@@ -155,9 +166,10 @@ stands_of m words image = record {
 }
 
 -- and such words are a lawful machine's
-image_of : (m : Machined) (words : List ℕ) → IsLawful m → IsReady words → StandsFor words (plain_of m) (places_of m) → IsImage m words
-image_of m words lawful ready stands = record {
+image_of : (m : Machined) (words : List ℕ) → IsLawful m → sets_in words ≡ m.plan.sets → IsReady words → StandsFor words (plain_of m) (places_of m) → IsImage m words
+image_of m words lawful sets ready stands = record {
   machine = lawful;
+  sets = sets;
   lawful = record {
     size = ready.sound.size;
     cores = ready.sound.cores;
@@ -171,8 +183,8 @@ image_of m words lawful ready stands = record {
 }
 
 -- what is kept after a request that is served
-kept_served : (m : Machined) (asked : Request) (words : List ℕ) (reply : Reply) (room : ℕ) → IsLawful m → room ≡ m.limit → refusal_of m asked ≡ None → IsReady words → Steps words reply (stepped m asked) (places_after m.plan asked (plain_of m) (places_of m)) → IsKept (served (stepped m asked) asked m) words room
-kept_served m asked words reply room lawful reserved e ready steps =
+kept_served : (m : Machined) (asked : Request) (words : List ℕ) (reply : Reply) (room : ℕ) → IsLawful m → room ≡ m.limit → refusal_of m asked ≡ None → sets_in words ≡ m.plan.sets → IsReady words → Steps words reply (stepped m asked) (places_after m.plan asked (plain_of m) (places_of m)) → IsKept (served (stepped m asked) asked m) words room
+kept_served m asked words reply room lawful reserved e sets ready steps =
     let based : IsLawfulBase (stepped m asked).plain.base = subst IsLawfulBase (sym steps.state.base_is) (IsLawfulBase-read words ready.sound.phases) in
     let both = kept_by (begins (stepped m asked).reply) m asked (stepped m asked) lawful (served_if m asked e).unspent based
     (room_left m asked (plain_of m) lawful.short e)
@@ -182,7 +194,7 @@ kept_served m asked words reply room lawful reserved e ready steps =
     (places_began m.plan asked (plain_of m) (places_of m))
     (sym (places_more m.plan m.base m.log asked)) in
     let stands : StandsFor words (plain_of (served (stepped m asked) asked m)) (places_of (served (stepped m asked) asked m)) = subst (λ (p : Plain). StandsFor words p (places_of (served (stepped m asked) asked m))) both.1 (subst (λ (l : List ℕ). StandsFor words (stepped m asked).plain l) seats steps.state) in
-    record { image = image_of (served (stepped m asked) asked m) words both.0 ready stands; reserved = reserved }
+    record { image = image_of (served (stepped m asked) asked m) words both.0 sets ready stands; reserved = reserved }
 
 -- a request that begins no era has room in the log
 pub store_room : (m : Machined) (asked : Request) (reply : Reply) (room : ℕ) → IsLawful m → room ≡ m.limit → refusal_of m asked ≡ None → reply ≡ (stepped m asked).reply → begins reply ≡ false → length m.log < room
@@ -192,26 +204,26 @@ store_room m asked reply room lawful reserved e reply_is goes =
     omega arith
 
 -- what is kept, with what was stored
-pub kept_stored : (m : Machined) (asked : Request) (words : List ℕ) (reply : Reply) (room : ℕ) (over : Bool) (base : Base) (log : List Request) (totals : Totals) → IsLawful m → room ≡ m.limit → refusal_of m asked ≡ None → IsReady words → Steps words reply (stepped m asked) (places_after m.plan asked (plain_of m) (places_of m)) → over ≡ begins reply → base ≡ (if over then base_of words else m.base) → log ≡ (if over then [] else m.log ++ asked ∷ []) → totals ≡ add m.totals (reply_told reply) → IsKept (record { plan = m.plan; limit = m.limit; allowance = m.allowance; base = base; log = log; totals = totals }) words room × (◌≡◌ {A = Machined} (record { plan = m.plan; limit = m.limit; allowance = m.allowance; base = base; log = log; totals = totals }) (served (stepped m asked) asked m))
-kept_stored m asked words reply room over base log totals lawful reserved e ready steps over_is base_is log_is totals_is =
+pub kept_stored : (m : Machined) (asked : Request) (words : List ℕ) (reply : Reply) (room : ℕ) (over : Bool) (base : Base) (log : List Request) (totals : Totals) → IsLawful m → room ≡ m.limit → refusal_of m asked ≡ None → sets_in words ≡ m.plan.sets → IsReady words → Steps words reply (stepped m asked) (places_after m.plan asked (plain_of m) (places_of m)) → over ≡ begins reply → base ≡ (if over then base_of words else m.base) → log ≡ (if over then [] else m.log ++ asked ∷ []) → totals ≡ add m.totals (reply_told reply) → IsKept (record { plan = m.plan; limit = m.limit; allowance = m.allowance; base = base; log = log; totals = totals }) words room × (◌≡◌ {A = Machined} (record { plan = m.plan; limit = m.limit; allowance = m.allowance; base = base; log = log; totals = totals }) (served (stepped m asked) asked m))
+kept_stored m asked words reply room over base log totals lawful reserved e sets ready steps over_is base_is log_is totals_is =
     let reply_is : reply ≡ (stepped m asked).reply = steps.reply_is in
     let base_now : (stepped m asked).plain.base ≡ base_of words = steps.state.base_is in
     let here : ◌≡◌ {A = Machined} (record { plan = m.plan; limit = m.limit; allowance = m.allowance; base = base; log = log; totals = totals }) (served (stepped m asked) asked m) =
     same_served m asked (stepped m asked) over base log totals (over_is ∙ ap begins reply_is) (base_is ∙ ap (λ (b : Base). if over then b else m.base) (sym base_now)) log_is (totals_is ∙ ap (λ (r : Reply). add m.totals (reply_told r)) reply_is) in
-    (subst (λ (x : Machined). IsKept x words room) (sym here) (kept_served m asked words reply room lawful reserved e ready steps), here)
+    (subst (λ (x : Machined). IsKept x words room) (sym here) (kept_served m asked words reply room lawful reserved e sets ready steps), here)
 
 -- what is kept where an era has just begun
-pub kept_begun : (plan : Planned) (limit allowance : ℕ) (base : Base) (log : List Request) (totals : Totals) (start words : List ℕ) (room : ℕ) → fault_of plan.rows plan.entries ≡ None → 1 ≤ limit → limit ≤ 1000000 → room ≡ limit → allowance < 2 ^ 64 → log ≡ [] → totals ≡ nothing → phases.IsLawfulTable start → base ≡ base_of start → BeginsEra plan start words → IsKept (record { plan = plan; limit = limit; allowance = allowance; base = base; log = log; totals = totals }) words room
-kept_begun plan limit allowance base log totals start words room accepted least most reserved fits empty zero_is lawful base_is begins_era =
+pub kept_begun : (plan : Planned) (limit allowance : ℕ) (base : Base) (log : List Request) (totals : Totals) (start words : List ℕ) (room : ℕ) → fault_of plan.rows plan.entries ≡ None → 1 ≤ limit → limit ≤ 1000000 → room ≡ limit → allowance < 2 ^ 64 → log ≡ [] → totals ≡ nothing → phases.IsLawfulTable start → base ≡ base_of start → plan.sets ≡ sets_in start → BeginsEra plan start words → IsKept (record { plan = plan; limit = limit; allowance = allowance; base = base; log = log; totals = totals }) words room
+kept_begun plan limit allowance base log totals start words room accepted least most reserved fits empty zero_is lawful base_is sets begins_era =
     subst (λ (b : Base). IsKept (record { plan = plan; limit = limit; allowance = allowance; base = b; log = log; totals = totals }) words room) (sym base_is)
     (subst (λ (l : List Request). IsKept (record { plan = plan; limit = limit; allowance = allowance; base = base_of start; log = l; totals = totals }) words room) (sym empty)
     (subst (λ (t : Totals). IsKept (record { plan = plan; limit = limit; allowance = allowance; base = base_of start; log = []; totals = t }) words room) (sym zero_is)
     (let m : Machined = record { plan = plan; limit = limit; allowance = allowance; base = base_of start; log = []; totals = nothing } in
     record {
-      image = image_of m words (record { accepted = accepted; base = IsLawfulBase-read start lawful; least = least; short = omega arith; most = most; allowed = omega arith; fits = fits; restarts = omega arith; alarms = omega arith }) begins_era.ready (record { work = begins_era.stands; base_is = sym begins_era.same_base });
+      image = image_of m words (record { accepted = accepted; base = IsLawfulBase-read start lawful; least = least; short = omega arith; most = most; allowed = omega arith; fits = fits; restarts = omega arith; alarms = omega arith }) (ap (λ (n : ℕ). (n - 48) / 12) begins_era.same_length ∙ sym sets) begins_era.ready (record { work = begins_era.stands; base_is = sym begins_era.same_base });
       reserved = reserved;
     })))
 
--- words that are read are the machine's
-pub image_read : (m : Machined) (words read : List ℕ) → IsImage m words → read ≡ words → IsImage m read
-image_read m words read image is = subst (IsImage m) (sym is) image
+-- the same machine, with another name of its number of core sets
+pub view_with : (plan : Written) (limit allowance : ℕ) (base : Base) (log : List Request) (totals : Totals) {m n : ℕ} → m ≡ n → ◌≡◌ {A = Machined} (record { plan = planned_with plan m; limit = limit; allowance = allowance; base = base; log = log; totals = totals }) (record { plan = planned_with plan n; limit = limit; allowance = allowance; base = base; log = log; totals = totals })
+view_with plan limit allowance base log totals e = ap (λ (n : ℕ). record { plan = planned_with plan n; limit = limit; allowance = allowance; base = base; log = log; totals = totals }) e

@@ -1,4 +1,5 @@
 pub mod Said
+pub mod Briefs
 pub mod Told
 pub mod Stands
 pub mod Machines

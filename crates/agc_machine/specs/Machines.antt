@@ -15,7 +15,7 @@ use Rattle.agc_machine.specs.declared.answer.Refusal.TheVariants.{Spent, LogFull
 use Rattle.agc_machine.specs.declared.totals.Totals.{Totals}
 use Rattle.agc_machine.specs.Told.{add, reply_told, nothing}
 
--- a machine: its plan, limit and allowance, with what the last era began, the requests stored
+-- a machine: its plan and its number of core sets, limit and allowance, with what the last era began, the requests stored
 -- since, and the totals
 pub record Machined : Type 0 where
   pub plan : Planned
@@ -93,10 +93,6 @@ after m asked = after_unless (refusal_of m asked) m asked
 -- the machine after all of these requests, in order
 unfoldable pub after_all : Machined → List Request → Machined
 after_all m requests = fold after m requests
-
--- some requests lead from the first machine to the last
-abbrev pub LeadsTo : Machined → Machined → Type 0
-LeadsTo first last = (requests : List Request) × (last ≡ after_all first requests)
 
 -- an era has just begun, and nothing was served
 abbrev pub begun_with : Planned → ℕ → ℕ → Base → Machined

@@ -1,16 +1,19 @@
 -- For the proofs: how the words stand for plain lists, and what the private functions do to both.
-use Rattle.std.specs.Prelude.{◌≡◌, ℕ, List, [], length, Option, None}
+use Rattle.std.specs.Prelude.{⊤, ◌≡◌, ℕ, List, [], length, Option, Some, None}
+use Rattle.agc_word.specs.Layout.{IsSized}
 use Rattle.agc_plan.specs.declared.reply.Alarm.{Alarm}
 use Rattle.agc_plan.specs.declared.reply.Reply.{Reply}
+use Rattle.agc_plan.specs.declared.reply.Reply.TheVariants.{Ticked}
 use Rattle.agc_plan.specs.declared.request.Action.{Action}
 use Rattle.agc_plan.specs.declared.request.JobStart.{JobStart}
 use Rattle.agc_plan.specs.declared.request.Request.{Request}
 use Rattle.agc_plan.specs.declared.request.Task.{Task}
+use Rattle.agc_plan.specs.Base.{Base, with_code}
 use Rattle.agc_plan.specs.Begins.{Begins}
 use Rattle.agc_plan.specs.Eras.{Work, begun, no_work, jobs_begun, agenda_begun}
 use Rattle.agc_plan.specs.Plans.{Planned}
 use Rattle.agc_plan.specs.Seats.{Seated, no_places, places_from, seated_action, seated_fired, places_begun, job_of_entry, places_acted, places_after, era_places}
-use Rattle.agc_plan.specs.Steps.{Plain, Stepped, Acted, done, acted, step, fire_all, tick_fires}
+use Rattle.agc_plan.specs.Steps.{Plain, Stepped, Acted, done, acted, step, code_of, fire_all, tick_fires}
 use Rattle.agc_plan.specs.Tasks as tasks
 use Rattle.agc_exec.specs.Image.{jobs_in, entries_in}
 use Rattle.agc_exec.specs.Image as cores
@@ -22,7 +25,7 @@ use Rattle.agc_phase.specs.Image as phases
 
 -- lawful and tidy words, also where a task is due
 pub record IsSound (words : List ℕ) : Type 0 where
-  pub size : length words ≡ 132
+  pub size : IsSized words
   pub tidy_cores : cores.IsTidy words
   pub tidy_waits : table.IsTidy words
   pub cores : cores.IsLawfulWords words
@@ -49,6 +52,7 @@ pub record StandsFor (words : List ℕ) (plain : Plain) (places : List ℕ) : Ty
 -- it, and are sound; phases and codes stay
 pub record Changes (change : Work → Work) (seat : Work → List ℕ → List ℕ) (old new : List ℕ) : Type 0 where
   pub sound : IsSound new
+  pub same_length : length new ≡ length old
   pub same_base : base_of new ≡ base_of old
   pub stands : (work : Work) (places : List ℕ) → Stands old work places → Stands new (change work) (seat work places)
 
@@ -113,16 +117,30 @@ places_group entry work places = places_begun (job_of_entry entry) work.jobs pla
 -- the six groups begin, in order, with these phases, where nobody lived and nothing waited
 pub record BeginsGroups (plan : Planned) (phases : List ℕ) (old new : List ℕ) : Type 0 where
   pub sound : IsSound new
+  pub same_length : length new ≡ length old
   pub same_base : base_of new ≡ base_of old
   pub same_due : SameDue old new
-  pub stands : Stands new (begun plan phases) (places_from plan.entries 1 phases no_work no_places)
+  pub stands : Stands new (begun plan phases) (places_from plan.entries 1 phases (no_work plan.sets) (no_places plan.sets))
 
 -- an era begins with the phases in the words: all jobs and tasks are gone but those of the plan's
 -- entries
 pub record BeginsEra (plan : Planned) (old new : List ℕ) : Type 0 where
   pub ready : IsReady new
+  pub same_length : length new ≡ length old
   pub same_base : base_of new ≡ base_of old
   pub stands : Stands new (begun plan (base_of old).phases) (era_places plan (base_of old))
+
+-- the phases and codes after this alarm, if one was raised: it adds its code
+abbrev pub base_with : Option Alarm → Base → Base
+base_with None base = base
+base_with (Some alarm) base = with_code (code_of alarm) base
+
+-- an era begins with the phases in the words, and the codes after this alarm
+pub record BeginsAfter (plan : Planned) (alarm : Option Alarm) (old new : List ℕ) : Type 0 where
+  pub ready : IsReady new
+  pub same_length : length new ≡ length old
+  pub base_is : base_of new ≡ base_with alarm (base_of old)
+  pub stands : Stands new (begun plan (base_of new).phases) (era_places plan (base_of new))
 
 -- after a request, and with its reply
 pub record Steps (words : List ℕ) (reply : Reply) (stepped : Stepped) (places : List ℕ) : Type 0 where
@@ -132,9 +150,16 @@ pub record Steps (words : List ℕ) (reply : Reply) (stepped : Stepped) (places 
 -- what a request does, before an era begins with it
 pub record Acts (plan : Planned) (asked : Request) (old : List ℕ) (reply : Reply) (new : List ℕ) : Type 0 where
   pub sound : IsSound new
+  pub same_length : length new ≡ length old
   pub steps : (plain : Plain) (places : List ℕ) → StandsFor old plain places → Steps new reply (acted plan asked plain) (places_acted plan asked plain places)
 
 -- one step: what the request does, and the beginning of an era, if one begins with it
 pub record StepsTo (plan : Planned) (asked : Request) (old : List ℕ) (reply : Reply) (new : List ℕ) : Type 0 where
   pub ready : IsReady new
+  pub same_length : length new ≡ length old
   pub steps : (plain : Plain) (places : List ℕ) → StandsFor old plain places → Steps new reply (step plan asked plain) (places_after plan asked plain places)
+
+-- every reply but a tick's
+abbrev pub IsBrief : Reply → Type 0
+IsBrief (Ticked fired alarm) = ⊥
+IsBrief other = ⊤

@@ -1,5 +1,7 @@
 // The beginning of an era.
 ghost use Rattle.std.specs.Prelude.{◌≡◌, length, Some};
+ghost use Rattle.agc_word.specs.Layout.{sets_in};
+ghost use Rattle.agc_plan.specs.Plans.{planned_with};
 ghost use Rattle.agc_plan.specs.Eras.{active, group_begun, no_work};
 ghost use Rattle.agc_plan.specs.Seats.{no_places};
 ghost use Rattle.agc_phase.specs.Image as phases;
@@ -82,9 +84,9 @@ fn begin_group(entry: Option<PhaseEntry>, e: &mut Erasable)
 /// The six groups begin, in order.
 fn begin_groups(plan: &Plan, phases: &[Phase], e: &mut Erasable)
     requires six { length phases.now ≡ 6 }
-    requires clear { Stands e.old no_work no_places }
+    requires clear { Stands e.old (no_work (sets_in e.old)) (no_places (sets_in e.old)) }
     requires sound { IsSound e.old }
-    ensures { BeginsGroups plan.now phases.now e.old e.new }
+    ensures { BeginsGroups (planned_with plan.now (sets_in e.old)) phases.now e.old e.new }
 {
     for (k, phase) in phases.iter().enumerate() {
         let group = Group::new(k as u8 + 1).unwrap();
@@ -96,7 +98,7 @@ fn begin_groups(plan: &Plan, phases: &[Phase], e: &mut Erasable)
 /// plan's entries.
 pub(crate) fn begin(plan: &Plan, e: &mut Erasable)
     requires { phases.IsLawfulTable e.old }
-    ensures { BeginsEra plan.now e.old e.new }
+    ensures { BeginsEra (planned_with plan.now (sets_in e.old)) e.old e.new }
 {
     let phases = phases(e);
     agc_exec::clear(e);

@@ -2,6 +2,7 @@
 #![tactic(auto)]
 
 mod answer;
+mod brief;
 mod era;
 mod machine;
 mod step;
@@ -9,8 +10,14 @@ mod tick;
 mod totals;
 
 pub use answer::{Answer, Refusal};
+pub use brief::Brief;
 pub use machine::{Machine, NoMemory};
+pub use step::is_tick;
 pub use totals::Totals;
 
+#[cfg(test)]
+mod image_tests;
+#[cfg(test)]
+mod plain_tables;
 #[cfg(test)]
 mod tests;

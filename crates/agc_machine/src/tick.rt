@@ -1,24 +1,27 @@
 // A tick: the Waitlist counts, and what is due fires.
-ghost use Rattle.std.specs.Prelude.{◌≡◌, ◌≤◌, None};
-ghost use Rattle.agc_plan.specs.Steps.{alarm_of, with_listed, ticked};
+ghost use Rattle.std.specs.Prelude.{◌≡◌, ◌≤◌, [], None};
+ghost use Rattle.agc_plan.specs.declared.reply.Reply.TheVariants.{Ticked};
+ghost use Rattle.agc_plan.specs.Steps.{with_listed, ticked};
 ghost use Rattle.agc_wait.specs.Table.{waits_of};
 ghost use Rattle.agc_wait.specs.Waits.{due_now};
+ghost use Rattle.agc_machine.specs.Briefs.{reply_of};
 ghost use Rattle.agc_machine.specs.Stands.{IsSound, IsReady, Works, SameDue, same_places, Performs, FiresDue, places_ticked};
 
+use crate::brief::Brief;
 use agc_exec::{findvac, job_wake, novac};
-use agc_plan::{Action, Alarm, Delay, Fired, Plan, Reply, Task};
+use agc_plan::{Action, Alarm, Delay, Fired, Plan, Task};
 use agc_wait::{count_time3, dispatch, due};
 use agc_word::Erasable;
 
 /// Lists a task, if there is room.
-pub(crate) fn list(e: &mut Erasable, delay: Delay, task: Task) -> Reply
+pub(crate) fn list(e: &mut Erasable, delay: Delay, task: Task) -> Brief
     requires { IsSound e.old }
-    ensures works { Works (with_listed delay task) same_places e.old result e.new }
+    ensures works { Works (with_listed delay task) same_places e.old (reply_of result) e.new }
     ensures due { SameDue e.old e.new }
 {
     match agc_wait::list(e, delay, task) {
-        Ok(()) => Reply::Listed,
-        Err(_full) => Reply::Alarmed(Alarm::A1203),
+        Ok(()) => Brief::Listed,
+        Err(_full) => Brief::Alarmed(Alarm::A1203),
     }
 }
 
@@ -36,31 +39,31 @@ fn perform(action: Action, e: &mut Erasable) -> Option<Alarm>
     }
 }
 
-/// Fires the tasks that are due, until an action raises an alarm.
-fn fire(plan: &Plan, e: &mut Erasable) -> (Fired, Option<Alarm>)
+/// Fires the tasks that are due, until an action raises an alarm, which is answered.
+fn fire(plan: &Plan, e: &mut Erasable, fired: &mut Fired) -> Option<Alarm>
     requires sound { IsSound e.old }
     requires few { due_now (waits_of e.old) ≤ 9 }
-    ensures { FiresDue plan.now.rows e.old result.0 result.1 e.new }
+    requires none { fired.old ≡ [] }
+    ensures { FiresDue plan.now.rows e.old fired.new result e.new }
 {
-    let mut fired = Fired::new();
     while due(e) {
         let task = dispatch(e);
         fired.push(task);
         match perform(plan.action(&task), e) {
-            Some(alarm) => return (fired, Some(alarm)),
+            Some(alarm) => return Some(alarm),
             None => {}
         }
     }
-    (fired, None)
+    None
 }
 
-/// A centisecond passes, and what is due fires.
-pub(crate) fn tick(plan: &Plan, e: &mut Erasable) -> Reply
-    requires { IsReady e.old }
-    ensures works { Works (ticked plan.now.rows) (places_ticked plan.now.rows) e.old result e.new }
-    ensures none_due { alarm_of result ≡ None → due_now (waits_of e.new) ≡ 0 }
+/// A centisecond passes, and what is due fires. Answers the alarm that ended it, if one did.
+pub(crate) fn tick(plan: &Plan, e: &mut Erasable, fired: &mut Fired) -> Option<Alarm>
+    requires ready { IsReady e.old }
+    requires none { fired.old ≡ [] }
+    ensures works { Works (ticked plan.now.rows) (places_ticked plan.now.rows) e.old (Ticked fired.new result) e.new }
+    ensures none_due { result ≡ None → due_now (waits_of e.new) ≡ 0 }
 {
     let _ = count_time3(e);
-    let (fired, alarm) = fire(plan, e);
-    Reply::Ticked(fired, alarm)
+    fire(plan, e, fired)
 }

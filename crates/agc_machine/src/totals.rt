@@ -1,7 +1,11 @@
-ghost use Rattle.std.specs.Prelude.{◌≡◌, ◌+◌, ◌<◌, ◌^◌};
+ghost use Rattle.std.specs.Prelude.{◌≡◌, ◌+◌, ◌<◌, ◌^◌, List};
+ghost use Rattle.agc_plan.specs.declared.reply.Reply.TheVariants.{NoJob, Restarted, Ticked};
+ghost use Rattle.agc_plan.specs.declared.request.Task.{Task};
+ghost use Rattle.agc_machine.specs.Briefs.{reply_of};
 ghost use Rattle.agc_machine.specs.Told.{nothing, add, reply_told};
 
-use agc_plan::{Alarm, Reply};
+use crate::brief::Brief;
+use agc_plan::Alarm;
 
 /// Counts of served requests: a machine's since it was made, or those whose answers the holder of a
 /// share was told; each at most the allowance. Source: profile.
@@ -35,62 +39,67 @@ impl Totals {
         }
     }
 
-    /// With one more request served, which raised this alarm.
-    fn with_alarm(self, alarm: Alarm) -> Totals
-        requires { (self.served + 1 < 2 ^ 64) × (self.a1201 + 1 < 2 ^ 64) × (self.a1202 + 1 < 2 ^ 64) × (self.a1203 + 1 < 2 ^ 64) × (self.restarts + 1 < 2 ^ 64) }
-        ensures { result ≡ add self (alarm_told alarm) }
+    /// One more request was served, which raised this alarm.
+    fn count_alarm(&mut self, alarm: Alarm)
+        requires { (self.old.served + 1 < 2 ^ 64) × (self.old.a1201 + 1 < 2 ^ 64) × (self.old.a1202 + 1 < 2 ^ 64) × (self.old.a1203 + 1 < 2 ^ 64) × (self.old.restarts + 1 < 2 ^ 64) }
+        ensures { self.new ≡ add self.old (alarm_told alarm) }
     {
-        let served = self.served + 1;
-        let restarts = self.restarts + 1;
+        self.served += 1;
+        self.restarts += 1;
         match alarm {
-            Alarm::A1201 => Totals {
-                served,
-                a1201: self.a1201 + 1,
-                a1202: self.a1202,
-                a1203: self.a1203,
-                restarts,
-            },
-            Alarm::A1202 => Totals {
-                served,
-                a1201: self.a1201,
-                a1202: self.a1202 + 1,
-                a1203: self.a1203,
-                restarts,
-            },
-            Alarm::A1203 => Totals {
-                served,
-                a1201: self.a1201,
-                a1202: self.a1202,
-                a1203: self.a1203 + 1,
-                restarts,
-            },
+            Alarm::A1201 => self.a1201 += 1,
+            Alarm::A1202 => self.a1202 += 1,
+            Alarm::A1203 => self.a1203 += 1,
         }
     }
 
-    /// With one more request served, which got this reply.
-    pub(crate) fn after(self, reply: &Reply) -> Totals
-        requires { (self.served + 1 < 2 ^ 64) × (self.a1201 + 1 < 2 ^ 64) × (self.a1202 + 1 < 2 ^ 64) × (self.a1203 + 1 < 2 ^ 64) × (self.restarts + 1 < 2 ^ 64) }
-        ensures { result ≡ add self (reply_told reply.now) }
+    /// One more request was served, and an era began.
+    fn count_restart(&mut self)
+        requires { (self.old.served + 1 < 2 ^ 64) × (self.old.restarts + 1 < 2 ^ 64) }
+        ensures { self.new ≡ add self.old (reply_told Restarted) }
     {
-        let served = self.served + 1;
+        self.served += 1;
+        self.restarts += 1;
+    }
+
+    /// One more request was served, with no alarm, and no era began.
+    fn count_served(&mut self)
+        requires { self.old.served + 1 < 2 ^ 64 }
+        ensures { self.new ≡ add self.old (reply_told NoJob) }
+    {
+        self.served += 1;
+    }
+
+    /// One more request other than a tick was served, which got this reply. Counts are changed where
+    /// they stand, which is cheaper than totals handed on.
+    pub(crate) fn count(&mut self, reply: &Brief)
+        requires { (self.old.served + 1 < 2 ^ 64) × (self.old.a1201 + 1 < 2 ^ 64) × (self.old.a1202 + 1 < 2 ^ 64) × (self.old.a1203 + 1 < 2 ^ 64) × (self.old.restarts + 1 < 2 ^ 64) }
+        ensures { self.new ≡ add self.old (reply_told (reply_of reply.now)) }
+    {
         match reply {
-            Reply::Alarmed(alarm) => self.with_alarm(*alarm),
-            Reply::Ticked(_, Some(alarm)) => self.with_alarm(*alarm),
-            Reply::Restarted => Totals {
-                served,
-                restarts: self.restarts + 1,
-                ..self
-            },
-            Reply::Established(_) => Totals { served, ..self },
-            Reply::Left(_) => Totals { served, ..self },
-            Reply::Roused(_) => Totals { served, ..self },
-            Reply::NoSleeper => Totals { served, ..self },
-            Reply::NoJob => Totals { served, ..self },
-            Reply::Runs(_) => Totals { served, ..self },
-            Reply::Stored => Totals { served, ..self },
-            Reply::Listed => Totals { served, ..self },
-            Reply::Phased => Totals { served, ..self },
-            Reply::Ticked(_, None) => Totals { served, ..self },
+            Brief::Alarmed(alarm) => self.count_alarm(*alarm),
+            Brief::Restarted => self.count_restart(),
+            Brief::Established(_) => self.count_served(),
+            Brief::Left(_) => self.count_served(),
+            Brief::Idle => self.count_served(),
+            Brief::Roused(_) => self.count_served(),
+            Brief::NoSleeper => self.count_served(),
+            Brief::NoJob => self.count_served(),
+            Brief::Runs(_) => self.count_served(),
+            Brief::Stored => self.count_served(),
+            Brief::Listed => self.count_served(),
+            Brief::Phased => self.count_served(),
+        }
+    }
+
+    /// One more tick was served, which this alarm ended, if one did.
+    pub(crate) fn count_tick(&mut self, alarm: Option<Alarm>)
+        requires { (self.old.served + 1 < 2 ^ 64) × (self.old.a1201 + 1 < 2 ^ 64) × (self.old.a1202 + 1 < 2 ^ 64) × (self.old.a1203 + 1 < 2 ^ 64) × (self.old.restarts + 1 < 2 ^ 64) }
+        ensures { (fired : List Task) → self.new ≡ add self.old (reply_told (Ticked fired alarm)) }
+    {
+        match alarm {
+            Some(alarm) => self.count_alarm(alarm),
+            None => self.count_served(),
         }
     }
 }

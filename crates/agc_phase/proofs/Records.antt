@@ -27,7 +27,7 @@ record Recorded (place word : ℕ) (old new : List ℕ) : Type 0 where
   pub same_length : length new ≡ length old
 
 -- two words were set
-recorded_set : (old : List ℕ) (place word : ℕ) → length old ≡ 132 → place < 132 → Recorded place word old (slice_set (slice_set old place word) (layout.failreg + 2) word)
+recorded_set : (old : List ℕ) (place word : ℕ) → layout.last_set ≤ length old → place < 132 → Recorded place word old (slice_set (slice_set old place word) (layout.failreg + 2) word)
 recorded_set old place word size lt = record {
   here = grind (arith, get_or-set_same, get_or-set_other, length-set);
   last = get_or-set_same (slice_set old place word) (layout.failreg + 2) word 0 (rw (length-set old place word) (omega arith));
@@ -112,7 +112,7 @@ free_place-low : (words : List ℕ) → free_place words < 132
 free_place-low words = grind arith
 
 -- a code was recorded
-pub Becomes-recorded : (old new : List ℕ) (word place : ℕ) (code : Code) → length old ≡ 132 → IsLawfulTable old → word ≡ code_word (Some code) → place ≡ free_place old → new ≡ slice_set (slice_set old place word) (layout.failreg + 2) word → Becomes (with_code code (base_of old)) old new
+pub Becomes-recorded : (old new : List ℕ) (word place : ℕ) (code : Code) → layout.last_set ≤ length old → IsLawfulTable old → word ≡ code_word (Some code) → place ≡ free_place old → new ≡ slice_set (slice_set old place word) (layout.failreg + 2) word → Becomes (with_code code (base_of old)) old new
 Becomes-recorded old new word place code size lawful word_is place_is new_is =
     let at_place : Recorded place word old new = subst (Recorded place word old) (sym new_is) (recorded_set old place word size (rw place_is (free_place-low old))) in
     recorded_by old new word code _ _ lawful word_is (subst (λ p. Recorded p word old new) place_is at_place) refl refl

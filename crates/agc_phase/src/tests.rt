@@ -2,7 +2,7 @@ use crate::{
     Base, Code, Phases, clear, failreg, is_lawful, laws, phases, record_alarm, recover, set_phase,
 };
 use agc_plan::{Group, Phase};
-use agc_word::{Erasable, Word};
+use agc_word::{Erasable, Sets, Word};
 use std::test::Fail;
 
 fn word(bits: u16) -> Result<Word, Fail> {
@@ -70,7 +70,7 @@ fn assert_same(phases: Phases, base: Base) -> Result<Base, Fail> {
 
 /// All words 12345, and then a cleared table.
 fn cleared() -> Result<Erasable, Fail> {
-    let mut e = Erasable::new();
+    let mut e = Erasable::new(Sets::Seven);
     for place in 0..132usize {
         e.set(place, word(0o12345)?);
     }
@@ -126,6 +126,63 @@ fn each_single_bit_breaks_its_pair(rt: HostRuntime) -> Result<(), Fail> {
             );
         }
     }
+    Ok(())
+}
+
+#[test]
+fn a_bit_turned_in_both_words_of_a_pair_is_another_phase(rt: HostRuntime) -> Result<(), Fail> {
+    let mut words = twelve(GROUP_4)?;
+    words[6] = word(0o77770)?;
+    words[7] = word(0o7)?;
+    let phases = recover(&words).ok_or("recover")?;
+    assert_eq!(rt; phases[3].get(), 7);
+    Ok(())
+}
+
+/// The rule, pair by pair: a phase is at most 127, and the word before it is its complement.
+fn agree(bits: &[u16; 12]) -> bool {
+    for group in 0..6usize {
+        let phase = bits[2 * group + 1];
+        if phase > 127 || bits[2 * group] != 0o77777 - phase {
+            return false;
+        }
+    }
+    true
+}
+
+/// The next of a series of numbers that is always the same.
+fn next(seed: u32) -> u32 {
+    seed.wrapping_mul(1664525).wrapping_add(1013904223)
+}
+
+#[test]
+fn two_thousand_sets_of_words(rt: HostRuntime) -> Result<(), Fail> {
+    let mut seed = 1202;
+    let mut recovered = 0u32;
+    for _ in 0..2000u32 {
+        let mut bits = [0; 12];
+        for group in 0..6usize {
+            seed = next(seed);
+            let phase = (seed >> 16) as u16 % 130;
+            seed = next(seed);
+            let turned = if (seed >> 16) % 10 == 0 {
+                1 << ((seed >> 20) % 15)
+            } else {
+                0
+            };
+            bits[2 * group] = (0o77777 - phase) ^ turned;
+            bits[2 * group + 1] = phase;
+        }
+        let phases = recover(&twelve(bits)?);
+        assert_eq!(rt; phases.is_some(), agree(&bits));
+        if let Some(phases) = phases {
+            recovered = recovered.saturating_add(1);
+            for group in 0..6usize {
+                assert_eq!(rt; u16::from(phases[group].get()), bits[2 * group + 1]);
+            }
+        }
+    }
+    assert!(rt; recovered > 500 && recovered < 1500, "{recovered}");
     Ok(())
 }
 
@@ -259,6 +316,6 @@ fn lawful_words(rt: HostRuntime) -> Result<(), Fail> {
         record(&mut e, code)?;
         assert!(rt; is_lawful(&e));
     }
-    assert!(rt; !is_lawful(&Erasable::new()));
+    assert!(rt; !is_lawful(&Erasable::new(Sets::Seven)));
     Ok(())
 }

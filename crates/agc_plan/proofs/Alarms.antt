@@ -19,10 +19,10 @@ use Rattle.agc_plan.specs.Base.{Base}
 use Rattle.agc_plan.specs.Plans.{Planned, action_in}
 use Rattle.agc_plan.specs.Eras.{Work}
 use Rattle.agc_plan.specs.Steps.{Plain, Fires, alarm_of, with_listed, done, dispatched_work, unless_alarm, fire_first, fire, tick_fires, later_work, step, reached}
-use Rattle.agc_plan.specs.Laws.{Misses, MissesNothing, EndsByLast, as_action}
+use Rattle.agc_plan.specs.Laws.{Misses, MissesNothing, EndsByLast, as_action, living, SomeAreaIsUnowned}
 use Rattle.agc_plan.proofs.Searches.{option_cases}
 use Rattle.agc_plan.proofs.Replies.{novac_1201, novac_1202, findvac_1201, findvac_1202, listed_1203}
-use Rattle.agc_plan.proofs.Steady.{IsSteady, dispatched_steady, done_steady, later_steady, reached_steady}
+use Rattle.agc_plan.proofs.Steady.{IsSteady, dispatched_steady, done_steady, later_steady, reached_steady, reached_sets}
 
 -- a new job's alarm
 established_told : (o : Option ℕ) (job : Job) (jobs : Jobs) (alarm : Alarm) → alarm_of (establish_at o job jobs).reply ≡ Some alarm → (establish_at o job jobs).reply ≡ Alarmed alarm
@@ -41,14 +41,14 @@ found_room : (o : Option ℕ) (priority : ℕ) (entry : Entry) (jobs : Jobs) →
 found_room None priority entry jobs e = cc
 found_room (Some area) priority entry jobs e = established_room (least_unused 1 jobs.slots) (new_job priority entry area) jobs e
 
-novac_misses : (priority : ℕ) (entry : Entry) (work : Work) → IsSteady work → (alarm : Alarm) → ((novac priority entry work.jobs).reply ≡ Alarmed alarm) ↔ Misses alarm (action.Novac priority entry) work
+novac_misses : {size : ℕ} → (priority : ℕ) (entry : Entry) (work : Work) → IsSteady size work → (alarm : Alarm) → ((novac priority entry work.jobs).reply ≡ Alarmed alarm) ↔ Misses alarm (action.Novac priority entry) work
 novac_misses priority entry work s A1201 = (λ e. novac_1201 priority entry work.jobs e, λ no. absurd no)
-novac_misses priority entry work s A1202 = novac_1202 priority entry work.jobs s.jobs.orderly.seven
+novac_misses priority entry work s A1202 = novac_1202 priority entry work.jobs
 novac_misses priority entry work s A1203 = (λ e. established_room (least_unused 1 work.jobs.slots) (new_job priority entry 0) work.jobs e, λ no. absurd no)
 
-findvac_misses : (priority : ℕ) (entry : Entry) (work : Work) → IsSteady work → (alarm : Alarm) → ((findvac priority entry work.jobs).reply ≡ Alarmed alarm) ↔ Misses alarm (action.Findvac priority entry) work
+findvac_misses : {size : ℕ} → (priority : ℕ) (entry : Entry) (work : Work) → IsSteady size work → (alarm : Alarm) → ((findvac priority entry work.jobs).reply ≡ Alarmed alarm) ↔ Misses alarm (action.Findvac priority entry) work
 findvac_misses priority entry work s A1201 = findvac_1201 priority entry work.jobs
-findvac_misses priority entry work s A1202 = findvac_1202 priority entry work.jobs s.jobs.orderly.seven
+findvac_misses priority entry work s A1202 = findvac_1202 priority entry work.jobs
 findvac_misses priority entry work s A1203 = (λ e. found_room (least_unowned 5 1 work.jobs.slots) priority entry work.jobs e, λ no. absurd no)
 
 -- a listing's alarm
@@ -60,7 +60,7 @@ listed_room : (room : Bool) (alarm : Alarm) → (if room then Listed else Alarme
 listed_room true alarm e = absurd (cc)
 listed_room false alarm e = cc
 
-listed_misses : (delay : ℕ) (task : Task) (work : Work) → IsSteady work → (alarm : Alarm) → ((with_listed delay task work).reply ≡ Alarmed alarm) ↔ Misses alarm (action.List delay task) work
+listed_misses : {size : ℕ} → (delay : ℕ) (task : Task) (work : Work) → IsSteady size work → (alarm : Alarm) → ((with_listed delay task work).reply ≡ Alarmed alarm) ↔ Misses alarm (action.List delay task) work
 listed_misses delay task work s A1201 = (λ e. absurd (let no : A1203 ≡ A1201 = listed_room (has_room work.agenda) A1201 e in cc), λ no. absurd no)
 listed_misses delay task work s A1202 = (λ e. absurd (let no : A1203 ≡ A1202 = listed_room (has_room work.agenda) A1202 e in cc), λ no. absurd no)
 listed_misses delay task work s A1203 = listed_1203 delay task work s.tasks
@@ -105,7 +105,7 @@ store_quiet place word slots (Some n) = refl
 quiet_misses : (reply : Reply) (act : Action) (work : Work) → alarm_of reply ≡ None → MissesNothing act work → (alarm : Alarm) → (reply ≡ Alarmed alarm) ↔ Misses alarm act work
 quiet_misses reply act work quiet nothing alarm = (λ e. absurd (let no : None ≡ Some alarm = sym quiet ∙ ap alarm_of e in cc), λ missed. absurd (nothing alarm missed))
 
-step_misses : (plan : Planned) (asked : Request) (plain : Plain) → IsSteady plain.work → (alarm : Alarm) → ((step plan asked plain).reply ≡ Alarmed alarm) ↔ Misses alarm (as_action asked) plain.work
+step_misses : {size : ℕ} → (plan : Planned) (asked : Request) (plain : Plain) → IsSteady size plain.work → (alarm : Alarm) → ((step plan asked plain).reply ≡ Alarmed alarm) ↔ Misses alarm (as_action asked) plain.work
 step_misses plan (request.Novac priority entry) plain s alarm = novac_misses priority entry plain.work s alarm
 step_misses plan (request.Findvac priority entry) plain s alarm = findvac_misses priority entry plain.work s alarm
 step_misses plan request.EndOfJob plain s alarm = quiet_misses (step plan request.EndOfJob plain).reply action.Nothing plain.work (end_quiet plain.work.jobs.slots plain.work.jobs.running) (nothing_misses plain.work) alarm
@@ -125,8 +125,21 @@ step_misses plan request.Fresh plain s alarm = quiet_misses (step plan request.F
 pub request_alarmed : (plan : Planned) (base : Base) (log : List Request) (asked : Request) (alarm : Alarm) → ((step plan asked (reached plan base log)).reply ≡ Alarmed alarm) ↔ Misses alarm (as_action asked) (reached plan base log).work
 request_alarmed plan base log asked alarm = step_misses plan asked (reached plan base log) (reached_steady plan base log) alarm
 
+-- with the number of core sets
+pub novac_reached : (plan : Planned) (base : Base) (log : List Request) (priority : ℕ) (entry : Entry) → ((step plan (request.Novac priority entry) (reached plan base log)).reply ≡ Alarmed A1202) ↔ (living (reached plan base log).work.jobs.slots ≡ plan.sets)
+novac_reached plan base log priority entry =
+    let is = request_alarmed plan base log (request.Novac priority entry) A1202 in
+    let all = reached_sets plan base log in
+    (λ e. is.0 e ∙ all, λ lives. is.1 (lives ∙ sym all))
+
+pub findvac_reached : (plan : Planned) (base : Base) (log : List Request) (priority : ℕ) (entry : Entry) → ((step plan (request.Findvac priority entry) (reached plan base log)).reply ≡ Alarmed A1202) ↔ (SomeAreaIsUnowned (reached plan base log).work.jobs.slots × (living (reached plan base log).work.jobs.slots ≡ plan.sets))
+findvac_reached plan base log priority entry =
+    let is = request_alarmed plan base log (request.Findvac priority entry) A1202 in
+    let all = reached_sets plan base log in
+    (λ e. let (area, lives) = is.0 e in (area, lives ∙ all), λ both. is.1 (both.0, both.1 ∙ sym all))
+
 -- an action has an alarm exactly where it misses what that tells
-done_misses : (a : Action) (work : Work) → IsSteady work → (alarm : Alarm) → ((done a work).alarm ≡ Some alarm) ↔ Misses alarm a work
+done_misses : {size : ℕ} → (a : Action) (work : Work) → IsSteady size work → (alarm : Alarm) → ((done a work).alarm ≡ Some alarm) ↔ Misses alarm a work
 done_misses action.Nothing work s alarm = (λ e. absurd (let no : None ≡ Some alarm = e in cc), λ missed. absurd (nothing_misses work alarm missed))
 done_misses (action.Novac priority entry) work s alarm =
     let is = novac_misses priority entry work s alarm in
@@ -165,7 +178,7 @@ record IsEnded (rows : List (Task × Action)) (work : Work) (before : List Task)
 none_fired : (rows : List (Task × Action)) (work : Work) (before : List Task) → IsEnded rows work before (record { work = work; fired = before; alarm = None })
 none_fired rows work before = record { fired = []; all = sym (append-nil before); ends = refl; room = λ e. let no : None ≡ Some A1203 = e in cc }
 
-one_fired : (rows : List (Task × Action)) (work : Work) (task : Task) (before : List Task) (again : Work → List Task → Fires) → first_due work.agenda.time work.agenda.tasks ≡ Some task → IsSteady (dispatched_work work) → length (dispatched_work work).agenda.tasks < 9 → ((w : Work) (f : List Task) → IsSteady w → IsEnded rows w f (again w f)) → (o : Option Alarm) → (done (action_in rows task) (dispatched_work work)).alarm ≡ o → IsEnded rows work before (unless_alarm o (done (action_in rows task) (dispatched_work work)).work (before ++ task ∷ []) again)
+one_fired : {size : ℕ} → (rows : List (Task × Action)) (work : Work) (task : Task) (before : List Task) (again : Work → List Task → Fires) → first_due work.agenda.time work.agenda.tasks ≡ Some task → IsSteady size (dispatched_work work) → length (dispatched_work work).agenda.tasks < 9 → ((w : Work) (f : List Task) → IsSteady size w → IsEnded rows w f (again w f)) → (o : Option Alarm) → (done (action_in rows task) (dispatched_work work)).alarm ≡ o → IsEnded rows work before (unless_alarm o (done (action_in rows task) (dispatched_work work)).work (before ++ task ∷ []) again)
 one_fired rows work task before again first s lt on None e =
     let act : Action = action_in rows task in
     let here : Work = dispatched_work work in
@@ -187,14 +200,14 @@ one_fired rows work task before again first s lt on (Some alarm) e =
       room = λ is. has_its_room act here lt (subst (λ (a : Alarm). Misses a act here) (same_Some alarm A1203 is) told);
     }
 
-first_ends : (rows : List (Task × Action)) (work : Work) (before : List Task) (again : Work → List Task → Fires) → IsSteady work → ((w : Work) (f : List Task) → IsSteady w → IsEnded rows w f (again w f)) → (o : Option Task) → first_due work.agenda.time work.agenda.tasks ≡ o → IsEnded rows work before (fire_first o rows work before again)
+first_ends : {size : ℕ} → (rows : List (Task × Action)) (work : Work) (before : List Task) (again : Work → List Task → Fires) → IsSteady size work → ((w : Work) (f : List Task) → IsSteady size w → IsEnded rows w f (again w f)) → (o : Option Task) → first_due work.agenda.time work.agenda.tasks ≡ o → IsEnded rows work before (fire_first o rows work before again)
 first_ends rows work before again s on None e = none_fired rows work before
 first_ends rows work before again s on (Some task) e =
     let lt : length (without_first_due work.agenda.time work.agenda.tasks) < length work.agenda.tasks = made_room work.agenda.time work.agenda.tasks task e in
     let most : length work.agenda.tasks ≤ 9 = s.tasks in
     one_fired rows work task before again e (dispatched_steady work s) (omega (arith, lt, most)) on (done (action_in rows task) (dispatched_work work)).alarm refl
 
-fire_ends : (more : ℕ) (rows : List (Task × Action)) (work : Work) (before : List Task) → IsSteady work → IsEnded rows work before (fire more rows work before)
+fire_ends : {size : ℕ} → (more : ℕ) (rows : List (Task × Action)) (work : Work) (before : List Task) → IsSteady size work → IsEnded rows work before (fire more rows work before)
 fire_ends zero rows work before s = none_fired rows work before
 fire_ends (suc more) rows work before s = first_ends rows work before (fire more rows) s (λ w f t. fire_ends more rows w f t) (first_due work.agenda.time work.agenda.tasks) refl
 

@@ -211,7 +211,7 @@ groups_idle es group [] work d idle = idle
 groups_idle es group (phase ∷ phases) work d idle = groups_idle es (group + 1) phases (group_begun (active es group phase) work) d (group_idle (active es group phase) work (active_delayed es group phase d) idle)
 
 era_idle : (plan : Planned) (base : Base) → AreListingsDelayed plan.entries → Idle (era plan base).work.agenda
-era_idle plan base d = groups_idle plan.entries 1 base.phases no_work d refl
+era_idle plan base d = groups_idle plan.entries 1 base.phases (no_work plan.sets) d refl
 
 ended_idle : (plan : Planned) (did : Stepped) → AreListingsDelayed plan.entries → (begins did.reply ≡ false → Idle did.plain.work.agenda) → Idle (ended plan did).work.agenda
 ended_idle plan did d idle = elim (cases_Bool (begins did.reply)) [

@@ -1,7 +1,7 @@
 -- An era of an accepted plan begins with no alarm.
 use Rattle.std.proofs.Common.{◌≡◌, ◌≢◌, ℕ, zero, suc, ◌+◌, ◌-◌, ◌<◌, ◌≤◌, ◌==◌, Bool, true, false, ◌⊎◌, List, [], ◌∷◌, Option, Some, None, length, slice_index_or, slice_set, nat_lt, replicate, refl, ap, sym, ◌∙◌, subst, inl, inr, arith}
 use Rattle.std.proofs.lemmas.Bool.{cases_eq, cases_lt}
-use Rattle.std.proofs.lemmas.List.{get_or-set_other, get_or-set_same, length-set, length-append}
+use Rattle.std.proofs.lemmas.List.{get_or-set_other, get_or-set_same, length-set, length-append, length-replicate}
 use Rattle.std.proofs.lemmas.Option.{same_Some}
 use Rattle.std.proofs.lemmas.Grind.{common_steps}
 use Rattle.agc_plan.specs.declared.plan.PlanFault.TheVariants.{TaskTwice, PhaseTwice, TooManyAreas}
@@ -11,12 +11,12 @@ use Rattle.agc_plan.specs.declared.request.Task.{Task}
 use Rattle.agc_plan.specs.Jobs.{Job, Jobs, least_unused, is_owned, least_unowned, new_job, with_job, no_jobs, establish_at, findvac_at, runner_after}
 use Rattle.agc_plan.specs.Tasks.{Agenda}
 use Rattle.agc_plan.specs.Begins.{Begins}
-use Rattle.agc_plan.specs.Plans.{Planned, entry_at, is_for, group_wants, all_want, wants_area, fault_of, task_twice, phase_twice}
+use Rattle.agc_plan.specs.Plans.{Written, entry_at, is_for, group_wants, all_want, wants_area, fault_of, task_twice, phase_twice}
 use Rattle.agc_plan.specs.Eras.{Work, no_work, alarm_in, jobs_begun, job_alarms, agenda_begun, task_alarms, active, group_begun, group_alarms, alarms_from, BeginsQuietly}
 
 -- at most k jobs so far, in the first slots, with areas up to a
 pub record Roomy (k a : ℕ) (jobs : Jobs) : Type 0 where
-  pub seven : length jobs.slots ≡ 7
+  pub size : 6 ≤ length jobs.slots
   pub free : (j : ℕ) → k ≤ j → slice_index_or jobs.slots j None ≡ None
   pub areas : (j : ℕ) (job : Job) → slice_index_or jobs.slots j None ≡ Some job → job.area ≤ a
 
@@ -50,13 +50,13 @@ low_area (suc more) from a slots h low high = elim (bool_cases (is_owned from sl
 ]
 
 -- one more job in slot n - 1
-one_more : (k a b n : ℕ) (job : Job) (running : Option ℕ) (jobs : Jobs) → Roomy k a jobs → k < 7 → 1 ≤ n → n ≤ 1 + k → a ≤ b → job.area ≤ b → Roomy (suc k) b (record { slots = with_job jobs.slots n (Some job); running = running })
+one_more : (k a b n : ℕ) (job : Job) (running : Option ℕ) (jobs : Jobs) → Roomy k a jobs → k < 6 → 1 ≤ n → n ≤ 1 + k → a ≤ b → job.area ≤ b → Roomy (suc k) b (record { slots = with_job jobs.slots n (Some job); running = running })
 one_more k a b n job running jobs r lt low high le area = record {
-  seven = length-set jobs.slots (n - 1) (Some job) ∙ r.seven;
+  size = let len : length (with_job jobs.slots n (Some job)) ≡ length jobs.slots = length-set jobs.slots (n - 1) (Some job) in let six : 6 ≤ length jobs.slots = r.size in omega arith;
   free = λ j h. let apart : j ≢ n - 1 = omega arith in let was : slice_index_or jobs.slots j None ≡ None = r.free j (omega arith) in get_or-set_other jobs.slots (n - 1) j (Some job) None apart ∙ was;
   areas = λ j other at. elim (cases_eq j (n - 1)) [
     | inl same ↦
-        let within : n - 1 < length jobs.slots = let s : length jobs.slots ≡ 7 = r.seven in omega arith in
+        let within : n - 1 < length jobs.slots = let s : 6 ≤ length jobs.slots = r.size in omega arith in
         let here : slice_index_or (slice_set jobs.slots (n - 1) (Some job)) (n - 1) None ≡ Some job = get_or-set_same jobs.slots (n - 1) (Some job) None within in
         let is : job ≡ other = same_Some job other (sym here ∙ ap (λ i. slice_index_or (slice_set jobs.slots (n - 1) (Some job)) i None) (sym same) ∙ at) in
         subst (λ (x : Job). x.area ≤ b) is area
@@ -68,26 +68,26 @@ one_more k a b n job running jobs r lt low high le area = record {
 
 same_jobs : (k a b : ℕ) (jobs : Jobs) → Roomy k a jobs → a ≤ b → Roomy (suc k) b jobs
 same_jobs k a b jobs r le = record {
-  seven = r.seven;
+  size = r.size;
   free = λ j h. r.free j (omega arith);
   areas = λ j job at. let was : job.area ≤ a = r.areas j job at in omega arith;
 }
 
 -- a job is established at this number
-established_quiet : (k a b n : ℕ) (job : Job) (jobs : Jobs) → Roomy k a jobs → k < 7 → 1 ≤ n → n ≤ 1 + k → a ≤ b → job.area ≤ b → (o : Option ℕ) → o ≡ Some n → (alarm_in (establish_at o job jobs).reply ≡ []) × Roomy (suc k) b (establish_at o job jobs).jobs
+established_quiet : (k a b n : ℕ) (job : Job) (jobs : Jobs) → Roomy k a jobs → k < 6 → 1 ≤ n → n ≤ 1 + k → a ≤ b → job.area ≤ b → (o : Option ℕ) → o ≡ Some n → (alarm_in (establish_at o job jobs).reply ≡ []) × Roomy (suc k) b (establish_at o job jobs).jobs
 established_quiet k a b n job jobs r lt low high le area o is =
     subst (λ (x : Option ℕ). (alarm_in (establish_at x job jobs).reply ≡ []) × Roomy (suc k) b (establish_at x job jobs).jobs) (sym is)
     (refl, one_more k a b n job (runner_after jobs.running (with_job jobs.slots n (Some job))) jobs r lt low high le area)
 
 -- the group's job finds room
-pub job_quiet : (job : Option JobStart) (k a b : ℕ) (jobs : Jobs) → Roomy k a jobs → k < 7 → a ≤ b → (wants_area job ≡ true → (a < 5) × (a + 1 ≤ b)) → (job_alarms job jobs ≡ []) × Roomy (suc k) b (jobs_begun job jobs)
+pub job_quiet : (job : Option JobStart) (k a b : ℕ) (jobs : Jobs) → Roomy k a jobs → k < 6 → a ≤ b → (wants_area job ≡ true → (a < 5) × (a + 1 ≤ b)) → (job_alarms job jobs ≡ []) × Roomy (suc k) b (jobs_begun job jobs)
 job_quiet None k a b jobs r lt le room = (refl, same_jobs k a b jobs r le)
 job_quiet (Some (Novac priority entry)) k a b jobs r lt le room =
-    let s : length jobs.slots ≡ 7 = r.seven in
+    let s : 6 ≤ length jobs.slots = r.size in
     let (n, is, low, high) = low_number 1 jobs.slots k (omega arith) (r.free k (omega arith)) in
     established_quiet k a b n (new_job priority entry 0) jobs r lt low high le (omega arith) (least_unused 1 jobs.slots) is
 job_quiet (Some (Findvac priority entry)) k a b jobs r lt le room =
-    let s : length jobs.slots ≡ 7 = r.seven in
+    let s : 6 ≤ length jobs.slots = r.size in
     let (five, up) = room refl in
     let (n, is, low, high) = low_number 1 jobs.slots k (omega arith) (r.free k (omega arith)) in
     let (area, owns, most) = low_area 5 1 a jobs.slots r.areas (omega arith) (omega arith) in
@@ -113,7 +113,7 @@ grown-ge : (w : Bool) (a : ℕ) → a ≤ grown w a
 grown-ge false a = omega arith
 grown-ge true a = omega arith
 
-group_quiet : (o : Option Begins) (k a : ℕ) (work : Work) → Roomy k a work.jobs → length work.agenda.tasks ≤ k → k < 7 → (wants_of o ≡ true → a < 5) → (group_alarms o work ≡ []) × Roomy (suc k) (grown (wants_of o) a) (group_begun o work).jobs × (length (group_begun o work).agenda.tasks ≤ suc k)
+group_quiet : (o : Option Begins) (k a : ℕ) (work : Work) → Roomy k a work.jobs → length work.agenda.tasks ≤ k → k < 6 → (wants_of o ≡ true → a < 5) → (group_alarms o work ≡ []) × Roomy (suc k) (grown (wants_of o) a) (group_begun o work).jobs × (length (group_begun o work).agenda.tasks ≤ suc k)
 group_quiet None k a work r t lt room = (refl, same_jobs k a a work.jobs r (omega arith), omega arith)
 group_quiet (Some e) k a work r t lt room =
     let (quiet, after) = job_quiet e.job k a (grown (wants_area e.job) a) work.jobs r lt (grown-ge (wants_area e.job) a) (λ w. (room w, rw w (omega arith))) in
@@ -181,14 +181,14 @@ no_job zero j = refl
 no_job (suc n) zero = refl
 no_job (suc n) (suc j) = no_job n j
 
-begins_roomy : Roomy 0 0 (no_jobs 7)
-begins_roomy = record {
-  seven = refl;
-  free = λ j h. no_job 7 j;
-  areas = λ j job at. let is : None ≡ Some job = sym (no_job 7 j) ∙ at in absurd (cc);
+begins_roomy : (sets : ℕ) → 6 ≤ sets → Roomy 0 0 (no_jobs sets)
+begins_roomy sets six = record {
+  size = let len : length (replicate {A = Option Job} sets None) ≡ sets = length-replicate sets None in omega arith;
+  free = λ j h. no_job sets j;
+  areas = λ j job at. let is : None ≡ Some job = sym (no_job sets j) ∙ at in absurd (cc);
 }
 
-accepted-areas : (plan : Planned) → fault_of plan.rows plan.entries ≡ None → all_want plan.entries ≡ false
+accepted-areas : (plan : Written) → fault_of plan.rows plan.entries ≡ None → all_want plan.entries ≡ false
 accepted-areas plan accepted = elim (bool_cases (all_want plan.entries)) [
   | inr off ↦ off
   | inl all ↦ elim (bool_cases (task_twice plan.rows)) [
@@ -200,7 +200,7 @@ accepted-areas plan accepted = elim (bool_cases (all_want plan.entries)) [
   ]
 ]
 
-pub quiet : (plan : Planned) → fault_of plan.rows plan.entries ≡ None → BeginsQuietly plan
-quiet plan accepted phases six =
+pub quiet : (plan : Written) → fault_of plan.rows plan.entries ≡ None → BeginsQuietly plan
+quiet plan accepted sets enough phases six =
     let (q, low, le, none_wants) = some_group plan.entries (accepted-areas plan accepted) in
-    rest_quiet plan.entries q none_wants 1 phases 0 0 no_work begins_roomy (omega arith) (omega arith) le (omega arith) (λ h. omega arith) (λ h. let no : ⊥ = omega arith in absurd no)
+    rest_quiet plan.entries q none_wants 1 phases 0 0 (no_work sets) (begins_roomy sets enough) (omega arith) (omega arith) le (omega arith) (λ h. omega arith) (λ h. let no : ⊥ = omega arith in absurd no)

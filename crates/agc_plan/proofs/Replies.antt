@@ -47,16 +47,16 @@ full : (o : Option ℕ) (job : Job) (jobs : Jobs) → ((establish_at o job jobs)
 full None job jobs = (λ e. refl, λ e. refl)
 full (Some n) job jobs = (λ e. absurd (cc), λ e. absurd (cc))
 
-seven_live : (jobs : Jobs) → length jobs.slots ≡ 7 → (least_unused 1 jobs.slots ≡ None) ↔ (living jobs.slots ≡ 7)
-seven_live jobs seven = (
-  λ off. each_lives jobs.slots ((each_used_law jobs.slots).0 off) ∙ seven,
-  λ all. (each_used_law jobs.slots).1 (lives_each jobs.slots (all ∙ sym seven)),
+all_live : (jobs : Jobs) → (least_unused 1 jobs.slots ≡ None) ↔ (living jobs.slots ≡ length jobs.slots)
+all_live jobs = (
+  λ off. each_lives jobs.slots ((each_used_law jobs.slots).0 off),
+  λ all. (each_used_law jobs.slots).1 (lives_each jobs.slots all),
 )
 
-pub novac_1202 : (priority : ℕ) (entry : Entry) (jobs : Jobs) → length jobs.slots ≡ 7 → ((novac priority entry jobs).reply ≡ Alarmed A1202) ↔ (living jobs.slots ≡ 7)
-novac_1202 priority entry jobs seven = (
-  λ e. (seven_live jobs seven).0 ((full (least_unused 1 jobs.slots) (new_job priority entry 0) jobs).0 e),
-  λ all. (full (least_unused 1 jobs.slots) (new_job priority entry 0) jobs).1 ((seven_live jobs seven).1 all),
+pub novac_1202 : (priority : ℕ) (entry : Entry) (jobs : Jobs) → ((novac priority entry jobs).reply ≡ Alarmed A1202) ↔ (living jobs.slots ≡ length jobs.slots)
+novac_1202 priority entry jobs = (
+  λ e. (all_live jobs).0 ((full (least_unused 1 jobs.slots) (new_job priority entry 0) jobs).0 e),
+  λ all. (full (least_unused 1 jobs.slots) (new_job priority entry 0) jobs).1 ((all_live jobs).1 all),
 )
 
 findvac_full : (o : Option ℕ) (priority : ℕ) (entry : Entry) (jobs : Jobs) → ((findvac_at o priority entry jobs).reply ≡ Alarmed A1202) ↔ (((area : ℕ) × (o ≡ Some area)) × (least_unused 1 jobs.slots ≡ None))
@@ -72,13 +72,13 @@ some_unowned slots some = elim (option_cases (least_unowned 5 1 slots)) [
   | inr off ↦ let (number, job, lives, is) = (each_owned_law slots).0 off some.0 some.1 some.2 in absurd (some.3 number job lives is)
 ]
 
-pub findvac_1202 : (priority : ℕ) (entry : Entry) (jobs : Jobs) → length jobs.slots ≡ 7 → ((findvac priority entry jobs).reply ≡ Alarmed A1202) ↔ (SomeAreaIsUnowned jobs.slots × (living jobs.slots ≡ 7))
-findvac_1202 priority entry jobs seven = (
+pub findvac_1202 : (priority : ℕ) (entry : Entry) (jobs : Jobs) → ((findvac priority entry jobs).reply ≡ Alarmed A1202) ↔ (SomeAreaIsUnowned jobs.slots × (living jobs.slots ≡ length jobs.slots))
+findvac_1202 priority entry jobs = (
   λ e.
       let (found, off) = (findvac_full (least_unowned 5 1 jobs.slots) priority entry jobs).0 e in
       let least : IsLeastUnowned jobs.slots found.0 = least_unowned-least jobs.slots found.0 found.1 in
-      ((found.0, least.low, least.high, least.unowned), (seven_live jobs seven).0 off),
-  λ both. (findvac_full (least_unowned 5 1 jobs.slots) priority entry jobs).1 (some_unowned jobs.slots both.0, (seven_live jobs seven).1 both.1),
+      ((found.0, least.low, least.high, least.unowned), (all_live jobs).0 off),
+  λ both. (findvac_full (least_unowned 5 1 jobs.slots) priority entry jobs).1 (some_unowned jobs.slots both.0, (all_live jobs).1 both.1),
 )
 
 not_1201 : (o : Option ℕ) (job : Job) (jobs : Jobs) → (establish_at o job jobs).reply ≡ Alarmed A1201 → ⊥

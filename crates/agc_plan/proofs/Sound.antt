@@ -1,7 +1,7 @@
 -- What stays true of the jobs, whatever is done to them; and that nobody waits who is more urgent.
 use Rattle.std.proofs.Common.{◌≡◌, ◌≢◌, ◌⊎◌, ◌↔◌, ℕ, zero, suc, ◌+◌, ◌-◌, ◌<◌, ◌≤◌, true, false, List, Option, Some, None, length, slice_index_or, slice_set, replicate, refl, ap, sym, subst, ◌∙◌, inl, inr, nat_lt, arith}
 use Rattle.std.proofs.lemmas.Bool.{cases_eq, cases_Bool}
-use Rattle.std.proofs.lemmas.List.{get_or-set_other, get_or-set_same, length-set}
+use Rattle.std.proofs.lemmas.List.{get_or-set_other, get_or-set_same, length-set, length-replicate}
 use Rattle.std.proofs.lemmas.Option.{same_Some}
 use Rattle.std.proofs.lemmas.Grind.{common_steps}
 use Rattle.std.specs.Prelude.{option_map, IsSome}
@@ -10,9 +10,9 @@ use Rattle.agc_plan.specs.Jobs.{Job, Jobs, Ready, no_jobs, job_in, with_job, bes
 use Rattle.agc_plan.specs.Laws.{Lives, LivesAwake, SomebodyIsAwake, NobodyIsAwake, IsLeastUnused, IsLeastUnowned, IsRunnerAwake, IsNoAreaShared, IsEachAreaKnown, IsUnrivalled}
 use Rattle.agc_plan.proofs.Searches.{At, at_within, lives_at, option_cases, best-most_urgent, best-nobody, ready_found, least_unused-least, least_unowned-least}
 
--- seven slots, areas up to 5, and none owned twice
-pub record IsOrderly (slots : List (Option Job)) : Type 0 where
-  pub seven : length slots ≡ 7
+-- so many slots, areas up to 5, and none owned twice
+pub record IsOrderly (n : ℕ) (slots : List (Option Job)) : Type 0 where
+  pub size : length slots ≡ n
   pub areas : (i : ℕ) (job : Job) → At slots i (Some job) → job.area ≤ 5
   pub once : (i j : ℕ) (job other : Job) → At slots i (Some job) → At slots j (Some other) → 1 ≤ job.area → job.area ≡ other.area → i ≡ j
 
@@ -21,8 +21,8 @@ pub record IsRunBy (slots : List (Option Job)) (running : Option ℕ) : Type 0 w
   pub runner : (number : ℕ) → running ≡ Some number → (job : Job) × LivesAwake slots number job
   pub nobody : running ≡ None → NobodyIsAwake slots
 
-pub record IsSound (jobs : Jobs) : Type 0 where
-  pub orderly : IsOrderly jobs.slots
+pub record IsSound (n : ℕ) (jobs : Jobs) : Type 0 where
+  pub orderly : IsOrderly n jobs.slots
   pub run : IsRunBy jobs.slots jobs.running
 
 -- who stands where after one slot was set
@@ -37,9 +37,9 @@ at_set slots k o i job at = elim (cases_eq i k) [
 ]
 
 -- what stands in one slot becomes this, which owns nobody else's area
-set_orderly : (slots : List (Option Job)) (k : ℕ) (o : Option Job) → IsOrderly slots → ((job : Job) → o ≡ Some job → (job.area ≤ 5) × ((i : ℕ) (other : Job) → i ≢ k → At slots i (Some other) → 1 ≤ other.area → job.area ≡ other.area → ⊥)) → IsOrderly (slice_set slots k o)
+set_orderly : {size : ℕ} → (slots : List (Option Job)) (k : ℕ) (o : Option Job) → IsOrderly size slots → ((job : Job) → o ≡ Some job → (job.area ≤ 5) × ((i : ℕ) (other : Job) → i ≢ k → At slots i (Some other) → 1 ≤ other.area → job.area ≡ other.area → ⊥)) → IsOrderly size (slice_set slots k o)
 set_orderly slots k o h fits = record {
-  seven = length-set slots k o ∙ h.seven;
+  size = length-set slots k o ∙ h.size;
   areas = λ i job at. elim (at_set slots k o i job at) [ inl here ↦ (fits job here.1).0 | inr there ↦ h.areas i job there.1 ];
   once = λ i j job other at_i at_j owns same. elim (at_set slots k o i job at_i) [
     | inl here ↦ elim (at_set slots k o j other at_j) [
@@ -53,14 +53,14 @@ set_orderly slots k o h fits = record {
   ];
 }
 
-removed_orderly : (slots : List (Option Job)) (number : ℕ) → IsOrderly slots → IsOrderly (with_job slots number None)
+removed_orderly : {size : ℕ} → (slots : List (Option Job)) (number : ℕ) → IsOrderly size slots → IsOrderly size (with_job slots number None)
 removed_orderly slots number h = set_orderly slots (number - 1) None h (λ job is. absurd (let no : None ≡ Some job = is in cc))
 
 made_from : (made : Job → Job) (o : Option Job) (job : Job) → option_map made o ≡ Some job → (old : Job) × (o ≡ Some old) × (made old ≡ job)
 made_from made None job e = absurd (cc)
 made_from made (Some old) job e = (old, refl, same_Some (made old) job e)
 
-changed_orderly : (slots : List (Option Job)) (number : ℕ) (made : Job → Job) → ((job : Job) → (made job).area ≡ job.area) → IsOrderly slots → IsOrderly (with_job slots number (option_map made (job_in slots number)))
+changed_orderly : {size : ℕ} → (slots : List (Option Job)) (number : ℕ) (made : Job → Job) → ((job : Job) → (made job).area ≡ job.area) → IsOrderly size slots → IsOrderly size (with_job slots number (option_map made (job_in slots number)))
 changed_orderly slots number made keeps h = set_orderly slots (number - 1) (option_map made (job_in slots number)) h fits
   where
     fits : (job : Job) → option_map made (job_in slots number) ≡ Some job → (job.area ≤ 5) × ((i : ℕ) (other : Job) → i ≢ number - 1 → At slots i (Some other) → 1 ≤ other.area → job.area ≡ other.area → ⊥)
@@ -96,7 +96,7 @@ after_runs None slots still = best_runs slots
 after_runs (Some n) slots still = record { runner = still; nobody = λ e. absurd (let no : Some n ≡ None = e in cc) }
 
 -- a new job at an unused number
-pub established_sound : (job : Job) (jobs : Jobs) → IsSound jobs → (o : Option ℕ) → ((n : ℕ) → o ≡ Some n → IsLeastUnused jobs.slots n) → job.area ≤ 5 → ((i : ℕ) (other : Job) → At jobs.slots i (Some other) → 1 ≤ other.area → job.area ≡ other.area → ⊥) → IsSound (establish_at o job jobs).jobs
+pub established_sound : {size : ℕ} → (job : Job) (jobs : Jobs) → IsSound size jobs → (o : Option ℕ) → ((n : ℕ) → o ≡ Some n → IsLeastUnused jobs.slots n) → job.area ≤ 5 → ((i : ℕ) (other : Job) → At jobs.slots i (Some other) → 1 ≤ other.area → job.area ≡ other.area → ⊥) → IsSound size (establish_at o job jobs).jobs
 established_sound job jobs s None least area own = s
 established_sound job jobs s (Some n) least area own = record {
   orderly = set_orderly jobs.slots (n - 1) (Some job) s.orderly (λ new is. let same : job ≡ new = same_Some job new is in let alike : job.area ≡ new.area = ap (λ x. x.area) same in (omega arith, λ i other ne there owns e. own i other there owns (alike ∙ e)));
@@ -110,33 +110,33 @@ established_sound job jobs s (Some n) least area own = record {
         let apart : number - 1 ≢ n - 1 = λ same. let no : Some old ≡ None = sym lives.0.1 ∙ ap (λ k. slice_index_or jobs.slots k None) same ∙ free in cc in
         (old, still_other jobs.slots (n - 1) (Some job) number old apart lives)
 
-pub novac_sound : (priority : ℕ) (entry : Entry) (jobs : Jobs) → IsSound jobs → IsSound (novac priority entry jobs).jobs
+pub novac_sound : {size : ℕ} → (priority : ℕ) (entry : Entry) (jobs : Jobs) → IsSound size jobs → IsSound size (novac priority entry jobs).jobs
 novac_sound priority entry jobs s = established_sound (new_job priority entry 0) jobs s (least_unused 1 jobs.slots) (least_unused-least jobs.slots) (omega arith) (λ i other at owns same. omega arith)
 
-findvac_at_sound : (o : Option ℕ) (priority : ℕ) (entry : Entry) (jobs : Jobs) → ((area : ℕ) → o ≡ Some area → IsLeastUnowned jobs.slots area) → IsSound jobs → IsSound (findvac_at o priority entry jobs).jobs
+findvac_at_sound : {size : ℕ} → (o : Option ℕ) (priority : ℕ) (entry : Entry) (jobs : Jobs) → ((area : ℕ) → o ≡ Some area → IsLeastUnowned jobs.slots area) → IsSound size jobs → IsSound size (findvac_at o priority entry jobs).jobs
 findvac_at_sound None priority entry jobs least s = s
 findvac_at_sound (Some area) priority entry jobs least s =
     let free : IsLeastUnowned jobs.slots area = least area refl in
     established_sound (new_job priority entry area) jobs s (least_unused 1 jobs.slots) (least_unused-least jobs.slots) free.high (λ i other at owns same. free.unowned (1 + i) other (lives_at jobs.slots i other at) (sym same))
 
-pub findvac_sound : (priority : ℕ) (entry : Entry) (jobs : Jobs) → IsSound jobs → IsSound (findvac priority entry jobs).jobs
+pub findvac_sound : {size : ℕ} → (priority : ℕ) (entry : Entry) (jobs : Jobs) → IsSound size jobs → IsSound size (findvac priority entry jobs).jobs
 findvac_sound priority entry jobs s = findvac_at_sound (least_unowned 5 1 jobs.slots) priority entry jobs (least_unowned-least jobs.slots) s
 
-end_sound : (slots : List (Option Job)) (running : Option ℕ) → IsSound (record { slots = slots; running = running }) → IsSound (end_of_job (record { slots = slots; running = running })).jobs
+end_sound : {size : ℕ} → (slots : List (Option Job)) (running : Option ℕ) → IsSound size (record { slots = slots; running = running }) → IsSound size (end_of_job (record { slots = slots; running = running })).jobs
 end_sound slots None s = s
 end_sound slots (Some n) s = record { orderly = removed_orderly slots n s.orderly; run = best_runs (with_job slots n None) }
 
-pub end_of_job_sound : (jobs : Jobs) → IsSound jobs → IsSound (end_of_job jobs).jobs
+pub end_of_job_sound : {size : ℕ} → (jobs : Jobs) → IsSound size jobs → IsSound size (end_of_job jobs).jobs
 end_of_job_sound jobs s = end_sound jobs.slots jobs.running s
 
-slept_sound : (at : ℕ) (slots : List (Option Job)) (running : Option ℕ) → IsSound (record { slots = slots; running = running }) → IsSound (sleep at (record { slots = slots; running = running })).jobs
+slept_sound : {size : ℕ} → (at : ℕ) (slots : List (Option Job)) (running : Option ℕ) → IsSound size (record { slots = slots; running = running }) → IsSound size (sleep at (record { slots = slots; running = running })).jobs
 slept_sound at slots None s = s
 slept_sound at slots (Some n) s = record {
   orderly = changed_orderly slots n (sleeping_at at) (λ job. refl) s.orderly;
   run = best_runs (with_job slots n (option_map (sleeping_at at) (job_in slots n)));
 }
 
-pub sleep_sound : (at : ℕ) (jobs : Jobs) → IsSound jobs → IsSound (sleep at jobs).jobs
+pub sleep_sound : {size : ℕ} → (at : ℕ) (jobs : Jobs) → IsSound size jobs → IsSound size (sleep at jobs).jobs
 sleep_sound at jobs s = slept_sound at jobs.slots jobs.running s
 
 -- who runs on is awake
@@ -151,7 +151,7 @@ outrun_awake slots n job lives (Some r) is (Some other) number e = elim (cases_B
   | inr more ↦ let same : n ≡ number = rw more at e in subst (λ m. (new : Job) × LivesAwake slots m new) same (job, lives)
 ]
 
-run_on_sound : (slots : List (Option Job)) (n : ℕ) (job : Job) → IsOrderly slots → LivesAwake slots n job → IsSound (run_on n slots).jobs
+run_on_sound : {size : ℕ} → (slots : List (Option Job)) (n : ℕ) (job : Job) → IsOrderly size slots → LivesAwake slots n job → IsSound size (run_on n slots).jobs
 run_on_sound slots n job h lives = record {
   orderly = h;
   run = record {
@@ -160,15 +160,15 @@ run_on_sound slots n job h lives = record {
   };
 }
 
-changes_sound : (slots : List (Option Job)) (running : Option ℕ) → IsSound (record { slots = slots; running = running }) → IsSound (change (record { slots = slots; running = running })).jobs
+changes_sound : {size : ℕ} → (slots : List (Option Job)) (running : Option ℕ) → IsSound size (record { slots = slots; running = running }) → IsSound size (change (record { slots = slots; running = running })).jobs
 changes_sound slots None s = s
 changes_sound slots (Some n) s = let (job, lives) = s.run.runner n refl in run_on_sound slots n job s.orderly lives
 
-pub change_sound : (jobs : Jobs) → IsSound jobs → IsSound (change jobs).jobs
+pub change_sound : {size : ℕ} → (jobs : Jobs) → IsSound size jobs → IsSound size (change jobs).jobs
 change_sound jobs s = changes_sound jobs.slots jobs.running s
 
 -- the running job is changed into one as awake, with the same area
-made_sound : (made : Job → Job) → ((job : Job) → (made job).area ≡ job.area) → ((job : Job) → job.asleep ≡ false → (made job).asleep ≡ false) → (slots : List (Option Job)) (running : Option ℕ) → IsSound (record { slots = slots; running = running }) → IsSound (with_running made (record { slots = slots; running = running }))
+made_sound : {size : ℕ} → (made : Job → Job) → ((job : Job) → (made job).area ≡ job.area) → ((job : Job) → job.asleep ≡ false → (made job).asleep ≡ false) → (slots : List (Option Job)) (running : Option ℕ) → IsSound size (record { slots = slots; running = running }) → IsSound size (with_running made (record { slots = slots; running = running }))
 made_sound made keeps awake slots None s = s
 made_sound made keeps awake slots (Some n) s = record {
   orderly = changed_orderly slots n made keeps s.orderly;
@@ -178,19 +178,19 @@ made_sound made keeps awake slots (Some n) s = record {
   };
 }
 
-pub prio_sound : (priority : ℕ) (jobs : Jobs) → IsSound jobs → IsSound (prio priority jobs).jobs
+pub prio_sound : {size : ℕ} → (priority : ℕ) (jobs : Jobs) → IsSound size jobs → IsSound size (prio priority jobs).jobs
 prio_sound priority jobs s = change_sound (with_running (with_priority priority) jobs) (made_sound (with_priority priority) (λ job. refl) (λ job e. e) jobs.slots jobs.running s)
 
-pub store_sound : (place word : ℕ) (jobs : Jobs) → IsSound jobs → IsSound (store place word jobs).jobs
+pub store_sound : {size : ℕ} → (place word : ℕ) (jobs : Jobs) → IsSound size jobs → IsSound size (store place word jobs).jobs
 store_sound place word jobs s = made_sound (with_word place word) (λ job. refl) (λ job e. e) jobs.slots jobs.running s
 
-pub rouse_sound : (at : ℕ) (jobs : Jobs) → IsSound jobs → IsSound (rouse at jobs).jobs
-rouse_sound at jobs s = elim (option_cases (sleeper_from 1 at jobs.slots)) [
+pub rouse_sound : {size : ℕ} → (at : ℕ) (jobs : Jobs) → IsSound size jobs → IsSound size (rouse at jobs).jobs
+rouse_sound {size = size} at jobs s = elim (option_cases (sleeper_from 1 at jobs.slots)) [
   | inl found ↦ rw found.1 (roused found.0)
   | inr off ↦ rw off s
 ]
   where
-    roused : (n : ℕ) → IsSound (record { slots = with_job jobs.slots n (option_map woken (job_in jobs.slots n)); running = runner_after jobs.running (with_job jobs.slots n (option_map woken (job_in jobs.slots n))) })
+    roused : (n : ℕ) → IsSound size (record { slots = with_job jobs.slots n (option_map woken (job_in jobs.slots n)); running = runner_after jobs.running (with_job jobs.slots n (option_map woken (job_in jobs.slots n))) })
     roused n = record {
       orderly = changed_orderly jobs.slots n woken (λ job. refl) s.orderly;
       run = after_runs jobs.running (with_job jobs.slots n (option_map woken (job_in jobs.slots n))) (λ number is. let (job, lives) = s.run.runner number is in still_changed jobs.slots n woken (λ j e. refl) number job lives);
@@ -204,24 +204,24 @@ empty_slot (suc n) (suc j) = empty_slot n j
 nobody_at : (n j : ℕ) (job : Job) → At (replicate n None) j (Some job) → ⊥
 nobody_at n j job at = let no : None ≡ Some job = sym (empty_slot n j) ∙ at in cc
 
-pub no_jobs_sound : IsSound (no_jobs 7)
-no_jobs_sound = record {
+pub no_jobs_sound : (n : ℕ) → IsSound n (no_jobs n)
+no_jobs_sound n = record {
   orderly = record {
-    seven = refl;
-    areas = λ i job at. absurd (nobody_at 7 i job at);
-    once = λ i j job other at_i at_j owns same. absurd (nobody_at 7 i job at_i);
+    size = length-replicate n None;
+    areas = λ i job at. absurd (nobody_at n i job at);
+    once = λ i j job other at_i at_j owns same. absurd (nobody_at n i job at_i);
   };
   run = record {
     runner = λ number is. absurd (let no : None ≡ Some number = is in cc);
-    nobody = λ e number job lives. absurd (nobody_at 7 (number - 1) job lives.1);
+    nobody = λ e number job lives. absurd (nobody_at n (number - 1) job lives.1);
   };
 }
 
 -- what a reader wants to know of them
-pub sound_runner : (jobs : Jobs) → IsSound jobs → IsRunnerAwake jobs
+pub sound_runner : {size : ℕ} → (jobs : Jobs) → IsSound size jobs → IsRunnerAwake jobs
 sound_runner jobs s = s.run.runner
 
-pub sound_somebody : (jobs : Jobs) → IsSound jobs → IsSome jobs.running ↔ SomebodyIsAwake jobs.slots
+pub sound_somebody : {size : ℕ} → (jobs : Jobs) → IsSound size jobs → IsSome jobs.running ↔ SomebodyIsAwake jobs.slots
 sound_somebody jobs s = (there, back)
   where
     there : IsSome jobs.running → SomebodyIsAwake jobs.slots
@@ -236,13 +236,13 @@ sound_somebody jobs s = (there, back)
       go None is = let asleep : job.asleep ≡ true = s.run.nobody is number job lives.0 in let no : true ≡ false = sym asleep ∙ lives.1 in absurd (cc)
       go (Some n) is = refl
 
-pub sound_areas : (jobs : Jobs) → IsSound jobs → IsNoAreaShared jobs.slots
+pub sound_areas : {size : ℕ} → (jobs : Jobs) → IsSound size jobs → IsNoAreaShared jobs.slots
 sound_areas jobs s first second job other lives also owns same =
     let e : first - 1 ≡ second - 1 = s.orderly.once (first - 1) (second - 1) job other lives.1 also.1 owns same in
     let low : 1 ≤ first = lives.0 in
     let too : 1 ≤ second = also.0 in omega arith
 
-pub sound_known : (jobs : Jobs) → IsSound jobs → IsEachAreaKnown jobs.slots
+pub sound_known : {size : ℕ} → (jobs : Jobs) → IsSound size jobs → IsEachAreaKnown jobs.slots
 sound_known jobs s number job lives = s.orderly.areas (number - 1) job lives.1
 
 -- nobody waits who is more urgent than the job that runs

@@ -24,8 +24,8 @@ use Rattle.agc_plan.specs.Laws.{SomebodyIsAwake, IsRunnerAwake, IsNoAreaShared, 
 use Rattle.agc_plan.proofs.Sound.{IsSound, no_jobs_sound, novac_sound, findvac_sound, end_of_job_sound, sleep_sound, change_sound, prio_sound, store_sound, rouse_sound, sound_runner, sound_somebody, sound_areas, sound_known, end_unrivalled, sleep_unrivalled, prio_unrivalled, change_unrivalled}
 
 -- sound jobs, and at most nine tasks
-pub record IsSteady (work : Work) : Type 0 where
-  pub jobs : IsSound work.jobs
+pub record IsSteady (n : ℕ) (work : Work) : Type 0 where
+  pub jobs : IsSound n work.jobs
   pub tasks : length work.agenda.tasks ≤ 9
 
 listed_few : (delay : ℕ) (task : Task) (agenda : Agenda) → length agenda.tasks ≤ 9 → length (listed_if_room delay task agenda).tasks ≤ 9
@@ -41,10 +41,10 @@ fewer_left time (x ∷ xs) = elim (cases_Bool (nat_le x.due time)) [
   | inr off ↦ let le : length (without_first_due time xs) ≤ length xs = fewer_left time xs in rw off (omega arith)
 ]
 
-pub dispatched_steady : (work : Work) → IsSteady work → IsSteady (dispatched_work work)
+pub dispatched_steady : {size : ℕ} → (work : Work) → IsSteady size work → IsSteady size (dispatched_work work)
 dispatched_steady work s = record { jobs = s.jobs; tasks = let le = fewer_left work.agenda.time work.agenda.tasks in let few : length work.agenda.tasks ≤ 9 = s.tasks in omega arith }
 
-pub done_steady : (a : Action) (work : Work) → IsSteady work → IsSteady (done a work).work
+pub done_steady : {size : ℕ} → (a : Action) (work : Work) → IsSteady size work → IsSteady size (done a work).work
 done_steady action.Nothing work s = s
 done_steady (action.Novac priority entry) work s = record { jobs = novac_sound priority entry work.jobs s.jobs; tasks = s.tasks }
 done_steady (action.Findvac priority entry) work s = record { jobs = findvac_sound priority entry work.jobs s.jobs; tasks = s.tasks }
@@ -52,24 +52,24 @@ done_steady (action.Rouse at) work s = record { jobs = rouse_sound at work.jobs 
 done_steady (action.List delay task) work s = record { jobs = s.jobs; tasks = listed_few delay task work.agenda s.tasks }
 
 -- it goes on only without an alarm
-unless_steady : (alarm : Option Alarm) (work : Work) (fired : List Task) (again : Work → List Task → Fires) → ((w : Work) (f : List Task) → IsSteady w → IsSteady (again w f).work) → IsSteady work → IsSteady (unless_alarm alarm work fired again).work
+unless_steady : {size : ℕ} → (alarm : Option Alarm) (work : Work) (fired : List Task) (again : Work → List Task → Fires) → ((w : Work) (f : List Task) → IsSteady size w → IsSteady size (again w f).work) → IsSteady size work → IsSteady size (unless_alarm alarm work fired again).work
 unless_steady None work fired again on s = on work fired s
 unless_steady (Some alarm) work fired again on s = s
 
-first_steady : (o : Option Task) (rows : List (Task × Action)) (work : Work) (fired : List Task) (again : Work → List Task → Fires) → ((w : Work) (f : List Task) → IsSteady w → IsSteady (again w f).work) → IsSteady work → IsSteady (fire_first o rows work fired again).work
+first_steady : {size : ℕ} → (o : Option Task) (rows : List (Task × Action)) (work : Work) (fired : List Task) (again : Work → List Task → Fires) → ((w : Work) (f : List Task) → IsSteady size w → IsSteady size (again w f).work) → IsSteady size work → IsSteady size (fire_first o rows work fired again).work
 first_steady None rows work fired again on s = s
 first_steady (Some task) rows work fired again on s =
     let did = done (action_in rows task) (dispatched_work work) in
     unless_steady did.alarm did.work (fired ++ task ∷ []) again on (done_steady (action_in rows task) (dispatched_work work) (dispatched_steady work s))
 
-fire_steady : (more : ℕ) (rows : List (Task × Action)) (work : Work) (fired : List Task) → IsSteady work → IsSteady (fire more rows work fired).work
+fire_steady : {size : ℕ} → (more : ℕ) (rows : List (Task × Action)) (work : Work) (fired : List Task) → IsSteady size work → IsSteady size (fire more rows work fired).work
 fire_steady zero rows work fired s = s
 fire_steady (suc more) rows work fired s = first_steady (first_due work.agenda.time work.agenda.tasks) rows work fired (fire more rows) (fire_steady more rows) s
 
-pub later_steady : (work : Work) → IsSteady work → IsSteady (later_work work)
+pub later_steady : {size : ℕ} → (work : Work) → IsSteady size work → IsSteady size (later_work work)
 later_steady work s = record { jobs = s.jobs; tasks = s.tasks }
 
-acted_steady : (plan : Planned) (asked : Request) (plain : Plain) → IsSteady plain.work → IsSteady (acted plan asked plain).plain.work
+acted_steady : {size : ℕ} → (plan : Planned) (asked : Request) (plain : Plain) → IsSteady size plain.work → IsSteady size (acted plan asked plain).plain.work
 acted_steady plan (request.Novac priority entry) plain s = record { jobs = novac_sound priority entry plain.work.jobs s.jobs; tasks = s.tasks }
 acted_steady plan (request.Findvac priority entry) plain s = record { jobs = findvac_sound priority entry plain.work.jobs s.jobs; tasks = s.tasks }
 acted_steady plan request.EndOfJob plain s = record { jobs = end_of_job_sound plain.work.jobs s.jobs; tasks = s.tasks }
@@ -85,7 +85,7 @@ acted_steady plan request.Restart plain s = s
 acted_steady plan request.Fresh plain s = s
 
 -- an era begins
-jobs_begun_sound : (job : Option JobStart) (jobs : Jobs) → IsSound jobs → IsSound (jobs_begun job jobs)
+jobs_begun_sound : {size : ℕ} → (job : Option JobStart) (jobs : Jobs) → IsSound size jobs → IsSound size (jobs_begun job jobs)
 jobs_begun_sound None jobs s = s
 jobs_begun_sound (Some (Novac priority entry)) jobs s = novac_sound priority entry jobs s
 jobs_begun_sound (Some (Findvac priority entry)) jobs s = findvac_sound priority entry jobs s
@@ -94,31 +94,31 @@ agenda_begun_few : (task : Option (ℕ × Task)) (agenda : Agenda) → length ag
 agenda_begun_few None agenda le = le
 agenda_begun_few (Some listing) agenda le = listed_few listing.0 listing.1 agenda le
 
-group_steady : (o : Option Begins) (work : Work) → IsSteady work → IsSteady (group_begun o work)
+group_steady : {size : ℕ} → (o : Option Begins) (work : Work) → IsSteady size work → IsSteady size (group_begun o work)
 group_steady None work s = s
 group_steady (Some e) work s = record { jobs = jobs_begun_sound e.job work.jobs s.jobs; tasks = agenda_begun_few e.task work.agenda s.tasks }
 
-begun_steady : (entries : List Begins) (group : ℕ) (phases : List ℕ) (work : Work) → IsSteady work → IsSteady (begun_from entries group phases work)
+begun_steady : {size : ℕ} → (entries : List Begins) (group : ℕ) (phases : List ℕ) (work : Work) → IsSteady size work → IsSteady size (begun_from entries group phases work)
 begun_steady entries group [] work s = s
 begun_steady entries group (phase ∷ phases) work s = begun_steady entries (group + 1) phases (group_begun (active entries group phase) work) (group_steady (active entries group phase) work s)
 
-era_steady : (plan : Planned) (base : Base) → IsSteady (era plan base).work
-era_steady plan base = begun_steady plan.entries 1 base.phases no_work (record { jobs = no_jobs_sound; tasks = omega arith })
+era_steady : (plan : Planned) (base : Base) → IsSteady plan.sets (era plan base).work
+era_steady plan base = begun_steady plan.entries 1 base.phases (no_work plan.sets) (record { jobs = no_jobs_sound plan.sets; tasks = omega arith })
 
-ended_steady : (plan : Planned) (did : Stepped) → IsSteady did.plain.work → IsSteady (ended plan did).work
+ended_steady : (plan : Planned) (did : Stepped) → IsSteady plan.sets did.plain.work → IsSteady plan.sets (ended plan did).work
 ended_steady plan did s = elim (cases_Bool (begins did.reply)) [
   | inl over ↦ rw over (era_steady plan (base_after did.reply did.plain.base))
   | inr on ↦ rw on s
 ]
 
-step_steady : (plan : Planned) (asked : Request) (plain : Plain) → IsSteady plain.work → IsSteady (step plan asked plain).plain.work
+step_steady : (plan : Planned) (asked : Request) (plain : Plain) → IsSteady plan.sets plain.work → IsSteady plan.sets (step plan asked plain).plain.work
 step_steady plan asked plain s = ended_steady plan (acted plan asked plain) (acted_steady plan asked plain s)
 
-steps_steady : (plan : Planned) (log : List Request) (plain : Plain) → IsSteady plain.work → IsSteady (fold (λ p asked. (step plan asked p).plain) plain log).work
+steps_steady : (plan : Planned) (log : List Request) (plain : Plain) → IsSteady plan.sets plain.work → IsSteady plan.sets (fold (λ p asked. (step plan asked p).plain) plain log).work
 steps_steady plan [] plain s = s
 steps_steady plan (asked ∷ log) plain s = steps_steady plan log (step plan asked plain).plain (step_steady plan asked plain s)
 
-pub reached_steady : (plan : Planned) (base : Base) (log : List Request) → IsSteady (reached plan base log).work
+pub reached_steady : (plan : Planned) (base : Base) (log : List Request) → IsSteady plan.sets (reached plan base log).work
 reached_steady plan base log = steps_steady plan log (era plan base) (era_steady plan base)
 
 pub reached_somebody : (plan : Planned) (base : Base) (log : List Request) → IsSome (reached plan base log).work.jobs.running ↔ SomebodyIsAwake (reached plan base log).work.jobs.slots
@@ -127,8 +127,8 @@ reached_somebody plan base log = sound_somebody (reached plan base log).work.job
 pub reached_runner : (plan : Planned) (base : Base) (log : List Request) → IsRunnerAwake (reached plan base log).work.jobs
 reached_runner plan base log = sound_runner (reached plan base log).work.jobs (reached_steady plan base log).jobs
 
-pub reached_seven : (plan : Planned) (base : Base) (log : List Request) → length (reached plan base log).work.jobs.slots ≡ 7
-reached_seven plan base log = (reached_steady plan base log).jobs.orderly.seven
+pub reached_sets : (plan : Planned) (base : Base) (log : List Request) → length (reached plan base log).work.jobs.slots ≡ plan.sets
+reached_sets plan base log = (reached_steady plan base log).jobs.orderly.size
 
 pub reached_known : (plan : Planned) (base : Base) (log : List Request) → IsEachAreaKnown (reached plan base log).work.jobs.slots
 reached_known plan base log = sound_known (reached plan base log).work.jobs (reached_steady plan base log).jobs

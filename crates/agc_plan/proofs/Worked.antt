@@ -16,6 +16,7 @@ worked = record {
   one_sleeper = refl;
   alarm_1201 = refl;
   alarm_1202 = refl;
+  alarm_1202_of_eight = refl;
   areas_before_numbers = refl;
   area_without_number = refl;
   alarm_1203 = refl;

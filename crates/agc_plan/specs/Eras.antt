@@ -1,5 +1,5 @@
 -- The beginning of an era: for each group in order the plan's job, then its task.
-use Rattle.std.specs.Prelude.{◌≡◌, ℕ, ◌+◌, ◌==◌, if◌then◌else◌, List, [], ◌∷◌, ◌++◌, length, Option, Some, None}
+use Rattle.std.specs.Prelude.{◌≡◌, ℕ, ◌+◌, ◌≤◌, ◌==◌, if◌then◌else◌, List, [], ◌∷◌, ◌++◌, length, Option, Some, None}
 use Rattle.agc_plan.specs.declared.reply.Alarm.{Alarm}
 use Rattle.agc_plan.specs.declared.reply.Alarm.TheVariants.{A1203}
 use Rattle.agc_plan.specs.declared.reply.Reply.{Reply}
@@ -10,16 +10,16 @@ use Rattle.agc_plan.specs.declared.request.Task.{Task}
 use Rattle.agc_plan.specs.Jobs.{Jobs, Outcome, no_jobs, novac, findvac}
 use Rattle.agc_plan.specs.Tasks.{Agenda, no_agenda, has_room, listed_if_room}
 use Rattle.agc_plan.specs.Begins.{Begins}
-use Rattle.agc_plan.specs.Plans.{Planned, entry_at}
+use Rattle.agc_plan.specs.Plans.{Written, Planned, entry_at}
 
 -- what a restart throws away: the jobs, and the tasks with the time
 pub record Work : Type 0 where
   pub jobs : Jobs
   pub agenda : Agenda
 
--- seven core sets, nobody lives in them, and nothing waits
-abbrev pub no_work : Work
-no_work = record { jobs = no_jobs 7; agenda = no_agenda }
+-- so many core sets, nobody lives in them, and nothing waits
+abbrev pub no_work : ℕ → Work
+no_work sets = record { jobs = no_jobs sets; agenda = no_agenda }
 
 -- the alarm by which a request was answered, if it was
 abbrev pub alarm_in : Reply → List Alarm
@@ -78,8 +78,8 @@ alarms_from entries group (phase ∷ phases) work =
 
 -- the jobs and tasks with which an era begins
 abbrev pub begun : Planned → List ℕ → Work
-begun plan phases = begun_from plan.entries 1 phases no_work
+begun plan phases = begun_from plan.entries 1 phases (no_work plan.sets)
 
--- an era of this plan begins with no alarm, whatever the six phases
-abbrev pub BeginsQuietly : Planned → Type 0
-BeginsQuietly plan = (phases : List ℕ) → length phases ≡ 6 → alarms_from plan.entries 1 phases no_work ≡ []
+-- an era of this plan begins with no alarm, whatever the six phases, with as many core sets as groups or more
+abbrev pub BeginsQuietly : Written → Type 0
+BeginsQuietly plan = (sets : ℕ) → 6 ≤ sets → (phases : List ℕ) → length phases ≡ 6 → alarms_from plan.entries 1 phases (no_work sets) ≡ []

@@ -27,9 +27,9 @@ entry at = record { at = at; bank = 5 }
 abbrev pub task : ℕ → Task
 task at = record { at = at; bank = 5 }
 
--- a plan with these rows and entries, in which key and radar do nothing
+-- a plan with these rows and entries, in which key and radar do nothing, on seven core sets
 abbrev pub planned : List (Task × Action) → List Begins → Planned
-planned rows entries = record { rows = rows; entries = entries; key = action.Nothing; radar = action.Nothing }
+planned rows entries = record { rows = rows; entries = entries; key = action.Nothing; radar = action.Nothing; sets = 7 }
 
 -- the replies to these requests, one after another
 abbrev pub replies_from : Planned → Plain → List Request → List Reply
@@ -43,6 +43,10 @@ replies_by plan log = replies_from plan (era plan fresh_base) log
 -- the same with a plan of nothing
 abbrev pub replies : List Request → List Reply
 replies log = replies_by (planned [] []) log
+
+-- the same on eight core sets
+abbrev pub replies_of_eight : List Request → List Reply
+replies_of_eight log = replies_by (record (planned [] []) { sets = 8 }) log
 
 -- what is reached after a fresh start, with a plan of nothing
 abbrev pub state : List Request → Plain
@@ -63,6 +67,10 @@ six_areas = replicate 6 (Findvac 0o10 (entry 0o2000))
 -- seven jobs without areas, and an eighth
 abbrev pub eight_jobs : List Request
 eight_jobs = replicate 8 (Novac 0o10 (entry 0o2000))
+
+-- eight jobs without areas, and a ninth
+abbrev pub nine_jobs : List Request
+nine_jobs = replicate 9 (Novac 0o10 (entry 0o2000))
 
 -- nine tasks, and a tenth
 abbrev pub ten_tasks : List Request
@@ -103,6 +111,8 @@ pub record Examples : Type 0 where
   pub alarm_1201 : replies six_areas ≡ five_established ++ Alarmed A1201 ∷ []
   -- the eighth job
   pub alarm_1202 : replies eight_jobs ≡ seven_established ++ Alarmed A1202 ∷ []
+  -- on eight core sets the ninth job
+  pub alarm_1202_of_eight : replies_of_eight nine_jobs ≡ seven_established ++ Established 8 ∷ Alarmed A1202 ∷ []
   -- with neither area nor number, it is the area that is missed
   pub areas_before_numbers :
       replies (replicate 5 (Findvac 0o10 (entry 0o2000)) ++ replicate 2 (Novac 0o10 (entry 0o2000)) ++ Findvac 0o10 (entry 0o2000) ∷ []) ≡ seven_established ++ Alarmed A1201 ∷ []

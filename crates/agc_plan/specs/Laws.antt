@@ -104,10 +104,10 @@ abbrev pub MissesArea : Action → Work → Type 0
 MissesArea (action.Findvac priority entry) work = IsEachOwned work.jobs.slots
 MissesArea other work = ⊥
 
--- it asks for a job, and seven live; where the job is to have an area, one of the five is nobody's
+-- it asks for a job, and as many live as there are numbers; where the job is to have an area, one of the five is nobody's
 abbrev pub MissesNumber : Action → Work → Type 0
-MissesNumber (action.Novac priority entry) work = living work.jobs.slots ≡ 7
-MissesNumber (action.Findvac priority entry) work = SomeAreaIsUnowned work.jobs.slots × (living work.jobs.slots ≡ 7)
+MissesNumber (action.Novac priority entry) work = living work.jobs.slots ≡ length work.jobs.slots
+MissesNumber (action.Findvac priority entry) work = SomeAreaIsUnowned work.jobs.slots × (living work.jobs.slots ≡ length work.jobs.slots)
 MissesNumber other work = ⊥
 
 -- it lists a task, and nine wait

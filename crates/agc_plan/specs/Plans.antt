@@ -9,12 +9,24 @@ use Rattle.agc_plan.specs.declared.plan.PlanFault.{PlanFault}
 use Rattle.agc_plan.specs.declared.plan.PlanFault.TheVariants.{TaskTwice, PhaseTwice, TooManyAreas}
 use Rattle.agc_plan.specs.Begins.{Begins}
 
--- a plan: a row for each task that has an action, an entry for each phase with which something begins, and two actions
+-- a plan, as it is written: a row for each task that has an action, an entry for each phase with which something begins, and two actions
+pub record Written : Type 0 where
+  pub rows : List (Task × Action)
+  pub entries : List Begins
+  pub key : Action
+  pub radar : Action
+
+-- a plan on a computer with so many core sets
 pub record Planned : Type 0 where
   pub rows : List (Task × Action)
   pub entries : List Begins
   pub key : Action
   pub radar : Action
+  pub sets : ℕ
+
+-- the plan that is written so, on a computer with so many core sets
+abbrev pub planned_with : Written → ℕ → Planned
+planned_with plan sets = record { rows = plan.rows; entries = plan.entries; key = plan.key; radar = plan.radar; sets = sets }
 
 -- whether two tasks have the same address and bank
 abbrev pub same_task : Task → Task → Bool

@@ -15,9 +15,9 @@ use Rattle.agc_plan.specs.Plans.{Planned, action_in}
 use Rattle.agc_plan.specs.Eras.{Work, started, active, group_begun, no_work}
 use Rattle.agc_plan.specs.Steps.{Plain, era, step, begins, tick_fires}
 
--- no job in any of the seven core sets
-abbrev pub no_places : List ℕ
-no_places = replicate 7 0
+-- no job in any of so many core sets
+abbrev pub no_places : ℕ → List ℕ
+no_places sets = replicate sets 0
 
 -- the jobs, and the core sets that hold them
 pub record Seated : Type 0 where
@@ -75,7 +75,7 @@ places_from entries group (phase ∷ phases) work places =
 
 -- the core sets with which an era begins
 abbrev pub era_places : Planned → Base → List ℕ
-era_places plan base = places_from plan.entries 1 base.phases no_work no_places
+era_places plan base = places_from plan.entries 1 base.phases (no_work plan.sets) (no_places plan.sets)
 
 -- the core sets after one request
 abbrev pub places_after : Planned → Request → Plain → List ℕ → List ℕ

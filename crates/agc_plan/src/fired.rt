@@ -6,13 +6,13 @@ use agc_word::Word;
 use arrayvec::ArrayVec;
 use std::marker::Model;
 
-/// A place for a fired task: `ArrayVec` wants a default, which a task has not.
+/// A task that fired: `ArrayVec` wants a default, which a task has not.
 #[derive(Clone, Copy)]
-struct Place {
+struct FiredTask {
     task: Task,
 }
 
-impl Model for Place {
+impl Model for FiredTask {
     ghost use Rattle.agc_plan.specs.declared.request.Task.{Task};
 
     ghost Value = { Task };
@@ -22,10 +22,10 @@ impl Model for Place {
     ghost inverse = { λ t. record { task = t } };
 }
 
-impl Default for Place {
-    fn default() -> Place {
+impl Default for FiredTask {
+    fn default() -> FiredTask {
         match Address::new(1) {
-            Some(at) => Place {
+            Some(at) => FiredTask {
                 task: Task {
                     at,
                     bank: Word::zero(),
@@ -39,7 +39,7 @@ impl Default for Place {
 /// The tasks that a tick fired, in order: at most nine. Contracts see them as a list. Source: profile.
 #[derive(Drop)]
 pub struct Fired {
-    places: ArrayVec<Place, 9>,
+    tasks: ArrayVec<FiredTask, 9>,
 }
 
 impl Model for Fired {
@@ -48,7 +48,7 @@ impl Model for Fired {
 
     ghost Value = { List Task };
 
-    ghost view = { λ f. f.places.items };
+    ghost view = { λ f. f.tasks.items };
 }
 
 impl Fired {
@@ -57,7 +57,7 @@ impl Fired {
         ensures { result ≡ [] }
     {
         Fired {
-            places: ArrayVec::new(),
+            tasks: ArrayVec::new(),
         }
     }
 
@@ -66,7 +66,7 @@ impl Fired {
         requires { length self.old < 9 }
         ensures { self.new ≡ self.old ++ task ∷ [] }
     {
-        self.places.push(Place { task });
+        self.tasks.push(FiredTask { task });
     }
 
     /// How many tasks fired, 0 to 9.
@@ -74,15 +74,15 @@ impl Fired {
         ensures value { result ≡ length self.now }
         ensures most { result ≤ 9 }
     {
-        self.places.len()
+        self.tasks.len()
     }
 
     /// The task that fired at this place, counted from 0. None from `len` on.
     pub fn get(&self, index: usize) -> Option<Task>
         ensures { result ≡ slice_get self.now index }
     {
-        match self.places.as_slice().get(index) {
-            Some(place) => Some(place.task),
+        match self.tasks.as_slice().get(index) {
+            Some(fired) => Some(fired.task),
             None => None,
         }
     }

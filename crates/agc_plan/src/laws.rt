@@ -10,7 +10,7 @@ ghost use Rattle.agc_plan.specs.declared.reply.Reply.TheVariants.{Alarmed, Estab
 ghost use Rattle.agc_plan.specs.declared.request.Action.{Action};
 ghost use Rattle.agc_plan.specs.declared.request.Entry.{Entry};
 ghost use Rattle.agc_plan.specs.declared.request.Request.{Request};
-ghost use Rattle.agc_plan.specs.declared.request.Request.TheVariants.{EndOfJob, Sleep, Prio, Change, Tick};
+ghost use Rattle.agc_plan.specs.declared.request.Request.TheVariants.{Novac, Findvac, EndOfJob, Sleep, Prio, Change, Tick};
 ghost use Rattle.agc_plan.specs.declared.request.Task.{Task};
 ghost use Rattle.agc_plan.specs.Jobs.{Job, Jobs, best, least_unused, least_unowned, sleeper_from, novac, findvac, rouse};
 ghost use Rattle.agc_plan.specs.Tasks.{Pending, due_at, InOrder};
@@ -65,11 +65,19 @@ pub fn alarm_1201_where_five_areas_are_owned()
     ensures novac { (priority : ℕ) (entry : Entry) (jobs : Jobs) → (novac priority entry jobs).reply ≡ Alarmed A1201 → ⊥ }
 {}
 
-/// Of seven slots: NOVAC is answered by alarm 1202 exactly where seven jobs live, FINDVAC where besides one of the five
-/// areas is nobody's.
-pub fn alarm_1202_where_seven_jobs_live()
-    ensures novac { (priority : ℕ) (entry : Entry) (jobs : Jobs) → length jobs.slots ≡ 7 → ((novac priority entry jobs).reply ≡ Alarmed A1202) ↔ (living jobs.slots ≡ 7) }
-    ensures findvac { (priority : ℕ) (entry : Entry) (jobs : Jobs) → length jobs.slots ≡ 7 → ((findvac priority entry jobs).reply ≡ Alarmed A1202) ↔ (SomeAreaIsUnowned jobs.slots × (living jobs.slots ≡ 7)) }
+/// NOVAC is answered by alarm 1202 exactly where as many jobs live as there are numbers, FINDVAC where besides one of the
+/// five areas is nobody's.
+pub fn alarm_1202_where_each_number_is_used()
+    ensures novac { (priority : ℕ) (entry : Entry) (jobs : Jobs) → ((novac priority entry jobs).reply ≡ Alarmed A1202) ↔ (living jobs.slots ≡ length jobs.slots) }
+    ensures findvac { (priority : ℕ) (entry : Entry) (jobs : Jobs) → ((findvac priority entry jobs).reply ≡ Alarmed A1202) ↔ (SomeAreaIsUnowned jobs.slots × (living jobs.slots ≡ length jobs.slots)) }
+{}
+
+/// What the eighth core set changes. In every state that a run of requests reaches, NOVAC is answered by alarm 1202
+/// exactly where as many jobs live as there are core sets, seven or eight; FINDVAC where besides one of the five areas is
+/// nobody's.
+pub fn alarm_1202_with_as_many_jobs_as_sets()
+    ensures novac { (plan : Planned) (base : Base) (log : List Request) (priority : ℕ) (entry : Entry) → ((step plan (Novac priority entry) (reached plan base log)).reply ≡ Alarmed A1202) ↔ (living (reached plan base log).work.jobs.slots ≡ plan.sets) }
+    ensures findvac { (plan : Planned) (base : Base) (log : List Request) (priority : ℕ) (entry : Entry) → ((step plan (Findvac priority entry) (reached plan base log)).reply ≡ Alarmed A1202) ↔ (SomeAreaIsUnowned (reached plan base log).work.jobs.slots × (living (reached plan base log).work.jobs.slots ≡ plan.sets)) }
 {}
 
 /// Where at most nine tasks wait, a listing is answered by alarm 1203 exactly where nine do.
@@ -78,8 +86,8 @@ pub fn alarm_1203_where_nine_tasks_wait()
 {}
 
 /// In every state that a run of requests reaches, a request is answered by alarm 1201 exactly where it is FINDVAC and each
-/// of the five areas is owned; by 1202 exactly where it is NOVAC and seven jobs live, or FINDVAC, seven live and an area is
-/// nobody's; by 1203 exactly where it is a listing and nine tasks wait. So no other request is.
+/// of the five areas is owned; by 1202 exactly where it is NOVAC and as many jobs live as there are numbers, or FINDVAC, so
+/// many live and an area is nobody's; by 1203 exactly where it is a listing and nine tasks wait. So no other request is.
 pub fn request_is_alarmed_where_it_misses_something()
     ensures { (plan : Planned) (base : Base) (log : List Request) (asked : Request) (alarm : Alarm) → ((step plan asked (reached plan base log)).reply ≡ Alarmed alarm) ↔ Misses alarm (as_action asked) (reached plan base log).work }
 {}
@@ -126,10 +134,10 @@ pub fn somebody_runs_where_somebody_is_awake()
     ensures runner { (plan : Planned) (base : Base) (log : List Request) → IsRunnerAwake (reached plan base log).work.jobs }
 {}
 
-/// In every state that a run of requests reaches there are seven slots, one for each number, so that no two jobs have
-/// the same number; a job's area is one of the five, or none; and no area is owned by two jobs.
+/// In every state that a run of requests reaches there are as many slots as core sets, one for each number, so that no
+/// two jobs have the same number; a job's area is one of the five, or none; and no area is owned by two jobs.
 pub fn numbers_and_areas_are_distinct()
-    ensures numbers { (plan : Planned) (base : Base) (log : List Request) → length (reached plan base log).work.jobs.slots ≡ 7 }
+    ensures numbers { (plan : Planned) (base : Base) (log : List Request) → length (reached plan base log).work.jobs.slots ≡ plan.sets }
     ensures areas { (plan : Planned) (base : Base) (log : List Request) → IsEachAreaKnown (reached plan base log).work.jobs.slots }
     ensures distinct { (plan : Planned) (base : Base) (log : List Request) → IsNoAreaShared (reached plan base log).work.jobs.slots }
 {}

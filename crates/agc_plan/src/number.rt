@@ -83,7 +83,7 @@ impl Address {
     }
 }
 
-/// A job's number, 1 to 7: a living job keeps it wherever its core set goes. Source: profile.
+/// A job's number, 1 to 8: a living job keeps it wherever its core set goes. Source: profile.
 #[derive(Clone, Copy, PartialEq, Eq, Debug)]
 pub struct JobNo {
     value: u8,
@@ -96,28 +96,28 @@ impl Model for JobNo {
 
     ghost view = { λ n. n.value };
 
-    ghost invariant = { λ n. (1 ≤ n.value) × (n.value ≤ 7) };
+    ghost invariant = { λ n. (1 ≤ n.value) × (n.value ≤ 8) };
 
     ghost inverse = { λ n. record { value = n } };
 }
 
 impl JobNo {
-    /// A job's number. None outside 1 to 7.
+    /// A job's number. None outside 1 to 8. A computer of seven core sets gives nobody number 8.
     pub fn new(value: u8) -> Option<JobNo>
-        ensures valid { IsSome result ↔ ((1 ≤ value) × (value ≤ 7)) }
+        ensures valid { IsSome result ↔ ((1 ≤ value) × (value ≤ 8)) }
         ensures value { IfSome result (λ n. n ≡ value) }
     {
-        if (1..=7).contains(&value) {
+        if (1..=8).contains(&value) {
             Some(JobNo { value })
         } else {
             None
         }
     }
 
-    /// The number, 1 to 7.
+    /// The number, 1 to 8.
     pub fn get(self) -> u8
         ensures value { result ≡ self }
-        ensures range { (1 ≤ self) × (self ≤ 7) }
+        ensures range { (1 ≤ self) × (self ≤ 8) }
     {
         self.value
     }

@@ -1,5 +1,5 @@
 ghost use Rattle.std.specs.Prelude.{◌≡◌, ◌⊎◌, Some, None, IfOk, IfErr, OnOk};
-ghost use Rattle.agc_plan.specs.Plans.{Planned, same_task, has_task, task_twice, has_entry, phase_twice, wants_area, group_wants, all_want, fault_of, action_in, entry_at, is_for};
+ghost use Rattle.agc_plan.specs.Plans.{Written, same_task, has_task, task_twice, has_entry, phase_twice, wants_area, group_wants, all_want, fault_of, action_in, entry_at, is_for};
 ghost use Rattle.std.specs.Option.{option_copied};
 ghost use Rattle.agc_plan.specs.Eras.{BeginsQuietly};
 ghost use Rattle.agc_plan.specs.Messages.{plan_fault_text};
@@ -60,9 +60,9 @@ pub struct Plan {
 
 impl Model for Plan {
     ghost use Rattle.std.specs.Prelude.{◌≡◌, None};
-    ghost use Rattle.agc_plan.specs.Plans.{Planned, fault_of};
+    ghost use Rattle.agc_plan.specs.Plans.{Written, fault_of};
 
-    ghost Value = { Planned };
+    ghost Value = { Written };
 
     ghost view = { λ p. record { rows = p.rows.items; entries = p.entries.items; key = p.key; radar = p.radar } };
 
@@ -204,7 +204,8 @@ impl Plan {
         }
     }
 
-    /// A law: this plan has no fault, and an era of it begins with no alarm, whatever the six phases.
+    /// A law: this plan has no fault, and an era of it begins with no alarm, whatever the six phases, with seven core
+    /// sets or eight.
     pub fn begins_quietly(&self)
         ensures accepted { fault_of self.now.rows self.now.entries ≡ None }
         ensures quiet { BeginsQuietly self.now }

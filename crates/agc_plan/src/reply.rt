@@ -10,7 +10,7 @@ use crate::number::JobNo;
 pub enum Alarm {
     /// No VAC area is free: all five are owned.
     A1201,
-    /// No core set is free: seven jobs live.
+    /// No core set is free: as many jobs live as there are.
     A1202,
     /// The Waitlist is full: nine tasks wait.
     A1203,

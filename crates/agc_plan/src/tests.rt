@@ -53,7 +53,7 @@ fn numbers_within_their_bounds(rt: HostRuntime) {
     for (value, valid) in [(0, false), (1, true), (16383, true), (16384, false)] {
         assert_eq!(rt; Address::new(value).is_some(), valid, "address {value}");
     }
-    for (value, valid) in [(0, false), (1, true), (7, true), (8, false)] {
+    for (value, valid) in [(0, false), (1, true), (8, true), (9, false)] {
         assert_eq!(rt; JobNo::new(value).is_some(), valid, "job number {value}");
     }
     for (value, valid) in [(0, false), (1, true), (16250, true), (16251, false)] {
@@ -75,7 +75,7 @@ fn numbers_within_their_bounds(rt: HostRuntime) {
 fn numbers_are_kept(rt: HostRuntime) -> Result<(), Fail> {
     assert_eq!(rt; Priority::new(31).ok_or("priority")?.get(), 31);
     assert_eq!(rt; Address::new(16383).ok_or("address")?.get(), 16383);
-    assert_eq!(rt; JobNo::new(7).ok_or("job number")?.get(), 7);
+    assert_eq!(rt; JobNo::new(8).ok_or("job number")?.get(), 8);
     assert_eq!(rt; Delay::new(16250).ok_or("delay")?.get(), 16250);
     assert_eq!(rt; Group::new(6).ok_or("group")?.get(), 6);
     assert_eq!(rt; Phase::new(127).ok_or("phase")?.get(), 127);

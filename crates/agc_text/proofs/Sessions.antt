@@ -1,14 +1,18 @@
 -- The next request of a session, and those after it.
-use Rattle.std.proofs.Common.{◌≡◌, ℕ, ◌+◌, ◌<◌, ◌≤◌, List, [], ◌∷◌, ◌++◌, length, get_or, drop, drop-cons, add-one, length-drop, Option, subst, refl, sym, ap, ◌∙◌, append_assoc, Result, arith}
+use Rattle.std.proofs.Common.{◌≡◌, ℕ, ◌+◌, ◌<◌, ◌≤◌, List, [], ◌∷◌, ◌++◌, length, get_or, drop, drop-cons, add-one, length-drop, Option, Some, None, subst, refl, sym, ap, ◌∙◌, append_assoc, Result, arith}
 use Rattle.std.specs.Io.KnownBytes.{Appends}
 use Rattle.std.specs.Prelude.{IsErr}
 use Rattle.std.specs.List.{fold, flat_map}
 use Rattle.std.proofs.lemmas.List.Concat.{flat_map-cons}
 use Rattle.agc_machine.proofs.Leading.{after_append}
 use Rattle.std.proofs.lemmas.List.{nil_from_length}
+use Rattle.agc_plan.specs.declared.reply.Reply.{Reply}
 use Rattle.agc_plan.specs.declared.request.Request.{Request}
-use Rattle.agc_machine.specs.Machines.{Machined, after, after_all}
+use Rattle.agc_plan.specs.declared.request.Request.TheVariants.{Tick}
+use Rattle.agc_machine.specs.declared.answer.Refusal.{Refusal}
+use Rattle.agc_machine.specs.Machines.{Machined, after, after_all, after_unless, refusal_of, result_of, served, stepped}
 use Rattle.agc_text.specs.Writing.{AppendsUpTo, AppendsFront, Writes}
+use Rattle.agc_text.specs.Replies.{refusal_text, reply_text, answer_line}
 use Rattle.agc_text.specs.Session.{line_for, answer_lines}
 use Rattle.agc_text.proofs.Steps.{up_to_end, writes_first, writes_second}
 
@@ -80,3 +84,20 @@ writes_both o v n m w a b r is h k =
 pub writes_front : {T E : Type 0} → (o n : Option (List ℕ)) (m : Machined) (a b : List Request) (r : Result T E) → AppendsFront o n (answer_lines m a) → IsErr r → Writes o n (answer_lines m (a ++ b)) r
 writes_front o n m a b r h is =
     subst (λ (t : List ℕ). Writes o n t r) (sym (lines_append m a b)) (writes_first o n (answer_lines m a) (answer_lines (after_all m a) b) r h is)
+
+-- the line of a request that is refused, and of one that is served
+pub line_refused : (m : Machined) (asked : Request) (refusal : Refusal) → refusal_of m asked ≡ Some refusal → refusal_text refusal ++ 10 ∷ [] ≡ line_for m asked
+unfolding line_for
+line_refused m asked refusal is = ap (λ (r : Option Refusal). answer_line (result_of r (stepped m asked).reply)) (sym is)
+
+pub line_served : (m : Machined) (asked : Request) (reply : Reply) → refusal_of m asked ≡ None → reply ≡ (stepped m asked).reply → reply_text reply ++ 10 ∷ [] ≡ line_for m asked
+unfolding line_for
+line_served m asked reply none is = ap (λ (r : Reply). reply_text r ++ 10 ∷ []) is ∙ ap (λ (r : Option Refusal). answer_line (result_of r (stepped m asked).reply)) (sym none)
+
+-- the machine after a request that is served
+pub after_served : (m new : Machined) (asked : Request) → refusal_of m asked ≡ None → new ≡ served (stepped m asked) asked m → new ≡ after m asked
+after_served m new asked none is = is ∙ ap (λ (r : Option Refusal). after_unless r m asked) (sym none)
+
+-- a tick that isn't refused
+pub none_for : (m : Machined) (asked : Request) → asked ≡ Tick → refusal_of m asked ≡ None → refusal_of m Tick ≡ None
+none_for m asked is none = subst (λ (r : Request). refusal_of m r ≡ None) is none

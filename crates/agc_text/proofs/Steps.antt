@@ -1,5 +1,5 @@
 -- One write after another.
-use Rattle.std.proofs.Common.{◌≡◌, ◌≢◌, ℕ, ◌+◌, ◌<◌, List, [], ◌++◌, length, take, drop, Option, Some, None, Result, Ok, Err, refl, sym, ap, subst, ◌∙◌, append_assoc}
+use Rattle.std.proofs.Common.{◌≡◌, ◌≢◌, ℕ, ◌+◌, ◌<◌, nat_eq, false, List, [], ◌++◌, length, take, drop, Option, Some, None, Result, Ok, Err, refl, sym, ap, subst, ◌∙◌, append_assoc}
 use Rattle.std.proofs.Common.{drop-cons, add-one, get_or, slice_get, suc, zero-add, ◌∷◌, ◌≤◌, length-drop, arith}
 use Rattle.std.specs.List.{flat_map, range_with_len}
 use Rattle.std.proofs.lemmas.List.FromFn.{get_or-range_with_len, length-range_with_len}
@@ -114,3 +114,30 @@ writes_first o n a b (Err x) h is = front_of_first o n a b h
 pub writes_second : {U D : Type 0} → (o m n : Option (List ℕ)) (a b : List ℕ) (r : Result U D) → Appends o m a → Writes m n b r → Writes o n (a ++ b) r
 writes_second o m n a b (Ok x) h k = appends_both o m n a b h k
 writes_second o m n a b (Err x) h k = (k.0, k.1, up_to_more_front o m n a b k.0 h k.2)
+
+kept_appends : (o n : Option (List ℕ)) → Keeps o n → Appends o n []
+kept_appends None n kept = tt
+kept_appends (Some x) None kept = absurd kept
+kept_appends (Some x) (Some y) kept = kept ∙ sym (append-nil x)
+
+pub not_empty : (text : List ℕ) → nat_eq (length text) 0 ≡ false → text ≢ []
+not_empty [] off = absurd (cc)
+not_empty (x ∷ text) off = λ is. absurd (cc)
+
+-- nothing was written of a text that isn't empty
+pub none_taken : (o n : Option (List ℕ)) (text : List ℕ) → text ≢ [] → Appends o n [] → AppendsFront o n text
+none_taken o n text some taken = (text, some, record { front = []; whole = refl; written = taken })
+
+pub none_kept : (o n : Option (List ℕ)) (text : List ℕ) → text ≢ [] → Keeps o n → AppendsFront o n text
+none_kept o n text some kept = none_taken o n text some (kept_appends o n kept)
+
+-- the rest, after what one write took
+pub rest_written : {U D : Type 0} → (o m n : Option (List ℕ)) (text : List ℕ) (k : ℕ) (r : Result U D) → Appends o m (take k text) → Writes m n (drop k text) r → Writes o n text r
+rest_written o m n text k r taken rest = subst (λ (t : List ℕ). Writes o n t r) (take-append-drop k text) (writes_second o m n (take k text) (drop k text) r taken rest)
+
+-- three pieces of a line, the last of two parts
+pub three_pieces : (line a b d p q r s : List ℕ) → line ≡ [] → a ≡ line ++ p → b ≡ a ++ q → d ≡ b ++ (r ++ s) → d ≡ p ++ (q ++ r ++ s)
+three_pieces line a b d p q r s empty first second third =
+    let e1 : a ≡ p = first ∙ ap (λ (t : List ℕ). t ++ p) empty in
+    let e2 : b ≡ p ++ q = second ∙ ap (λ (t : List ℕ). t ++ q) e1 in
+    third ∙ ap (λ (t : List ℕ). t ++ (r ++ s)) e2 ∙ append_assoc p q (r ++ s) ∙ ap (λ (t : List ℕ). p ++ t) (sym (append_assoc q r s))

@@ -10,3 +10,4 @@ pub mod Writing
 pub mod Replies
 pub mod Report
 pub mod Session
+pub mod Pulses

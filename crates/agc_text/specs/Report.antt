@@ -2,6 +2,7 @@
 use Rattle.std.specs.Prelude.{ℕ, ◌*◌, List, [], ◌∷◌, ◌++◌, codes, if◌then◌else◌, ◌==◌, slice_index, take, drop}
 use Rattle.std.specs.List.{flat_map, range_with_len}
 use Rattle.std.specs.Fmt.{decimal}
+use Rattle.agc_word.specs.Layout.{use_words, newjob, time3, lst1, lst2, phase_words, failreg}
 use Rattle.agc_machine.specs.declared.totals.Totals.{Totals}
 use Rattle.agc_text.specs.declared.reporting.ReportLine.{ReportLine}
 use Rattle.agc_text.specs.declared.reporting.ReportLine.TheVariants.{Vac, Newjob, Time3, Lst1, Lst2, Phase, Failreg, Served, Alarms, Restarts}
@@ -25,13 +26,13 @@ count_text count = 32 ∷ decimal count
 
 -- each other line, without its end
 unfoldable pub line_text : List ℕ → Totals → ReportLine → List ℕ
-line_text words totals Vac = codes "VAC" ++ words_text (words_at 84 5 words)
-line_text words totals Newjob = codes "NEWJOB" ++ words_text (words_at 89 1 words)
-line_text words totals Time3 = codes "TIME3" ++ words_text (words_at 90 1 words)
-line_text words totals Lst1 = codes "LST1" ++ words_text (words_at 91 8 words)
-line_text words totals Lst2 = codes "LST2" ++ words_text (words_at 99 18 words)
-line_text words totals Phase = codes "PHASE" ++ words_text (words_at 117 12 words)
-line_text words totals Failreg = codes "FAILREG" ++ words_text (words_at 129 3 words)
+line_text words totals Vac = codes "VAC" ++ words_text (words_at use_words 5 words)
+line_text words totals Newjob = codes "NEWJOB" ++ words_text (words_at newjob 1 words)
+line_text words totals Time3 = codes "TIME3" ++ words_text (words_at time3 1 words)
+line_text words totals Lst1 = codes "LST1" ++ words_text (words_at lst1 8 words)
+line_text words totals Lst2 = codes "LST2" ++ words_text (words_at lst2 18 words)
+line_text words totals Phase = codes "PHASE" ++ words_text (words_at phase_words 12 words)
+line_text words totals Failreg = codes "FAILREG" ++ words_text (words_at failreg 3 words)
 line_text words totals Served = codes "SERVED" ++ count_text totals.served
 line_text words totals Alarms = codes "ALARMS" ++ count_text totals.a1201 ++ count_text totals.a1202 ++ count_text totals.a1203
 line_text words totals Restarts = codes "RESTARTS" ++ count_text totals.restarts

@@ -17,6 +17,13 @@ fn add_digit(line: &mut ArrayString<128>, digit: u8)
     line.push(char::from(b'0' + digit));
 }
 
+/// The last octal digit of a number.
+pub(crate) fn octal_digit(number: u16) -> u8
+    ensures { result ≡ 48 + number % 8 }
+{
+    b'0' + (number % 8) as u8
+}
+
 /// Appends the last octal digit of a number.
 fn add_octal_digit(line: &mut ArrayString<128>, number: u16)
     requires { length line.old.bytes < 128 }

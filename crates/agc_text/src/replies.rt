@@ -1,162 +1,221 @@
-ghost use Rattle.std.specs.Prelude.{◌≡◌, ◌+◌, ◌*◌, ◌≤◌, ◌++◌, length, codes};
+ghost use Rattle.std.specs.Prelude.{◌≡◌, ◌+◌, ◌*◌, ◌≤◌, [], ◌∷◌, ◌++◌, length, codes};
 ghost use Rattle.std.specs.Fmt.{decimal};
 ghost use Rattle.std.specs.List.{flat_map};
+ghost use Rattle.agc_plan.specs.declared.reply.Reply.TheVariants.{Ticked};
+ghost use Rattle.agc_machine.specs.Briefs.{reply_of};
 ghost use Rattle.agc_text.specs.Writing.{Writes};
-ghost use Rattle.agc_text.specs.Replies.{alarm_text, runner_text, fired_text, end_text, reply_text, refusal_text, answer_text, answer_line};
+ghost use Rattle.agc_text.specs.Replies.{alarm_text, fired_text, end_text, reply_text, refusal_text};
 
 use crate::fault::Output;
-use crate::numerals::{add_number, add_word};
+use crate::numerals::octal_digit;
 use crate::writing::put;
-use agc_machine::Refusal;
-use agc_plan::{Alarm, Fired, JobNo, Reply, Task};
-use arrayvec::ArrayString;
+use agc_machine::{Brief, Refusal};
+use agc_plan::{Alarm, Fired, JobNo, Task};
+use arrayvec::ArrayVec;
 use std::io::Write;
 
-fn add_alarm(line: &mut ArrayString<128>, alarm: Alarm)
-    requires { length line.old.bytes + 10 ≤ 128 }
-    ensures text { line.new.bytes ≡ line.old.bytes ++ alarm_text alarm }
-    ensures len { length line.new.bytes ≡ length line.old.bytes + 10 }
-{
-    line.push_str(match alarm {
-        Alarm::A1201 => "alarm 1201",
-        Alarm::A1202 => "alarm 1202",
-        Alarm::A1203 => "alarm 1203",
-    });
-}
+// A line of a few is a text by itself, which costs nothing to spell.
 
-fn add_job(line: &mut ArrayString<128>, number: JobNo)
-    requires { length line.old.bytes + 20 ≤ 128 }
-    ensures text { line.new.bytes ≡ line.old.bytes ++ decimal number }
-    ensures len { length line.new.bytes ≤ length line.old.bytes + 20 }
+fn established_line(number: JobNo) -> &'static str
+    ensures { result.now ≡ codes "job " ++ decimal number ++ 10 ∷ [] }
 {
-    add_number(line, u64::from(number.get()));
-}
-
-fn add_runner(line: &mut ArrayString<128>, runner: Option<JobNo>)
-    requires { length line.old.bytes + 20 ≤ 128 }
-    ensures text { line.new.bytes ≡ line.old.bytes ++ runner_text runner }
-    ensures len { length line.new.bytes ≤ length line.old.bytes + 20 }
-{
-    match runner {
-        Some(number) => add_job(line, number),
-        None => line.push_str("idle"),
+    match number.get() {
+        1 => "job 1\n",
+        2 => "job 2\n",
+        3 => "job 3\n",
+        4 => "job 4\n",
+        5 => "job 5\n",
+        6 => "job 6\n",
+        7 => "job 7\n",
+        8 => "job 8\n",
+        _ => unreachable!(),
     }
 }
 
-fn add_task(line: &mut ArrayString<128>, task: Task)
-    requires { length line.old.bytes + 12 ≤ 128 }
-    ensures text { line.new.bytes ≡ line.old.bytes ++ fired_text task }
-    ensures len { length line.new.bytes ≡ length line.old.bytes + 12 }
+fn left_line(number: JobNo) -> &'static str
+    ensures { result.now ≡ codes "left " ++ decimal number ++ 10 ∷ [] }
 {
-    line.push(' ');
-    add_word(line, task.at.get());
-    line.push('/');
-    add_word(line, task.bank.bits());
+    match number.get() {
+        1 => "left 1\n",
+        2 => "left 2\n",
+        3 => "left 3\n",
+        4 => "left 4\n",
+        5 => "left 5\n",
+        6 => "left 6\n",
+        7 => "left 7\n",
+        8 => "left 8\n",
+        _ => unreachable!(),
+    }
 }
 
-fn add_tasks(line: &mut ArrayString<128>, fired: &Fired)
-    requires { length line.old.bytes + 108 ≤ 128 }
-    ensures text { line.new.bytes ≡ line.old.bytes ++ flat_map fired_text fired.now }
-    ensures len { length line.new.bytes ≤ length line.old.bytes + 108 }
+fn roused_line(number: JobNo) -> &'static str
+    ensures { result.now ≡ codes "roused " ++ decimal number ++ 10 ∷ [] }
+{
+    match number.get() {
+        1 => "roused 1\n",
+        2 => "roused 2\n",
+        3 => "roused 3\n",
+        4 => "roused 4\n",
+        5 => "roused 5\n",
+        6 => "roused 6\n",
+        7 => "roused 7\n",
+        8 => "roused 8\n",
+        _ => unreachable!(),
+    }
+}
+
+fn runs_line(number: JobNo) -> &'static str
+    ensures { result.now ≡ codes "runs " ++ decimal number ++ 10 ∷ [] }
+{
+    match number.get() {
+        1 => "runs 1\n",
+        2 => "runs 2\n",
+        3 => "runs 3\n",
+        4 => "runs 4\n",
+        5 => "runs 5\n",
+        6 => "runs 6\n",
+        7 => "runs 7\n",
+        8 => "runs 8\n",
+        _ => unreachable!(),
+    }
+}
+
+fn alarm_line(alarm: Alarm) -> &'static str
+    ensures { result.now ≡ alarm_text alarm ++ 10 ∷ [] }
+{
+    match alarm {
+        Alarm::A1201 => "alarm 1201\n",
+        Alarm::A1202 => "alarm 1202\n",
+        Alarm::A1203 => "alarm 1203\n",
+    }
+}
+
+fn refusal_line(refusal: Refusal) -> &'static str
+    ensures { result.now ≡ refusal_text refusal ++ 10 ∷ [] }
+{
+    match refusal {
+        Refusal::Spent => "refused spent\n",
+        Refusal::LogFull => "refused log full\n",
+    }
+}
+
+/// The end of a tick's line.
+fn line_end(alarm: Option<Alarm>) -> &'static str
+    ensures text { result.now ≡ end_text alarm ++ 10 ∷ [] }
+    ensures len { length result.now ≤ 12 }
+{
+    match alarm {
+        None => "\n",
+        Some(Alarm::A1201) => " alarm 1201\n",
+        Some(Alarm::A1202) => " alarm 1202\n",
+        Some(Alarm::A1203) => " alarm 1203\n",
+    }
+}
+
+/// A task that fired, in a line: twelve bytes at once, and not one after the other.
+fn fired_piece(task: Task) -> [u8; 12]
+    ensures { result ≡ fired_text task }
+{
+    let at = task.at.get();
+    let bank = task.bank.bits();
+    [
+        b' ',
+        octal_digit(at / 8 / 8 / 8 / 8),
+        octal_digit(at / 8 / 8 / 8),
+        octal_digit(at / 8 / 8),
+        octal_digit(at / 8),
+        octal_digit(at),
+        b'/',
+        octal_digit(bank / 8 / 8 / 8 / 8),
+        octal_digit(bank / 8 / 8 / 8),
+        octal_digit(bank / 8 / 8),
+        octal_digit(bank / 8),
+        octal_digit(bank),
+    ]
+}
+
+/// Appends bytes for which there is room.
+fn add(line: &mut ArrayVec<u8, 128>, bytes: &[u8])
+    requires { length line.old.items + length bytes.now ≤ 128 }
+    ensures text { line.new.items ≡ line.old.items ++ bytes.now }
+    ensures len { length line.new.items ≡ length line.old.items + length bytes.now }
+{
+    match line.try_extend_from_slice(bytes) {
+        Ok(()) => {}
+        Err(_full) => unreachable!(),
+    }
+}
+
+fn add_tasks(line: &mut ArrayVec<u8, 128>, fired: &Fired)
+    requires { length line.old.items + 108 ≤ 128 }
+    ensures text { line.new.items ≡ line.old.items ++ flat_map fired_text fired.now }
+    ensures len { length line.new.items ≤ length line.old.items + 108 }
 {
     for index in 0..fired.len() {
         match fired.get(index) {
-            Some(task) => add_task(line, task),
+            Some(task) => add(line, &fired_piece(task)),
             None => unreachable!(),
         }
     }
 }
 
-fn add_end(line: &mut ArrayString<128>, alarm: Option<Alarm>)
-    requires { length line.old.bytes + 11 ≤ 128 }
-    ensures text { line.new.bytes ≡ line.old.bytes ++ end_text alarm }
-    ensures len { length line.new.bytes ≤ length line.old.bytes + 11 }
-{
-    match alarm {
-        Some(alarm) => {
-            line.push(' ');
-            add_alarm(line, alarm);
-        }
-        None => {}
-    }
-}
-
-fn add_tick(line: &mut ArrayString<128>, fired: &Fired, alarm: Option<Alarm>)
-    requires { length line.old.bytes + 123 ≤ 128 }
-    ensures text { line.new.bytes ≡ line.old.bytes ++ codes "tick" ++ flat_map fired_text fired.now ++ end_text alarm }
-    ensures len { length line.new.bytes ≤ length line.old.bytes + 123 }
-{
-    line.push_str("tick");
-    add_tasks(line, fired);
-    add_end(line, alarm);
-}
-
-fn add_numbered(line: &mut ArrayString<128>, word: &str, number: JobNo)
-    requires { length line.old.bytes + length word.now + 20 ≤ 128 }
-    ensures text { line.new.bytes ≡ line.old.bytes ++ word.now ++ decimal number }
-    ensures len { length line.new.bytes ≤ length line.old.bytes + length word.now + 20 }
-{
-    line.push_str(word);
-    add_job(line, number);
-}
-
-fn add_reply(line: &mut ArrayString<128>, reply: &Reply)
-    requires { length line.old.bytes + 123 ≤ 128 }
-    ensures text { line.new.bytes ≡ line.old.bytes ++ reply_text reply.now }
-    ensures len { length line.new.bytes ≤ length line.old.bytes + 123 }
-{
-    match reply {
-        Reply::Established(number) => add_numbered(line, "job ", *number),
-        Reply::Left(runner) => {
-            line.push_str("left ");
-            add_runner(line, *runner);
-        }
-        Reply::Roused(number) => add_numbered(line, "roused ", *number),
-        Reply::NoSleeper => line.push_str("no sleeper"),
-        Reply::NoJob => line.push_str("no job"),
-        Reply::Runs(number) => add_numbered(line, "runs ", *number),
-        Reply::Stored => line.push_str("stored"),
-        Reply::Listed => line.push_str("listed"),
-        Reply::Ticked(fired, alarm) => add_tick(line, fired, *alarm),
-        Reply::Phased => line.push_str("phased"),
-        Reply::Restarted => line.push_str("restarted"),
-        Reply::Alarmed(alarm) => add_alarm(line, *alarm),
-    }
-}
-
-fn refusal_text(refusal: Refusal) -> &'static str
-    ensures text { result.now ≡ refusal_text refusal }
-    ensures len { length result.now ≤ 16 }
-{
-    match refusal {
-        Refusal::Spent => "refused spent",
-        Refusal::LogFull => "refused log full",
-    }
-}
-
-/// The line of an answer, with its end.
-fn line_of(answer: &Result<Reply, Refusal>) -> ArrayString<128>
-    ensures { result.bytes ≡ answer_line answer.now }
-{
-    let mut line = ArrayString::new();
-    match answer {
-        Ok(reply) => add_reply(&mut line, reply),
-        Err(refusal) => line.push_str(refusal_text(*refusal)),
-    }
-    line.push('\n');
-    line
-}
-
-/// Writes the line of an answer.
+/// Writes the line of a tick.
 ///
 /// # Errors
 ///
 /// Where a write fails.
-pub(crate) fn put_answer<W: Write>(
+pub(crate) fn put_tick<W: Write>(
     writer: &mut W,
-    answer: &Result<Reply, Refusal>,
+    fired: &Fired,
+    alarm: Option<Alarm>,
 ) -> Result<(), Output>
-    ensures { Writes (W.contents writer.old) (W.contents writer.new) (answer_line answer.now) result }
+    ensures { Writes (W.contents writer.old) (W.contents writer.new) (reply_text (Ticked fired.now alarm) ++ 10 ∷ []) result }
 {
-    put(writer, line_of(answer).as_bytes())
+    let mut line = ArrayVec::new();
+    add(&mut line, "tick".as_bytes());
+    add_tasks(&mut line, fired);
+    add(&mut line, line_end(alarm).as_bytes());
+    put(writer, line.as_slice())
+}
+
+/// The line of a reply other than a tick's.
+fn brief_line(reply: Brief) -> &'static str
+    ensures { result.now ≡ reply_text (reply_of reply) ++ 10 ∷ [] }
+{
+    match reply {
+        Brief::Established(number) => established_line(number),
+        Brief::Left(number) => left_line(number),
+        Brief::Idle => "left idle\n",
+        Brief::Roused(number) => roused_line(number),
+        Brief::NoSleeper => "no sleeper\n",
+        Brief::NoJob => "no job\n",
+        Brief::Runs(number) => runs_line(number),
+        Brief::Stored => "stored\n",
+        Brief::Listed => "listed\n",
+        Brief::Phased => "phased\n",
+        Brief::Restarted => "restarted\n",
+        Brief::Alarmed(alarm) => alarm_line(alarm),
+    }
+}
+
+/// Writes the line of a reply other than a tick's.
+///
+/// # Errors
+///
+/// Where a write fails.
+pub(crate) fn put_reply<W: Write>(writer: &mut W, reply: Brief) -> Result<(), Output>
+    ensures { Writes (W.contents writer.old) (W.contents writer.new) (reply_text (reply_of reply) ++ 10 ∷ []) result }
+{
+    put(writer, brief_line(reply).as_bytes())
+}
+
+/// Writes the line of a refusal.
+///
+/// # Errors
+///
+/// Where a write fails.
+pub(crate) fn put_refusal<W: Write>(writer: &mut W, refusal: Refusal) -> Result<(), Output>
+    ensures { Writes (W.contents writer.old) (W.contents writer.new) (refusal_text refusal ++ 10 ∷ []) result }
+{
+    put(writer, refusal_line(refusal).as_bytes())
 }

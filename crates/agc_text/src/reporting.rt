@@ -8,6 +8,7 @@ use crate::numerals::{add_number, add_words};
 use crate::writing::put;
 use agc_machine::Totals;
 use agc_word::Word;
+use agc_word::layout::{FAILREG, LST1, LST2, NEWJOB, PHASE_WORDS, TIME3, USE_WORDS};
 use arrayvec::ArrayString;
 use std::io::Write;
 
@@ -64,7 +65,7 @@ fn add_set(line: &mut ArrayString<128>, set: &[Word])
 
 #[tactic(auto, unfolding(crate::specs::Report::set_line))]
 fn set_line(words: &[Word], set: usize) -> ArrayString<128>
-    requires all { length words.now ≡ 132 }
+    requires all { length words.now ≡ 144 }
     requires set { set < 7 }
     ensures { result.bytes ≡ set_line words.now set }
 {
@@ -77,7 +78,7 @@ fn set_line(words: &[Word], set: usize) -> ArrayString<128>
 }
 
 fn put_set<W: Write>(words: &[Word], set: usize, writer: &mut W) -> Result<(), Output>
-    requires all { length words.now ≡ 132 }
+    requires all { length words.now ≡ 144 }
     requires set { set < 7 }
     ensures { Writes (W.contents writer.old) (W.contents writer.new) (set_line words.now set) result }
 {
@@ -85,7 +86,7 @@ fn put_set<W: Write>(words: &[Word], set: usize, writer: &mut W) -> Result<(), O
 }
 
 fn put_sets<W: Write>(words: &[Word], writer: &mut W) -> Result<(), Output>
-    requires { length words.now ≡ 132 }
+    requires { length words.now ≡ 144 }
     ensures { Writes (W.contents writer.old) (W.contents writer.new) (sets_text words.now) result }
 {
     for set in 0..7 {
@@ -95,7 +96,7 @@ fn put_sets<W: Write>(words: &[Word], writer: &mut W) -> Result<(), Output>
 }
 
 /// Appends a count, after a space.
-fn add_count(line: &mut ArrayString<128>, count: u64)
+pub(crate) fn add_count(line: &mut ArrayString<128>, count: u64)
     requires { length line.old.bytes + 21 ≤ 128 }
     ensures text { line.new.bytes ≡ line.old.bytes ++ count_text count }
     ensures len { length line.new.bytes ≤ length line.old.bytes + 21 }
@@ -127,19 +128,19 @@ fn add_alarms(line: &mut ArrayString<128>, totals: &Totals)
 /// Appends a line, without its end.
 #[tactic(auto, unfolding(crate::specs::Report::line_text))]
 fn add_line(text: &mut ArrayString<128>, line: ReportLine, words: &[Word], totals: &Totals)
-    requires all { length words.now ≡ 132 }
+    requires all { length words.now ≡ 144 }
     requires room { length text.old.bytes ≡ 0 }
     ensures text { text.new.bytes ≡ text.old.bytes ++ line_text words.now totals.now line }
     ensures len { length text.new.bytes ≤ 112 }
 {
     match line {
-        ReportLine::Vac => add_table(text, "VAC", words_at(words, 84, 5)),
-        ReportLine::Newjob => add_table(text, "NEWJOB", words_at(words, 89, 1)),
-        ReportLine::Time3 => add_table(text, "TIME3", words_at(words, 90, 1)),
-        ReportLine::Lst1 => add_table(text, "LST1", words_at(words, 91, 8)),
-        ReportLine::Lst2 => add_table(text, "LST2", words_at(words, 99, 18)),
-        ReportLine::Phase => add_table(text, "PHASE", words_at(words, 117, 12)),
-        ReportLine::Failreg => add_table(text, "FAILREG", words_at(words, 129, 3)),
+        ReportLine::Vac => add_table(text, "VAC", words_at(words, USE_WORDS, 5)),
+        ReportLine::Newjob => add_table(text, "NEWJOB", words_at(words, NEWJOB, 1)),
+        ReportLine::Time3 => add_table(text, "TIME3", words_at(words, TIME3, 1)),
+        ReportLine::Lst1 => add_table(text, "LST1", words_at(words, LST1, 8)),
+        ReportLine::Lst2 => add_table(text, "LST2", words_at(words, LST2, 18)),
+        ReportLine::Phase => add_table(text, "PHASE", words_at(words, PHASE_WORDS, 12)),
+        ReportLine::Failreg => add_table(text, "FAILREG", words_at(words, FAILREG, 3)),
         ReportLine::Served => {
             text.push_str("SERVED");
             add_count(text, totals.served);
@@ -157,7 +158,7 @@ fn add_line(text: &mut ArrayString<128>, line: ReportLine, words: &[Word], total
 
 #[tactic(auto, unfolding(crate::specs::Report::full_line))]
 fn full_line(line: ReportLine, words: &[Word], totals: &Totals) -> ArrayString<128>
-    requires { length words.now ≡ 132 }
+    requires { length words.now ≡ 144 }
     ensures { result.bytes ≡ full_line words.now totals.now line }
 {
     let mut text = ArrayString::new();
@@ -172,14 +173,14 @@ fn put_line<W: Write>(
     totals: &Totals,
     writer: &mut W,
 ) -> Result<(), Output>
-    requires { length words.now ≡ 132 }
+    requires { length words.now ≡ 144 }
     ensures { Writes (W.contents writer.old) (W.contents writer.new) (full_line words.now totals.now line) result }
 {
     put(writer, full_line(line, words, totals).as_bytes())
 }
 
 fn put_lines<W: Write>(words: &[Word], totals: &Totals, writer: &mut W) -> Result<(), Output>
-    requires { length words.now ≡ 132 }
+    requires { length words.now ≡ 144 }
     ensures { Writes (W.contents writer.old) (W.contents writer.new) (lines_text words.now totals.now) result }
 {
     for line in REPORT_LINES {
@@ -195,7 +196,7 @@ fn put_lines<W: Write>(words: &[Word], totals: &Totals, writer: &mut W) -> Resul
 /// # Errors
 ///
 /// Where a write fails, or takes nothing of what is left. A front of the report was then written.
-pub fn report<W: Write>(words: &[Word; 132], totals: &Totals, writer: &mut W) -> Result<(), Output>
+pub fn report<W: Write>(words: &[Word; 144], totals: &Totals, writer: &mut W) -> Result<(), Output>
     ensures { Writes (W.contents writer.old) (W.contents writer.new) (report_text words.now totals.now) result }
 {
     let words = &words[..];

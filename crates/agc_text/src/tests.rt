@@ -319,7 +319,7 @@ fn the_longest_lines(rt: HostRuntime) -> Result<(), Fail> {
     let word = Word::new(0o12345).ok_or("word")?;
     let mut text = [0u8; 2000];
     let mut rest = &mut text[..];
-    report(&[word; 132], &TOTALS, &mut rest).map_err(|_| "output")?;
+    report(&[word; 144], &TOTALS, &mut rest).map_err(|_| "output")?;
     assert_eq!(rt; rest.len().checked_add(FULL.len()), Some(2000));
     assert!(rt; text.starts_with(FULL.as_bytes()));
     Ok(())
@@ -330,7 +330,19 @@ fn a_write_takes_nothing(rt: HostRuntime) {
     let mut place = [0u8; 0];
     let mut writer = &mut place[..];
     assert_eq!(rt;
-        report(&[Word::zero(); 132], &TOTALS, &mut writer),
+        report(&[Word::zero(); 144], &TOTALS, &mut writer),
         Err(Output)
     );
+}
+
+#[test]
+fn a_report_where_there_is_too_little_room(rt: HostRuntime) -> Result<(), Fail> {
+    let word = Word::new(0o12345).ok_or("word")?;
+    for room in 0..FULL.len().min(2000) {
+        let mut text = [0u8; 2000];
+        let mut rest = &mut text[..room];
+        assert_eq!(rt; report(&[word; 144], &TOTALS, &mut rest), Err(Output));
+        assert_eq!(rt; &text[..room], &FULL.as_bytes()[..room]);
+    }
+    Ok(())
 }

@@ -9,7 +9,8 @@ use std::io::Write;
 /// # Errors
 ///
 /// Where a write fails, or takes nothing of what is left. A front of the bytes was then written.
-pub(crate) fn put<W: Write>(writer: &mut W, bytes: &[u8]) -> Result<(), Output>
+#[inline(never)]
+fn put_by_parts<W: Write>(writer: &mut W, bytes: &[u8]) -> Result<(), Output>
     ensures { Writes (W.contents writer.old) (W.contents writer.new) bytes.now result }
 {
     let mut rest = bytes;
@@ -21,4 +22,29 @@ pub(crate) fn put<W: Write>(writer: &mut W, bytes: &[u8]) -> Result<(), Output>
         }
     }
     Ok(())
+}
+
+/// Writes all bytes: by one write, which mostly takes them all, and what it left by others.
+///
+/// # Errors
+///
+/// Where a write fails, or takes nothing of what is left. A front of the bytes was then written.
+pub(crate) fn put<W: Write>(writer: &mut W, bytes: &[u8]) -> Result<(), Output>
+    ensures { Writes (W.contents writer.old) (W.contents writer.new) bytes.now result }
+{
+    if bytes.is_empty() {
+        return Ok(());
+    }
+    match writer.write(bytes) {
+        Ok(taken) => {
+            if taken == bytes.len() {
+                Ok(())
+            } else if taken == 0 {
+                Err(Output)
+            } else {
+                put_by_parts(writer, bytes.split_at(taken).1)
+            }
+        }
+        Err(_) => Err(Output),
+    }
 }

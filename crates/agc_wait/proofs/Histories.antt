@@ -113,7 +113,7 @@ FiresWhenDue-folded : (run : Run) (moves : List Move) → All MovesLater moves �
 FiresWhenDue-folded run [] all so_far = so_far
 FiresWhenDue-folded run (move ∷ moves) all so_far = FiresWhenDue-folded (moved run move) moves (λ k d lt. all (suc k) d (omega arith)) (FiresWhenDue-moved run move (all 0 move (omega arith)) so_far)
 
-pub FiresWhenDue-is : (moves : List Move) → All MovesLater moves → FiresWhenDue (run_of moves)
-FiresWhenDue-is moves all =
-    FiresWhenDue-folded (record { work = no_work; accepted = []; fired = [] }) moves all
+pub FiresWhenDue-is : (sets : ℕ) (moves : List Move) → All MovesLater moves → FiresWhenDue (run_of sets moves)
+FiresWhenDue-is sets moves all =
+    FiresWhenDue-folded (record { work = no_work sets; accepted = []; fired = [] }) moves all
     (record { fired = λ time le. refl; none_early = λ time lt. refl; waits = λ time lt. refl; none_late = λ time le. refl })

@@ -3,6 +3,7 @@ use Rattle.std.proofs.Common.{◌≡◌, ◌≢◌, ◌⊎◌, ℕ, ◌+◌, ◌
 use Rattle.std.proofs.lemmas.Bool.{cases_eq, cases_lt}
 use Rattle.std.proofs.lemmas.List.{length-set, get_or-set_same, get_or-set_other}
 use Rattle.std.proofs.lemmas.Grind.{common_steps}
+use Rattle.agc_word.specs.Layout.{IsSized}
 use Rattle.agc_wait.specs.Moving.{moved_up, moved_down, filled}
 
 -- a word after a write
@@ -26,11 +27,15 @@ pub same_word : (j i v w : ℕ) → j ≡ i → cond (j == i) v w ≡ v
 same_word j i v w e = grind (arith, common_steps)
 
 -- the same in the form of a call's clauses
-pub after_set : (words new : List ℕ) (i w v : ℕ) → new ≡ slice_set words i w → w ≡ v → length new ≡ 132 → i < 132 → (j : ℕ) → slice_index new j ≡ cond (j == i) v (slice_index words j)
+pub after_set : (words new : List ℕ) (i w v : ℕ) → new ≡ slice_set words i w → w ≡ v → IsSized new → i < 132 → (j : ℕ) → slice_index new j ≡ cond (j == i) v (slice_index words j)
 after_set words new i w v e is len lt j =
     let e2 : new ≡ slice_set words i v = e ∙ ap (slice_set words i) is in
     let n : length new ≡ length (slice_set words i v) = ap length e2 in
     ap (λ l. slice_index l j) e2 ∙ get-set words i v (omega arith) j
+
+-- a write leaves as many words
+pub same_size : (words new : List ℕ) (i w : ℕ) → new ≡ slice_set words i w → length new ≡ length words
+same_size words new i w is = ap length is ∙ length-set words i w
 
 pub moved_up-in : (words : List ℕ) (from to by j : ℕ) → from ≤ j → j < to → moved_up words from to by j ≡ slice_index words (j + by)
 moved_up-in words from to by j le lt = grind (arith, common_steps)

@@ -1,4 +1,5 @@
 pub mod Waits
+pub mod Spreading
 pub mod Table
 pub mod Writing
 pub mod Calls

@@ -34,9 +34,9 @@ moved run Ticking =
     let fires = tick_fires [] run.work in
     record run { work = fires.work; fired = run.fired ++ stamped fires.work.agenda.time fires.fired }
 
--- these moves, from the beginning of an era on
-abbrev pub run_of : List Move → Run
-run_of moves = fold moved (record { work = no_work; accepted = []; fired = [] }) moves
+-- these moves, from the beginning of an era on, with so many core sets
+abbrev pub run_of : ℕ → List Move → Run
+run_of sets moves = fold moved (record { work = no_work sets; accepted = []; fired = [] }) moves
 
 -- a listing is for later
 abbrev pub MovesLater : Move → Type 0

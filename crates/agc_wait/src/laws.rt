@@ -10,7 +10,7 @@ ghost use Rattle.agc_wait.specs.Table.{Shows, SameTable};
 /// in the d-th tick after it, in no earlier and no later one, and the tasks of one due time fire in the order in which
 /// they were listed. Source: the listings' WAITLIST section.
 pub fn tasks_fire_when_due()
-    ensures { (moves : List Move) → All MovesLater moves → FiresWhenDue (run_of moves) }
+    ensures { (sets : ℕ) (moves : List Move) → All MovesLater moves → FiresWhenDue (run_of sets moves) }
 {}
 
 /// Law: where no task is overdue, to fire the earliest arrival of those that are due is to fire the first in order.

@@ -3,7 +3,7 @@ ghost use Rattle.std.specs.Prelude.{◌<◌, IfSome, length};
 use crate::{Full, clear, count_time3, dispatch, due, is_lawful, list};
 use agc_plan::{Address, Delay, Task};
 use agc_word::layout::{LST1, LST2, PHASE_WORDS, TIME3};
-use agc_word::{Erasable, Word};
+use agc_word::{Erasable, Sets, Word};
 use std::test::Fail;
 
 /// Tasks listed one after another, ticks, the tasks that the last tick fires, and the words that follow.
@@ -125,7 +125,7 @@ fn word(bits: u16) -> Result<Word, Fail> {
 
 /// Words without a task.
 fn blank() -> Erasable {
-    let mut e = Erasable::new();
+    let mut e = Erasable::new(Sets::Seven);
     clear(&mut e);
     e
 }
@@ -338,7 +338,7 @@ fn words_in_order(rt: HostRuntime) -> Result<(), Fail> {
 
 #[test]
 fn words_out_of_order(rt: HostRuntime) -> Result<(), Fail> {
-    assert!(rt; !is_lawful(&Erasable::new()));
+    assert!(rt; !is_lawful(&Erasable::new(Sets::Seven)));
     for (k, changes) in BROKEN.iter().enumerate() {
         let e = changed(changes)?;
         assert!(rt; !is_lawful(&e), "image {k}");

@@ -1,5 +1,5 @@
 -- Where each table stands in the erasable words.
-use Rattle.std.specs.Prelude.{◌≡◌, ◌⊎◌, ℕ, ◌+◌, ◌-◌, ◌*◌, ◌/◌, ◌<◌, ◌≤◌, ◌==◌, if◌then◌else◌, List, length, slice_index}
+use Rattle.std.specs.Prelude.{◌≡◌, ◌⊎◌, ℕ, ◌+◌, ◌-◌, ◌*◌, ◌/◌, ◌<◌, ◌≤◌, ◌==◌, if◌then◌else◌, List, ◌++◌, length, replicate, slice_index}
 
 -- how many words a core set has
 abbrev pub set_size : ℕ
@@ -45,9 +45,17 @@ last_set = 132
 abbrev pub IsSized : List ℕ → Type 0
 IsSized words = (length words ≡ 132) ⊎ (length words ≡ 144)
 
+-- as many words as there are with eight sets: 00000 after the last
+abbrev pub padded : List ℕ → List ℕ
+padded words = words ++ replicate (144 - length words) 0
+
 -- how many sets these words have
 abbrev pub sets_in : List ℕ → ℕ
 sets_in words = (length words - others_size) / set_size
+
+-- how many places there are: those before core set 7, which is last, and its own with eight sets
+abbrev pub places_in : List ℕ → ℕ
+places_in words = last_set + set_size * (sets_in words - 7)
 
 -- the first place of a set: set 7 stands after all other tables
 abbrev pub set_place : ℕ → ℕ

@@ -1,80 +1,80 @@
-ghost use Rattle.std.specs.Prelude.{◌≡◌, ◌<◌, length, replicate, slice_index, slice_set};
-ghost use Rattle.agc_word.specs.Layout.{sets_in};
+ghost use Rattle.std.specs.Prelude.{◌≡◌, ◌<◌, replicate, slice_index, slice_set};
+ghost use Rattle.agc_word.specs.Layout.{IsSized, sets_in, places_in, padded};
+ghost use Rattle.agc_word.specs.Profiles.{count_of, size_of};
 
-use crate::layout::{OTHERS_SIZE, SET_SIZE};
+use crate::sets::Sets;
 use crate::word::Word;
 use std::marker::Model;
 
-/// The 132 words of erasable memory that the model has, by place, from 0 to 131. Contracts see them as the list of
-/// their bits. Source: profile.
+/// The words of erasable memory that the model has, by place, from 0: 132 with seven core sets, 144 with eight. Contracts
+/// see them as the list of their bits. Source: profile.
 #[derive(Drop)]
 pub struct Erasable {
-    words: [Word; 132],
+    sets: Sets,
+    words: [Word; 144],
 }
 
 impl Model for Erasable {
     ghost use Rattle.std.specs.Prelude.{◌≡◌, List, ℕ, length};
+    ghost use Rattle.agc_word.specs.Layout.{padded};
+    ghost use Rattle.agc_word.specs.Profiles.{words_with};
 
     ghost Value = { List ℕ };
 
-    ghost view = { λ e. e.words };
+    ghost view = { λ e. words_with e.sets e.words };
 
-    ghost invariant = { λ e. length e.words ≡ 132 };
+    ghost invariant = { λ e. (length e.words ≡ 144) × (e.words ≡ padded (words_with e.sets e.words)) };
 }
 
 impl Erasable {
-    /// All 132 words 00000. Source: profile.
-    pub fn new() -> Erasable
-        ensures { result ≡ replicate 132 0 }
+    /// The words of so many core sets, all 00000. Source: profile.
+    pub fn new(sets: Sets) -> Erasable
+        ensures { result ≡ replicate (size_of sets) 0 }
     {
         Erasable {
-            words: [Word::zero(); 132],
+            sets,
+            words: [Word::zero(); 144],
         }
     }
 
-    /// How many core sets the words have: seven. Source: profile.
-    pub fn sets(&self) -> usize
-        ensures count { result ≡ sets_in self.now }
-        ensures all { length self.now ≡ 132 }
+    /// How many core sets the words have. Source: profile.
+    pub fn sets(&self) -> Sets
+        ensures count { count_of result ≡ sets_in self.now }
+        ensures all { IsSized self.now }
     {
-        let words = &self.words;
-        (words.len() - OTHERS_SIZE) / SET_SIZE
+        let _all = &self.words;
+        self.sets
     }
 
-    /// The word at a place, which must be below 132. Source: profile.
+    /// The word at a place, which must be below 132 with seven core sets, below 144 with eight. Source: profile.
     pub fn get(&self, place: usize) -> Word
-        requires { place < 132 }
+        requires { place < places_in self.now }
         ensures value { result ≡ slice_index self.now place }
         ensures range { result < 32768 }
-        ensures all { length self.now ≡ 132 }
+        ensures all { IsSized self.now }
     {
-        let word = self.words[place];
+        let words = &self.words;
+        let word = words[place];
         let _ = word.bits();
         word
     }
 
-    /// Sets the word at a place, which must be below 132. No other word changes. Source: profile.
+    /// Sets the word at a place, which must be below 132 with seven core sets, below 144 with eight. No other word
+    /// changes. Source: profile.
     pub fn set(&mut self, place: usize, word: Word)
-        requires { place < 132 }
+        requires { place < places_in self.old }
         ensures value { self.new ≡ slice_set self.old place word }
-        ensures all { length self.new ≡ 132 }
+        ensures all { IsSized self.new }
     {
-        self.words[place] = word;
+        let words = &mut self.words;
+        words[place] = word;
     }
 
-    /// All 132 words, by place. Source: profile.
-    pub fn words(&self) -> [Word; 132]
-        ensures { result ≡ self.now }
+    /// All words, by place; with seven core sets the last twelve are 00000. Source: profile.
+    pub fn words(&self) -> [Word; 144]
+        ensures words { result ≡ padded self.now }
+        ensures all { IsSized self.now }
     {
         self.words
-    }
-}
-
-/// The default has all 132 words 00000. Source: profile.
-impl Default for Erasable {
-    ghost is_default = { λ e. e ≡ replicate 132 0 };
-
-    fn default() -> Erasable {
-        Erasable::new()
     }
 }

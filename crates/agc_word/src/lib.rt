@@ -3,9 +3,11 @@
 
 mod erasable;
 pub mod layout;
+mod sets;
 #[cfg(test)]
 mod tests;
 mod word;
 
 pub use erasable::Erasable;
+pub use sets::Sets;
 pub use word::Word;

@@ -1,4 +1,4 @@
-use crate::{Erasable, Word};
+use crate::{Erasable, Sets, Word};
 use std::test::Fail;
 
 fn word(bits: u16) -> Result<Word, Fail> {
@@ -127,7 +127,7 @@ fn signs_of_words(rt: HostRuntime) -> Result<(), Fail> {
 
 #[test]
 fn erasable_keeps_what_is_set(rt: HostRuntime) -> Result<(), Fail> {
-    let mut erasable = Erasable::new();
+    let mut erasable = Erasable::new(Sets::Seven);
     let seven = word(0o00007)?;
     erasable.set(131, seven);
     assert_eq!(rt; erasable.get(131), seven);
@@ -135,6 +135,23 @@ fn erasable_keeps_what_is_set(rt: HostRuntime) -> Result<(), Fail> {
     let words = erasable.words();
     let last = words[131];
     assert_eq!(rt; last, seven);
-    assert_eq!(rt; Erasable::default().get(0), Word::zero());
+    let past = words[143];
+    assert_eq!(rt; past, Word::zero());
+    assert_eq!(rt; erasable.sets(), Sets::Seven);
+    Ok(())
+}
+
+#[test]
+fn eight_sets_have_twelve_words_more(rt: HostRuntime) -> Result<(), Fail> {
+    let mut erasable = Erasable::new(Sets::Eight);
+    let eight = word(0o00010)?;
+    erasable.set(143, eight);
+    assert_eq!(rt; erasable.get(143), eight);
+    assert_eq!(rt; erasable.get(132), Word::zero());
+    let words = erasable.words();
+    let last = words[143];
+    assert_eq!(rt; last, eight);
+    assert_eq!(rt; erasable.sets(), Sets::Eight);
+    assert_eq!(rt; (Sets::Seven.count(), Sets::Eight.count()), (7, 8));
     Ok(())
 }

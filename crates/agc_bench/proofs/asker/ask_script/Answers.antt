@@ -1,5 +1,4 @@
-use Rattle.std.proofs.Common.{◌∙◌, refl, ap, sym}
-use Rattle.agc_desk.specs.History.{Holder}
+use Rattle.std.proofs.Common.{◌∙◌}
 use Rattle.agc_text.proofs.Sessions.{after_next, after_last}
 use Rattle.agc_bench.proofs.Histories.{answers_next, answers_last, calls_next, calls_last}
 use Rattle.agc_bench.proofs.asker.ask_script.Goals as goal
@@ -17,6 +16,7 @@ loop-request-preserved g c =
       heard = answers_next _ _ m script at r c.serve.result c.loop-request-test.true c.request-item.is c.serve.ensures.request c.serve.ensures.outcome i.heard;
       number = i.number;
       given = i.given;
+      lines = i.lines;
     })
 
 pub returns-clause-machine : goal.returns-clause-machine

@@ -1,6 +1,7 @@
 use Rattle.std.proofs.Common.{◌≡◌, ◌++◌, drop}
 use Rattle.agc_machine.specs.Machines.{after_all}
-use Rattle.agc_bench.specs.Sharing.{answers_to, first_calls}
+use Rattle.agc_desk.specs.Draining.{answers_to}
+use Rattle.agc_bench.specs.Sharing.{first_calls}
 use Rattle.agc_bench.proofs.asker.ask_script.Given as goal
 
 abbrev pub invariant-loop-request : goal.invariant-loop-request
@@ -10,4 +11,5 @@ invariant-loop-request g l = record {
   heard : l.initial.share.heard ++ answers_to l.initial.desk.machine l.script ≡ l.share.heard ++ answers_to l.desk.machine (drop l.request-index l.script);
   number : l.share.number ≡ l.initial.share.number;
   given : l.desk.given ≡ l.initial.desk.given;
+  lines : l.desk.lines ≡ l.initial.desk.lines;
 }

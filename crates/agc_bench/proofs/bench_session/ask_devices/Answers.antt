@@ -2,8 +2,8 @@ use Rattle.std.proofs.Common.{◌≡◌, ℕ, List, get_or, subst}
 use Rattle.std.specs.List.{flat_map}
 use Rattle.std.specs.Io.KnownBytes.{Appends}
 use Rattle.std.proofs.lemmas.List.{get_or_default}
-use Rattle.agc_bench.specs.declared.device.Line.{Line}
-use Rattle.agc_bench.specs.declared.device.Line.TheVariants.{Timer}
+use Rattle.agc_latch.specs.declared.line.Line.{Line}
+use Rattle.agc_latch.specs.declared.line.Line.TheVariants.{Timer}
 use Rattle.agc_machine.specs.Machines.{after_all}
 use Rattle.agc_text.specs.Session.{answer_lines}
 use Rattle.agc_text.specs.Writing.{Writes}

@@ -4,8 +4,8 @@ use Rattle.agc_text.proofs.Steps.{up_to_more, fails_next}
 use Rattle.agc_text.proofs.Sessions.{after_next, after_last, line_next, line_last}
 use Rattle.agc_bench.proofs.bench_session.ask_times.Goals as goal
 
-pub returns-in_err-write_answer-clause-writes : goal.returns-in_err-write_answer-clause-writes
-returns-in_err-write_answer-clause-writes g c =
+pub returns-in_err-write_answer_to-clause-writes : goal.returns-in_err-write_answer_to-clause-writes
+returns-in_err-write_answer_to-clause-writes g c =
     let r = c.args.request.now in
     let n = c.args.times in
     let i = c.loop-pulse._pulse in
@@ -13,7 +13,7 @@ returns-in_err-write_answer-clause-writes g c =
     let low : i < length (replicate n r) = rw (length-replicate n r) c.loop-pulse-test.true in
     fails_next _ _ _ _ _ _ c.from_residual.result
     (line_next _ _ _ c.loop-pulse.machine (replicate n r) i r low is c.loop-pulse.invariant.written)
-    c.in_err-write_answer.ensures.writes c.from_residual.ensures.0
+    c.in_err-write_answer_to.ensures.writes c.from_residual.ensures.0
 
 pub loop-pulse-preserved : goal.loop-pulse-preserved
 loop-pulse-preserved g c =
@@ -22,9 +22,9 @@ loop-pulse-preserved g c =
     let i = c.loop-pulse._pulse in
     let is : r ≡ get_or (replicate n r) i r = sym (get_or-replicate n i r r c.loop-pulse-test.true) in
     let low : i < length (replicate n r) = rw (length-replicate n r) c.loop-pulse-test.true in
-    rw c.write_answer.ensures.after (record {
+    rw c.write_answer_to.ensures.after (record {
       rest = after_next _ c.loop-pulse.machine (replicate n r) i r low is c.loop-pulse.invariant.rest;
-      written = up_to_more _ _ _ _ _ _ (line_next _ _ _ c.loop-pulse.machine (replicate n r) i r low is c.loop-pulse.invariant.written) c.in_ok-write_answer.ensures.writes;
+      written = up_to_more _ _ _ _ _ _ (line_next _ _ _ c.loop-pulse.machine (replicate n r) i r low is c.loop-pulse.invariant.written) c.in_ok-write_answer_to.ensures.writes;
     })
 
 pub returns-clause-after : goal.returns-clause-after

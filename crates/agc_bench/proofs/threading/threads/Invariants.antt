@@ -1,6 +1,8 @@
-use Rattle.std.proofs.Common.{length, nat_eq}
+use Rattle.std.proofs.Common.{Some, length, nat_eq}
+use Rattle.agc_latch.specs.Lines.{zeros}
 use Rattle.agc_desk.specs.Opening.{names_of}
-use Rattle.agc_bench.specs.Sharing.{answers_to, first_calls}
+use Rattle.agc_desk.specs.Draining.{answers_to}
+use Rattle.agc_bench.specs.Sharing.{first_calls}
 use Rattle.agc_bench.specs.Threads.{askers_of}
 use Rattle.agc_bench.proofs.threading.threads.Given as goal
 
@@ -11,4 +13,6 @@ abbrev pub ghosts-gathered-N-Sharing : goal.ghosts-gathered-N-Sharing
 ghosts-gathered-N-Sharing g a = record {
   may_share = λ given. nat_eq given (length (askers_of a.bench.now));
   begun = first_calls (answers_to a.machine a.bench.now.script);
+  latch = a.latch;
+  lent = Some (record { latch = Some a.latch; given = length a.bench.now.devices; settled = zeros });
 }

@@ -1,4 +1,4 @@
-use Rattle.std.proofs.Common.{List, false, rules, arith, ◌≡◌, ◌+◌, ◌<◌, ◌++◌, ◌∷◌, [], ℕ, length, true, nat_eq, refl, sym, ap, ◌∙◌, subst, ⊎_elim, append_assoc, append-nil}
+use Rattle.std.proofs.Common.{List, false, rules, arith, ◌≡◌, ◌<◌, ◌++◌, ◌∷◌, [], ℕ, length, true, nat_eq, refl, sym, ap, ◌∙◌, subst, ⊎_elim, append_assoc, append-nil}
 use Rattle.std.specs.List.{All, IsDistinct, list_any}
 use Rattle.std.specs.Vec.Iter.{into_iter_items}
 use Rattle.std.proofs.lemmas.Cmp.{nat_eq_equiv}
@@ -7,7 +7,7 @@ use Rattle.std.proofs.lemmas.List.Elements.{All-push}
 use Rattle.std.proofs.lemmas.Map.Keys.{IsDistinct-push}
 use Rattle.agc_machine.specs.Told.{add}
 use Rattle.agc_desk.specs.Accounts.{told_in, told_to}
-use Rattle.agc_desk.specs.History.{Holder, IsHistory, Known, Leads, calls_by, numbers_of}
+use Rattle.agc_desk.specs.History.{Holder, IsHistory, Known, calls_by, numbers_of}
 use Rattle.agc_desk.proofs.Calls.{push_cases, told_to_push, whole_history}
 use Rattle.agc_desk.proofs.desk.gather.Goals as goal
 

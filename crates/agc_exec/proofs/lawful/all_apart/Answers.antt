@@ -1,10 +1,13 @@
-use Rattle.std.proofs.Common.{◌≡◌, true, inl, inr, arith}
+use Rattle.std.proofs.Common.{◌≡◌, length, true, inl, inr, arith}
+use Rattle.agc_word.specs.Layout.{sets_in}
+use Rattle.agc_exec.specs.Image.{sets_of}
+use Rattle.agc_exec.proofs.Decoding.{length-sets}
 use Rattle.std.proofs.lemmas.Bool.{cases_eq}
 use Rattle.agc_exec.proofs.lawful.all_apart.Goals as goal
 
 pub returns-then-not-is_apart-clause-no : goal.returns-then-not-is_apart-clause-no
 returns-then-not-is_apart-clause-no c all =
-    let is : c.is_apart.result ≡ true = c.is_apart.ensures.no (all c.loop-k.k (omega arith)) in
+    let is : c.is_apart.result ≡ true = c.is_apart.ensures.no (all c.loop-k.k (let len : length (sets_of c.args.e.now) ≡ sets_in c.args.e.now = length-sets c.args.e.now in omega arith)) in
     cc
 
 pub loop-k-preserved : goal.loop-k-preserved
@@ -14,4 +17,4 @@ loop-k-preserved c j lt = elim (cases_eq j c.loop-k.k) [
 ]
 
 pub returns-clause-yes : goal.returns-clause-yes
-returns-clause-yes c e k lt = c.loop-k.invariant k (omega arith)
+returns-clause-yes c e k lt = let len : length (sets_of c.args.e.now) ≡ sets_in c.args.e.now = length-sets c.args.e.now in c.loop-k.invariant k (omega arith)

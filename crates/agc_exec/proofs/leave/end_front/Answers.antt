@@ -1,7 +1,8 @@
-use Rattle.std.proofs.Common.{◌≡◌, refl}
+use Rattle.std.proofs.Common.{◌≡◌, ◌∙◌, ap, sym, refl}
 use Rattle.agc_word.specs.Layout.{OutsideSets}
 use Rattle.agc_word.proofs.Keeping.{kept_twice}
 use Rattle.agc_exec.specs.Calls.{blocks_end}
+use Rattle.agc_plan.specs.Jobs.{best}
 use Rattle.agc_exec.specs.Blocks.{block_in, blocks_of}
 use Rattle.agc_exec.specs.Image.{sets_of, IsLawfulBlock}
 use Rattle.agc_exec.specs.Sets.{running_in, entries_of}
@@ -30,5 +31,6 @@ returns c =
       gives = rw c.runner.ensures (freed-gives c.args.e.now c.set_word.new.e c.bring_best.new.e c.requires.runs.0 freed c.bring_best.ensures.brings);
       words = words;
       coded = rw words (Each-freed IsLawfulBlock c.args.e.now c.bring_best.new.e c.requires.runs.0 c.set_word.new.e freed c.requires.set.coded (lawful-freed _ freed.free) (running_in (sets_of c.bring_best.new.e)));
+      first = c.bring_best.ensures.brings.running ∙ ap best (sym c.bring_best.ensures.brings.slots);
       others = kept_twice OutsideSets c.args.e.now c.set_word.new.e c.bring_best.new.e c.set_word.ensures.others c.bring_best.ensures.others;
     }

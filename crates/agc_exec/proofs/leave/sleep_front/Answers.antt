@@ -3,6 +3,7 @@ use Rattle.agc_word.specs.Layout.{OutsideSets}
 use Rattle.agc_word.specs.Words.{complement}
 use Rattle.agc_word.proofs.Keeping.{kept_twice}
 use Rattle.agc_exec.specs.Calls.{slept_block, fronted_blocks}
+use Rattle.agc_plan.specs.Jobs.{best}
 use Rattle.agc_exec.specs.Blocks.{blocks_of, block_in}
 use Rattle.agc_exec.specs.Image.{sets_of}
 use Rattle.agc_exec.specs.Sets.{running_in, entries_of}
@@ -28,5 +29,6 @@ returns c =
       gives = rw c.runner.ensures (slept-gives c.args.e.now c.set_word-2.new.e c.bring_best.new.e c.requires.runs.0 c.args.at (slept_block c.args.at (block_in c.args.e.now 0)) turned c.requires.runs.2 c.bring_best.ensures.brings);
       words = rw (front_is c.args.e.now c.requires.set.sized) words;
       coded = rw words (turned-coded c.args.e.now c.set_word-2.new.e 0 c.requires.runs.0 (slept c.args.at c.requires.runs.0) (slept_block c.args.at (block_in c.args.e.now 0)) turned (running_in (sets_of c.bring_best.new.e)));
+      first = c.bring_best.ensures.brings.running ∙ ap best (sym c.bring_best.ensures.brings.slots);
       others = kept_twice OutsideSets c.args.e.now c.set_word-2.new.e c.bring_best.new.e (kept_twice OutsideSets c.args.e.now c.set_word.new.e c.set_word-2.new.e c.set_word.ensures.others c.set_word-2.ensures.others) c.bring_best.ensures.others;
     }

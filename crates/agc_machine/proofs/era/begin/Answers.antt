@@ -1,23 +1,28 @@
-use Rattle.std.proofs.Common.{List, ℕ, ◌∙◌, subst}
+use Rattle.std.proofs.Common.{List, ℕ, ◌∙◌, sym, subst}
+use Rattle.agc_word.specs.Layout.{sets_in}
 use Rattle.agc_plan.specs.Eras.{begun, no_work}
+use Rattle.agc_plan.specs.Plans.{planned_with}
 use Rattle.agc_plan.specs.Seats.{places_from, no_places}
-use Rattle.agc_machine.specs.Stands.{Stands}
-use Rattle.agc_machine.proofs.Beginning.{Cleared, cleared}
+use Rattle.agc_machine.specs.Stands.{Stands, BeginsGroups}
+use Rattle.agc_machine.proofs.Beginning.{Cleared, cleared, same_sets}
 use Rattle.agc_machine.proofs.era.begin.Goals as goal
 
 pub begin_groups-requires-clause-clear : goal.begin_groups-requires-clause-clear
 begin_groups-requires-clause-clear c =
-    (cleared c.args.e.now c.clear.new.e c.clear-2.new.e c.requires c.clear.ensures.clears c.clear.ensures.all c.clear-2.ensures).clear
+    let start : Cleared c.args.e.now c.clear-2.new.e = cleared c.args.e.now c.clear.new.e c.clear-2.new.e c.requires c.clear.ensures.clears c.clear-2.ensures in
+    subst (λ (n : ℕ). Stands c.clear-2.new.e (no_work n) (no_places n)) (sym (same_sets c.args.e.now c.clear-2.new.e start.same_length)) start.clear
 
 pub begin_groups-requires-clause-sound : goal.begin_groups-requires-clause-sound
 begin_groups-requires-clause-sound c =
-    (cleared c.args.e.now c.clear.new.e c.clear-2.new.e c.requires c.clear.ensures.clears c.clear.ensures.all c.clear-2.ensures).sound
+    (cleared c.args.e.now c.clear.new.e c.clear-2.new.e c.requires c.clear.ensures.clears c.clear-2.ensures).sound
 
 pub returns : goal.returns
 returns c =
-    let start : Cleared c.args.e.now c.clear-2.new.e = cleared c.args.e.now c.clear.new.e c.clear-2.new.e c.requires c.clear.ensures.clears c.clear.ensures.all c.clear-2.ensures in
+    let start : Cleared c.args.e.now c.clear-2.new.e = cleared c.args.e.now c.clear.new.e c.clear-2.new.e c.requires c.clear.ensures.clears c.clear-2.ensures in
+    let groups : BeginsGroups (planned_with c.args.plan.now (sets_in c.args.e.now)) c.phases-phases.result c.clear-2.new.e c.begin_groups.new.e = subst (λ (n : ℕ). BeginsGroups (planned_with c.args.plan.now n) c.phases-phases.result c.clear-2.new.e c.begin_groups.new.e) (same_sets c.args.e.now c.clear-2.new.e start.same_length) c.begin_groups.ensures in
     record {
-      ready = record { sound = c.begin_groups.ensures.sound; none_due = c.begin_groups.ensures.same_due ∙ start.none_due };
-      same_base = c.begin_groups.ensures.same_base ∙ start.same_base;
-      stands = subst (λ (phases : List ℕ). Stands c.begin_groups.new.e (begun c.args.plan.now phases) (places_from c.args.plan.now.entries 1 phases no_work no_places)) c.phases-phases.ensures c.begin_groups.ensures.stands;
+      ready = record { sound = groups.sound; none_due = groups.same_due ∙ start.none_due };
+      same_length = groups.same_length ∙ start.same_length;
+      same_base = groups.same_base ∙ start.same_base;
+      stands = subst (λ (phases : List ℕ). Stands c.begin_groups.new.e (begun (planned_with c.args.plan.now (sets_in c.args.e.now)) phases) (places_from c.args.plan.now.entries 1 phases (no_work (sets_in c.args.e.now)) (no_places (sets_in c.args.e.now)))) c.phases-phases.ensures groups.stands;
     }

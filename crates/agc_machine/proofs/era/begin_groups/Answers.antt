@@ -12,6 +12,7 @@ loop-k-preserved c =
     record {
       stands = (group_begun c.active.result so_far.0, places_group c.active.result so_far.0 so_far.1, c.begin_group.ensures.changes.stands so_far.0 so_far.1 so_far.2, sym more.works ∙ so_far.3, sym more.seats ∙ so_far.4);
       sound = c.begin_group.ensures.changes.sound;
+      same_length = c.begin_group.ensures.changes.same_length ∙ c.loop-k.invariant.same_length;
       same_base = c.begin_group.ensures.changes.same_base ∙ c.loop-k.invariant.same_base;
       due = c.begin_group.ensures.due ∙ c.loop-k.invariant.due;
     }

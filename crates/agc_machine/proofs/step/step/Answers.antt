@@ -1,24 +1,36 @@
-use Rattle.std.proofs.Common.{sym, ◌∙◌, subst}
-use Rattle.agc_plan.specs.Base.{Base}
-use Rattle.agc_plan.specs.Eras.{begun}
-use Rattle.agc_plan.specs.Seats.{era_places}
-use Rattle.agc_machine.specs.Stands.{Stands}
+use Rattle.std.proofs.Common.{ℕ, sym, ap, ◌∙◌, subst}
+use Rattle.agc_word.specs.Layout.{sets_in}
+use Rattle.agc_plan.specs.Plans.{planned_with}
+use Rattle.agc_phase.specs.Image.{base_of}
+use Rattle.agc_machine.specs.Briefs.{reply_of}
+use Rattle.agc_machine.specs.Stands.{base_with, BeginsAfter}
+use Rattle.agc_machine.proofs.Beginning.{same_sets}
+use Rattle.agc_machine.proofs.Briefs.{base_by_alarm}
 use Rattle.agc_machine.proofs.Stepping.{steps_over, steps_on}
 use Rattle.agc_machine.proofs.step.step.Goals as goal
 
+pub begin_after-requires : goal.begin_after-requires
+begin_after-requires c = (c.act-reply.ensures.acts (planned_with c.args.plan.now (sets_in c.args.e.now))).sound.phases
+
 pub returns-then-begins : goal.returns-then-begins
-returns-then-begins c = record {
-  ready = c.begin.ensures.ready;
-  steps = λ plain places stands.
-      steps_over c.args.plan.now c.args.request.now plain places c.act-reply.new.e c.begin.new.e c.act-reply.result (c.act-reply.ensures.acts.steps plain places stands) (sym c.begins.ensures ∙ c.if-begins.true) (c.begin.ensures.same_base ∙ c.note_alarm.ensures.base_is)
-      (subst (λ (b : Base). Stands c.begin.new.e (begun c.args.plan.now b.phases) (era_places c.args.plan.now b)) (sym c.begin.ensures.same_base) c.begin.ensures.stands);
-}
+returns-then-begins c =
+    let did = c.act-reply.ensures.acts (planned_with c.args.plan.now (sets_in c.args.e.now)) in
+    let after : BeginsAfter (planned_with c.args.plan.now (sets_in c.args.e.now)) c.alarm.result c.act-reply.new.e c.begin_after.new.e = subst (λ (n : ℕ). BeginsAfter (planned_with c.args.plan.now n) c.alarm.result c.act-reply.new.e c.begin_after.new.e) (same_sets c.args.e.now c.act-reply.new.e did.same_length) c.begin_after.ensures in
+    record {
+      ready = after.ready;
+      same_length = after.same_length ∙ did.same_length;
+      steps = λ plain places stands.
+          steps_over (planned_with c.args.plan.now (sets_in c.args.e.now)) c.args.request.now plain places c.act-reply.new.e c.begin_after.new.e (reply_of c.act-reply.result) (did.steps plain places stands) (sym c.begins.ensures ∙ c.if-begins.true)
+          (after.base_is ∙ ap (λ a. base_with a (base_of c.act-reply.new.e)) c.alarm.ensures ∙ base_by_alarm (reply_of c.act-reply.result) (base_of c.act-reply.new.e)) after.stands;
+    }
 
 pub returns-else-begins : goal.returns-else-begins
 returns-else-begins c =
+    let did = c.act-reply.ensures.acts (planned_with c.args.plan.now (sets_in c.args.e.now)) in
     let on = sym c.begins.ensures ∙ c.if-begins.false in
     record {
-      ready = record { sound = c.act-reply.ensures.acts.sound; none_due = c.act-reply.ensures.none_due on };
+      ready = record { sound = did.sound; none_due = c.act-reply.ensures.none_due on };
+      same_length = did.same_length;
       steps = λ plain places stands.
-          steps_on c.args.plan.now c.args.request.now plain places c.act-reply.new.e c.act-reply.result (c.act-reply.ensures.acts.steps plain places stands) on;
+          steps_on (planned_with c.args.plan.now (sets_in c.args.e.now)) c.args.request.now plain places c.act-reply.new.e (reply_of c.act-reply.result) (did.steps plain places stands) on;
     }

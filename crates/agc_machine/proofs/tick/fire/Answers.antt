@@ -10,11 +10,12 @@ use Rattle.agc_machine.proofs.tick.fire.Goals as goal
 pub loop-e-init : goal.loop-e-init
 loop-e-init c = record {
   sound = c.requires.sound;
+  same_length = refl;
   same_base = refl;
   goes_on = λ work places stands.
-      subst (λ (x : List Task). GoesOn c.args.plan.now.rows c.args.e.now x (seated_in work places) (fire_all c.args.plan.now.rows work [])) (sym c.new-fired.ensures)
+      subst (λ (x : List Task). GoesOn c.args.plan.now.rows c.args.e.now x (seated_in work places) (fire_all c.args.plan.now.rows work [])) (sym c.requires.none)
       (begins_firing c.args.plan.now.rows c.args.e.now work places stands);
-  few = rw c.new-fired.ensures (let h = c.requires.few in omega arith);
+  few = rw c.requires.none (let h = c.requires.few in omega arith);
 }
 
 pub perform-requires : goal.perform-requires
@@ -24,6 +25,7 @@ perform-requires c =
 pub loop-e-preserved : goal.loop-e-preserved
 loop-e-preserved c = record {
   sound = c.perform.ensures.changes.sound;
+  same_length = c.perform.ensures.changes.same_length ∙ c.dispatch-task.ensures.others.same_length ∙ c.loop-e.invariant.same_length;
   same_base = c.perform.ensures.changes.same_base ∙ base_by_waits c.loop-e.e c.dispatch-task.new.e c.dispatch-task.ensures.others ∙ c.loop-e.invariant.same_base;
   goes_on = λ work places stands.
       subst (λ (x : List Task). GoesOn c.args.plan.now.rows c.perform.new.e x (seated_in work places) (fire_all c.args.plan.now.rows work [])) (sym c.push.ensures)
@@ -35,6 +37,7 @@ loop-e-preserved c = record {
 pub returns-in-Some : goal.returns-in-Some
 returns-in-Some c =
     fires_by c.args.plan.now.rows c.args.e.now c.push.new.self (Some c.in-Some.alarm) c.perform.new.e c.perform.ensures.changes.sound
+    (c.perform.ensures.changes.same_length ∙ c.dispatch-task.ensures.others.same_length ∙ c.loop-e.invariant.same_length)
     (c.perform.ensures.changes.same_base ∙ base_by_waits c.loop-e.e c.dispatch-task.new.e c.dispatch-task.ensures.others ∙ c.loop-e.invariant.same_base)
     (λ empty. absurd (cc))
     (λ work places stands.
@@ -45,5 +48,5 @@ returns-in-Some c =
 pub returns : goal.returns
 returns c =
     let none_due = none_counted c.loop-e.e c.loop-e.invariant.sound.waits (sym c.due.ensures.value ∙ c.loop-e-test.false) in
-    fires_by c.args.plan.now.rows c.args.e.now c.loop-e.fired None c.loop-e.e c.loop-e.invariant.sound c.loop-e.invariant.same_base (λ empty. none_due)
+    fires_by c.args.plan.now.rows c.args.e.now c.loop-e.fired None c.loop-e.e c.loop-e.invariant.sound c.loop-e.invariant.same_length c.loop-e.invariant.same_base (λ empty. none_due)
     (λ work places stands. finished c.args.plan.now.rows (seated_in work places) (fire_all c.args.plan.now.rows work []) c.loop-e.fired c.loop-e.e (c.loop-e.invariant.goes_on work places stands) none_due)

@@ -2,10 +2,10 @@ use Rattle.agc_machine.proofs.Fires.{works_ticked}
 use Rattle.agc_machine.proofs.Frames.{sound_by_waits, base_by_waits}
 use Rattle.agc_machine.proofs.tick.tick.Goals as goal
 
-pub fire-fired-requires-clause-sound : goal.fire-fired-requires-clause-sound
-fire-fired-requires-clause-sound c =
-    sound_by_waits c.args.e.now c.count_time3.new.e c.count_time3.ensures.others c.requires.sound c.count_time3.ensures.lawful (c.count_time3.ensures.tidy c.requires.sound.tidy_waits)
+pub fire-requires-clause-sound : goal.fire-requires-clause-sound
+fire-requires-clause-sound c =
+    sound_by_waits c.args.e.now c.count_time3.new.e c.count_time3.ensures.others c.requires.ready.sound c.count_time3.ensures.lawful (c.count_time3.ensures.tidy c.requires.ready.sound.tidy_waits)
 
 pub returns-clause-works : goal.returns-clause-works
 returns-clause-works c =
-    works_ticked c.args.plan.now.rows c.args.e.now c.count_time3.new.e c.count_time3.result c.fire-fired.result.0 c.fire-fired.result.1 c.fire-fired.new.e c.count_time3.ensures c.fire-fired.ensures (base_by_waits c.args.e.now c.count_time3.new.e c.count_time3.ensures.others)
+    works_ticked c.args.plan.now.rows c.args.e.now c.count_time3.new.e c.count_time3.result c.fire.new.fired c.fire.result c.fire.new.e c.count_time3.ensures c.fire.ensures (base_by_waits c.args.e.now c.count_time3.new.e c.count_time3.ensures.others)

@@ -1,8 +1,8 @@
-use Rattle.agc_plan.proofs.Steady.{reached_seven, reached_known, reached_areas}
+use Rattle.agc_plan.proofs.Steady.{reached_sets, reached_known, reached_areas}
 use Rattle.agc_plan.proofs.laws.numbers_and_areas_are_distinct.Goals as goal
 
 pub returns-clause-numbers : goal.returns-clause-numbers
-returns-clause-numbers c = reached_seven
+returns-clause-numbers c = reached_sets
 
 pub returns-clause-areas : goal.returns-clause-areas
 returns-clause-areas c = reached_known

@@ -1,11 +1,11 @@
-use Rattle.std.proofs.Common.{sym, ◌∙◌, arith}
+use Rattle.std.proofs.Common.{List, ℕ, ◌++◌, ap, sym, ◌∙◌, arith}
 use Rattle.agc_text.specs.Replies.{fired_text}
 use Rattle.agc_text.proofs.Steps.{one_more}
 use Rattle.agc_text.proofs.replies.add_tasks.Goals as goal
 
 pub loop-index-preserved : goal.loop-index-preserved
 loop-index-preserved c = record {
-  text = one_more fired_text _ _ _ c.args.fired.now c.loop-index.index c.in-Some.task (sym c.get.ensures ∙ c.in-Some.is) c.loop-index.invariant.text c.add_task.ensures.text;
+  text = one_more fired_text _ _ _ c.args.fired.now c.loop-index.index c.in-Some.task (sym c.get.ensures ∙ c.in-Some.is) c.loop-index.invariant.text (c.add.ensures.text ∙ ap (λ (t : List ℕ). c.loop-index.line.items ++ t) c.fired_piece.ensures);
   len = omega arith;
   end = c.loop-index.invariant.end;
   nine = c.loop-index.invariant.nine;

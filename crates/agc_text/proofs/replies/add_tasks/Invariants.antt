@@ -5,8 +5,8 @@ use Rattle.agc_text.proofs.replies.add_tasks.Given as goal
 
 abbrev pub invariant-loop-index : goal.invariant-loop-index
 invariant-loop-index l = record {
-  text : l.line.bytes ≡ l.initial.line.bytes ++ flat_map fired_text (take l.index l.fired);
-  len : length l.line.bytes ≡ length l.initial.line.bytes + 12 * l.index;
+  text : l.line.items ≡ l.initial.line.items ++ flat_map fired_text (take l.index l.fired);
+  len : length l.line.items ≡ length l.initial.line.items + 12 * l.index;
   end : l.index-end ≡ length l.fired;
   nine : l.index-end ≤ 9;
 }

@@ -2,18 +2,18 @@ use Rattle.agc_text.proofs.Steps.{up_to_more, fails_next}
 use Rattle.agc_text.proofs.Sessions.{after_next, after_last, line_next, line_last}
 use Rattle.agc_text.proofs.session.write_answers.Goals as goal
 
-pub returns-in_err-write_answer-clause-writes : goal.returns-in_err-write_answer-clause-writes
-returns-in_err-write_answer-clause-writes g c =
+pub returns-in_err-write_answer_to-clause-writes : goal.returns-in_err-write_answer_to-clause-writes
+returns-in_err-write_answer_to-clause-writes g c =
     fails_next _ _ _ _ _ _ c.from_residual.result
     (line_next _ _ _ c.loop-request.machine c.args.requests.now c.loop-request.request-index c.request-item.result c.loop-request-test.true c.request-item.is c.loop-request.invariant.written)
-    c.in_err-write_answer.ensures.writes c.from_residual.ensures.0
+    c.in_err-write_answer_to.ensures.writes c.from_residual.ensures.0
 
 pub loop-request-preserved : goal.loop-request-preserved
-loop-request-preserved g c = rw c.write_answer.ensures.after (record {
+loop-request-preserved g c = rw c.write_answer_to.ensures.after (record {
   rest = after_next _ c.loop-request.machine c.args.requests.now c.loop-request.request-index c.request-item.result c.loop-request-test.true c.request-item.is c.loop-request.invariant.rest;
   written = up_to_more _ _ _ _ _ _
       (line_next _ _ _ c.loop-request.machine c.args.requests.now c.loop-request.request-index c.request-item.result c.loop-request-test.true c.request-item.is c.loop-request.invariant.written)
-      c.in_ok-write_answer.ensures.writes;
+      c.in_ok-write_answer_to.ensures.writes;
 })
 
 pub returns-clause-after : goal.returns-clause-after

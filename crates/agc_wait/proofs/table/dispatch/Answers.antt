@@ -1,9 +1,10 @@
 use Rattle.std.proofs.Common.{◌-◌, ◌≡◌, ◌≤◌, ◌∙◌, ap, sym, arith, refl, length}
 use Rattle.agc_word.specs.Layout as layout
+use Rattle.agc_word.specs.Layout.{IsSized}
 use Rattle.agc_wait.specs.Table.{waits_of, at_in, lst1, gap_of}
 use Rattle.agc_wait.proofs.Tables.{Carries-lawful}
 use Rattle.agc_wait.proofs.Taking.{IsFirstDue, Takes, first-due, dispatches}
-use Rattle.agc_wait.proofs.Writes.{after_set}
+use Rattle.agc_wait.proofs.Writes.{same_size, after_set}
 use Rattle.agc_wait.proofs.table.dispatch.Goals as goal
 use Rattle.agc_wait.proofs.table.dispatch.Goals.{After-set-4}
 
@@ -33,6 +34,5 @@ pub returns : goal.returns
 returns c =
     let at : c.get.result ≡ at_in c.args.e.now 1 = c.get.ensures.value in
     let gap : c.get-2.result ≡ lst1 c.args.e.now 0 = c.get-2.ensures.value in
-    let size : length c.args.e.now ≡ 132 = c.get.ensures.all in
     dispatches c.args.e.now _ _ _ _ _ c.set-4.new.self _ c.first_task-task.result c.requires.lawful c.requires.due (by c)
-    (c.next_counter-counter.ensures ∙ rw (at, gap) refl) c.first_task-task.ensures (c.set-4.ensures.all ∙ sym size)
+    (c.next_counter-counter.ensures ∙ rw (at, gap) refl) c.first_task-task.ensures (same_size _ _ _ _ c.set-4.ensures.value ∙ same_size _ _ _ _ c.set-3.ensures.value ∙ c.move_up-2.ensures.all ∙ same_size _ _ _ _ c.set-2.ensures.value ∙ c.move_up.ensures.all ∙ same_size _ _ _ _ c.set.ensures.value)

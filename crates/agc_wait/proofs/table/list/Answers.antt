@@ -1,9 +1,10 @@
 use Rattle.std.proofs.Common.{◌≡◌, ◌≢◌, ◌≤◌, ◌+◌, ◌∙◌, length, sym, arith}
 use Rattle.std.proofs.lemmas.Grind.{common_steps}
 use Rattle.agc_word.specs.Layout as layout
+use Rattle.agc_word.specs.Layout.{IsSized}
 use Rattle.agc_wait.specs.Table.{waits_of, at_in}
 use Rattle.agc_wait.proofs.Tables.{Carries-lawful}
-use Rattle.agc_wait.proofs.Writes.{after_set}
+use Rattle.agc_wait.proofs.Writes.{same_size, after_set}
 use Rattle.agc_wait.proofs.Spots.{Carries-occupied, Carries-empty, spot-after, spot-before, spot-within, spot-fits}
 use Rattle.agc_wait.proofs.Putting.{Puts}
 use Rattle.agc_wait.proofs.Listing.{lists-full, lists-by}
@@ -79,7 +80,6 @@ pub returns : goal.returns
 returns c =
     let fits : (c.spot_for-spot.result.place ≤ c.count_tasks-count.result) × (c.count_tasks-count.result ≤ 8) =
     spot-fits c.args.e.now c.bits.result c.get-distance.result c.spot_for-spot.result.place c.spot_for-spot.result.before c.spot_for-spot.result.after c.count_tasks-count.result c.requires (c.bits.ensures.value ∙ c.get.ensures.value) c.if-bits-ne0.false c.spot_for-spot.ensures c.count_tasks-count.ensures.count in
-    let size : length c.args.e.now ≡ 132 = c.get.ensures.all in
     lists-by c.args.delay c.get-distance.result c.args.task c.args.e.now c.put_task.new.e c.put_gap.new.e c.set.new.self c.spot_for-spot.result.place c.count_tasks-count.result
     c.spot_for-spot.result.before c.spot_for-spot.result.after c.get-distance.ensures.value c.get-distance.ensures.range c.requires c.count_tasks-count.ensures.count fits.1 fits.0 c.spot_for-spot.ensures
-    c.put_task.ensures.low c.put_task.ensures.high c.put_task.ensures.word (puts c) (c.set.ensures.all ∙ sym size)
+    c.put_task.ensures.low c.put_task.ensures.high c.put_task.ensures.word (puts c) (same_size _ _ _ _ c.set.ensures.value ∙ c.put_gap.ensures.all ∙ c.put_task.ensures.all)

@@ -1,5 +1,5 @@
 use Rattle.std.proofs.Common.{◌<◌, subst, ◌∙◌, ap, sym, arith}
-use Rattle.agc_latch.specs.Ends.{Joining}
+use Rattle.agc_latch.specs.Holders.{Joining}
 use Rattle.agc_latch.proofs.Keeps.{splits}
 use Rattle.agc_latch.proofs.taker.TakerSeat.device.Goals as goal
 

@@ -1,5 +1,5 @@
 use Rattle.std.proofs.Common.{◌∙◌, ap, sym, arith}
-use Rattle.agc_latch.specs.Ends.{Joining}
+use Rattle.agc_latch.specs.Holders.{Joining}
 use Rattle.agc_latch.proofs.Keeps.{joins}
 use Rattle.agc_latch.proofs.taker.TakerSeat.join.Goals as goal
 

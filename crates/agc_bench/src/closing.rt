@@ -1,0 +1,87 @@
+ghost use Rattle.std.specs.Prelude.{◌≡◌, ◌+◌, ◌++◌, ◌∷◌, All, IfOk, IfErr, IsOk, Some, vec_len};
+ghost use Rattle.agc_latch.specs.Accounts.{IsOf};
+ghost use Rattle.agc_latch.specs.Lines.{zeros};
+ghost use Rattle.agc_machine.specs.Told.{add};
+ghost use Rattle.agc_desk.specs.Desks.{with_lines};
+ghost use Rattle.agc_desk.specs.History.{IsHistory};
+ghost use Rattle.agc_desk.specs.Keeping.{lent_of};
+ghost use Rattle.agc_bench.specs.Sharing.{AsksPulses, Finishes, GoesOn, HaveSettled};
+
+use crate::run_fault::RunFault;
+use agc_desk::{Desk, Device, Latch, Names, Settled, Share, gather, settle};
+use agc_machine::{Machine, Totals};
+
+/// Drains a desk that is under no lock.
+fn attend_last<N: Names>(desk: &mut Desk<N>, latch: &Latch, share: &mut Share<N>)
+    requires { IsOf latch.now desk.old.lines.taker }
+    ensures asks { AsksPulses N.first.plan share.old share.new }
+    ensures given { desk.new.given ≡ desk.old.given }
+    ensures history { GoesOn desk.old.history desk.new.history }
+    ensures lent { lent_of desk.new.lines ≡ lent_of desk.old.lines }
+{
+    let _ = desk.machine();
+    desk.drain(latch, share);
+}
+
+/// Settles the desk's latch, to which all its devices come back.
+fn settle_all<N: Names>(
+    desk: Desk<N>,
+    latch: Latch,
+    devices: Vec<Device>,
+) -> Result<(Desk<N>, Settled), RunFault>
+    requires lent { lent_of desk.lines ≡ record
+        { latch = Some latch; given = vec_len devices; settled = zeros } }
+    requires devices { All (λ d. d.latch ≡ latch) devices.items }
+    ensures ok { IsOk result }
+    ensures desk { IfOk result (λ r. r.0 ≡ with_lines r.0.lines desk) }
+    ensures settled { IfOk result (λ r. HaveSettled devices.items r.1) }
+{
+    match settle(desk, latch, devices) {
+        Ok(settled) => Ok(settled),
+        Err(_left) => Err(RunFault::Lost),
+    }
+}
+
+/// Gathers all shares of a desk, the caller's first.
+fn gather_all<N: Names>(
+    desk: Desk<N>,
+    first: Share<N>,
+    shares: Vec<Share<N>>,
+) -> Result<(Machine, Totals), RunFault>
+    requires { desk.given ≡ vec_len shares + 1 }
+    ensures history { IfOk result (λ r. IsHistory N.first (first ∷ shares.items) desk.history r.0) }
+    ensures grown { IfOk result (λ r. add r.1 N.first.totals ≡ r.0.totals) }
+    ensures early { IfErr result (λ fault. fault ≡ RunFault.NoMemory) }
+{
+    let mut all = shares;
+    all.insert(0, first)?;
+    match gather(desk, all) {
+        Ok(gathered) => Ok(gathered),
+        Err(_left) => Err(RunFault::Lost),
+    }
+}
+
+/// Ends a run whose threads have ended: attends with the caller's share, settles the latch, and
+/// gathers the shares.
+pub(crate) fn finish<N: Names>(
+    desk: Desk<N>,
+    latch: Latch,
+    first: Share<N>,
+    shares: Vec<Share<N>>,
+    devices: Vec<Device>,
+) -> Result<(Machine, Totals, Settled), RunFault>
+    requires given { desk.given ≡ vec_len shares + 1 }
+    requires lent { lent_of desk.lines ≡ record
+        { latch = Some latch; given = vec_len devices; settled = zeros } }
+    requires devices { All (λ d. d.latch ≡ latch) devices.items }
+    ensures run { IfOk result (λ r. Finishes N.first desk.history first shares.items r.0) }
+    ensures grown { IfOk result (λ r. add r.1 N.first.totals ≡ r.0.totals) }
+    ensures settled { IfOk result (λ r. HaveSettled devices.items r.2) }
+    ensures early { IfErr result (λ fault. fault ≡ RunFault.NoMemory) }
+{
+    let (mut desk, mut first) = (desk, first);
+    attend_last(&mut desk, &latch, &mut first);
+    let (desk, settled) = settle_all(desk, latch, devices)?;
+    let (machine, totals) = gather_all(desk, first, shares)?;
+    Ok((machine, totals, settled))
+}

@@ -1,0 +1,106 @@
+ghost use Rattle.std.specs.Prelude.{◌≡◌, ◌+◌, ◌≤◌, ℕ, [], IfOk, IfErr, OnOk, Some, length, nat_eq, vec_len};
+ghost use Rattle.agc_latch.specs.Accounts.{no_accounts, with_taker};
+ghost use Rattle.agc_latch.specs.Lines.{zeros};
+ghost use Rattle.agc_desk.specs.Desks.{new_desk};
+ghost use Rattle.agc_desk.specs.Draining.{answers_to};
+ghost use Rattle.agc_desk.specs.Opening.{names_of};
+ghost use Rattle.agc_bench.specs.Sharing.{AreFresh, AreReady, first_calls};
+ghost use Rattle.agc_bench.specs.Threads.{IsEarly, askers_of};
+
+use crate::asker::{ask_script, count_threads};
+use crate::bench::Bench;
+use crate::poster::devices_of;
+use crate::run_fault::RunFault;
+use agc_desk::{Blanks, Desk, Device, Held, Latch, Names, Share, Sharing, Taker};
+use agc_machine::Machine;
+use std::alloc::Global;
+
+/// What takes part in a run of threads: the desk, as it is under the lock; the share of the caller;
+/// those of the threads; and the devices.
+#[derive(Drop)]
+pub(crate) struct RunParts<N: Sharing> {
+    pub(crate) held: Held<N>,
+    pub(crate) first: Share<N>,
+    pub(crate) shares: Vec<Share<N>>,
+    pub(crate) devices: Vec<Device>,
+}
+
+/// A desk of this machine with this taker, and its first share.
+pub(crate) fn desk_of<N: Names>(
+    machine: Machine,
+    blanks: Blanks,
+    taker: Taker,
+) -> (Desk<N>, Share<N>)
+    requires names { names_of blanks ≡ N.names }
+    requires first { machine ≡ N.first }
+    ensures desk { result.0 ≡ record (new_desk machine)
+        { given = 1; lines = with_taker taker no_accounts } }
+    ensures first { result.1 ≡ record { number = 0; heard = [] } }
+{
+    let mut desk = Desk::new(machine, blanks);
+    let _none = desk.attach(taker);
+    match desk.share() {
+        Some(first) => (desk, first),
+        None => unreachable!(),
+    }
+}
+
+/// So many new shares of a desk. `Lost` comes only where the desk has fewer left.
+fn shares_of<N: Names>(
+    alloc: Global,
+    desk: &mut Desk<N>,
+    count: usize,
+) -> Result<Vec<Share<N>>, RunFault>
+    requires { desk.old.given + count ≤ 64 }
+    ensures count { IfOk result (λ v. vec_len v ≡ count) }
+    ensures fresh { IfOk result (λ v. AreFresh desk.old.given v.items) }
+    ensures given { OnOk result (desk.new ≡ record desk.old { given = desk.old.given + count }) }
+    ensures early { IfErr result (λ fault. fault ≡ RunFault.NoMemory) }
+{
+    let mut shares = Vec::new(alloc);
+    for _given in 0..count {
+        match desk.share() {
+            Some(share) => shares.push(share)?,
+            None => return Err(RunFault::Lost),
+        }
+    }
+    Ok(shares)
+}
+
+/// Gets all ready that takes part in a run: the desk gives out the shares and the devices, and is
+/// asked the script with the caller's share.
+pub(crate) fn open<N: Sharing>(
+    alloc: Global,
+    machine: Machine,
+    blanks: Blanks,
+    latch: &Latch,
+    taker: Taker,
+    bench: &Bench,
+) -> Result<RunParts<N>, RunFault>
+    requires names { names_of blanks ≡ N.names }
+    requires first { machine ≡ N.first }
+    requires shares { (given : ℕ) → N.may_share given ≡ nat_eq given
+        (length (askers_of bench.now)) }
+    requires begun { N.begun ≡ first_calls (answers_to N.first bench.now.script) }
+    requires taker { taker ≡ latch.now }
+    requires latch { latch.now ≡ N.latch }
+    requires lent { N.lent ≡ Some record {
+      latch = Some latch.now;
+      given = length bench.now.devices;
+      settled = zeros;
+    } }
+    ensures ready { IfOk result (λ p. AreReady N.first bench.now latch.now p.first p.shares.items
+        p.devices.items) }
+    ensures early { IfErr result (λ fault. IsEarly fault) }
+{
+    let (mut desk, mut first) = desk_of::<N>(machine, blanks, taker);
+    let shares = shares_of(alloc, &mut desk, count_threads(bench))?;
+    let devices = devices_of(alloc, &mut desk, latch, bench)?;
+    ask_script(&mut desk, &mut first, bench.script());
+    Ok(RunParts {
+        held: Held { desk },
+        first,
+        shares,
+        devices,
+    })
+}

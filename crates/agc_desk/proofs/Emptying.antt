@@ -1,0 +1,312 @@
+-- Requests that a desk is asked one after another, and lines that are drained one after another.
+use Rattle.std.proofs.Common.{◌≡◌, ℕ, ◌+◌, ◌<◌, ◌==◌, Bool, true, false, true≢false, if◌then◌else◌, List, [], ◌∷◌, ◌++◌, replicate, Option, None, Some, Result, Ok, Err, IsOk, is_some, refl, sym, ap, ◌∙◌, subst, append_assoc, append-nil, arith}
+use Rattle.std.specs.List.{fold}
+use Rattle.std.specs.Option.{option_and_then, option_to_list}
+use Rattle.std.proofs.lemmas.Bool.Decides.{nat_tests}
+use Rattle.std.proofs.lemmas.List.{map-append, replicate_more}
+use Rattle.std.proofs.lemmas.List.Elements.{All-append, All-nil, All-push}
+use Rattle.std.proofs.lemmas.List.Sums.{fold-append}
+use Rattle.agc_latch.specs.declared.line.Line.{Line}
+use Rattle.agc_latch.specs.Lines.{on}
+use Rattle.agc_latch.specs.Accounts.{Applies, LineAccounts}
+use Rattle.agc_plan.specs.declared.request.Request.{Request}
+use Rattle.agc_plan.specs.declared.reply.Reply.{Reply}
+use Rattle.agc_plan.specs.Plans.{Planned}
+use Rattle.agc_machine.specs.declared.answer.Refusal.{Refusal}
+use Rattle.agc_machine.specs.declared.totals.Totals.{Totals}
+use Rattle.agc_machine.specs.Machines.{Machined, after, after_all, after_unless, answer_of, refusal_of, result_of, stepped}
+use Rattle.agc_machine.specs.Said.{Said}
+use Rattle.agc_machine.specs.Told.{add, nothing, told}
+use Rattle.agc_machine.proofs.Leading.{after_append}
+use Rattle.agc_desk.specs.declared.book.Call.{Call}
+use Rattle.agc_desk.specs.Accounts.{told_in}
+use Rattle.agc_desk.specs.Desks.{Desked, with_lines}
+use Rattle.agc_desk.specs.Draining.{NoneRefused, ServesAll, answers_to, calls_of, with_asked, with_heard}
+use Rattle.agc_desk.specs.History.{Holder}
+use Rattle.agc_desk.specs.Pulses.{pulse_request, repeated}
+use Rattle.agc_desk.specs.Stages.{DrainsLine, next_request}
+use Rattle.agc_desk.proofs.Calls.{with_nothing}
+
+-- the answers to one list of requests after another
+pub answers_append : (m : Machined) (a b : List Request) → answers_to m (a ++ b) ≡ answers_to m a ++ answers_to (after_all m a) b
+unfolding answers_to after_all
+answers_append m [] b = refl
+answers_append m (q ∷ qs) b = ap (λ l. record { request = q; outcome = answer_of m q } ∷ l) (answers_append (after m q) qs b)
+
+add_assoc : (s t u : Totals) → add (add s t) u ≡ add s (add t u)
+add_assoc s t u =
+    let served : (add (add s t) u).served ≡ (add s (add t u)).served = omega arith in
+    let a1201 : (add (add s t) u).a1201 ≡ (add s (add t u)).a1201 = omega arith in
+    let a1202 : (add (add s t) u).a1202 ≡ (add s (add t u)).a1202 = omega arith in
+    let a1203 : (add (add s t) u).a1203 ≡ (add s (add t u)).a1203 = omega arith in
+    let restarts : (add (add s t) u).restarts ≡ (add s (add t u)).restarts = omega arith in
+    λ i. record { served = served i; a1201 = a1201 i; a1202 = a1202 i; a1203 = a1203 i; restarts = restarts i }
+
+nothing_and : (t : Totals) → add nothing t ≡ t
+nothing_and t =
+    let served : (add nothing t).served ≡ t.served = omega arith in
+    let a1201 : (add nothing t).a1201 ≡ t.a1201 = omega arith in
+    let a1202 : (add nothing t).a1202 ≡ t.a1202 = omega arith in
+    let a1203 : (add nothing t).a1203 ≡ t.a1203 = omega arith in
+    let restarts : (add nothing t).restarts ≡ t.restarts = omega arith in
+    λ i. record { served = served i; a1201 = a1201 i; a1202 = a1202 i; a1203 = a1203 i; restarts = restarts i }
+
+told_from : (t : Totals) (heard : List Said) → fold (λ total said. add total (told said.outcome)) t heard ≡ add t (told_in heard)
+unfolding told_in
+told_from t [] = with_nothing t
+told_from t (x ∷ xs) =
+    told_from (add t (told x.outcome)) xs
+    ∙ (add_assoc t (told x.outcome) (told_in xs)
+    ∙ ap (λ u. add t u) (sym (told_from (add nothing (told x.outcome)) xs ∙ ap (λ u. add u (told_in xs)) (nothing_and (told x.outcome)))))
+
+-- what the answers to one list after another tell
+told_append : (a b : List Said) → told_in (a ++ b) ≡ add (told_in a) (told_in b)
+unfolding told_in
+told_append a b = fold-append (λ total said. add total (told said.outcome)) nothing a b ∙ told_from (told_in a) b
+
+asked_none : (number : ℕ) (d : Desked) → d ≡ with_asked number [] d
+unfolding answers_to after_all told_in
+asked_none number d =
+    λ i. record d { history = sym (append-nil d.history) i; booked = with_nothing d.booked i }
+
+asked_append : (number : ℕ) (a b : List Request) (d : Desked)
+    → with_asked number b (with_asked number a d) ≡ with_asked number (a ++ b) d
+asked_append number a b d =
+    let answers = answers_append d.machine a b in
+    let history : (d.history ++ calls_of number (answers_to d.machine a)) ++ calls_of number (answers_to (after_all d.machine a) b) ≡ d.history ++ calls_of number (answers_to d.machine (a ++ b)) =
+    append_assoc d.history _ _
+    ∙ ap (λ (l : List Call). d.history ++ l) (sym (map-append (λ (s : Said). record { by = number; answer = s }) (answers_to d.machine a) (answers_to (after_all d.machine a) b)) ∙ ap (calls_of number) (sym answers)) in
+    let booked : add (add d.booked (told_in (answers_to d.machine a))) (told_in (answers_to (after_all d.machine a) b)) ≡ add d.booked (told_in (answers_to d.machine (a ++ b))) =
+    add_assoc d.booked _ _ ∙ ap (λ t. add d.booked t) (sym (told_append _ _) ∙ ap told_in (sym answers)) in
+    λ i. record d { machine = sym (after_append d.machine a b) i; history = history i; booked = booked i }
+
+-- nothing was asked
+pub serves_none : (d : Desked) (s : Holder) → ServesAll [] d s d s
+unfolding answers_to
+serves_none d s = record {
+  desk = ap (with_lines d.lines) (asked_none s.number d);
+  heard = ap (λ l. record s { heard = l }) (sym (append-nil s.heard));
+}
+
+-- first these were asked, and then those
+pub serves_append : (a b : List Request) (old : Desked) (s : Holder) (mid : Desked) (t : Holder) (now : Desked) (new : Holder)
+    → ServesAll a old s mid t → ServesAll b mid t now new → ServesAll (a ++ b) old s now new
+serves_append a b old s mid t now new first next =
+    let number : t.number ≡ s.number = ap (λ (h : Holder). h.number) first.heard in
+    let machine : mid.machine ≡ after_all old.machine a = ap (λ (d : Desked). d.machine) first.desk in
+    record {
+      desk = next.desk
+          ∙ (ap (λ (n : ℕ). with_lines now.lines (with_asked n b mid)) number
+          ∙ (ap (λ (d : Desked). with_lines now.lines (with_asked s.number b d)) first.desk
+          ∙ ap (with_lines now.lines) (asked_append s.number a b old)));
+      heard = next.heard
+          ∙ (ap (λ (h : Holder). with_heard (answers_to mid.machine b) h) first.heard
+          ∙ (ap (λ (m : Machined). with_heard (answers_to m b) (with_heard (answers_to old.machine a) s)) machine
+          ∙ ap (λ l. record s { heard = l }) (append_assoc s.heard _ _ ∙ ap (λ l. s.heard ++ l) (sym (answers_append old.machine a b)))));
+    }
+
+-- what changes the accounts of lines alone, after these were asked
+pub serves_lines : (a : List Request) (old : Desked) (s : Holder) (mid : Desked) (t : Holder) (now : Desked)
+    → ServesAll a old s mid t → now ≡ with_lines now.lines mid → ServesAll a old s now t
+serves_lines a old s mid t now before next =
+    record { desk = next ∙ ap (with_lines now.lines) before.desk; heard = before.heard }
+
+-- one request was asked
+pub serves_one : (q : Request) (old : Desked) (s : Holder) (said : Said) (now : Desked) (new : Holder)
+    → said.request ≡ q → said.outcome ≡ answer_of old.machine q
+    → now ≡ record old { machine = after old.machine q; history = old.history ++ record { by = s.number; answer = said } ∷ []; booked = add old.booked (told said.outcome) }
+    → new ≡ record s { heard = s.heard ++ said ∷ [] } → ServesAll (q ∷ []) old s now new
+unfolding answers_to after_all told_in
+serves_one q old s said now new request outcome desk heard =
+    let it : said ≡ record { request = q; outcome = answer_of old.machine q } = λ i. record { request = request i; outcome = outcome i } in
+    let lines : old.lines ≡ now.lines = sym (ap (λ (d : Desked). d.lines) desk) in
+    record {
+      desk = desk ∙ (λ i. record old { machine = after old.machine q; history = old.history ++ record { by = s.number; answer = it i } ∷ []; booked = add old.booked (sym (nothing_and (told (it i).outcome)) i); lines = lines i });
+      heard = heard ∙ ap (λ (x : Said). record s { heard = s.heard ++ x ∷ [] }) it;
+    }
+
+-- a refused request changes nothing, and is refused again
+refused_is : (o : Option Refusal) (reply : Reply) (r : Refusal) → result_of o reply ≡ Err r → o ≡ Some r
+refused_is None reply r e = cc
+refused_is (Some x) reply r e = cc
+
+unchanged : (o : Option Refusal) (m : Machined) (q : Request) (r : Refusal) → o ≡ Some r → after_unless o m q ≡ m
+unchanged None m q r e = cc
+unchanged (Some x) m q r e = refl
+
+same_after : (m : Machined) (q : Request) (r : Refusal) → answer_of m q ≡ Err r → after m q ≡ m
+same_after m q r e = unchanged (refusal_of m q) m q r (refused_is (refusal_of m q) (stepped m q).reply r e)
+
+still_refused : (m : Machined) (q : Request) (r : Refusal) → answer_of m q ≡ Err r → refusal_of (after m q) q ≡ Some r
+still_refused m q r e =
+    ap (λ n. refusal_of n q) (same_after m q r e) ∙ refused_is (refusal_of m q) (stepped m q).reply r e
+
+-- the next request of a line
+pub next_is : (plan : Planned) (line : Line) (owed : List ℕ) → 0 < on line owed → next_request plan line owed ≡ pulse_request plan line
+next_is plan line owed some =
+    let test : (on line owed == 0) ≡ false = grind (arith, nat_tests, some) in
+    ap (λ (b : Bool). option_and_then (pulse_request plan) (if b then None else Some line)) test
+
+pub next_none : (plan : Planned) (line : Line) (owed : List ℕ) → on line owed ≡ 0 → next_request plan line owed ≡ None
+next_none plan line owed none =
+    let test : (on line owed == 0) ≡ true = grind (arith, nat_tests, none) in
+    ap (λ (b : Bool). option_and_then (pulse_request plan) (if b then None else Some line)) test
+
+-- no pulse of a line is applied
+pub applies_none : (line : Line) (l : LineAccounts) → Applies line 0 l l
+applies_none line l = record {
+  owed = omega arith;
+  applied = omega arith;
+  other_owed = λ other apart. refl;
+  other_applied = λ other apart. refl;
+  taker = refl;
+  devices = refl;
+  settled = refl;
+}
+
+-- and one more
+pub applies_more : (line : Line) (n : ℕ) (a b c : LineAccounts) → Applies line n a b → Applies line 1 b c → Applies line (n + 1) a c
+applies_more line n a b c before now = record {
+  owed = omega (arith, before.owed, now.owed);
+  applied = omega (arith, before.applied, now.applied);
+  other_owed = λ other apart. now.other_owed other apart ∙ before.other_owed other apart;
+  other_applied = λ other apart. now.other_applied other apart ∙ before.other_applied other apart;
+  taker = now.taker ∙ before.taker;
+  devices = now.devices ∙ before.devices;
+  settled = now.settled ∙ before.settled;
+}
+
+-- what the accounts are after the first so many pulses of a line were applied
+pub record Applied (line : Line) (q : Request) (n : ℕ) (old : Desked) (s : Holder) (mid : Desked) (t : Holder) : Type 0 where
+  pub lines : Applies line n old.lines mid.lines
+  pub asked : ServesAll (replicate n q) old s mid t
+  pub served : NoneRefused (answers_to old.machine (replicate n q))
+
+pub applied_none : (line : Line) (q : Request) (d : Desked) (s : Holder) → Applied line q 0 d s d s
+unfolding answers_to
+applied_none line q d s = record {
+  lines = applies_none line d.lines;
+  asked = serves_none d s;
+  served = All-nil (λ (x : Said). IsOk x.outcome);
+}
+
+is_ok_of : (o : Result Reply Refusal) (reply : Reply) → o ≡ Ok reply → IsOk o
+is_ok_of o reply e = subst (λ (x : Result Reply Refusal). IsOk x) (sym e) refl
+
+served_one : (m : Machined) (q : Request) (reply : Reply) → answer_of m q ≡ Ok reply → NoneRefused (answers_to m (q ∷ []))
+unfolding answers_to
+served_one m q reply e = All-push (λ (x : Said). IsOk x.outcome) [] (record { request = q; outcome = answer_of m q }) (All-nil (λ (x : Said). IsOk x.outcome)) (is_ok_of (answer_of m q) reply e)
+
+-- one more was served and applied
+pub applied_more : (line : Line) (q : Request) (n : ℕ) (old : Desked) (s : Holder) (mid : Desked) (t : Holder) (said : Said) (now : Desked) (new : Holder) (last : Desked) (reply : Reply)
+    → Applied line q n old s mid t → said.request ≡ q → said.outcome ≡ answer_of mid.machine q
+    → now ≡ record mid { machine = after mid.machine q; history = mid.history ++ record { by = t.number; answer = said } ∷ []; booked = add mid.booked (told said.outcome) }
+    → new ≡ record t { heard = t.heard ++ said ∷ [] } → said.outcome ≡ Ok reply
+    → Applies line 1 now.lines last.lines → last ≡ with_lines last.lines now
+    → Applied line q (n + 1) old s last new
+applied_more line q n old s mid t said now new last reply before request outcome desk heard ok lines rest =
+    let machine : mid.machine ≡ after_all old.machine (replicate n q) = ap (λ (d : Desked). d.machine) before.asked.desk in
+    let next = serves_one q mid t said now new request outcome desk heard in
+    let all = serves_append (replicate n q) (q ∷ []) old s mid t now new before.asked next in
+    let served = All-append (λ (x : Said). IsOk x.outcome) _ _ before.served
+    (subst (λ (m : Machined). NoneRefused (answers_to m (q ∷ []))) machine (served_one mid.machine q reply (sym outcome ∙ ok))) in
+    record {
+      lines = applies_more line n old.lines mid.lines last.lines before.lines
+          (subst (λ (l : LineAccounts). Applies line 1 l last.lines) (ap (λ (d : Desked). d.lines) desk) lines);
+      asked = subst (λ (l : List Request). ServesAll l old s last new) (replicate_more n q) (serves_lines _ old s now new last all rest);
+      served = subst (λ (l : List Request). NoneRefused (answers_to old.machine l)) (replicate_more n q)
+          (subst (λ (l : List Said). NoneRefused l) (sym (answers_append old.machine (replicate n q) (q ∷ []))) served);
+    }
+
+-- all that were owed were applied
+pub line_done : (plan : Planned) (line : Line) (q : Request) (n : ℕ) (old : Desked) (s : Holder) (mid : Desked) (t : Holder)
+    → pulse_request plan line ≡ Some q → Applied line q n old s mid t → n ≡ on line old.lines.owed
+    → DrainsLine None plan line old s n None mid t
+line_done plan line q n old s mid t is before all =
+    let none : on line mid.lines.owed ≡ 0 = omega (arith, before.lines.owed, all) in
+    let next : next_request plan line mid.lines.owed ≡ None = next_none plan line mid.lines.owed none in
+    let requests : replicate n q ≡ repeated (pulse_request plan line) n = ap (λ (o : Option Request). repeated o n) (sym is) in
+    record {
+      lines = before.lines;
+      asked = subst (λ (l : List Request). ServesAll l old s mid t)
+          (sym (append-nil (replicate n q)) ∙ (ap (λ (l : List Request). l ++ []) requests ∙ ap (λ (o : Option Request). repeated (pulse_request plan line) n ++ option_to_list o) (sym next)))
+          before.asked;
+      machine = ap (λ (d : Desked). d.machine) before.asked.desk ∙ ap (after_all old.machine) requests;
+      served = subst (λ (l : List Request). NoneRefused (answers_to old.machine l)) requests before.served;
+      refusal = ap (λ (o : Option Request). option_and_then (refusal_of mid.machine) o) (sym next);
+      stopped = λ r e. cc;
+      none_left = λ e. (λ x. none, λ x. refl);
+    }
+
+-- the next one was refused
+pub line_refused : (plan : Planned) (line : Line) (q : Request) (n : ℕ) (old : Desked) (s : Holder) (mid : Desked) (t : Holder) (said : Said) (now : Desked) (new : Holder) (refusal : Refusal)
+    → pulse_request plan line ≡ Some q → Applied line q n old s mid t → n < on line old.lines.owed
+    → said.request ≡ q → said.outcome ≡ answer_of mid.machine q
+    → now ≡ record mid { machine = after mid.machine q; history = mid.history ++ record { by = t.number; answer = said } ∷ []; booked = add mid.booked (told said.outcome) }
+    → new ≡ record t { heard = t.heard ++ said ∷ [] } → said.outcome ≡ Err refusal
+    → DrainsLine None plan line old s n (Some refusal) now new
+line_refused plan line q n old s mid t said now new refusal is before more request outcome desk heard err =
+    let same_lines : now.lines ≡ mid.lines = ap (λ (d : Desked). d.lines) desk in
+    let some : 0 < on line now.lines.owed = omega (arith, before.lines.owed, more, ap (λ (l : LineAccounts). on line l.owed) same_lines) in
+    let next : next_request plan line now.lines.owed ≡ Some q = next_is plan line now.lines.owed some ∙ is in
+    let requests : replicate n q ≡ repeated (pulse_request plan line) n = ap (λ (o : Option Request). repeated o n) (sym is) in
+    let refused : answer_of mid.machine q ≡ Err refusal = sym outcome ∙ err in
+    let machine : now.machine ≡ after mid.machine q = ap (λ (d : Desked). d.machine) desk in
+    let all = serves_append (replicate n q) (q ∷ []) old s mid t now new before.asked (serves_one q mid t said now new request outcome desk heard) in
+    record {
+      lines = subst (λ (l : LineAccounts). Applies line n old.lines l) (sym same_lines) before.lines;
+      asked = subst (λ (l : List Request). ServesAll l old s now new)
+          (ap (λ (l : List Request). l ++ q ∷ []) requests ∙ ap (λ (o : Option Request). repeated (pulse_request plan line) n ++ option_to_list o) (sym next))
+          all;
+      machine = machine ∙ (same_after mid.machine q refusal refused ∙ (ap (λ (d : Desked). d.machine) before.asked.desk ∙ ap (after_all old.machine) requests));
+      served = subst (λ (l : List Request). NoneRefused (answers_to old.machine l)) requests before.served;
+      refusal = sym (ap (λ (o : Option Request). option_and_then (refusal_of now.machine) o) next
+          ∙ (ap (λ (m : Machined). refusal_of m q) machine ∙ still_refused mid.machine q refusal refused));
+      stopped = λ r e. cc;
+      none_left = λ e. (λ x. absurd (true≢false x), λ (x : on line now.lines.owed ≡ 0). absurd (omega (arith, x, some)));
+    }
+
+-- no request
+pub repeated_none : (o : Option Request) → repeated o 0 ≡ []
+repeated_none None = refl
+repeated_none (Some q) = refl
+
+-- a pulse of an earlier line was refused
+pub line_stopped : (before : Option Refusal) (plan : Planned) (line : Line) (d : Desked) (s : Holder) → is_some before ≡ true
+    → DrainsLine before plan line d s 0 before d s
+unfolding answers_to after_all
+line_stopped None plan line d s is = absurd (true≢false (sym is))
+line_stopped (Some r) plan line d s is =
+    let none : [] ≡ repeated (pulse_request plan line) 0 = sym (repeated_none (pulse_request plan line)) in
+    record {
+      lines = applies_none line d.lines;
+      asked = subst (λ (l : List Request). ServesAll l d s d s) (ap (λ (l : List Request). l ++ []) none) (serves_none d s);
+      machine = ap (after_all d.machine) none;
+      served = subst (λ (l : List Request). NoneRefused (answers_to d.machine l)) none (All-nil (λ (x : Said). IsOk x.outcome));
+      refusal = refl;
+      stopped = λ q e. refl;
+      none_left = λ e. cc;
+    }
+
+-- a line whose pulses ask for nothing
+pub line_idle : (before : Option Refusal) (plan : Planned) (line : Line) (old : Desked) (s : Holder) (n : ℕ) (now : Desked)
+    → is_some before ≡ false → pulse_request plan line ≡ None
+    → Applies line n old.lines now.lines → now ≡ with_lines now.lines old → n ≡ on line old.lines.owed
+    → DrainsLine before plan line old s n None now s
+unfolding answers_to after_all
+line_idle (Some r) plan line old s n now unstopped is lines desk all = absurd (true≢false unstopped)
+line_idle None plan line old s n now unstopped is lines desk all =
+    let none : on line now.lines.owed ≡ 0 = omega (arith, lines.owed, all) in
+    let next : next_request plan line now.lines.owed ≡ None = next_none plan line now.lines.owed none in
+    let requests : [] ≡ repeated (pulse_request plan line) n = ap (λ (o : Option Request). repeated o n) (sym is) in
+    record {
+      lines = lines;
+      asked = subst (λ (l : List Request). ServesAll l old s now s)
+          (ap (λ (l : List Request). l ++ []) requests ∙ ap (λ (o : Option Request). repeated (pulse_request plan line) n ++ option_to_list o) (sym next))
+          (serves_lines [] old s old s now (serves_none old s) desk);
+      machine = ap (λ (d : Desked). d.machine) desk ∙ ap (after_all old.machine) requests;
+      served = subst (λ (l : List Request). NoneRefused (answers_to old.machine l)) requests (All-nil (λ (x : Said). IsOk x.outcome));
+      refusal = ap (λ (o : Option Request). option_and_then (refusal_of now.machine) o) (sym next);
+      stopped = λ r e. cc;
+      none_left = λ e. (λ x. none, λ x. refl);
+    }

@@ -1,0 +1,40 @@
+-- Of proofs alone: how one line is drained, after those before it.
+use Rattle.std.specs.Prelude.{◌≡◌, ◌↔◌, ℕ, List, ◌++◌, Option, Some, None, IsNone}
+use Rattle.std.specs.Option.{option_and_then, option_or, option_to_list}
+use Rattle.agc_latch.specs.declared.line.Line.{Line}
+use Rattle.agc_latch.specs.Lines.{on}
+use Rattle.agc_latch.specs.Accounts.{Applies}
+use Rattle.agc_plan.specs.declared.request.Request.{Request}
+use Rattle.agc_plan.specs.Plans.{Planned}
+use Rattle.agc_machine.specs.declared.answer.Refusal.{Refusal}
+use Rattle.agc_machine.specs.Machines.{after_all, refusal_of}
+use Rattle.agc_desk.specs.Desks.{Desked}
+use Rattle.agc_desk.specs.Draining.{NoneRefused, ServesAll, answers_to}
+use Rattle.agc_desk.specs.History.{Holder}
+use Rattle.agc_desk.specs.Pulses.{line_if_any, pulse_request, repeated}
+
+-- what the next pulse of a line asks for, if there is one and it asks for anything
+abbrev pub next_request : Planned → Line → List ℕ → Option Request
+next_request plan line owed = option_and_then (pulse_request plan) (line_if_any line owed)
+
+-- nothing is tried after a refusal
+abbrev pub tried_after : Option Refusal → Option Request → Option Request
+tried_after None asked = asked
+tried_after (Some refusal) asked = None
+
+-- n pulses of a line are applied, where none of an earlier line was refused, and the next, if there
+-- is one, is refused
+pub record DrainsLine (before : Option Refusal) (plan : Planned) (line : Line)
+    (old : Desked) (share : Holder) (n : ℕ) (refused : Option Refusal)
+    (now : Desked) (new : Holder) : Type 0 where
+  pub lines : Applies line n old.lines now.lines
+  pub asked : ServesAll
+      (repeated (pulse_request plan line) n
+      ++ option_to_list (tried_after before (next_request plan line now.lines.owed)))
+      old share now new
+  pub machine : now.machine ≡ after_all old.machine (repeated (pulse_request plan line) n)
+  pub served : NoneRefused (answers_to old.machine (repeated (pulse_request plan line) n))
+  pub refusal : refused ≡ option_or before
+      (option_and_then (refusal_of now.machine) (next_request plan line now.lines.owed))
+  pub stopped : (r : Refusal) → before ≡ Some r → n ≡ 0
+  pub none_left : before ≡ None → (IsNone refused ↔ on line now.lines.owed ≡ 0)

@@ -1,0 +1,94 @@
+ghost use Rattle.std.specs.Prelude.{◌≡◌, None, Some};
+ghost use Rattle.agc_latch.specs.Accounts.{IsOf};
+ghost use Rattle.agc_desk.specs.Draining.{Drains};
+ghost use Rattle.agc_desk.specs.Pulses.{pulse_request};
+ghost use Rattle.agc_desk.specs.Stages.{DrainsLine};
+
+use crate::desk::{Desk, Share};
+use crate::names::Names;
+use crate::pulse::pulse_request;
+use agc_latch::{Latch, Line};
+use agc_machine::Refusal;
+use agc_plan::Request;
+
+/// What a drain did. Source: profile.
+#[derive(Clone, Copy, PartialEq, Eq, Debug)]
+pub struct Drained {
+    /// How many pulses were taken, per line: the timer's, the keyboard's, the radar's. Source:
+    /// profile.
+    pub taken: [u64; 3],
+    /// How many were applied, of these and of those that were owed before. Source: profile.
+    pub applied: [u64; 3],
+    /// Why no more were applied; none where nothing is owed any more. Source: profile.
+    pub refused: Option<Refusal>,
+}
+
+impl<N: Names> Desk<N> {
+    // Applies what is owed on a line, whose pulses ask for this request, up to the first that is
+    // refused.
+    fn ask_owed(
+        &mut self,
+        line: Line,
+        request: &Request,
+        share: &mut Share<N>,
+    ) -> (u64, Option<Refusal>)
+        requires { pulse_request self.old.machine.plan line ≡ Some request.now }
+        ensures { DrainsLine None self.old.machine.plan line
+            self.old share.old result.0 result.1 self.new share.new }
+    {
+        let owed = self.owed_on(line);
+        for applied in 0..owed {
+            let answer = self.serve(share, *request);
+            match answer.result() {
+                Ok(_reply) => self.mark_applied(line, 1),
+                Err(refusal) => return (applied, Some(refusal)),
+            }
+        }
+        (owed, None)
+    }
+
+    // Applies what is owed on a line, up to the first pulse that is refused; nothing where a pulse
+    // of an earlier line was.
+    fn drain_line(
+        &mut self,
+        line: Line,
+        refused: Option<Refusal>,
+        share: &mut Share<N>,
+    ) -> (u64, Option<Refusal>)
+        ensures { DrainsLine refused self.old.machine.plan line
+            self.old share.old result.0 result.1 self.new share.new }
+    {
+        if refused.is_some() {
+            return (0, refused);
+        }
+        match pulse_request(self.machine().plan(), line) {
+            Some(request) => self.ask_owed(line, &request, share),
+            None => {
+                let pulses = self.owed_on(line);
+                self.mark_applied(line, pulses);
+                (pulses, None)
+            }
+        }
+    }
+
+    /// Takes what devices posted on the timer's, the keyboard's and the radar's line, and adds it
+    /// to what is owed; a desk without a taker takes nothing. Then applies what is owed, all of the
+    /// timer's pulses first, then the keyboard's, then the radar's, up to the first that is
+    /// refused; the rest stays owed. A timer pulse is a tick, a key or radar pulse the request of
+    /// the plan's action; one whose action is nothing is applied by no request. An alarm stops
+    /// nothing. The requests, the refused one too, are served with this share. Source: profile.
+    pub fn drain(&mut self, latch: &Latch, share: &mut Share<N>) -> Drained
+        requires { IsOf latch.now self.old.lines.taker }
+        ensures { Drains self.old share.old result self.new share.new }
+    {
+        let taken = self.collect(latch);
+        let (timer, refused) = self.drain_line(Line::Timer, None, share);
+        let (key, refused) = self.drain_line(Line::Key, refused, share);
+        let (radar, refused) = self.drain_line(Line::Radar, refused, share);
+        Drained {
+            taken,
+            applied: [timer, key, radar],
+            refused,
+        }
+    }
+}

@@ -1,0 +1,15 @@
+use Rattle.std.proofs.Common.{◌≤◌, ◌∙◌, sym, refl, replicate, arith}
+use Rattle.std.proofs.lemmas.List.{get_or-replicate}
+use Rattle.agc_word.specs.Layout.{sets_in}
+use Rattle.agc_exec.proofs.Reading.{blocks_of-written, IsSized-most}
+use Rattle.agc_exec.proofs.core_set.blank.Goals as goal
+
+pub returns-clause-blocks : goal.returns-clause-blocks
+returns-clause-blocks c =
+    let most : sets_in c.args.e.now ≤ 8 = IsSized-most c.args.e.now c.requires.sized in
+    blocks_of-written c.args.e.now c.loop-i.e c.args.k (replicate 12 0) (omega arith) (omega arith) most refl (record {
+      same_length = c.loop-i.invariant.same_length;
+      here = λ i lt. c.loop-i.invariant.here i (omega arith) ∙ sym (get_or-replicate 12 i 0 0 lt);
+      before = c.loop-i.invariant.before;
+      after = λ j h. c.loop-i.invariant.after j (omega arith);
+    })
