@@ -13,15 +13,15 @@ use Rattle.agc_exec.specs.Sets.{slots_of, entries_of, jobs_of, running_in, IsSta
 
 -- minus zero: 77777 octal
 abbrev pub minus_zero : ℕ
-minus_zero = 32767
+minus_zero = 0o77777
 
 -- the first word whose sign is set: 40000 octal
 abbrev pub sign : ℕ
-sign = 16384
+sign = 0o40000
 
 -- bit 10, the lowest of PRIORITY's priority: 01000 octal
 abbrev pub priority_unit : ℕ
-priority_unit = 512
+priority_unit = 0o1000
 
 -- the job of a set, of which the PRIORITY word, with its sign taken off, is this
 abbrev pub record_of : List ℕ → ℕ → Bool → Held

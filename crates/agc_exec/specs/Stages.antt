@@ -180,9 +180,9 @@ pub record AreSound (sets number at urgency : ℕ) : Type 0 where
   pub number_high : number ≤ sets
   pub at_low : 1 ≤ at
   pub at_high : at ≤ 16383
-  pub low : 512 ≤ urgency
-  pub five : area_of (urgency % 512) ≤ 5
-  pub address : urgency % 512 ≡ address_of (area_of (urgency % 512))
+  pub low : 0o1000 ≤ urgency
+  pub five : area_of (urgency % 0o1000) ≤ 5
+  pub address : urgency % 0o1000 ≡ address_of (area_of (urgency % 0o1000))
 
 -- set k is free, or its words are a job's
 abbrev pub IsSoundAt : List ℕ → ℕ → Type 0

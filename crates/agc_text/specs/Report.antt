@@ -14,7 +14,7 @@ words_at place count words = take count (drop place words)
 
 -- the twelve words of a core set, or that it is free: its last word, PRIORITY, is then 77777
 abbrev pub set_text : List ℕ → List ℕ
-set_text set = if slice_index set 11 == 32767 then codes " FREE" else words_text set
+set_text set = if slice_index set 11 == 0o77777 then codes " FREE" else words_text set
 
 -- the line of core set k
 unfoldable pub set_line : List ℕ → ℕ → List ℕ

@@ -10,16 +10,16 @@ AreWords words = (i : ℕ) → InTable i → slice_index words i < 32768
 
 -- TIME3 isn't negative, and is 00000 where no task waits
 abbrev pub IsCounter : List ℕ → Type 0
-IsCounter words = (time3 words < 16384) × (length (waits_of words) ≡ 0 → time3 words ≡ 0)
+IsCounter words = (time3 words < 0o40000) × (length (waits_of words) ≡ 0 → time3 words ≡ 0)
 
 -- a word of LST1 may be a gap
 abbrev pub IsGap : ℕ → Type 0
-IsGap word = (word ≤ 1) ⊎ (16384 ≤ word)
+IsGap word = (word ≤ 1) ⊎ (0o40000 ≤ word)
 
 -- the first so many tasks and the gaps behind them are within their ranges
 pub record AreTasks (words : List ℕ) (n : ℕ) : Type 0 where
   pub near : (k : ℕ) → k < n → distance_in words k ≤ 16250
-  pub address : (k : ℕ) → k < n → at_in words k < 16384
+  pub address : (k : ℕ) → k < n → at_in words k < 0o40000
   pub gap : (k : ℕ) → k < n → k + 1 < length (waits_of words) → IsGap (lst1 words k)
 
 -- the words of these places are all this one

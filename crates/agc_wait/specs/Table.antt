@@ -22,12 +22,12 @@ bank_in words k = slice_index words (layout.lst2 + 1 + 2 * k)
 
 -- how far the first task is, by TIME3
 abbrev pub distance_of : ℕ → ℕ
-distance_of counter = if counter == 0 then 0 else 16384 - counter
+distance_of counter = if counter == 0 then 0 else 0o40000 - counter
 
 -- how much further the next task is, by a word of LST1: one less the word's value, which is zero
 -- for either zero
 abbrev pub gap_of : ℕ → ℕ
-gap_of word = if nat_lt word 16384 then 1 - word else 32768 - word
+gap_of word = if nat_lt word 0o40000 then 1 - word else 0o100000 - word
 
 -- the tasks of so many places, from place k on, the first of which is this far from now
 abbrev pub waits_from : ℕ → ℕ → ℕ → List ℕ → List Waiting
@@ -54,11 +54,11 @@ blank_gap = 0o57777
 -- all else is blank
 pub record IsLawfulTable (words : List ℕ) : Type 0 where
   pub word : (i : ℕ) → InTable i → slice_index words i < 32768
-  pub counter : time3 words < 16384
+  pub counter : time3 words < 0o40000
   pub idle : waits_of words ≡ [] → time3 words ≡ 0
   pub near : All (λ w. w.distance ≤ 16250) (waits_of words)
-  pub address : (k : ℕ) → k < 9 → at_in words k < 16384
-  pub gap : (k : ℕ) → k + 1 < length (waits_of words) → (lst1 words k ≤ 1) ⊎ (16384 ≤ lst1 words k)
+  pub address : (k : ℕ) → k < 9 → at_in words k < 0o40000
+  pub gap : (k : ℕ) → k + 1 < length (waits_of words) → (lst1 words k ≤ 1) ⊎ (0o40000 ≤ lst1 words k)
   pub no_gap : (k : ℕ) → length (waits_of words) ≤ k + 1 → k < 8 → lst1 words k ≡ blank_gap
   pub no_task : (k : ℕ) → length (waits_of words) ≤ k → k < 9 → (at_in words k ≡ 0) × (bank_in words k ≡ 0)
 

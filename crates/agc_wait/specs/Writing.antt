@@ -20,11 +20,11 @@ distance_in words k = (place_in (waits_of words) k).distance
 
 -- the word of a gap
 abbrev pub gap_word : ℕ → ℕ
-gap_word gap = if nat_lt gap 2 then 1 - gap else 32768 - gap
+gap_word gap = if nat_lt gap 2 then 1 - gap else 0o100000 - gap
 
 -- TIME3 at a distance
 abbrev pub counter_at : ℕ → ℕ
-counter_at distance = if distance == 0 then 0 else 16384 - distance
+counter_at distance = if distance == 0 then 0 else 0o40000 - distance
 
 -- the gap from a new task to the one that stands at its place, if one does
 abbrev pub gap_to_next : List ℕ → ℕ → ℕ → ℕ

@@ -12,7 +12,7 @@ pub(crate) const TASKS: usize = 9;
 pub(crate) const NO_GAP: u16 = 0o57777;
 
 /// How many centiseconds a full TIME3 counts.
-pub(crate) const FULL_COUNT: u16 = 16384;
+pub(crate) const FULL_COUNT: u16 = 0o40000;
 
 /// The word of LST1 for a gap.
 pub(crate) fn gap_word(gap: u16) -> Word
@@ -22,14 +22,14 @@ pub(crate) fn gap_word(gap: u16) -> Word
     if gap < 2 {
         Word::of_bits(1 - gap)
     } else {
-        Word::of_bits(32768 - gap)
+        Word::of_bits(0o100000 - gap)
     }
 }
 
 /// The gap that a word of LST1 says.
 pub(crate) fn gap_of(word: Word) -> u16
     ensures value { result ≡ gap_of word }
-    ensures small { result ≤ 16384 }
+    ensures small { result ≤ 0o40000 }
 {
     let bits = word.bits();
     if bits == 0 {
@@ -37,7 +37,7 @@ pub(crate) fn gap_of(word: Word) -> u16
     } else if bits < FULL_COUNT {
         0
     } else {
-        32768 - bits
+        0o100000 - bits
     }
 }
 
@@ -55,7 +55,7 @@ pub(crate) fn counter_at(distance: u16) -> Word
 
 /// The distance that TIME3 says.
 pub(crate) fn distance_of(counter: Word) -> u16
-    requires { counter < 16384 }
+    requires { counter < 0o40000 }
     ensures { result ≡ distance_of counter }
 {
     let bits = counter.bits();

@@ -39,12 +39,12 @@ fn is_gap(e: &Erasable, k: usize, count: usize) -> bool
     ensures { IsTrue result ↔ (k + 1 < count → IsGap (lst1 e.now k)) }
 {
     let bits = e.get(LST1 + k).bits();
-    k + 1 >= count || bits <= 1 || bits >= 16384
+    k + 1 >= count || bits <= 1 || bits >= 0o40000
 }
 
 /// Whether these tasks and the gaps between them are within their ranges.
 fn are_tasks(e: &Erasable, count: usize) -> bool
-    requires counter { time3 e.now < 16384 }
+    requires counter { time3 e.now < 0o40000 }
     requires count { count ≡ length (waits_of e.now) }
     requires nine { count ≤ 9 }
     ensures { IsTrue result ↔ AreTasks e.now count }
@@ -54,7 +54,7 @@ fn are_tasks(e: &Erasable, count: usize) -> bool
         if distance > 16250 {
             return false;
         }
-        if e.get(LST2 + 2 * k).bits() >= 16384 {
+        if e.get(LST2 + 2 * k).bits() >= 0o40000 {
             return false;
         }
         if !is_gap(e, k, count) {

@@ -67,11 +67,11 @@ use_place area = use_words + (area - 1)
 
 -- the address of VAC area 1: 0300 octal
 abbrev pub first_area : ℕ
-first_area = 192
+first_area = 0o300
 
 -- how far an area is from the next: 054 octal
 abbrev pub area_size : ℕ
-area_size = 44
+area_size = 0o54
 
 -- the address of an area, 0 for none
 abbrev pub address_of : ℕ → ℕ

@@ -65,7 +65,7 @@ impl Word {
         ensures twice { complement result ≡ self }
     {
         Word {
-            bits: 32767 - self.bits,
+            bits: 0o77777 - self.bits,
         }
     }
 
@@ -91,10 +91,10 @@ impl Word {
         ensures value { result ≡ value_of self }
         ensures range { (neg_ℤ (pos 16383) ≤ℤ result) × (result ≤ℤ pos 16383) }
     {
-        if self.bits < 16384 {
+        if self.bits < 0o40000 {
             self.bits as i32
         } else {
-            self.bits as i32 - 32767
+            self.bits as i32 - 0o77777
         }
     }
 
@@ -134,16 +134,16 @@ impl Word {
 
     /// Whether this is minus zero, 77777. Source: the listings' words.
     pub fn is_minus_zero(self) -> bool
-        ensures { IsTrue result ↔ (self ≡ 32767) }
+        ensures { IsTrue result ↔ (self ≡ 0o77777) }
     {
-        self.bits == 32767
+        self.bits == 0o77777
     }
 
     /// Whether the first of the fifteen bits is set: 40000 to 77777, minus zero too. Source: the listings' words.
     pub fn is_negative(self) -> bool
-        ensures { IsTrue result ↔ (16384 ≤ self) }
+        ensures { IsTrue result ↔ (0o40000 ≤ self) }
     {
-        self.bits >= 16384
+        self.bits >= 0o40000
     }
 }
 
@@ -164,6 +164,6 @@ fn carried_round(sum: u16) -> Word
     if sum < 32768 {
         Word { bits: sum }
     } else {
-        Word { bits: sum - 32767 }
+        Word { bits: sum - 0o77777 }
     }
 }
