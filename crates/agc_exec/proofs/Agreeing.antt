@@ -3,7 +3,8 @@ use Rattle.std.proofs.Common.{◌≡◌, ℕ, ◌+◌, ◌-◌, ◌/◌, ◌<◌
 use Rattle.std.proofs.lemmas.Bool.{cases_lt}
 use Rattle.std.proofs.lemmas.List.{same_lists}
 use Rattle.agc_word.specs.Layout as layout
-use Rattle.agc_word.specs.Layout.{InsideCores, OutsideWaitlist, OutsidePhases, Keeps, sets_in, set_place, use_place, others_size, set_size}
+use Rattle.agc_word.specs.Layout.{OutsideWaitlist, OutsidePhases, Keeps, sets_in, set_place, use_place, others_size, set_size}
+use Rattle.agc_exec.specs.Frames.{InsideCores}
 use Rattle.agc_word.proofs.Keeping.{kept_also}
 use Rattle.agc_exec.specs.Blocks.{blocks_of}
 use Rattle.agc_exec.specs.Image.{sets_of, IsTidy, IsLawfulWords, jobs_in, entries_in}

@@ -1,6 +1,7 @@
 -- A new job on the words.
 use Rattle.std.proofs.Common.{◌≡◌, ℕ, ◌-◌, ◌<◌, ◌≤◌, ◌==◌, ◌&&◌, ◌||◌, is_some, cond, Bool, true, false, List, Option, Some, None, length, slice_index, slice_set, refl, ap, sym, subst, ◌∙◌, inl, inr, arith}
-use Rattle.agc_word.specs.Layout.{OutsideSets, OutsideCores, use_place, Keeps}
+use Rattle.agc_word.specs.Layout.{OutsideCores, use_place, Keeps}
+use Rattle.agc_exec.specs.Frames.{OutsideSets}
 use Rattle.agc_word.proofs.Keeping.{kept_twice}
 use Rattle.agc_exec.proofs.Finishing.{sets_kept}
 use Rattle.agc_exec.specs.Calls.{new_block, fronted_blocks, blocks_new}

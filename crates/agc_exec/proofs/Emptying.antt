@@ -1,7 +1,8 @@
 -- All sets free.
 use Rattle.std.proofs.Common.{◌≡◌, ℕ, zero, suc, ◌+◌, ◌<◌, ◌≤◌, false, List, [], ◌∷◌, Option, Some, None, length, replicate, slice_index, slice_index_or, slice_set, refl, ap, sym, ◌∙◌, inl, inr, arith}
 use Rattle.agc_word.specs.Layout as layout
-use Rattle.agc_word.specs.Layout.{address_of, IsSized, sets_in, use_place, OutsideSets, OutsideCores, Keeps}
+use Rattle.agc_word.specs.Layout.{address_of, IsSized, sets_in, use_place, OutsideCores, Keeps}
+use Rattle.agc_exec.specs.Frames.{OutsideSets}
 use Rattle.agc_word.proofs.Keeping.{kept_twice, kept_set}
 use Rattle.agc_exec.specs.Calls.{Clears}
 use Rattle.agc_exec.specs.Stages.{AllFree}

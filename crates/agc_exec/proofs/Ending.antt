@@ -1,7 +1,8 @@
 -- The end of a job on the words.
 use Rattle.std.proofs.Common.{◌≡◌, ◌≢◌, ℕ, ◌-◌, ◌<◌, ◌≤◌, ◌==◌, true, false, cond, List, [], Option, Some, None, length, slice_index, slice_index_or, slice_set, ap, sym, ◌∙◌, inl, inr, arith}
 use Rattle.agc_exec.specs.Stages.{BringsBest, Gives}
-use Rattle.agc_word.specs.Layout.{address_of, IsSized, OutsideSets, OutsideCores, use_place, Keeps}
+use Rattle.agc_word.specs.Layout.{address_of, IsSized, OutsideCores, use_place, Keeps}
+use Rattle.agc_exec.specs.Frames.{OutsideSets}
 use Rattle.agc_word.proofs.Keeping.{kept_twice}
 use Rattle.agc_exec.proofs.Finishing.{sets_kept}
 use Rattle.agc_exec.specs.Calls.{fronted_blocks, blocks_end, front_block}

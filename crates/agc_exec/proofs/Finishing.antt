@@ -2,7 +2,8 @@
 use Rattle.std.proofs.Common.{◌≡◌, ℕ, ◌*◌, ◌<◌, ◌≤◌, nat_lt, cond, false, List, [], ◌∷◌, Option, Some, None, length, slice_index, map, refl, ap, sym, ◌∙◌, arith}
 use Rattle.agc_exec.specs.Stages.{IsBestBelow, BestBelow, Gives}
 use Rattle.agc_word.specs.Layout as layout
-use Rattle.agc_word.specs.Layout.{IsSized, sets_in, OutsideSets, OutsideCores, use_place, Keeps}
+use Rattle.agc_word.specs.Layout.{IsSized, sets_in, OutsideCores, use_place, Keeps}
+use Rattle.agc_exec.specs.Frames.{OutsideSets}
 use Rattle.agc_word.proofs.Keeping.{kept_twice, kept_also}
 use Rattle.agc_exec.specs.Calls.{Does, new_block}
 use Rattle.std.proofs.lemmas.Option.{same_Some}

@@ -1,7 +1,8 @@
 -- What NEWJOB names.
 use Rattle.std.proofs.Common.{◌≡◌, ◌≢◌, ◌⊎◌, ℕ, zero, suc, ◌*◌, ◌/◌, ◌<◌, ◌≤◌, nat_lt, Bool, true, false, cond, List, Option, Some, None, length, slice_index_or, slice_set, swap, option_map, refl, ap, sym, ◌∙◌, inl, inr, arith}
 use Rattle.agc_word.specs.Layout as layout
-use Rattle.agc_word.specs.Layout.{IsSized, sets_in, OutsideSets, OutsideCores, Keeps}
+use Rattle.agc_word.specs.Layout.{IsSized, sets_in, OutsideCores, Keeps}
+use Rattle.agc_exec.specs.Frames.{OutsideSets}
 use Rattle.agc_word.proofs.Keeping.{kept}
 use Rattle.agc_exec.proofs.Finishing.{sets_kept}
 use Rattle.agc_exec.specs.Calls.{Does, fronted_blocks}

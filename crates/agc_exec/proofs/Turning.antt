@@ -2,7 +2,8 @@
 use Rattle.std.proofs.Common.{◌≡◌, ℕ, zero, suc, ◌+◌, ◌-◌, ◌<◌, ◌≤◌, Bool, true, false, List, [], ◌∷◌, Option, Some, None, length, slice_index, slice_index_or, slice_set, refl, ap, sym, ◌∙◌, arith}
 use Rattle.agc_word.specs.Words.{complement}
 use Rattle.agc_word.specs.Layout as layout
-use Rattle.agc_word.specs.Layout.{IsSized, sets_in, OutsideSets, Keeps}
+use Rattle.agc_word.specs.Layout.{IsSized, sets_in, Keeps}
+use Rattle.agc_exec.specs.Frames.{OutsideSets}
 use Rattle.agc_exec.proofs.Finishing.{sets_kept}
 use Rattle.agc_exec.specs.Calls.{Does, fronted_blocks, front_block, slept_block, blocks_changed}
 use Rattle.agc_exec.specs.Stages.{SameOwners, BringsBest, Gives}

@@ -1,6 +1,7 @@
 -- A change of the running job's priority.
 use Rattle.std.proofs.Common.{◌≡◌, ℕ, ◌+◌, ◌*◌, ◌%◌, ◌≤◌, false, List, Some, length, slice_index, slice_set, refl, ap, sym, ◌∙◌, arith}
-use Rattle.agc_word.specs.Layout.{OutsideSets, OutsideCores, use_place, Keeps}
+use Rattle.agc_word.specs.Layout.{OutsideCores, use_place, Keeps}
+use Rattle.agc_exec.specs.Frames.{OutsideSets}
 use Rattle.agc_word.proofs.Keeping.{kept_twice}
 use Rattle.agc_exec.proofs.Finishing.{sets_kept}
 use Rattle.agc_exec.specs.Calls.{fronted_blocks, front_block, urgent_block, blocks_changed, Does}

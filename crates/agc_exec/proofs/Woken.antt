@@ -1,6 +1,7 @@
 -- A sleeper's words, awake.
 use Rattle.std.proofs.Common.{◌≡◌, ℕ, ◌-◌, ◌<◌, Bool, true, false, List, [], Option, Some, None, length, slice_index, slice_set, refl, ap, sym, ◌∙◌, arith}
-use Rattle.agc_word.specs.Layout.{sets_in, OutsideSets, Keeps}
+use Rattle.agc_word.specs.Layout.{sets_in, Keeps}
+use Rattle.agc_exec.specs.Frames.{OutsideSets}
 use Rattle.agc_exec.proofs.Finishing.{sets_kept}
 use Rattle.agc_exec.specs.Calls.{fronted_blocks, blocks_roused, woken_block, roused, Does}
 use Rattle.agc_exec.specs.Stages.{SameOwners, Tells, TookOver, IsFirstBelow, FirstBelow, BringsBest, Gives}

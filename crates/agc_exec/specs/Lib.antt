@@ -1,3 +1,4 @@
+pub mod Frames
 pub mod Held
 pub mod Sets
 pub mod Best

@@ -1,6 +1,7 @@
 // All sets and areas free.
 ghost use Rattle.std.specs.Prelude.{◌≡◌, ◌≤◌, ℕ, length, slice_index};
-ghost use Rattle.agc_word.specs.Layout.{address_of, IsSized, OutsideSets, OutsideCores, use_place};
+ghost use Rattle.agc_word.specs.Layout.{address_of, IsSized, OutsideCores, use_place};
+ghost use Rattle.agc_exec.specs.Frames.{OutsideSets};
 ghost use Rattle.agc_word.specs.Layout.{Keeps};
 ghost use Rattle.agc_exec.specs.Blocks.{blocks_of};
 ghost use Rattle.agc_exec.specs.Calls.{Clears};

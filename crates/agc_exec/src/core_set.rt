@@ -1,7 +1,8 @@
 // The twelve words of a core set: the only functions that know where they stand.
 ghost use Rattle.std.specs.Prelude.{◌≡◌, ◌+◌, ◌<◌, ◌≤◌, length, slice_index, slice_index_or};
 ghost use Rattle.std.specs.Prelude.{slice_set, swap, replicate, None};
-ghost use Rattle.agc_word.specs.Layout.{IsSized, sets_in, set_place, OutsideSets, Keeps};
+ghost use Rattle.agc_word.specs.Layout.{IsSized, sets_in, set_place, Keeps};
+ghost use Rattle.agc_exec.specs.Frames.{OutsideSets};
 ghost use Rattle.agc_exec.specs.Blocks.{block_in, blocks_of};
 ghost use Rattle.agc_exec.specs.Calls.{block_with};
 ghost use Rattle.agc_exec.specs.Image.{sets_of};

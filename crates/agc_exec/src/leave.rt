@@ -1,6 +1,7 @@
 // The running job leaves: it ends, or sleeps.
 ghost use Rattle.std.specs.Prelude.{◌≡◌, slice_set};
-ghost use Rattle.agc_word.specs.Layout.{OutsideSets, Keeps};
+ghost use Rattle.agc_word.specs.Layout.{Keeps};
+ghost use Rattle.agc_exec.specs.Frames.{OutsideSets};
 ghost use Rattle.agc_plan.specs.Jobs as plain;
 ghost use Rattle.agc_plan.specs.Jobs.{best};
 ghost use Rattle.agc_plan.specs.declared.reply.Reply.TheVariants.{Left};

@@ -2,7 +2,8 @@
 ghost use Rattle.std.specs.Prelude.{◌≡◌, ◌+◌, ◌<◌, ◌≤◌, ◌%◌, nat_lt, if◌then◌else◌, true, false};
 ghost use Rattle.std.specs.Prelude.{IsSome, Some, None, length, option_map, slice_index_or};
 ghost use Rattle.std.specs.Prelude.{◌==◌, ◌&&◌, replicate};
-ghost use Rattle.agc_word.specs.Layout.{IsSized, sets_in, OutsideSets, Keeps};
+ghost use Rattle.agc_word.specs.Layout.{IsSized, sets_in, Keeps};
+ghost use Rattle.agc_exec.specs.Frames.{OutsideSets};
 ghost use Rattle.agc_plan.specs.Jobs.{least_unused, best};
 ghost use Rattle.agc_plan.specs.Places.{place_of};
 ghost use Rattle.agc_exec.specs.Blocks.{blocks_of};

@@ -1,6 +1,7 @@
 // Waking a sleeper.
 ghost use Rattle.std.specs.Prelude.{◌≡◌, ◌<◌, true, false, Some, None};
-ghost use Rattle.agc_word.specs.Layout.{sets_in, OutsideSets, Keeps};
+ghost use Rattle.agc_word.specs.Layout.{sets_in, Keeps};
+ghost use Rattle.agc_exec.specs.Frames.{OutsideSets};
 ghost use Rattle.agc_plan.specs.Jobs as plain;
 ghost use Rattle.agc_plan.specs.declared.reply.Reply.TheVariants.{Roused};
 ghost use Rattle.agc_plan.specs.Places.{fronted};

@@ -81,17 +81,9 @@ address_of area = if area == 0 then 0 else (first_area + area_size * (area - 1))
 abbrev pub area_of : ℕ → ℕ
 area_of address = if address == 0 then 0 else ((address - first_area) / area_size + 1)
 
--- a place of no core set
-abbrev pub OutsideSets : ℕ → Type 0
-OutsideSets place = (use_words ≤ place) × (place < last_set)
-
 -- a place of the Waitlist, or of phases and FAILREG: no core set, use word or NEWJOB
 abbrev pub OutsideCores : ℕ → Type 0
 OutsideCores place = (time3 ≤ place) × (place < last_set)
-
--- a place of a core set, a use word or NEWJOB
-abbrev pub InsideCores : ℕ → Type 0
-InsideCores place = (place < time3) ⊎ (last_set ≤ place)
 
 -- no place of TIME3, LST1 and LST2
 abbrev pub OutsideWaitlist : ℕ → Type 0

@@ -1,6 +1,7 @@
 use Rattle.std.proofs.Common.{◌≡◌, ◌-◌, ◌/◌, ◌∙◌, ap, arith, length, slice_set}
 use Rattle.std.proofs.lemmas.List.{get_or-set_same}
-use Rattle.agc_word.specs.Layout.{sets_in, OutsideSets}
+use Rattle.agc_word.specs.Layout.{sets_in}
+use Rattle.agc_exec.specs.Frames.{OutsideSets}
 use Rattle.agc_word.proofs.Keeping.{kept_twice}
 use Rattle.agc_exec.specs.Blocks.{block_in, blocks_of}
 use Rattle.agc_exec.proofs.Decoding.{IsSized-kept, held_of-free}

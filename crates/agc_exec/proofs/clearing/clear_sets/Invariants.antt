@@ -1,5 +1,6 @@
 use Rattle.std.proofs.Common.{◌≡◌, ℕ, ◌<◌, None, [], slice_index_or}
-use Rattle.agc_word.specs.Layout.{IsSized, OutsideSets, Keeps}
+use Rattle.agc_word.specs.Layout.{IsSized, Keeps}
+use Rattle.agc_exec.specs.Frames.{OutsideSets}
 use Rattle.agc_exec.specs.Blocks.{blocks_of}
 use Rattle.agc_exec.specs.Image.{held_of}
 use Rattle.agc_exec.proofs.clearing.clear_sets.Given as goal

@@ -1,6 +1,7 @@
 use Rattle.std.proofs.Common.{◌≡◌, ◌<◌, ◌∙◌, ℕ, List, None, Some, true, false, ap, sym, refl, length, arith}
 use Rattle.agc_word.specs.Layout as layout
-use Rattle.agc_word.specs.Layout.{IsSized, sets_in, OutsideSets, Keeps}
+use Rattle.agc_word.specs.Layout.{IsSized, sets_in, Keeps}
+use Rattle.agc_exec.specs.Frames.{OutsideSets}
 use Rattle.agc_word.proofs.Keeping.{kept_twice}
 use Rattle.agc_plan.specs.declared.request.Entry.{Entry}
 use Rattle.agc_plan.specs.declared.reply.Reply.TheVariants.{Established}

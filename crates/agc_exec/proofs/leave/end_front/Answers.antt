@@ -1,5 +1,5 @@
 use Rattle.std.proofs.Common.{◌≡◌, ◌∙◌, ap, sym, refl}
-use Rattle.agc_word.specs.Layout.{OutsideSets}
+use Rattle.agc_exec.specs.Frames.{OutsideSets}
 use Rattle.agc_word.proofs.Keeping.{kept_twice}
 use Rattle.agc_exec.specs.Calls.{blocks_end}
 use Rattle.agc_plan.specs.Jobs.{best}

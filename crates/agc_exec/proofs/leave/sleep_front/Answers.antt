@@ -1,5 +1,5 @@
 use Rattle.std.proofs.Common.{◌≡◌, ◌∙◌, ap, sym, arith, slice_set}
-use Rattle.agc_word.specs.Layout.{OutsideSets}
+use Rattle.agc_exec.specs.Frames.{OutsideSets}
 use Rattle.agc_word.specs.Words.{complement}
 use Rattle.agc_word.proofs.Keeping.{kept_twice}
 use Rattle.agc_exec.specs.Calls.{slept_block, fronted_blocks}

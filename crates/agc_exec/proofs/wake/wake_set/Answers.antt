@@ -1,6 +1,6 @@
 use Rattle.std.proofs.Common.{◌≡◌, ℕ, ◌∙◌, ◌<◌, true, length, refl, ap, sym, slice_set, option_map, arith}
 use Rattle.std.proofs.lemmas.Option.{same_Some}
-use Rattle.agc_word.specs.Layout.{OutsideSets}
+use Rattle.agc_exec.specs.Frames.{OutsideSets}
 use Rattle.agc_word.specs.Words.{complement}
 use Rattle.agc_word.proofs.Keeping.{kept_twice}
 use Rattle.agc_exec.specs.Calls.{woken_block}
