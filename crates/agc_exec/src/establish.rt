@@ -53,7 +53,6 @@ fn establish(e: &mut Erasable, priority: Priority, entry: Entry, area: u16) -> O
 }
 
 /// What is replied: the new job's number, or that there was no room.
-#[inline(always)]
 fn reply_of(number: Option<JobNo>) -> Reply
     ensures { result ≡ told number }
 {
@@ -67,8 +66,6 @@ fn reply_of(number: Option<JobNo>) -> Reply
 /// `Established` with its number, the least unused one, or `Alarmed` 1202 where as many jobs live
 /// as there are sets, and then nothing changes. Source: the listings' EXECUTIVE section; which
 /// number and set, work words 00000, and that it runs at once where nobody did: profile.
-// In line in its caller, as `findvac`, no reply is handed on, which saves a tenth of a new job.
-#[inline(always)]
 pub fn novac(e: &mut Erasable, priority: Priority, entry: Entry) -> Reply
     requires { IsLawfulWords e.old }
     ensures { DoesNovac priority entry e.old e.new result }
@@ -80,7 +77,6 @@ pub fn novac(e: &mut Erasable, priority: Priority, entry: Entry) -> Reply
 /// 1201 where all five areas are owned, else 1202 where as many jobs live as there are sets, and
 /// then nothing changes. Source: the listings' EXECUTIVE section; which number, set and area, and
 /// the rest as NOVAC's: profile.
-#[inline(always)]
 pub fn findvac(e: &mut Erasable, priority: Priority, entry: Entry) -> Reply
     requires { IsLawfulWords e.old }
     ensures { DoesFindvac priority entry e.old e.new result }

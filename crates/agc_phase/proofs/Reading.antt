@@ -1,5 +1,5 @@
 -- What the words of the table are read as, pair by pair and code by code.
-use Rattle.std.proofs.Common.{◌≡◌, ℕ, zero, suc, ◌+◌, ◌*◌, ◌<◌, Option, Some, None, List, [], ◌∷◌, length, drop, slice_index, refl, ap, sym, ◌∙◌, arith}
+use Rattle.std.proofs.Common.{◌≡◌, ℕ, zero, suc, ◌+◌, ◌*◌, ◌<◌, ◌≤◌, Option, Some, None, List, [], ◌∷◌, length, drop, slice_index, refl, ap, sym, ◌∙◌, arith}
 use Rattle.std.proofs.lemmas.List.{get_or-take, get_or-drop}
 use Rattle.std.proofs.lemmas.Grind.{same_number_lists}
 use Rattle.agc_word.specs.Layout as layout
@@ -42,6 +42,11 @@ ArePairs-are words pairs = λ k lt. rw (minus_in-at words k lt, phase_in-at word
 -- and the other way round
 pub ArePairs-at : (words : List ℕ) → ArePairs (phase_words words) → (k : ℕ) → k < 6 → IsPair (slice_index words (minus_place k)) (slice_index words (minus_place k + 1))
 ArePairs-at words pairs k lt = rw (← minus_in-at words k lt, ← phase_in-at words k lt) (pairs k lt)
+
+-- what stands at the place of a phase is that phase, at most 127, if the pairs agree
+pub phase_in-is : (words : List ℕ) (k word : ℕ) → ArePairs (phase_words words) → k < 6 → word ≡ slice_index words (minus_place k + 1) → (word ≡ phase_in (phase_words words) k) × (word ≤ 127)
+phase_in-is words k word pairs lt is =
+    (is ∙ sym (phase_in-at words k lt), rw is (ArePairs-at words pairs k lt).1)
 
 -- a code's word is read as that code
 pub code_of_word-code_word : (code : Option Code) → code_of_word (code_word code) ≡ code

@@ -1,14 +1,14 @@
 // The requests that read and change phases and FAILREG.
-ghost use Rattle.std.specs.Prelude.{◌≡◌, ◌+◌, ◌↔◌, IsTrue, map};
+ghost use Rattle.std.specs.Prelude.{◌≡◌, ◌+◌, ◌<◌, ◌↔◌, IsTrue, map};
 ghost use Rattle.agc_word.specs.Layout as layout;
 ghost use Rattle.agc_plan.specs.Base.{fresh_base, with_phase, with_code};
-ghost use Rattle.agc_phase.specs.Image.{base_of, code_word, failreg_words, IsLawfulTable, Becomes};
+ghost use Rattle.agc_phase.specs.Image.{base_of, code_word, failreg_words, IsLawfulTable, Becomes, phase_in, phase_words};
 ghost use Rattle.agc_phase.specs.Recording.{free_place};
 
 use crate::bases::{Base, Phases};
 use crate::image::{code_word, is_failreg, phase_words, recover, write_pair};
 use agc_plan::{Code, Group, Phase};
-use agc_word::layout::FAILREG;
+use agc_word::layout::{FAILREG, PHASE_WORDS};
 use agc_word::{Erasable, Word};
 
 /// Whether the words of phases and FAILREG are lawful: the words of each pair are complements of
@@ -23,15 +23,32 @@ pub fn is_lawful(e: &Erasable) -> bool
     recover(&phase_words(e)).is_some() && is_failreg(first, second, latest)
 }
 
+/// The phase of a group, counted from 0, of which the other word of its pair says the same.
+fn phase_at(e: &Erasable, group: usize) -> Phase
+    requires table { IsLawfulTable e.now }
+    requires six { group < 6 }
+    ensures { result ≡ phase_in (phase_words e.now) group }
+{
+    let word = e.get(PHASE_WORDS + 2 * group + 1);
+    match Phase::new(word.bits() as u8) {
+        Some(phase) => phase,
+        None => unreachable!(),
+    }
+}
+
 /// The phases of groups 1 to 6. Source: the listings' PHASE TABLE MAINTENANCE section.
 pub fn phases(e: &Erasable) -> Phases
     requires { IsLawfulTable e.now }
     ensures { result ≡ (base_of e.now).phases }
 {
-    match recover(&phase_words(e)) {
-        Some(phases) => phases,
-        None => unreachable!(),
-    }
+    [
+        phase_at(e, 0),
+        phase_at(e, 1),
+        phase_at(e, 2),
+        phase_at(e, 3),
+        phase_at(e, 4),
+        phase_at(e, 5),
+    ]
 }
 
 /// FAILREG: the words of the first, the second and the latest code, 00000 for none. Source:
