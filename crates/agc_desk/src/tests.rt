@@ -578,6 +578,17 @@ fn a_worker_goes_on_after_a_refusal(rt: HostRuntime) -> Result<(), Fail> {
     Ok(())
 }
 
+// A share that is got under the lock.
+fn later_share<N: Sharing, W: Wait>(rt: &W, shared: &Shared<N>) -> Result<Share<N>, Fault>
+    requires given { (given : ℕ) → N.may_share given ≡ true }
+    requires begun { N.begun ≡ [] }
+    requires lent { N.lent ≡ None }
+{
+    let mut held = shared.lock(rt);
+    let share = held.desk.share();
+    Ok(share.ok_or(Fault::NoShare)?)
+}
+
 // Two shares are given out, one of them under the lock, and a tick is asked with each.
 fn shared_later<N: Sharing, W: Wait>(
     rt: &W,
@@ -595,7 +606,7 @@ fn shared_later<N: Sharing, W: Wait>(
     let first = desk.share().ok_or(Fault::NoShare)?;
     let shared: Shared<N> = Mutex::new(Held { desk });
     let first = work(rt, &shared, first, 0, &[Request::Tick], &OpenGate);
-    let second = shared.lock(rt).desk.share().ok_or(Fault::NoShare)?;
+    let second = later_share(rt, &shared)?;
     let second = work(rt, &shared, second, 1, &[Request::Tick], &OpenGate);
     let Held { desk } = shared.into_inner();
     let mut shares = Vec::new(alloc);
