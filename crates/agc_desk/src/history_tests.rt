@@ -337,7 +337,13 @@ fn all_counts_agree_with_a_plain_account(rt: HostRuntime) -> Result<(), Fail> {
     for seed in 1..=200u32 {
         let limit = 1 + seed % 7;
         let allowance = 5 + u64::from(seed % 31);
-        let machine = machine(rt.alloc(), limit, allowance, Action::Nothing, Action::Nothing)?;
+        let machine = machine(
+            rt.alloc(),
+            limit,
+            allowance,
+            Action::Nothing,
+            Action::Nothing,
+        )?;
         let blanks = Blanks::new(rt.alloc())?;
         let mut account = Account::new(limit, allowance);
         history::<Brand>(rt.alloc(), machine, blanks, &mut account, seed)?;

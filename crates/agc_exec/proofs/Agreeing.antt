@@ -1,4 +1,5 @@
--- Words that agree at the places of core sets, use words and NEWJOB: for crates whose calls change other words.
+-- Words that agree at the places of core sets, use words and NEWJOB: for crates whose calls change
+-- other words.
 use Rattle.std.proofs.Common.{◌≡◌, ℕ, ◌+◌, ◌-◌, ◌/◌, ◌<◌, List, length, ap, sym, ◌∙◌, inl, inr, arith}
 use Rattle.std.proofs.lemmas.Bool.{cases_lt}
 use Rattle.std.proofs.lemmas.List.{same_lists}

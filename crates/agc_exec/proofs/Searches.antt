@@ -58,7 +58,8 @@ best_from-none from (Some job ∷ slots) h =
     let asleep : job.asleep ≡ true = h 0 job refl in
     rw asleep (best_from-none (from + 1) slots (λ j. h (suc j)))
 
--- the best job: an awake one, than which no awake job is more urgent, nor as urgent and of a lower number
+-- the best job: an awake one, than which no awake job is more urgent, nor as urgent and of a lower
+-- number
 pub best_from-is : (from : ℕ) (slots : List (Option Job)) (i : ℕ) (best : Job) → slice_index_or slots i None ≡ Some best → best.asleep ≡ false → ((j : ℕ) (job : Job) → slice_index_or slots j None ≡ Some job → job.asleep ≡ false → (job.priority < best.priority) ⊎ ((job.priority ≡ best.priority) × (i ≤ j))) → best_from from slots ≡ Some (record { number = from + i; priority = best.priority })
 best_from-is from [] i best at awake first = absurd (cc)
 best_from-is from (None ∷ slots) zero best at awake first = absurd (cc)

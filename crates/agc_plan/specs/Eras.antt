@@ -80,6 +80,7 @@ alarms_from entries group (phase ∷ phases) work =
 abbrev pub begun : Planned → List ℕ → Work
 begun plan phases = begun_from plan.entries 1 phases (no_work plan.sets)
 
--- an era of this plan begins with no alarm, whatever the six phases, with as many core sets as groups or more
+-- an era of this plan begins with no alarm, whatever the six phases, with as many core sets as
+-- groups or more
 abbrev pub BeginsQuietly : Written → Type 0
 BeginsQuietly plan = (sets : ℕ) → 6 ≤ sets → (phases : List ℕ) → length phases ≡ 6 → alarms_from plan.entries 1 phases (no_work sets) ≡ []

@@ -1,4 +1,5 @@
--- The definitions on worked examples: what was asked, and the replies. Addresses and priorities are octal, as in the listings.
+-- The definitions on worked examples: what was asked, and the replies. Addresses and priorities are
+-- octal, as in the listings.
 use Rattle.std.specs.Prelude.{◌≡◌, ℕ, List, [], ◌∷◌, ◌++◌, Some, None, option_map, replicate}
 use Rattle.agc_plan.specs.declared.reply.Alarm.TheVariants.{A1201, A1202, A1203}
 use Rattle.agc_plan.specs.declared.reply.Code.TheVariants.{C1201, C1202, C1203}
@@ -101,7 +102,8 @@ pub record Examples : Type 0 where
   pub least_again : replies area_again ≡ Established 1 ∷ Established 2 ∷ Left (Some 2) ∷ Established 1 ∷ []
   -- and so is the least area
   pub least_area_again : option_map (λ j. j.area) (job_in (state area_again).work.jobs.slots 1) ≡ Some 1
-  -- a new job comes to the second core set, as a sleeper stands in the first, and is exchanged into it as it runs
+  -- a new job comes to the second core set, as a sleeper stands in the first, and is exchanged into
+  -- it as it runs
   pub over_a_sleeper : placed_new (Some 2) (Some 2) (1 ∷ replicate 6 0) ≡ 2 ∷ 1 ∷ replicate 5 0
   -- a sleeper wakes once
   pub one_sleeper :

@@ -5,7 +5,8 @@ use Rattle.agc_plan.specs.declared.reply.Reply.{Reply}
 use Rattle.agc_plan.specs.declared.reply.Reply.TheVariants.{Established, Left, Roused, NoSleeper, NoJob, Runs, Stored, Alarmed}
 use Rattle.agc_plan.specs.declared.request.Entry.{Entry}
 
--- a job: where it begins or sleeps, its bank, its urgency, whether it sleeps, its area (0 for none) and its work words
+-- a job: where it begins or sleeps, its bank, its urgency, whether it sleeps, its area (0 for none)
+-- and its work words
 pub record Job : Type 0 where
   pub at : ℕ
   pub bank : ℕ
@@ -52,7 +53,8 @@ abbrev pub more_urgent : Ready → Option Ready → Option Ready
 more_urgent first None = Some first
 more_urgent first (Some second) = if nat_lt first.priority second.priority then Some second else Some first
 
--- the awake job of greatest priority, of those the one of least number; the slots are numbered from this number on
+-- the awake job of greatest priority, of those the one of least number; the slots are numbered from
+-- this number on
 abbrev pub best_from : ℕ → List (Option Job) → Option Ready
 best_from number [] = None
 best_from number (None ∷ slots) = best_from (number + 1) slots
@@ -85,7 +87,8 @@ abbrev pub new_job : ℕ → Entry → ℕ → Job
 new_job priority entry area =
     record { at = entry.at; bank = entry.bank; priority = priority; asleep = false; area = area; work = 0 ∷ 0 ∷ 0 ∷ 0 ∷ 0 ∷ 0 ∷ [] }
 
--- one more job, of this number, which is the least unused one, and then taking over; 1202 where none is unused
+-- one more job, of this number, which is the least unused one, and then taking over; 1202 where
+-- none is unused
 abbrev pub establish_at : Option ℕ → Job → Jobs → Outcome
 establish_at None job jobs = record { jobs = jobs; reply = Alarmed A1202 }
 establish_at (Some number) job jobs =
@@ -133,7 +136,8 @@ sleep at jobs = sleep_of jobs.running at jobs where
   sleep_of None at jobs = no_job jobs
   sleep_of (Some number) at jobs = left_by number (option_map (sleeping_at at) (job_in jobs.slots number)) jobs
 
--- who runs, of the best and of the job of this number, which stays unless the best is strictly more urgent
+-- who runs, of the best and of the job of this number, which stays unless the best is strictly more
+-- urgent
 abbrev pub outrun_by : Option Ready → Option Job → ℕ → ℕ
 outrun_by None job number = number
 outrun_by (Some first) None number = number
@@ -163,7 +167,8 @@ with_running made jobs = record jobs { slots = made_in jobs.running made jobs.sl
 abbrev pub with_priority : ℕ → Job → Job
 with_priority priority job = record job { priority = priority }
 
--- change of priority: the running job gets this priority; where the best is then strictly more urgent, it runs
+-- change of priority: the running job gets this priority; where the best is then strictly more
+-- urgent, it runs
 abbrev pub prio : ℕ → Jobs → Outcome
 prio priority jobs = change (with_running (with_priority priority) jobs)
 

@@ -1,5 +1,5 @@
--- What a reader of the landing alarms wants to know, in words that know nothing of how the model computes, but for what one
--- task that fires does.
+-- What a reader of the landing alarms wants to know, in words that know nothing of how the model
+-- computes, but for what one task that fires does.
 use Rattle.std.specs.Prelude.{◌≡◌, ◌⊎◌, ℕ, ◌<◌, ◌≤◌, suc, true, false, List, [], ◌∷◌, ◌++◌, length, map, All, slice_index_or, Option, Some, None}
 use Rattle.agc_plan.specs.declared.reply.Alarm.{Alarm}
 use Rattle.agc_plan.specs.declared.reply.Alarm.TheVariants.{A1201, A1202, A1203}
@@ -34,7 +34,8 @@ SomebodyIsAwake slots = (number : ℕ) × (job : Job) × LivesAwake slots number
 abbrev pub NobodyIsAwake : List (Option Job) → Type 0
 NobodyIsAwake slots = (number : ℕ) (job : Job) → Lives slots number job → job.asleep ≡ true
 
--- the job of this number is awake, no awake job has a greater priority, and none of the same priority a lower number
+-- the job of this number is awake, no awake job has a greater priority, and none of the same
+-- priority a lower number
 pub record IsMostUrgent (slots : List (Option Job)) (number : ℕ) : Type 0 where
   pub job : Job
   pub awake : LivesAwake slots number job
@@ -45,7 +46,8 @@ pub record IsMostUrgent (slots : List (Option Job)) (number : ℕ) : Type 0 wher
 abbrev pub IsUsed : List (Option Job) → ℕ → Type 0
 IsUsed slots number = (job : Job) × Lives slots number job
 
--- there is this number, from 1 to as many as there are slots, nobody has it, and each lower number is somebody's
+-- there is this number, from 1 to as many as there are slots, nobody has it, and each lower number
+-- is somebody's
 pub record IsLeastUnused (slots : List (Option Job)) (number : ℕ) : Type 0 where
   pub low : 1 ≤ number
   pub high : number ≤ length slots
@@ -104,7 +106,8 @@ abbrev pub MissesArea : Action → Work → Type 0
 MissesArea (action.Findvac priority entry) work = IsEachOwned work.jobs.slots
 MissesArea other work = ⊥
 
--- it asks for a job, and as many live as there are numbers; where the job is to have an area, one of the five is nobody's
+-- it asks for a job, and as many live as there are numbers; where the job is to have an area, one
+-- of the five is nobody's
 abbrev pub MissesNumber : Action → Work → Type 0
 MissesNumber (action.Novac priority entry) work = living work.jobs.slots ≡ length work.jobs.slots
 MissesNumber (action.Findvac priority entry) work = SomeAreaIsUnowned work.jobs.slots × (living work.jobs.slots ≡ length work.jobs.slots)
@@ -133,8 +136,9 @@ as_action (request.Rouse at) = action.Rouse at
 as_action (request.List delay task) = action.List delay task
 as_action other = action.Nothing
 
--- these tasks fire one after another, each the first that is due, taken out before its action is done: an action misses
--- nothing, or the task is the last and this alarm tells what its action misses; where none misses anything, there is none
+-- these tasks fire one after another, each the first that is due, taken out before its action is
+-- done: an action misses nothing, or the task is the last and this alarm tells what its action
+-- misses; where none misses anything, there is none
 abbrev pub EndsByLast : List (Task × Action) → Work → List Task → Option Alarm → Type 0
 EndsByLast rows work [] told = told ≡ None
 EndsByLast rows work (task ∷ tasks) told =

@@ -9,7 +9,8 @@ use Rattle.agc_plan.specs.declared.plan.PlanFault.{PlanFault}
 use Rattle.agc_plan.specs.declared.plan.PlanFault.TheVariants.{TaskTwice, PhaseTwice, TooManyAreas}
 use Rattle.agc_plan.specs.Begins.{Begins}
 
--- a plan, as it is written: a row for each task that has an action, an entry for each phase with which something begins, and two actions
+-- a plan, as it is written: a row for each task that has an action, an entry for each phase with
+-- which something begins, and two actions
 pub record Written : Type 0 where
   pub rows : List (Task × Action)
   pub entries : List Begins

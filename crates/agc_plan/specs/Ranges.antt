@@ -1,4 +1,5 @@
--- The ranges of the number types, and of what is asked for: a request's numbers as the types of `src/` keep them.
+-- The ranges of the number types, and of what is asked for: a request's numbers as the types of
+-- `src/` keep them.
 use Rattle.std.specs.Prelude.{ℕ, ◌<◌, ◌≤◌}
 use Rattle.agc_plan.specs.declared.request.Entry.{Entry}
 use Rattle.agc_plan.specs.declared.request.Task.{Task}

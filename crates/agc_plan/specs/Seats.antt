@@ -1,4 +1,5 @@
--- Placement over a run of requests: which core set holds which job. It reads the plain states, and nothing in them reads it.
+-- Placement over a run of requests: which core set holds which job. It reads the plain states, and
+-- nothing in them reads it.
 use Rattle.std.specs.Prelude.{ℕ, ◌+◌, if◌then◌else◌, List, [], ◌∷◌, Option, Some, None, replicate}
 use Rattle.std.specs.List.{fold}
 use Rattle.agc_plan.specs.declared.request.Action.{Action}

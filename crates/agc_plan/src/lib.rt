@@ -1,5 +1,5 @@
-//! Numbers with range, requests and replies, plans, and in `specs/` the whole model: what each request does to the
-//! plain lists of jobs, tasks, phases and alarm codes.
+//! Numbers with range, requests and replies, plans, and in `specs/` the whole model: what each
+//! request does to the plain lists of jobs, tasks, phases and alarm codes.
 #![tactic(auto)]
 
 mod fired;

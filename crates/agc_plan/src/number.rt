@@ -2,7 +2,8 @@ ghost use Rattle.std.specs.Prelude.{◌≡◌, ◌≤◌, ◌↔◌, IsSome, IfS
 
 use std::marker::Model;
 
-/// A job's priority, 1 to 31: the greater is the more urgent. Source: the listings' EXECUTIVE section.
+/// A job's priority, 1 to 31: the greater is the more urgent. Source: the listings' EXECUTIVE
+/// section.
 #[derive(Clone, Copy, PartialEq, Eq, Debug)]
 pub struct Priority {
     value: u8,
@@ -42,8 +43,8 @@ impl Priority {
     }
 }
 
-/// An address, 1 to 16383: where a job or a task begins, or at which a sleeper is to be awakened. Source: the
-/// listings' EXECUTIVE and WAITLIST sections.
+/// An address, 1 to 16383: where a job or a task begins, or at which a sleeper is to be awakened.
+/// Source: the listings' EXECUTIVE and WAITLIST sections.
 #[derive(Clone, Copy, PartialEq, Eq, Debug)]
 pub struct Address {
     value: u16,

@@ -11,10 +11,12 @@ use std::error::Error;
 use std::fmt;
 use std::marker::Model;
 
-/// Why rows and entries make no plan. Of several faults the first in this order is answered. Source: profile.
+/// Why rows and entries make no plan. Of several faults the first in this order is answered.
+/// Source: profile.
 #[derive(Clone, Copy, PartialEq, Eq, Debug)]
 pub enum PlanFault {
-    /// The allocator refused room for the rows or for the entries. It may come in place of each other fault.
+    /// The allocator refused room for the rows or for the entries. It may come in place of each
+    /// other fault.
     NoMemory,
     /// One task, of one address and bank, has two rows.
     TaskTwice,
@@ -48,8 +50,8 @@ impl fmt::Display for PlanFault {
 
 impl Error for PlanFault {}
 
-/// What is done when a task fires, when an era begins, and for a key or radar pulse. Contracts see its rows, its entries
-/// and its two actions. Source: profile.
+/// What is done when a task fires, when an era begins, and for a key or radar pulse. Contracts see
+/// its rows, its entries and its two actions. Source: profile.
 #[derive(Drop)]
 pub struct Plan {
     rows: Vec<(Task, Action)>,
@@ -168,7 +170,8 @@ fn fault_of(rows: &[(Task, Action)], entries: &[PhaseEntry]) -> Option<PlanFault
 }
 
 impl Plan {
-    /// A plan of these rows, entries and actions, each row the action of one task: copies of them, in this order.
+    /// A plan of these rows, entries and actions, each row the action of one task: copies of them,
+    /// in this order.
     ///
     /// # Errors
     ///
@@ -180,9 +183,11 @@ impl Plan {
         key: Action,
         radar: Action,
     ) -> Result<Plan, PlanFault>
-        ensures plan { IfOk result (λ p. p ≡ record { rows = rows.now; entries = entries.now; key = key; radar = radar }) }
+        ensures plan { IfOk result (λ p. p
+            ≡ record { rows = rows.now; entries = entries.now; key = key; radar = radar }) }
         ensures accepted { OnOk result (fault_of rows.now entries.now ≡ None) }
-        ensures refused { IfErr result (λ fault. (fault ≡ PlanFault.NoMemory) ⊎ (fault_of rows.now entries.now ≡ Some fault)) }
+        ensures refused { IfErr result (λ fault. (fault ≡ PlanFault.NoMemory)
+            ⊎ (fault_of rows.now entries.now ≡ Some fault)) }
         ensures quiet { IfOk result BeginsQuietly }
     {
         let mut own_rows = Vec::new(alloc);
@@ -204,8 +209,8 @@ impl Plan {
         }
     }
 
-    /// A law: this plan has no fault, and an era of it begins with no alarm, whatever the six phases, with seven core
-    /// sets or eight.
+    /// A law: this plan has no fault, and an era of it begins with no alarm, whatever the six
+    /// phases, with seven core sets or eight.
     pub fn begins_quietly(&self)
         ensures accepted { fault_of self.now.rows self.now.entries ≡ None }
         ensures quiet { BeginsQuietly self.now }
@@ -220,7 +225,8 @@ impl Plan {
         action_in(&self.rows, *task)
     }
 
-    /// What begins again while a group stands in a phase. None where the plan has no entry for them.
+    /// What begins again while a group stands in a phase. None where the plan has no entry for
+    /// them.
     pub fn entry(&self, group: Group, phase: Phase) -> Option<&PhaseEntry>
         ensures { option_copied result ≡ entry_at self.now.entries group phase }
     {

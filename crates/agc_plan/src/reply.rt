@@ -4,8 +4,8 @@ ghost use Rattle.agc_plan.specs.Steps.{alarm_of, begins};
 use crate::fired::Fired;
 use crate::number::JobNo;
 
-/// An alarm: which table a request, or the action of a task in a tick, found full. Source: the listings' EXECUTIVE and
-/// WAITLIST sections.
+/// An alarm: which table a request, or the action of a task in a tick, found full. Source: the
+/// listings' EXECUTIVE and WAITLIST sections.
 #[derive(Clone, Copy, PartialEq, Eq, Debug)]
 pub enum Alarm {
     /// No VAC area is free: all five are owned.
@@ -16,8 +16,8 @@ pub enum Alarm {
     A1203,
 }
 
-/// An alarm code as FAILREG holds it: 01107, 01201, 01202 or 01203. Source: the listings' FRESH START AND RESTART
-/// section.
+/// An alarm code as FAILREG holds it: 01107, 01201, 01202 or 01203. Source: the listings' FRESH
+/// START AND RESTART section.
 #[derive(Clone, Copy, PartialEq, Eq, Debug)]
 pub enum Code {
     /// The phase words that were found at power-up don't agree, or a phase is above 127.
@@ -49,7 +49,8 @@ pub enum Reply {
     Stored,
     /// A task was listed.
     Listed,
-    /// A centisecond passed: the tasks that fired, in order, and the alarm that one's action raised, if one did.
+    /// A centisecond passed: the tasks that fired, in order, and the alarm that one's action
+    /// raised, if one did.
     Ticked(Fired, Option<Alarm>),
     /// A phase was set.
     Phased,
@@ -60,7 +61,8 @@ pub enum Reply {
 }
 
 impl Reply {
-    /// The alarm that the reply tells: of the request itself, or of an action in a tick. None where it tells none.
+    /// The alarm that the reply tells: of the request itself, or of an action in a tick. None where
+    /// it tells none.
     pub fn alarm(&self) -> Option<Alarm>
         ensures { result ≡ alarm_of self.now }
     {

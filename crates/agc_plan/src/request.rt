@@ -5,7 +5,8 @@ use crate::number::{Address, Delay, Group, Phase, Place, Priority};
 use agc_word::Word;
 use std::marker::Model;
 
-/// Where a job begins: its address, and the word for its bank. Source: the listings' EXECUTIVE section.
+/// Where a job begins: its address, and the word for its bank. Source: the listings' EXECUTIVE
+/// section.
 #[derive(Clone, Copy, PartialEq, Eq, Debug)]
 pub struct Entry {
     /// Where the job begins.
@@ -14,7 +15,8 @@ pub struct Entry {
     pub bank: Word,
 }
 
-/// A task of the Waitlist: its address, and the word for its bank. Source: the listings' WAITLIST section.
+/// A task of the Waitlist: its address, and the word for its bank. Source: the listings' WAITLIST
+/// section.
 #[derive(Clone, Copy, PartialEq, Eq, Debug)]
 pub struct Task {
     /// Where the task begins.
@@ -50,8 +52,8 @@ pub enum JobStart {
 /// What may be asked of the machine. Source: at each request.
 #[derive(Clone, Copy, PartialEq, Eq, Debug)]
 pub enum Request {
-    /// Establish a job without a VAC area, of this priority. Source: the listings' EXECUTIVE section, as for all up to
-    /// `Change`.
+    /// Establish a job without a VAC area, of this priority. Source: the listings' EXECUTIVE
+    /// section, as for all up to `Change`.
     Novac(Priority, Entry),
     /// Establish a job with a VAC area, of this priority.
     Findvac(Priority, Entry),
@@ -69,16 +71,18 @@ pub enum Request {
     Store(Place, Word),
     /// List a task, due this many centiseconds from now. Source: the listings' WAITLIST section.
     List(Delay, Task),
-    /// A centisecond passes: TIME3 counts up, and while a task is due it fires and the plan's action for it is done, up to
-    /// an alarm. Source: the listings' WAITLIST section; actions: profile.
+    /// A centisecond passes: TIME3 counts up, and while a task is due it fires and the plan's
+    /// action for it is done, up to an alarm. Source: the listings' WAITLIST section; actions:
+    /// profile.
     Tick,
-    /// Set the phase of a restart group, 0 for inactive. Source: the listings' PHASE TABLE MAINTENANCE section.
+    /// Set the phase of a restart group, 0 for inactive. Source: the listings' PHASE TABLE
+    /// MAINTENANCE section.
     SetPhase(Group, Phase),
-    /// The software restart: an era begins with phases and codes as they stand. Source: the listings' FRESH START AND
-    /// RESTART section.
+    /// The software restart: an era begins with phases and codes as they stand. Source: the
+    /// listings' FRESH START AND RESTART section.
     Restart,
-    /// The fresh start: an era begins with six phases 0 and no codes. Source: the listings' FRESH START AND RESTART
-    /// section.
+    /// The fresh start: an era begins with six phases 0 and no codes. Source: the listings' FRESH
+    /// START AND RESTART section.
     Fresh,
 }
 
@@ -131,8 +135,8 @@ impl Request {
     }
 }
 
-/// What begins again with a restart while a group stands in a phase: a job, a task, both or neither. Contracts see its
-/// four parts. Source: profile.
+/// What begins again with a restart while a group stands in a phase: a job, a task, both or
+/// neither. Contracts see its four parts. Source: profile.
 #[derive(Clone, Copy, PartialEq, Eq, Debug)]
 pub struct PhaseEntry {
     group: Group,
@@ -163,7 +167,8 @@ impl PhaseEntry {
         task: Option<(Delay, Task)>,
     ) -> Option<PhaseEntry>
         ensures valid { IsSome result ↔ (0 < phase) }
-        ensures value { IfSome result (λ e. e ≡ record { group = group; phase = phase; job = job; task = task }) }
+        ensures value { IfSome result (λ e. e
+            ≡ record { group = group; phase = phase; job = job; task = task }) }
     {
         if phase.get() == 0 {
             None
@@ -199,7 +204,8 @@ impl PhaseEntry {
         self.job
     }
 
-    /// The task that is listed again, if one is, and its delay in centiseconds from the beginning of the era.
+    /// The task that is listed again, if one is, and its delay in centiseconds from the beginning
+    /// of the era.
     pub fn task(&self) -> Option<(Delay, Task)>
         ensures { result ≡ self.now.task }
     {

@@ -296,7 +296,8 @@ fn a_great_plan_is_kept_whole(rt: HostRuntime) -> Result<(), Fail> {
     Ok(())
 }
 
-/// More rows than a bench of 1,048,576 bytes has. Built, this takes a moment; `rt try` wants `--seconds 300` for it.
+/// More rows than a bench of 1,048,576 bytes has. Built, this takes a moment; `rt try` wants
+/// `--seconds 300` for it.
 #[test]
 fn a_plan_of_25000_rows(rt: HostRuntime) -> Result<(), Fail> {
     let rows = many_rows(rt.alloc(), 25000)?;
@@ -310,9 +311,9 @@ fn a_plan_of_25000_rows(rt: HostRuntime) -> Result<(), Fail> {
     Ok(())
 }
 
-/// Each call grows twice, for its rows and for its entries. `rt try --test --fail-alloc N` refuses the Nth growth: 1 and
-/// 2 are the first call's, 3 and 4 the second's, and with 5 or none given no growth is refused. That call answers
-/// `NoMemory`, and the other gives the plan.
+/// Each call grows twice, for its rows and for its entries. `rt try --test --fail-alloc N` refuses
+/// the Nth growth: 1 and 2 are the first call's, 3 and 4 the second's, and with 5 or none given no
+/// growth is refused. That call answers `NoMemory`, and the other gives the plan.
 #[test]
 fn a_refused_growth_is_no_memory(rt: HostRuntime) -> Result<(), Fail> {
     let rows = [(task(1024, 5)?, lists()?)];

@@ -64,7 +64,8 @@ abbrev pub tasks_of : List Pending → List Task
 tasks_of [] = []
 tasks_of (x ∷ xs) = x.task ∷ tasks_of xs
 
--- where no task has an action and none is overdue: those that are due fire, in order of arrival, and the others stay
+-- where no task has an action and none is overdue: those that are due fire, in order of arrival,
+-- and the others stay
 pub record FiresDue (work : Work) (fired : List Task) (fires : Fires) : Type 0 where
   pub time_is : fires.work.agenda.time ≡ work.agenda.time
   pub fired_is : fires.fired ≡ fired ++ tasks_of (due_at work.agenda.time work.agenda.tasks)

@@ -17,7 +17,8 @@ halved (suc n) = next (halved n)
     next (Even k is) = Odd k (omega arith)
     next (Odd k is) = Even (k + 1) (omega arith)
 
--- what holds of TIME3, of each word of LST1, and of each address and each bank word of LST2 holds of every place
+-- what holds of TIME3, of each word of LST1, and of each address and each bank word of LST2 holds
+-- of every place
 pub at_each_place : (P : ℕ → Type 0) → P layout.time3 → ((k : ℕ) → k < 8 → P (layout.lst1 + k)) → ((k : ℕ) → k < 9 → P (layout.lst2 + 2 * k)) → ((k : ℕ) → k < 9 → P (layout.lst2 + 1 + 2 * k)) → (i : ℕ) → InTable i → P i
 at_each_place P counter gap at bank i within =
     let from : layout.time3 ≤ i = within.0 in

@@ -9,7 +9,8 @@ use Rattle.agc_plan.specs.Tasks.{Waiting}
 use Rattle.agc_wait.specs.Table.{blank_gap, InTable, waits_of, waits_from, time3, lst1, at_in, bank_in, distance_of, gap_of, IsLawfulTable}
 use Rattle.agc_wait.specs.Writing.{place_in, no_task}
 
--- the words hold these tasks, at most nine and none further than the longest delay, and all else in the table is blank
+-- the words hold these tasks, at most nine and none further than the longest delay, and all else in
+-- the table is blank
 pub record Carries (words : List ℕ) (waits : List Waiting) : Type 0 where
   pub word : (i : ℕ) → InTable i → slice_index words i < 32768
   pub nine : length waits ≤ 9

@@ -169,7 +169,8 @@ Carries-without_first old new (w ∷ ws) carries due gone =
     let now : w.distance ≡ 0 = grind (arith, common_steps) in
     Carries-taken old new w ws carries now gone
 
--- the first, where it is due: it is there, and the gap to the next is no longer than the longest delay
+-- the first, where it is due: it is there, and the gap to the next is no longer than the longest
+-- delay
 pub record IsFirstDue (words : List ℕ) : Type 0 where
   pub low : 1 ≤ at_in words 0
   pub high : at_in words 0 ≤ 16383

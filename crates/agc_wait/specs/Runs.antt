@@ -11,7 +11,8 @@ pub data Move : Type 0 where
   Listing : (delay : ℕ) → (task : Task) → Move
   Ticking : Move
 
--- the jobs and tasks, all tasks that were listed, with their due times, and all that fired, with the times at which they did
+-- the jobs and tasks, all tasks that were listed, with their due times, and all that fired, with
+-- the times at which they did
 pub record Run : Type 0 where
   pub work : Work
   pub accepted : List Pending
@@ -27,7 +28,8 @@ abbrev pub run_listed : ℕ → Task → Run → Run
 run_listed delay task run =
     record run { work = record run.work { agenda = listed delay task run.work.agenda }; accepted = run.accepted ++ record { task = task; due = run.work.agenda.time + delay } ∷ [] }
 
--- one more move, where no task has an action, and a tenth listing is passed over, where the machine would lose all tasks
+-- one more move, where no task has an action, and a tenth listing is passed over, where the machine
+-- would lose all tasks
 abbrev pub moved : Run → Move → Run
 moved run (Listing delay task) = if has_room run.work.agenda then run_listed delay task run else run
 moved run Ticking =
@@ -43,7 +45,8 @@ abbrev pub MovesLater : Move → Type 0
 MovesLater (Listing delay task) = 1 ≤ delay
 MovesLater Ticking = Unit {0}
 
--- what was due by now fired when it was due, in order of arrival, and nothing else fired; what is due later waits, and nothing else does
+-- what was due by now fired when it was due, in order of arrival, and nothing else fired; what is
+-- due later waits, and nothing else does
 pub record FiresWhenDue (run : Run) : Type 0 where
   pub fired : (time : ℕ) → time ≤ run.work.agenda.time → due_at time run.fired ≡ due_at time run.accepted
   pub none_early : (time : ℕ) → run.work.agenda.time < time → due_at time run.fired ≡ []
@@ -55,7 +58,8 @@ abbrev pub first_of : List Pending → Option Task
 first_of [] = None
 first_of (x ∷ xs) = Some x.task
 
--- if a task is due, the earliest arrival of the due ones is the first in order, and without it the others are in order
+-- if a task is due, the earliest arrival of the due ones is the first in order, and without it the
+-- others are in order
 pub record FiresInOrder (time : ℕ) (tasks ordered : List Pending) : Type 0 where
   pub first : IsSome (first_due time tasks) → first_due time tasks ≡ first_of ordered
   pub rest : IsSome (first_due time tasks) → InOrder (without_first_due time tasks) (drop 1 ordered)

@@ -7,8 +7,8 @@ use crate::coding::{TASKS, distance_of, gap_of};
 use agc_word::Erasable;
 use agc_word::layout::{LST1, LST2, TIME3};
 
-/// A place for a new task: how far the task before it is from now, and the one that stands there, if
-/// one does.
+/// A place for a new task: how far the task before it is from now, and the one that stands there,
+/// if one does.
 #[derive(Clone, Copy)]
 pub(crate) struct Spot {
     pub(crate) place: usize,

@@ -39,8 +39,8 @@ pub fn due(e: &Erasable) -> bool
     e.get(LST2).bits() != 0 && e.get(TIME3).bits() == 0
 }
 
-/// A centisecond passes; no task may be due before it. Answers whether one is due now: whether TIME3
-/// overflowed. It stands still where no task waits. Source: the listings' WAITLIST section.
+/// A centisecond passes; no task may be due before it. Answers whether one is due now: whether
+/// TIME3 overflowed. It stands still where no task waits. Source: the listings' WAITLIST section.
 pub fn count_time3(e: &mut Erasable) -> bool
     requires lawful { IsLawfulTable e.old }
     requires none_due { is_due (waits_of e.old) ≡ false }
@@ -59,8 +59,8 @@ pub fn count_time3(e: &mut Erasable) -> bool
     }
 }
 
-/// TIME3 once the first task is gone: the second task's address word, and the gap to it, say how far
-/// that is.
+/// TIME3 once the first task is gone: the second task's address word, and the gap to it, say how
+/// far that is.
 fn next_counter(second: Word, gap: Word) -> Word
     requires { 1 ≤ second → gap_of gap ≤ 16250 }
     ensures { result ≡ (if second == 0 then 0 else counter_at (gap_of gap)) }

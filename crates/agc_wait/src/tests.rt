@@ -6,7 +6,8 @@ use agc_word::layout::{LST1, LST2, PHASE_WORDS, TIME3};
 use agc_word::{Erasable, Sets, Word};
 use std::test::Fail;
 
-/// Tasks listed one after another, ticks, the tasks that the last tick fires, and the words that follow.
+/// Tasks listed one after another, ticks, the tasks that the last tick fires, and the words that
+/// follow.
 struct Case {
     name: &'static str,
     listed: &'static [(u16, u16)],
@@ -256,7 +257,8 @@ fn a_gap_of_one_as_minus_zero(rt: HostRuntime) -> Result<(), Fail> {
     Ok(())
 }
 
-/// Words that are in order: two changes each on those of three tasks, due in 5, 5 and 12 centiseconds.
+/// Words that are in order: two changes each on those of three tasks, due in 5, 5 and 12
+/// centiseconds.
 const IN_ORDER: [[(usize, u16); 2]; 6] = [
     // the first two are due now
     [(TIME3, 0), (TIME3, 0)],
@@ -359,7 +361,8 @@ fn after(seed: u32) -> u32 {
     seed.wrapping_mul(1_664_525).wrapping_add(1_013_904_223)
 }
 
-/// The earliest arrival that is due by this time, of tasks in order of arrival, each with its due time.
+/// The earliest arrival that is due by this time, of tasks in order of arrival, each with its due
+/// time.
 fn first_due(plain: &[(u32, u16)], time: u32) -> Option<usize>
     ensures { IfSome result (λ i. i < length plain.now) }
 {

@@ -5,7 +5,8 @@ use Rattle.std.specs.Prelude.{◌≡◌, ◌⊎◌, ℕ, ◌+◌, ◌-◌, ◌*�
 abbrev pub set_size : ℕ
 set_size = 12
 
--- how many words all other tables have together: five use words, NEWJOB, TIME3, LST1, LST2, phase words and FAILREG
+-- how many words all other tables have together: five use words, NEWJOB, TIME3, LST1, LST2, phase
+-- words and FAILREG
 abbrev pub others_size : ℕ
 others_size = 48
 

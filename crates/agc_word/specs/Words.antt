@@ -18,7 +18,8 @@ word_of (negsuc less) = complement (less + 1)
 abbrev pub carried_round : ℕ → ℕ
 carried_round bits = if nat_lt bits 0o100000 then bits else (bits - 0o77777)
 
--- the sum of two words, and whether it overflows: whether the exact sum of both values is beyond 16383 on either side
+-- the sum of two words, and whether it overflows: whether the exact sum of both values is beyond
+-- 16383 on either side
 abbrev pub sum_of : ℕ → ℕ → ℕ × Bool
 sum_of a b =
     let exact = value_of a +ℤ value_of b in

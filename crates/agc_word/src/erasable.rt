@@ -6,8 +6,8 @@ use crate::sets::Sets;
 use crate::word::Word;
 use std::marker::Model;
 
-/// The words of erasable memory that the model has, by place, from 0: 132 with seven core sets, 144 with eight. Contracts
-/// see them as the list of their bits. Source: profile.
+/// The words of erasable memory that the model has, by place, from 0: 132 with seven core sets, 144
+/// with eight. Contracts see them as the list of their bits. Source: profile.
 #[derive(Drop)]
 pub struct Erasable {
     sets: Sets,
@@ -23,7 +23,8 @@ impl Model for Erasable {
 
     ghost view = { λ e. words_with e.sets e.words };
 
-    ghost invariant = { λ e. (length e.words ≡ 144) × (e.words ≡ padded (words_with e.sets e.words)) };
+    ghost invariant = { λ e. (length e.words ≡ 144)
+        × (e.words ≡ padded (words_with e.sets e.words)) };
 }
 
 impl Erasable {
@@ -46,7 +47,8 @@ impl Erasable {
         self.sets
     }
 
-    /// The word at a place, which must be below 132 with seven core sets, below 144 with eight. Source: profile.
+    /// The word at a place, which must be below 132 with seven core sets, below 144 with eight.
+    /// Source: profile.
     pub fn get(&self, place: usize) -> Word
         requires { place < places_in self.now }
         ensures value { result ≡ slice_index self.now place }
@@ -59,8 +61,8 @@ impl Erasable {
         word
     }
 
-    /// Sets the word at a place, which must be below 132 with seven core sets, below 144 with eight. No other word
-    /// changes. Source: profile.
+    /// Sets the word at a place, which must be below 132 with seven core sets, below 144 with
+    /// eight. No other word changes. Source: profile.
     pub fn set(&mut self, place: usize, word: Word)
         requires { place < places_in self.old }
         ensures value { self.new ≡ slice_set self.old place word }

@@ -1,4 +1,5 @@
-//! Where each table stands in the erasable words. Source: the listings' erasable assignments; the places: profile.
+//! Where each table stands in the erasable words. Source: the listings' erasable assignments; the
+//! places: profile.
 ghost use Rattle.std.specs.Prelude.{◌≡◌, ◌<◌, ◌≤◌};
 ghost use Rattle.agc_word.specs.Layout.{set_place, use_place, address_of, area_of};
 
@@ -54,7 +55,8 @@ pub const FIRST_AREA: u16 = 0o300;
 /// How far a VAC area is from the next. Source: the listings' erasable assignments.
 pub const AREA_SIZE: u16 = 0o54;
 
-/// The address of a VAC area, 1 to 5: 0300, 0354, 0430, 0504 or 0560 octal; 0 for no area. Source: profile.
+/// The address of a VAC area, 1 to 5: 0300, 0354, 0430, 0504 or 0560 octal; 0 for no area. Source:
+/// profile.
 pub fn address_of(area: u16) -> u16
     requires { area ≤ 5 }
     ensures { result ≡ address_of area }

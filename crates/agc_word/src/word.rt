@@ -3,8 +3,9 @@ ghost use Rattle.agc_word.specs.Words.{value_of, complement, word_of, sum_of, ca
 
 use std::marker::Model;
 
-/// A word of fifteen bits in ones' complement, 00000 to 77777 octal, of value -16383 to 16383. 77777 is minus zero.
-/// Contracts see it as its bits, a number below 32768. Source: the listings, in all sections.
+/// A word of fifteen bits in ones' complement, 00000 to 77777 octal, of value -16383 to 16383.
+/// 77777 is minus zero. Contracts see it as its bits, a number below 32768. Source: the listings,
+/// in all sections.
 #[derive(Clone, Copy, PartialEq, Eq, Debug)]
 pub struct Word {
     bits: u16,
@@ -35,7 +36,8 @@ impl Word {
         }
     }
 
-    /// The word of these bits, which are below 32768: for a number that is known to be. Source: the listings' words.
+    /// The word of these bits, which are below 32768: for a number that is known to be. Source: the
+    /// listings' words.
     pub fn of_bits(bits: u16) -> Word
         requires { bits < 32768 }
         ensures { result ≡ bits }
@@ -58,8 +60,8 @@ impl Word {
         self.bits
     }
 
-    /// The negative: each bit turned, so that 00000 gives 77777, and the negative of that the same word again. Source:
-    /// the listings' words.
+    /// The negative: each bit turned, so that 00000 gives 77777, and the negative of that the same
+    /// word again. Source: the listings' words.
     pub fn neg(self) -> Word
         ensures turned { result ≡ complement self }
         ensures twice { complement result ≡ self }
@@ -69,7 +71,8 @@ impl Word {
         }
     }
 
-    /// The word of a value: 00000 for 0, the complement of its amount for a negative value. None outside -16383 to
+    /// The word of a value: 00000 for 0, the complement of its amount for a negative value. None
+    /// outside -16383 to
     /// 16383. Source: the listings' words.
     pub fn of_value(value: i32) -> Option<Word>
         ensures valid { IsSome result ↔ ((neg_ℤ (pos 16383) ≤ℤ value) × (value ≤ℤ pos 16383)) }
@@ -98,9 +101,9 @@ impl Word {
         }
     }
 
-    /// The sum, and whether the exact sum of both values overflows: whether it is beyond -16383 to 16383. Where it is, the
-    /// value of the answer is nearer to zero by 16384 than the exact sum. Source: the listings' words, with
-    /// end-around carry; what an overflow leaves: profile.
+    /// The sum, and whether the exact sum of both values overflows: whether it is beyond -16383 to
+    /// 16383. Where it is, the value of the answer is nearer to zero by 16384 than the exact sum.
+    /// Source: the listings' words, with end-around carry; what an overflow leaves: profile.
     pub fn add(self, other: Word) -> (Word, bool)
         ensures sum { result ≡ sum_of self other }
         ensures exact { IsFalse result.1 → value_of result.0 ≡ value_of self +ℤ value_of other }
@@ -122,8 +125,8 @@ impl Word {
         }
     }
 
-    /// The sum with 00001, and whether it overflows: 37777 gives 00000 and true. Minus zero gives 00001. Source: the
-    /// listings' counters.
+    /// The sum with 00001, and whether it overflows: 37777 gives 00000 and true. Minus zero gives
+    /// 00001. Source: the listings' counters.
     pub fn count_up(self) -> (Word, bool)
         ensures sum { result ≡ sum_of self 1 }
         ensures next { self < 16383 → result ≡ (self + 1, false) }
@@ -139,7 +142,8 @@ impl Word {
         self.bits == 0o77777
     }
 
-    /// Whether the first of the fifteen bits is set: 40000 to 77777, minus zero too. Source: the listings' words.
+    /// Whether the first of the fifteen bits is set: 40000 to 77777, minus zero too. Source: the
+    /// listings' words.
     pub fn is_negative(self) -> bool
         ensures { IsTrue result ↔ (0o40000 ≤ self) }
     {
@@ -164,6 +168,8 @@ fn carried_round(sum: u16) -> Word
     if sum < 32768 {
         Word { bits: sum }
     } else {
-        Word { bits: sum - 0o77777 }
+        Word {
+            bits: sum - 0o77777,
+        }
     }
 }
