@@ -20,6 +20,8 @@ pub use totals::Totals;
 #[cfg(test)]
 mod image_tests;
 #[cfg(test)]
+mod migration_tests;
+#[cfg(test)]
 mod plain_tables;
 #[cfg(test)]
 mod tests;
