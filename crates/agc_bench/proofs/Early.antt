@@ -10,8 +10,8 @@ use Rattle.agc_latch.specs.declared.accounts.Settled.{Settled}
 use Rattle.std.specs.Io.KnownBytes.{Appends}
 use Rattle.agc_text.specs.Pulses.{pulses_text}
 use Rattle.agc_text.specs.Report.{report_text}
-use Rattle.agc_text.specs.Writing.{AppendsFront}
-use Rattle.agc_bench.specs.Threads.{AreSettled, IsEarly, IsRun, IsRunReport, WritesRun}
+use Rattle.agc_text.specs.Writing.{AppendsFront, Writes}
+use Rattle.agc_bench.specs.Threads.{AreSettled, IsEarly, IsRun, IsRunReport, WritesRun, WritesSettled}
 
 -- an early fault is handed on, and nothing was written
 pub early_writes : {T : Type 0} (may_stop : ℕ → ℕ → Type 0) (bench : Benched) (written : Option (List ℕ)) (fault : RunFault) (result : Result T RunFault)
@@ -22,13 +22,21 @@ early_writes may_stop bench written fault (Err NoThread) early is same = refl
 early_writes may_stop bench written fault (Err Lost) early is same = absurd (subst IsEarly (sym same) early)
 early_writes may_stop bench written fault (Err Output) early is same = absurd (subst IsEarly (sym same) early)
 
+-- the report of as many core sets as the machine has, and the lines of pulses
+pub settled_written : {T E : Type 0} (old new : Option (List ℕ)) (machine : Machined) (totals : Totals) (settled : Settled) (sets : ℕ) (words : List ℕ) (result : Result T E)
+    → sets ≡ machine.plan.sets → HandsOut machine words
+    → Writes old new (report_text sets words totals ++ pulses_text settled.posted settled.applied settled.owed) result
+    → WritesSettled old new machine totals settled result
+settled_written old new machine totals settled sets words result same image written =
+    (words, image, subst (λ (n : ℕ). Writes old new (report_text n words totals ++ pulses_text settled.posted settled.applied settled.owed) result) same written)
+
 -- the text of a run was written
 pub run_written : (may_stop : ℕ → ℕ → Type 0) (bench : Benched) (machine : Machined) (totals : Totals) (settled : Settled) (old new : Option (List ℕ))
     → IsRun may_stop bench machine → totals ≡ machine.totals → AreSettled bench settled
-    → (words : List ℕ) × HandsOut machine words × Appends old new (report_text words totals ++ pulses_text settled.posted settled.applied settled.owed)
+    → (words : List ℕ) × HandsOut machine words × Appends old new (report_text machine.plan.sets words totals ++ pulses_text settled.posted settled.applied settled.owed)
     → (text : List ℕ) × IsRunReport may_stop bench text × Appends old new text
 run_written may_stop bench machine totals settled old new run same pulses written = (
-  report_text written.0 totals ++ pulses_text settled.posted settled.applied settled.owed,
+  report_text machine.plan.sets written.0 totals ++ pulses_text settled.posted settled.applied settled.owed,
   record {
     machine = machine;
     run = run;
@@ -36,7 +44,7 @@ run_written may_stop bench machine totals settled old new run same pulses writte
     words_are = written.1;
     settled = settled;
     pulses = pulses;
-    text_is = ap (λ t. report_text written.0 t ++ pulses_text settled.posted settled.applied settled.owed) same;
+    text_is = ap (λ t. report_text machine.plan.sets written.0 t ++ pulses_text settled.posted settled.applied settled.owed) same;
   },
   written.2,
 )
@@ -44,11 +52,11 @@ run_written may_stop bench machine totals settled old new run same pulses writte
 -- a front of it was written where a write failed
 pub output_writes : {T : Type 0} (may_stop : ℕ → ℕ → Type 0) (bench : Benched) (machine : Machined) (totals : Totals) (settled : Settled) (old new : Option (List ℕ)) (result : Result T RunFault)
     → IsRun may_stop bench machine → totals ≡ machine.totals → AreSettled bench settled
-    → (words : List ℕ) × HandsOut machine words × AppendsFront old new (report_text words totals ++ pulses_text settled.posted settled.applied settled.owed)
+    → (words : List ℕ) × HandsOut machine words × AppendsFront old new (report_text machine.plan.sets words totals ++ pulses_text settled.posted settled.applied settled.owed)
     → IsErr result → IsErrAnd result (λ e. e ≡ Output) → WritesRun may_stop bench old new result
 output_writes may_stop bench machine totals settled old new (Ok x) run same pulses written is output = absurd cc
 output_writes may_stop bench machine totals settled old new (Err Output) run same pulses written is output = (
-  report_text written.0 totals ++ pulses_text settled.posted settled.applied settled.owed,
+  report_text machine.plan.sets written.0 totals ++ pulses_text settled.posted settled.applied settled.owed,
   record {
     machine = machine;
     run = run;
@@ -56,7 +64,7 @@ output_writes may_stop bench machine totals settled old new (Err Output) run sam
     words_are = written.1;
     settled = settled;
     pulses = pulses;
-    text_is = ap (λ t. report_text written.0 t ++ pulses_text settled.posted settled.applied settled.owed) same;
+    text_is = ap (λ t. report_text machine.plan.sets written.0 t ++ pulses_text settled.posted settled.applied settled.owed) same;
   },
   written.2,
 )

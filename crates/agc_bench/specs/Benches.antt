@@ -19,6 +19,7 @@ use Rattle.agc_bench.specs.Texts.{RowTexts, EntryTexts, DeviceTexts, Settings, L
 
 -- the values of a bench
 pub record Benched : Type 0 where
+  pub sets : ℕ
   pub limit : ℕ
   pub allowance : ℕ
   pub attends : ℕ
@@ -64,7 +65,7 @@ power_texts power = option_map (map (octal 5)) power
 
 -- the numbers and texts of what a bench has once
 abbrev pub settings_texts : Benched → Settings
-settings_texts b = record { limit = b.limit; allowance = b.allowance; attends = b.attends; key = action_line_of b.key; radar = action_line_of b.radar; power = power_texts b.power }
+settings_texts b = record { sets = b.sets; limit = b.limit; allowance = b.allowance; attends = b.attends; key = action_line_of b.key; radar = action_line_of b.radar; power = power_texts b.power }
 
 -- the texts of what a bench has many of
 abbrev pub lists_texts : Benched → Lists
@@ -110,6 +111,7 @@ AreRequests rs = AllByRecursion IsRequest rs
 
 -- the ranges of a bench
 pub record IsInRange (b : Benched) : Type 0 where
+  pub sets : IsBetween 7 8 b.sets
   pub limit : IsBetween 1 1000000 b.limit
   pub allowance : b.allowance ≤ 9223372036854775807
   pub attends : b.attends ≤ 1000

@@ -170,18 +170,19 @@ devices_or_none (Some d) = as_array d >>= λ ds. devices_of ds >>= few
 
 -- the keys of a bench
 abbrev pub bench_keys : List (List ℕ)
-bench_keys = codes "limit" ∷ codes "allowance" ∷ codes "attends" ∷ codes "key" ∷ codes "radar" ∷ codes "power" ∷ codes "script" ∷ codes "task" ∷ codes "phase" ∷ codes "worker" ∷ codes "device" ∷ []
+bench_keys = codes "sets" ∷ codes "limit" ∷ codes "allowance" ∷ codes "attends" ∷ codes "key" ∷ codes "radar" ∷ codes "power" ∷ codes "script" ∷ codes "task" ∷ codes "phase" ∷ codes "worker" ∷ codes "device" ∷ []
 
 -- what a bench has once
 unfoldable pub settings_in : Members → Option Settings
 settings_in ms = do
+  sets ← number_or 7 7 8 (get_member (codes "sets") ms)
   limit ← number_or 1000 1 1000000 (get_member (codes "limit") ms)
   allowance ← number_or 1000000 0 9223372036854775807 (get_member (codes "allowance") ms)
   attends ← number_or 16 0 1000 (get_member (codes "attends") ms)
   key ← text_or (codes "nothing") (get_member (codes "key") ms)
   radar ← text_or (codes "nothing") (get_member (codes "radar") ms)
   power ← power_or_none (get_member (codes "power") ms)
-  Some (record { limit = limit; allowance = allowance; attends = attends; key = key; radar = radar; power = power })
+  Some (record { sets = sets; limit = limit; allowance = allowance; attends = attends; key = key; radar = radar; power = power })
 
 -- what a bench has many of
 unfoldable pub lists_in : Members → Option Lists

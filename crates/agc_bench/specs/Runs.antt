@@ -37,11 +37,11 @@ bench_base (Some words) = power_base (pairs_agree words) words
 abbrev pub plan_of : Benched → Written
 plan_of bench = record { rows = bench.rows; entries = bench.entries; key = bench.key; radar = bench.radar }
 
--- and on how many core sets: seven
+-- and on how many core sets
 abbrev pub bench_plan : Benched → Planned
-bench_plan bench = planned_with (plan_of bench) 7
+bench_plan bench = planned_with (plan_of bench) bench.sets
 
--- the machine of a bench, which has seven core sets
+-- the machine of a bench
 unfoldable pub bench_machine : Benched → Machined
 bench_machine bench = begun_with (bench_plan bench) bench.limit bench.allowance (bench_base bench.power)
 

@@ -13,13 +13,14 @@ use Rattle.agc_text.specs.Writing.{AppendsFront, Writes}
 -- the report of a machine's totals, and of words that are the machine's, was written and nothing else; where a write
 -- failed, a front of it
 abbrev pub WritesReport : {T E : Type 0} → Option (List ℕ) → Option (List ℕ) → Machined → Result T E → Type 0
-WritesReport old new machine result = (words : List ℕ) × HandsOut machine words × Writes old new (report_text words machine.totals) result
+WritesReport old new machine result = (words : List ℕ) × HandsOut machine words × Writes old new (report_text machine.plan.sets words machine.totals) result
 
 -- the text of a session: a line for each answer, then the report of totals and words of the machine that was reached
 pub record IsSession (machine : Machined) (requests : List Request) (text : List ℕ) : Type 0 where
   pub words : List ℕ
   pub words_are : HandsOut (after_all machine requests) words
-  pub text_is : text ≡ answer_lines machine requests ++ report_text words (after_all machine requests).totals
+  pub text_is : text ≡ answer_lines machine requests
+      ++ report_text (after_all machine requests).plan.sets words (after_all machine requests).totals
 
 -- a front of a session's text was written: of its answers' lines, or these all and a front of the report
 abbrev pub AppendsSessionFront : Option (List ℕ) → Option (List ℕ) → Machined → List Request → Type 0

@@ -21,6 +21,7 @@ pub record DeviceTexts : Type 0 where
 
 -- what a bench has once
 pub record Settings : Type 0 where
+  pub sets : ℕ
   pub limit : ℕ
   pub allowance : ℕ
   pub attends : ℕ

@@ -90,7 +90,7 @@ pub record IsRunReport (may_stop : ℕ → ℕ → Type 0) (bench : Benched) (te
   pub words_are : HandsOut machine words
   pub settled : Settled
   pub pulses : AreSettled bench settled
-  pub text_is : text ≡ report_text words machine.totals
+  pub text_is : text ≡ report_text machine.plan.sets words machine.totals
       ++ pulses_text settled.posted settled.applied settled.owed
 
 -- of a machine's words, of these totals and of what became of pulses the lines were written and
@@ -98,7 +98,7 @@ pub record IsRunReport (may_stop : ℕ → ℕ → Type 0) (bench : Benched) (te
 abbrev pub WritesSettled : {T E : Type 0} → Option (List ℕ) → Option (List ℕ)
     → Machined → Totals → Settled → Result T E → Type 0
 WritesSettled old new machine totals settled result = (words : List ℕ) × HandsOut machine words
-    × Writes old new (report_text words totals
+    × Writes old new (report_text machine.plan.sets words totals
     ++ pulses_text settled.posted settled.applied settled.owed) result
 
 -- a fault that comes before the first write; Lost is never answered

@@ -1,5 +1,6 @@
 ghost use Rattle.std.specs.Prelude.{◌≡◌, ◌≢◌, ◌≤◌, ◌⊎◌, length, map, Some, None, IfOk, IfErr};
 ghost use Rattle.toml.specs.Parse.{parse_document};
+ghost use Rattle.agc_word.specs.Profiles.{count_of};
 ghost use Rattle.agc_plan.specs.Plans.{fault_of};
 ghost use Rattle.agc_plan.specs.declared.plan.PlanFault.{PlanFault};
 ghost use Rattle.agc_bench.specs.Benches.{Benched, bench_texts, IsInRange, IsBench};
@@ -13,12 +14,13 @@ use crate::values::{devices_of, entries_of, power_of, requests_of, rows_of, work
 use agc_desk::Line;
 use agc_plan::{Action, Limit, PhaseEntry, Plan, Request, Task};
 use agc_text::parse_action;
-use agc_word::Word;
+use agc_word::{Sets, Word};
 use std::alloc::Global;
 use std::marker::Model;
 
 #[derive(Drop)]
 struct Parts {
+    sets: Sets,
     limit: Limit,
     allowance: u64,
     attends: u32,
@@ -34,11 +36,13 @@ struct Parts {
 
 impl Model for Parts {
     ghost use Rattle.std.specs.Prelude.{map};
+    ghost use Rattle.agc_word.specs.Profiles.{count_of};
     ghost use Rattle.agc_bench.specs.Benches.{Benched};
 
     ghost Value = { Benched };
 
     ghost view = { λ p. record {
+      sets = count_of p.sets;
       limit = p.limit;
       allowance = p.allowance;
       attends = p.attends;
@@ -71,6 +75,13 @@ impl Model for Bench {
 }
 
 impl Bench {
+    /// How many core sets the machine has. Source: profile.
+    pub fn sets(&self) -> Sets
+        ensures { count_of result ≡ self.now.sets }
+    {
+        self.parts.sets
+    }
+
     /// How many requests the log may hold, 1 to 1,000,000. Source: profile.
     pub fn limit(&self) -> Limit
         ensures { result ≡ self.now.limit }
@@ -181,6 +192,7 @@ fn parts_of(alloc: Global, texts: &Texts<'_>) -> Result<Parts, BenchFault>
     let workers = workers_of(alloc, texts.lists.workers.as_slice())?;
     let devices = devices_of(alloc, texts.lists.devices.as_slice())?;
     Ok(Parts {
+        sets: texts.settings.sets,
         limit,
         allowance: texts.settings.allowance,
         attends: texts.settings.attends,

@@ -5,11 +5,14 @@ ghost use Rattle.std.specs.List.{list_all};
 ghost use Rattle.std.specs.BTreeMap.{keys};
 ghost use Rattle.toml.specs.Data.{get_member};
 ghost use Rattle.toml.specs.View.{view, items_view, table_view};
+ghost use Rattle.agc_word.specs.Profiles.{count_of};
+ghost use Rattle.agc_plan.specs.Ranges.{IsBetween};
 ghost use Rattle.agc_bench.specs.Gives.{GivesOrKey};
 ghost use Rattle.agc_bench.specs.Keys.{is_among, has_only, number_in, number_at, number_or, text_at, text_or, optional_text, texts_of, texts_data, texts_or_none, power_or_none, row_in, row_data, rows_of, rows_or_none, entry_in, entry_data, entries_of, entries_or_none, worker_in, worker_data, workers_of, workers_or_none, device_in, device_data, devices_of, devices_or_none, bench_keys, settings_in, lists_in, texts_in};
 
 use crate::fault::BenchFault;
 use crate::texts::{DeviceTexts, EntryTexts, Lists, RowTexts, Settings, Texts};
+use agc_word::Sets;
 use std::alloc::Global;
 use toml::{Table, Value};
 
@@ -432,6 +435,17 @@ fn attends_of(value: Option<&Value>) -> Option<u32>
     Some(number_or(value, 16, 0, 1000)? as u32)
 }
 
+fn sets_of(value: Option<&Value>) -> Option<Sets>
+    ensures value { option_map count_of result ≡ number_or 7 7 8 (option_map (λ v. view v.now) value.entry) }
+    ensures range { IfSome result (λ sets. IsBetween 7 8 (count_of sets)) }
+{
+    if number_or(value, 7, 7, 8)? == 7 {
+        Some(Sets::Seven)
+    } else {
+        Some(Sets::Eight)
+    }
+}
+
 /// What an option holds, and a fault `Key` where there is nothing.
 fn or_key<T: Drop>(value: Option<T>) -> Result<T, BenchFault>
     ensures { GivesOrKey (λ v. v) result value }
@@ -446,6 +460,7 @@ fn or_key<T: Drop>(value: Option<T>) -> Result<T, BenchFault>
 fn settings_in(alloc: Global, table: &Table) -> Result<Settings<'_>, BenchFault>
     ensures { GivesOrKey (λ s. s) result (settings_in (table_view table.now)) }
 {
+    let sets = or_key(sets_of(value_at(table, "sets")))?;
     let limit = or_key(limit_of(value_at(table, "limit")))?;
     let allowance = or_key(allowance_of(value_at(table, "allowance")))?;
     let attends = or_key(attends_of(value_at(table, "attends")))?;
@@ -453,6 +468,7 @@ fn settings_in(alloc: Global, table: &Table) -> Result<Settings<'_>, BenchFault>
     let radar = or_key(text_or(value_at(table, "radar"), "nothing"))?;
     let power = power_at(alloc, value_at(table, "power"))?;
     Ok(Settings {
+        sets,
         limit,
         allowance,
         attends,
@@ -487,6 +503,7 @@ fn has_bench_keys(table: &Table) -> bool
     has_only(
         table,
         &[
+            "sets",
             "limit",
             "allowance",
             "attends",

@@ -2,7 +2,7 @@ use super::*;
 use agc_plan::{
     Action, Address, Delay, Entry, Group, JobStart, Phase, PhaseEntry, Priority, Request, Task,
 };
-use agc_word::Word;
+use agc_word::{Sets, Word};
 use std::alloc::Global;
 use std::test::Fail;
 
@@ -25,6 +25,8 @@ fn documents_that_are_benches(rt: HostRuntime) {
         "limit = 1",
         "limit = 1000000\nallowance = 9223372036854775807\nattends = 1000",
         "allowance = 0\nattends = 0",
+        "sets = 7",
+        "sets = 8",
         "[[phase]]\ngroup = 2\nphase = 3",
         "phase = [{ group = 6, phase = 127, task = \"list 100 04000 00007\" }]",
         EXAMPLE,
@@ -58,7 +60,9 @@ fn documents_with_a_wrong_key(rt: HostRuntime) {
         "script = \"tick\"",
         "allowance = -1",
         "attends = 1001",
-        "sets = 7",
+        "sets = 6",
+        "sets = 9",
+        "sets = \"8\"",
         "limit = 0",
         "limit = 1000001",
         "limit = 1.0",
@@ -168,6 +172,7 @@ fn at_most_32_workers_and_devices(rt: HostRuntime) -> Result<(), Fail> {
 #[test]
 fn values_without_keys(rt: HostRuntime) -> Result<(), Fail> {
     let bench = read_bench(rt.alloc(), "")?;
+    assert_eq!(rt; bench.sets(), Sets::Seven);
     assert_eq!(rt; bench.limit().get(), 1000);
     assert_eq!(rt; bench.allowance(), 1_000_000);
     assert_eq!(rt; bench.attends(), 16);
@@ -218,9 +223,10 @@ fn example_entry() -> Option<PhaseEntry> {
 fn values_of_each_key(rt: HostRuntime) -> Result<(), Fail> {
     let power = times(&rt, 12, "\"00005\", ")?;
     let text = format!(in rt.alloc();
-        "allowance = 7\nattends = 0\nkey = \"rouse 03000\"\nradar = \"list 3 02000 00005\"\npower = [{power}]\nscript = [\"tick\", \"end\"]\n{EXAMPLE}[[task]]\nat = \"02000\"\nbank = \"00005\"\naction = \"rouse 03000\"\n[[worker]]\nscript = [\"change\"]\n[[device]]\nline = \"radar\"\npulses = 3\n"
+        "sets = 8\nallowance = 7\nattends = 0\nkey = \"rouse 03000\"\nradar = \"list 3 02000 00005\"\npower = [{power}]\nscript = [\"tick\", \"end\"]\n{EXAMPLE}[[task]]\nat = \"02000\"\nbank = \"00005\"\naction = \"rouse 03000\"\n[[worker]]\nscript = [\"change\"]\n[[device]]\nline = \"radar\"\npulses = 3\n"
     )?;
     let bench = read_bench(rt.alloc(), text.as_str())?;
+    assert_eq!(rt; bench.sets(), Sets::Eight);
     assert_eq!(rt; bench.limit().get(), 100);
     assert_eq!(rt; bench.allowance(), 7);
     assert_eq!(rt; bench.attends(), 0);

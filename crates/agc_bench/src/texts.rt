@@ -1,4 +1,5 @@
 //! The numbers and texts of a bench, which borrow from its document.
+use agc_word::Sets;
 use std::marker::Model;
 
 /// The texts of a task's row.
@@ -61,6 +62,7 @@ impl<'a> Model for DeviceTexts<'a> {
 /// What a bench has once.
 #[derive(Drop)]
 pub(crate) struct Settings<'a> {
+    pub(crate) sets: Sets,
     pub(crate) limit: u32,
     pub(crate) allowance: u64,
     pub(crate) attends: u32,
@@ -72,11 +74,14 @@ pub(crate) struct Settings<'a> {
 impl<'a> Model for Settings<'a> {
     ghost use Rattle.std.specs.Prelude.{◌≤◌, map};
     ghost use Rattle.std.specs.Option.{option_map};
+    ghost use Rattle.agc_word.specs.Profiles.{count_of};
+    ghost use Rattle.agc_plan.specs.Ranges.{IsBetween};
     ghost use Rattle.agc_bench.specs.Texts.{Settings as Texts};
 
     ghost Value = { Texts };
 
     ghost view = { λ t. record {
+      sets = count_of t.sets;
       limit = t.limit;
       allowance = t.allowance;
       attends = t.attends;
@@ -85,7 +90,7 @@ impl<'a> Model for Settings<'a> {
       power = option_map (λ v. map (λ s. s.now) v.items) t.power;
     } };
 
-    ghost invariant = { λ t. (t.allowance ≤ 9223372036854775807) × (t.attends ≤ 1000) };
+    ghost invariant = { λ t. IsBetween 7 8 (count_of t.sets) × (t.allowance ≤ 9223372036854775807) × (t.attends ≤ 1000) };
 }
 
 /// What a bench has many of.

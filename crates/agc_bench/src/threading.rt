@@ -253,7 +253,7 @@ fn report_run<W: Write>(
     ensures { WritesSettled (W.contents writer.old)
         (W.contents writer.new) machine.now totals.now settled.now result }
 {
-    report(&machine.words(), totals, writer)?;
+    report(machine.sets(), &machine.words(), totals, writer)?;
     report_pulses(&settled.posted, &settled.applied, &settled.owed, writer)
 }
 

@@ -14,8 +14,8 @@ use std::test::Fail;
 
 /// A series of numbers that is always the same.
 #[derive(Drop)]
-struct Random {
-    state: u32,
+pub struct Random {
+    pub state: u32,
 }
 
 impl Random {
@@ -65,7 +65,7 @@ impl Random {
         Ok(Place::new(1 + self.below(6) as u8).ok_or("place")?)
     }
 
-    fn request(&mut self) -> Result<Request, Fail> {
+    pub fn request(&mut self) -> Result<Request, Fail> {
         Ok(match self.below(21) {
             0 | 1 | 2 => Request::Novac(self.priority()?, self.entry()?),
             3 | 4 => Request::Findvac(self.priority()?, self.entry()?),

@@ -1,8 +1,8 @@
 -- The report of a machine's words and totals.
-use Rattle.std.specs.Prelude.{ℕ, ◌*◌, List, [], ◌∷◌, ◌++◌, codes, if◌then◌else◌, ◌==◌, slice_index, take, drop}
+use Rattle.std.specs.Prelude.{ℕ, List, [], ◌∷◌, ◌++◌, codes, if◌then◌else◌, ◌==◌, slice_index, take, drop}
 use Rattle.std.specs.List.{flat_map, range_with_len}
 use Rattle.std.specs.Fmt.{decimal}
-use Rattle.agc_word.specs.Layout.{use_words, newjob, time3, lst1, lst2, phase_words, failreg}
+use Rattle.agc_word.specs.Layout.{set_place, use_words, newjob, time3, lst1, lst2, phase_words, failreg}
 use Rattle.agc_machine.specs.declared.totals.Totals.{Totals}
 use Rattle.agc_text.specs.declared.reporting.ReportLine.{ReportLine}
 use Rattle.agc_text.specs.declared.reporting.ReportLine.TheVariants.{Vac, Newjob, Time3, Lst1, Lst2, Phase, Failreg, Served, Alarms, Restarts}
@@ -18,7 +18,7 @@ set_text set = if slice_index set 11 == 0o77777 then codes " FREE" else words_te
 
 -- the line of core set k
 unfoldable pub set_line : List ℕ → ℕ → List ℕ
-set_line words k = codes "SET " ++ decimal k ++ set_text (words_at (12 * k) 12 words) ++ 10 ∷ []
+set_line words k = codes "SET " ++ decimal k ++ set_text (words_at (set_place k) 12 words) ++ 10 ∷ []
 
 -- a count: a space, and its decimal digits
 abbrev pub count_text : ℕ → List ℕ
@@ -41,9 +41,13 @@ line_text words totals Restarts = codes "RESTARTS" ++ count_text totals.restarts
 unfoldable pub full_line : List ℕ → Totals → ReportLine → List ℕ
 full_line words totals line = line_text words totals line ++ 10 ∷ []
 
--- the lines of core sets 0 to 6
-unfoldable pub sets_text : List ℕ → List ℕ
-sets_text words = flat_map (set_line words) (range_with_len 0 7)
+-- the first line, which says how many core sets there are; a report of seven has none
+abbrev pub profile_text : ℕ → List ℕ
+profile_text sets = if sets == 7 then [] else (codes "SETS " ++ decimal sets ++ 10 ∷ [])
+
+-- the lines of so many core sets, from 0
+unfoldable pub sets_text : ℕ → List ℕ → List ℕ
+sets_text sets words = flat_map (set_line words) (range_with_len 0 sets)
 
 -- the other lines, in their order
 abbrev pub lines : List ReportLine
@@ -53,6 +57,6 @@ lines = Vac ∷ Newjob ∷ Time3 ∷ Lst1 ∷ Lst2 ∷ Phase ∷ Failreg ∷ Ser
 unfoldable pub lines_text : List ℕ → Totals → List ℕ
 lines_text words totals = flat_map (full_line words totals) lines
 
--- the whole report
-abbrev pub report_text : List ℕ → Totals → List ℕ
-report_text words totals = sets_text words ++ lines_text words totals
+-- the whole report of so many core sets
+abbrev pub report_text : ℕ → List ℕ → Totals → List ℕ
+report_text sets words totals = profile_text sets ++ (sets_text sets words ++ lines_text words totals)

@@ -1,14 +1,15 @@
 ghost use Rattle.std.specs.Prelude.{◌≡◌, ◌+◌, ◌*◌, ◌<◌, ◌≤◌, ◌++◌, length};
+ghost use Rattle.agc_word.specs.Profiles.{count_of};
 ghost use Rattle.agc_text.specs.Writing.{Writes};
 ghost use Rattle.agc_text.specs.Replies.{words_text};
-ghost use Rattle.agc_text.specs.Report.{words_at, set_text, set_line, count_text, line_text, full_line, sets_text, lines_text, report_text};
+ghost use Rattle.agc_text.specs.Report.{words_at, set_text, set_line, count_text, line_text, full_line, profile_text, sets_text, lines_text, report_text};
 
 use crate::fault::Output;
 use crate::numerals::{add_number, add_words};
 use crate::writing::put;
 use agc_machine::Totals;
-use agc_word::Word;
-use agc_word::layout::{FAILREG, LST1, LST2, NEWJOB, PHASE_WORDS, TIME3, USE_WORDS};
+use agc_word::layout::{FAILREG, LST1, LST2, NEWJOB, PHASE_WORDS, TIME3, USE_WORDS, set_place};
+use agc_word::{Sets, Word};
 use arrayvec::ArrayString;
 use std::io::Write;
 
@@ -66,30 +67,32 @@ fn add_set(line: &mut ArrayString<128>, set: &[Word])
 #[tactic(auto, unfolding(crate::specs::Report::set_line))]
 fn set_line(words: &[Word], set: usize) -> ArrayString<128>
     requires all { length words.now ≡ 144 }
-    requires set { set < 7 }
+    requires set { set < 8 }
     ensures { result.bytes ≡ set_line words.now set }
 {
     let mut line = ArrayString::new();
     line.push_str("SET ");
     add_number(&mut line, set as u64);
-    add_set(&mut line, words_at(words, 12 * set, 12));
+    add_set(&mut line, words_at(words, set_place(set), 12));
     line.push('\n');
     line
 }
 
 fn put_set<W: Write>(words: &[Word], set: usize, writer: &mut W) -> Result<(), Output>
     requires all { length words.now ≡ 144 }
-    requires set { set < 7 }
+    requires set { set < 8 }
     ensures { Writes (W.contents writer.old) (W.contents writer.new) (set_line words.now set) result }
 {
     put(writer, set_line(words, set).as_bytes())
 }
 
-fn put_sets<W: Write>(words: &[Word], writer: &mut W) -> Result<(), Output>
-    requires { length words.now ≡ 144 }
-    ensures { Writes (W.contents writer.old) (W.contents writer.new) (sets_text words.now) result }
+/// Writes the lines of so many core sets.
+fn put_sets<W: Write>(sets: usize, words: &[Word], writer: &mut W) -> Result<(), Output>
+    requires all { length words.now ≡ 144 }
+    requires sets { sets ≤ 8 }
+    ensures { Writes (W.contents writer.old) (W.contents writer.new) (sets_text sets words.now) result }
 {
-    for set in 0..7 {
+    for set in 0..sets {
         put_set(words, set, writer)?;
     }
     Ok(())
@@ -189,17 +192,34 @@ fn put_lines<W: Write>(words: &[Word], totals: &Totals, writer: &mut W) -> Resul
     Ok(())
 }
 
-/// Writes the report of a machine's words and totals: a line for each core set, the VAC areas' use words, NEWJOB, TIME3,
-/// LST1, LST2, the phase words, FAILREG, and the counts. A set whose PRIORITY is 77777 is written as `FREE`. Words are five
-/// octal digits, counts are decimal. The writer is not flushed. Source: profile.
+/// The line that says how many core sets there are; with seven there is none.
+fn profile_line(sets: Sets) -> &'static str
+    ensures { result.now ≡ profile_text (count_of sets) }
+{
+    match sets {
+        Sets::Seven => "",
+        Sets::Eight => "SETS 8\n",
+    }
+}
+
+/// Writes the report of a machine's words and totals, of so many core sets: a line for each core set, the VAC areas' use
+/// words, NEWJOB, TIME3, LST1, LST2, the phase words, FAILREG, and the counts. With eight sets a line `SETS 8` stands
+/// before them. A set whose PRIORITY is 77777 is written as `FREE`. Words are five octal digits, counts are decimal. The
+/// writer is not flushed. Source: profile.
 ///
 /// # Errors
 ///
 /// Where a write fails, or takes nothing of what is left. A front of the report was then written.
-pub fn report<W: Write>(words: &[Word; 144], totals: &Totals, writer: &mut W) -> Result<(), Output>
-    ensures { Writes (W.contents writer.old) (W.contents writer.new) (report_text words.now totals.now) result }
+pub fn report<W: Write>(
+    sets: Sets,
+    words: &[Word; 144],
+    totals: &Totals,
+    writer: &mut W,
+) -> Result<(), Output>
+    ensures { Writes (W.contents writer.old) (W.contents writer.new) (report_text (count_of sets) words.now totals.now) result }
 {
     let words = &words[..];
-    put_sets(words, writer)?;
+    put(writer, profile_line(sets).as_bytes())?;
+    put_sets(sets.count(), words, writer)?;
     put_lines(words, totals, writer)
 }

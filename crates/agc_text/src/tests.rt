@@ -1,7 +1,7 @@
 use super::*;
 use agc_machine::Totals;
 use agc_plan::{Action, Address, Delay, Entry, Group, Phase, Place, Priority, Request, Task};
-use agc_word::Word;
+use agc_word::{Sets, Word};
 use std::alloc::Global;
 use std::io;
 use std::test::Fail;
@@ -319,9 +319,23 @@ fn the_longest_lines(rt: HostRuntime) -> Result<(), Fail> {
     let word = Word::new(0o12345).ok_or("word")?;
     let mut text = [0u8; 2000];
     let mut rest = &mut text[..];
-    report(&[word; 144], &TOTALS, &mut rest).map_err(|_| "output")?;
+    report(Sets::Seven, &[word; 144], &TOTALS, &mut rest).map_err(|_| "output")?;
     assert_eq!(rt; rest.len().checked_add(FULL.len()), Some(2000));
     assert!(rt; text.starts_with(FULL.as_bytes()));
+    Ok(())
+}
+
+const EIGHT: &str =
+    "SETS 8\nSET 0 00000 00000 00000 00000 00000 00000 00000 00000 00000 00000 00000 00000\nSET 1 00000 00000 00000 00000 00000 00000 00000 00000 00000 00000 00000 00000\nSET 2 00000 00000 00000 00000 00000 00000 00000 00000 00000 00000 00000 00000\nSET 3 00000 00000 00000 00000 00000 00000 00000 00000 00000 00000 00000 00000\nSET 4 00000 00000 00000 00000 00000 00000 00000 00000 00000 00000 00000 00000\nSET 5 00000 00000 00000 00000 00000 00000 00000 00000 00000 00000 00000 00000\nSET 6 00000 00000 00000 00000 00000 00000 00000 00000 00000 00000 00000 00000\nSET 7 FREE\nVAC 00000 00000 00000 00000 00000\nNEWJOB 00000\n";
+
+#[test]
+fn set_seven_comes_after_the_others(rt: HostRuntime) -> Result<(), Fail> {
+    let mut words = [Word::zero(); 144];
+    words[143] = Word::zero().neg();
+    let mut text = [0u8; 2000];
+    let mut rest = &mut text[..];
+    report(Sets::Eight, &words, &TOTALS, &mut rest).map_err(|_| "output")?;
+    assert!(rt; text.starts_with(EIGHT.as_bytes()));
     Ok(())
 }
 
@@ -330,7 +344,7 @@ fn a_write_takes_nothing(rt: HostRuntime) {
     let mut place = [0u8; 0];
     let mut writer = &mut place[..];
     assert_eq!(rt;
-        report(&[Word::zero(); 144], &TOTALS, &mut writer),
+        report(Sets::Seven, &[Word::zero(); 144], &TOTALS, &mut writer),
         Err(Output)
     );
 }
@@ -341,7 +355,10 @@ fn a_report_where_there_is_too_little_room(rt: HostRuntime) -> Result<(), Fail> 
     for room in 0..FULL.len().min(2000) {
         let mut text = [0u8; 2000];
         let mut rest = &mut text[..room];
-        assert_eq!(rt; report(&[word; 144], &TOTALS, &mut rest), Err(Output));
+        assert_eq!(rt;
+            report(Sets::Seven, &[word; 144], &TOTALS, &mut rest),
+            Err(Output)
+        );
         assert_eq!(rt; &text[..room], &FULL.as_bytes()[..room]);
     }
     Ok(())
