@@ -1,5 +1,5 @@
 -- How a call's answer is told in numbers.
-use Rattle.std.specs.Prelude.{◌≡◌, ℕ, List, Some, None}
+use Rattle.std.specs.Prelude.{◌≡◌, ℕ, Bool, if◌then◌else◌, List, Option, Some, None}
 use Rattle.agc_plan.specs.declared.reply.Alarm.{Alarm}
 use Rattle.agc_plan.specs.declared.reply.Alarm.TheVariants.{A1201, A1202, A1203}
 use Rattle.agc_plan.specs.declared.reply.Reply.{Reply}
@@ -28,10 +28,19 @@ told reply.NoJob = said 6 0
 told (reply.Runs number) = said 7 number
 told reply.Stored = said 8 0
 told reply.Listed = said 9 0
-told reply.Phased = said 10 0
-told (reply.Alarmed alarm) = said 11 (alarm_code alarm)
+told (reply.Alarmed alarm) = said 10 (alarm_code alarm)
+told reply.Phased = said 0 0
 told (reply.Ticked fired alarm) = said 0 0
 told reply.Restarted = said 0 0
+
+-- a task was listed, or there was no room
+abbrev pub listing : Bool → Reply
+listing accepted = if accepted then reply.Listed else reply.Alarmed A1203
+
+-- the number of a job, 0 for none
+abbrev pub number_told : Option ℕ → ℕ
+number_told None = 0
+number_told (Some number) = number
 
 -- a call was not served
 abbrev pub refusal : ℕ → AgcReply

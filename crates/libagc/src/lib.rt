@@ -1,8 +1,8 @@
-//! The proved tables of the Executive, the Waitlist and the phases for C: each call works on an array of 144 numbers that
-//! the caller owns, with the words of seven core sets or eight.
+//! The proved tables of the Executive, the Waitlist and the phases for C: each call works on an
+//! array of 144 numbers that the caller owns, with the words of seven core sets or eight.
 #![tactic(auto)]
 
 mod jobs;
 mod reply;
 
-pub use reply::AgcReply;
+pub use reply::{AgcNumber, AgcReply, AgcTask, AgcTruth};

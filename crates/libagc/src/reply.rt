@@ -1,7 +1,7 @@
 // What a call answers.
-ghost use Rattle.std.specs.Prelude.{◌≡◌};
+ghost use Rattle.std.specs.Prelude.{◌≡◌, false};
 ghost use Rattle.agc_image.specs.Codes.{code_of};
-ghost use Rattle.libagc.specs.Replies.{alarm_code, told, refusal};
+ghost use Rattle.libagc.specs.Replies.{alarm_code, told, refusal, listing};
 
 use agc_image::Fault;
 use agc_plan::{Alarm, Reply};
@@ -13,7 +13,7 @@ use agc_plan::{Alarm, Reply};
 pub struct AgcReply {
     /// 0 where the request was served, else the code of what it lacked.
     pub code: u32,
-    /// The kind of the reply, 1 to 11; 0 where the request was not served.
+    /// The kind of the reply, 1 to 10; 0 where the request was not served.
     pub reply: u32,
     /// The number of the job that the reply names, or the alarm's code; else 0.
     pub number: u32,
@@ -57,10 +57,22 @@ impl AgcReply {
             Reply::Runs(number) => AgcReply::said(7, u32::from(number.get())),
             Reply::Stored => AgcReply::said(8, 0),
             Reply::Listed => AgcReply::said(9, 0),
-            Reply::Phased => AgcReply::said(10, 0),
-            Reply::Alarmed(alarm) => AgcReply::said(11, alarm_code(*alarm)),
+            Reply::Alarmed(alarm) => AgcReply::said(10, alarm_code(*alarm)),
+            Reply::Phased => AgcReply::said(0, 0),
             Reply::Ticked(_, _) => AgcReply::said(0, 0),
             Reply::Restarted => AgcReply::said(0, 0),
+        }
+    }
+
+    /// What is told of a task that was to be listed.
+    pub(crate) fn listing(accepted: bool) -> AgcReply
+        ensures reply { result ≡ told (listing accepted) }
+        ensures served { result.code ≡ 0 }
+    {
+        if accepted {
+            AgcReply::said(9, 0)
+        } else {
+            AgcReply::said(10, alarm_code(Alarm::A1203))
         }
     }
 
@@ -72,6 +84,77 @@ impl AgcReply {
             code: fault.code(),
             reply: 0,
             number: 0,
+        }
+    }
+}
+
+/// What a call answers by a number: a code, and the number, 0 where the code isn't. Source: profile.
+#[repr(C)]
+#[derive(Clone, Copy)]
+pub struct AgcNumber {
+    /// 0 where the call was served, else the code of what it lacked.
+    pub code: u32,
+    /// The number.
+    pub number: u32,
+}
+
+impl AgcNumber {
+    /// The call was not served.
+    pub(crate) fn refused(fault: Fault) -> AgcNumber
+        ensures { result ≡ record { code = code_of fault; number = 0 } }
+    {
+        AgcNumber {
+            code: fault.code(),
+            number: 0,
+        }
+    }
+}
+
+/// What a call answers by yes or no: a code, and the answer, false where the code isn't 0. Source:
+/// profile.
+#[repr(C)]
+#[derive(Clone, Copy)]
+pub struct AgcTruth {
+    /// 0 where the call was served, else the code of what it lacked.
+    pub code: u32,
+    /// The answer.
+    pub truth: bool,
+}
+
+impl AgcTruth {
+    /// The call was not served.
+    pub(crate) fn refused(fault: Fault) -> AgcTruth
+        ensures { result ≡ record { code = code_of fault; truth = false } }
+    {
+        AgcTruth {
+            code: fault.code(),
+            truth: false,
+        }
+    }
+}
+
+/// A task of the Waitlist: a code, and the task's address and its bank's word, both 0 where the code
+/// isn't. Source: profile.
+#[repr(C)]
+#[derive(Clone, Copy)]
+pub struct AgcTask {
+    /// 0 where the call was served, else the code of what it lacked.
+    pub code: u32,
+    /// Where the task begins.
+    pub at: u32,
+    /// The word for its bank.
+    pub bank: u32,
+}
+
+impl AgcTask {
+    /// The call was not served.
+    pub(crate) fn refused(fault: Fault) -> AgcTask
+        ensures { result ≡ record { code = code_of fault; at = 0; bank = 0 } }
+    {
+        AgcTask {
+            code: fault.code(),
+            at: 0,
+            bank: 0,
         }
     }
 }
