@@ -16,14 +16,14 @@ use Rattle.agc_image.specs.Images.{IsSets, size_with, image_of, behind, IsLawful
 table_by_cores : (old new : List ℕ) → Keeps OutsideCores old new → SameTable new old
 table_by_cores old new kept = λ i within. kept.words i (within.0, omega arith)
 
-table_by_phases : (old new : List ℕ) → Keeps OutsidePhases old new → SameTable new old
+pub table_by_phases : (old new : List ℕ) → Keeps OutsidePhases old new → SameTable new old
 table_by_phases old new kept = λ i within. kept.words i (inl within.1)
 
 -- the words of phases and FAILREG, kept by a call on core sets, or on the Waitlist
-phases_by_cores : (old new : List ℕ) → Keeps OutsideCores old new → Keeps InPhases old new
+pub phases_by_cores : (old new : List ℕ) → Keeps OutsideCores old new → Keeps InPhases old new
 phases_by_cores old new kept = kept_also OutsideCores InPhases old new (λ place is. (omega arith, is.1)) kept
 
-phases_by_waits : (old new : List ℕ) → Keeps OutsideWaitlist old new → Keeps InPhases old new
+pub phases_by_waits : (old new : List ℕ) → Keeps OutsideWaitlist old new → Keeps InPhases old new
 phases_by_waits old new kept = kept_also OutsideWaitlist InPhases old new (λ place is. inr is.0) kept
 
 pub lawful_by_cores : (old new : List ℕ) → Keeps OutsideCores old new → IsLawful old → cores.IsLawfulWords new → IsLawful new
@@ -47,16 +47,8 @@ lawful_by_phases old new kept lawful own = record {
   phases = own;
 }
 
--- from words, of any table
-pub lawful_cleared : (old mid new last : List ℕ) → Keeps OutsideWaitlist mid new → Keeps OutsidePhases new last → cores.IsLawfulWords mid → table.IsLawfulTable new → phases.IsLawfulTable last → IsLawful last
-lawful_cleared old mid new last waits_kept phases_kept first second third = record {
-  cores = IsLawfulWords-agrees new last (kept_by_phases new last phases_kept) (IsLawfulWords-agrees mid new (kept_by_waitlist mid new waits_kept) first);
-  waits = IsLawfulTable-same last new (table_by_phases new last phases_kept) second;
-  phases = third;
-}
-
 -- words of so many sets tell their number
-sets_of_size : (sets : ℕ) (words : List ℕ) → IsSets sets → length words ≡ size_with sets → sets_in words ≡ sets
+pub sets_of_size : (sets : ℕ) (words : List ℕ) → IsSets sets → length words ≡ size_with sets → sets_in words ≡ sets
 sets_of_size sets words valid size = elim valid [ inl seven ↦ omega arith | inr eight ↦ omega arith ]
 
 -- a call on an open image, whose words were written back, changed the array
@@ -73,9 +65,3 @@ changed does sets old new words then valid opened did same_length lawful written
       };
       rest = subst (λ (n : ℕ). behind n new ≡ behind n old) count written.rest;
     }
-
--- an open image has all words of its sets
-pub length-opened : (sets : ℕ) (array words : List ℕ) → length array ≡ 144 → IsSets sets → words ≡ image_of sets array → length words ≡ size_with sets
-length-opened sets array words long valid opened =
-    let most : size_with sets ≤ 144 = elim valid [ inl seven ↦ omega arith | inr eight ↦ omega arith ] in
-    ap length opened ∙ length-take-le (size_with sets) array (omega arith)

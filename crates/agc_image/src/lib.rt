@@ -11,4 +11,4 @@ mod numbers;
 pub use array::{blank, open, write_back};
 pub use fault::{Fault, image_fault};
 pub use lawful::is_lawful;
-pub use numbers::{address, delay, group, phase, place, priority, sets, word};
+pub use numbers::{address, alarm_code, delay, group, phase, place, priority, sets, word};

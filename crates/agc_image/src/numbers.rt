@@ -2,9 +2,10 @@
 ghost use Rattle.std.specs.Prelude.{◌≡◌, ◌↔◌, ◌<◌, ◌≤◌, IsSome, IfSome};
 ghost use Rattle.agc_plan.specs.Ranges.{IsPriority, IsAddress, IsDelay, IsSix};
 ghost use Rattle.agc_word.specs.Profiles.{count_of};
+ghost use Rattle.agc_phase.specs.Image.{code_of_word};
 ghost use Rattle.agc_image.specs.Images.{IsSets};
 
-use agc_plan::{Address, Delay, Group, Phase, Place, Priority};
+use agc_plan::{Address, Code, Delay, Group, Phase, Place, Priority};
 use agc_word::{Sets, Word};
 
 /// A number of core sets. None but for 7 and 8. Source: profile.
@@ -93,5 +94,19 @@ pub fn word(number: u32) -> Option<Word>
     match u16::try_from(number) {
         Ok(number) => Word::new(number),
         Err(_) => None,
+    }
+}
+
+/// The code that a number is, as FAILREG has it: 01107, 01201, 01202 or 01203, in octal. None for
+/// any other. Source: the listings' FRESH START AND RESTART section.
+pub fn alarm_code(number: u32) -> Option<Code>
+    ensures { result ≡ code_of_word number }
+{
+    match number {
+        0o1107 => Some(Code::C1107),
+        0o1201 => Some(Code::C1201),
+        0o1202 => Some(Code::C1202),
+        0o1203 => Some(Code::C1203),
+        _ => None,
     }
 }

@@ -39,3 +39,19 @@ serves_cores does sets old new words then reply result image opened did kept own
   told = said;
   changed = changed (λ these those. does these those reply) sets old new words then image.count opened did kept.same_length (lawful_by_cores words then kept opened.lawful own) written;
 }
+
+-- a call on the Waitlist, or on phases, changed the array
+pub changed_waits : (does : List ℕ → List ℕ → Type 0) (sets : ℕ) (old new words then : List ℕ) → IsImage sets old → IsOpened sets old words → does words then → Keeps OutsideWaitlist words then → table.IsLawfulTable then → IsWritten then old new → Changed does sets old new
+changed_waits does sets old new words then image opened did kept own written =
+    changed does sets old new words then image.count opened did kept.same_length (lawful_by_waits words then kept opened.lawful own) written
+
+pub changed_phases : (does : List ℕ → List ℕ → Type 0) (sets : ℕ) (old new words then : List ℕ) → IsImage sets old → IsOpened sets old words → does words then → Keeps OutsidePhases words then → phases.IsLawfulTable then → IsWritten then old new → Changed does sets old new
+changed_phases does sets old new words then image opened did kept own written =
+    changed does sets old new words then image.count opened did kept.same_length (lawful_by_phases words then kept opened.lawful own) written
+
+pub serves_waits : (does : List ℕ → List ℕ → Reply → Type 0) (sets : ℕ) (old new words then : List ℕ) (reply : Reply) (result : AgcReply) → IsImage sets old → IsOpened sets old words → does words then reply → Keeps OutsideWaitlist words then → table.IsLawfulTable then → IsWritten then old new → result ≡ told reply → Serves does sets old new result
+serves_waits does sets old new words then reply result image opened did kept own written said = record {
+  reply = reply;
+  told = said;
+  changed = changed_waits (λ these those. does these those reply) sets old new words then image opened did kept own written;
+}

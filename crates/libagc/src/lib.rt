@@ -2,7 +2,12 @@
 //! array of 144 numbers that the caller owns, with the words of seven core sets or eight.
 #![tactic(auto)]
 
+mod images;
 mod jobs;
+mod phases;
 mod reply;
+mod tasks;
+mod words;
 
 pub use reply::{AgcNumber, AgcReply, AgcTask, AgcTruth};
+pub use words::{AgcSum, AgcValue};
