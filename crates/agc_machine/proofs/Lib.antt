@@ -6,3 +6,5 @@ pub mod Stepping
 pub mod Serving
 pub mod Leading
 pub mod Briefs
+pub mod Roomier
+pub mod Migrating

@@ -5,6 +5,7 @@ mod answer;
 mod brief;
 mod era;
 mod machine;
+mod migration;
 mod step;
 mod tick;
 mod totals;
@@ -12,6 +13,7 @@ mod totals;
 pub use answer::{Answer, Refusal};
 pub use brief::Brief;
 pub use machine::{Machine, NoMemory};
+pub use migration::migrate;
 pub use step::is_tick;
 pub use totals::Totals;
 

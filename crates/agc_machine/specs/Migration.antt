@@ -1,0 +1,27 @@
+-- Words of seven core sets become words of eight.
+use Rattle.std.specs.Prelude.{◌≡◌, ℕ, List, [], ◌∷◌, ◌++◌, None, replicate}
+use Rattle.agc_plan.specs.Jobs.{Jobs}
+use Rattle.agc_plan.specs.Steps.{Plain}
+use Rattle.agc_exec.specs.Image.{minus_zero, entries_in}
+use Rattle.agc_machine.specs.Image.{IsLawfulImage, IsTidyImage, WordsStandFor}
+
+-- the twelve words of a core set that nobody has: PRIORITY, the last, is minus zero
+abbrev pub free_set : List ℕ
+free_set = replicate 11 0 ++ minus_zero ∷ []
+
+-- the same jobs, with a number more, which nobody has
+abbrev pub roomier : Jobs → Jobs
+roomier jobs = record jobs { slots = jobs.slots ++ None ∷ [] }
+
+-- the same plain state, with a core set more
+abbrev pub with_roomier : Plain → Plain
+with_roomier plain = record plain { work = record plain.work { jobs = roomier plain.work.jobs } }
+
+-- the old words are kept, and an eighth core set stands behind them, free; the new words are lawful,
+-- and stand for each plain state for which the old ones do, with each job in the set that it had
+pub record Migrates (old new : List ℕ) : Type 0 where
+  pub words : new ≡ old ++ free_set
+  pub lawful : IsLawfulImage new
+  pub tidy : IsTidyImage old → IsTidyImage new
+  pub placed : entries_in new ≡ entries_in old ++ 0 ∷ []
+  pub stands : (plain : Plain) → WordsStandFor old plain → WordsStandFor new (with_roomier plain)
