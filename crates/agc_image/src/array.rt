@@ -1,5 +1,5 @@
 // Reading a caller's array, and writing it back.
-ghost use Rattle.std.specs.Prelude.{◌≡◌, ◌↔◌, IsTrue, length};
+ghost use Rattle.std.specs.Prelude.{◌≡◌, ◌↔◌, IsTrue, IsSome, IfSome, length};
 ghost use Rattle.agc_word.specs.Profiles.{count_of, size_of};
 ghost use Rattle.agc_image.specs.Images.{IsSets, size_with, image_of, AreWords, IsImage, IsOpened, IsWritten};
 
@@ -69,4 +69,19 @@ pub fn write_back(image: &Erasable, array: &mut [u16; 144])
     for place in 0..size_of(image.sets()) {
         array[place] = image.get(place).bits();
     }
+}
+
+/// Twelve numbers as words. None where one of them is no word. Source: the listings' words.
+pub fn twelve(numbers: &[u16; 12]) -> Option<[Word; 12]>
+    ensures valid { IsSome result ↔ AreWords numbers.now }
+    ensures words { IfSome result (λ words. words ≡ numbers.now) }
+{
+    let mut words = [Word::zero(); 12];
+    for k in 0..12usize {
+        match Word::new(numbers[k]) {
+            Some(word) => words[k] = word,
+            None => return None,
+        }
+    }
+    Some(words)
 }

@@ -9,5 +9,6 @@ mod reply;
 mod tasks;
 mod words;
 
+pub use phases::AgcPhases;
 pub use reply::{AgcNumber, AgcReply, AgcTask, AgcTruth};
 pub use words::{AgcSum, AgcValue};
