@@ -85,3 +85,25 @@ pub fn twelve(numbers: &[u16; 12]) -> Option<[Word; 12]>
     }
     Some(words)
 }
+
+/// The words of seven core sets in an array, for `agc_machine`. Source: profile.
+pub fn seven(array: &[u16; 144]) -> [Word; 132]
+    requires { AreWords (image_of 7 array.now) }
+    ensures { result ≡ image_of 7 array.now }
+{
+    let mut words = [Word::zero(); 132];
+    for place in 0..132usize {
+        words[place] = Word::of_bits(array[place]);
+    }
+    words
+}
+
+/// Writes all words of eight core sets into an array. Source: profile.
+pub fn write_all(words: &[Word; 144], array: &mut [u16; 144])
+    ensures all { array.new ≡ words.now }
+    ensures range { AreWords array.new }
+{
+    for place in 0..144usize {
+        array[place] = words[place].bits();
+    }
+}

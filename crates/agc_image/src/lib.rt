@@ -8,7 +8,7 @@ mod lawful;
 mod numbers;
 
 
-pub use array::{blank, open, twelve, write_back};
+pub use array::{blank, open, seven, twelve, write_all, write_back};
 pub use fault::{Fault, image_fault};
 pub use lawful::is_lawful;
 pub use numbers::{address, alarm_code, delay, group, phase, place, priority, sets, word};

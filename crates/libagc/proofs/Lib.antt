@@ -1,2 +1,3 @@
 pub mod Serving
 pub mod Emptying
+pub mod Moving

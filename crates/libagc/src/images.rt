@@ -1,12 +1,14 @@
 // The calls on a whole image.
 ghost use Rattle.std.specs.Prelude.{◌≡◌, ◌↔◌, ◌≤◌, true, false};
 ghost use Rattle.agc_image.specs.Codes.{Coded};
-ghost use Rattle.agc_image.specs.Images.{IsSets, Changed};
+ghost use Rattle.agc_image.specs.Images.{IsSets, image_of, IsImage, Changed};
+ghost use Rattle.agc_machine.specs.Migration.{Migrates};
 ghost use Rattle.libagc.specs.Beginnings.{IsFresh, Restarts};
 ghost use Rattle.libagc.specs.Tasks.{NoneDue};
 
 use crate::reply::AgcTruth;
-use agc_image::{Fault, blank, image_fault, open, write_back};
+use agc_image::{Fault, blank, image_fault, open, seven, write_all, write_back};
+use agc_machine::migrate;
 use agc_word::Erasable;
 
 /// Writes the image of a fresh start, whatever stood there: no jobs, no tasks, all groups inactive,
@@ -70,5 +72,26 @@ pub extern "C" fn agc_restart(words: &mut [u16; 144], sets: u32) -> u32
             write_back(&image, words);
             0
         }
+    }
+}
+
+/// The image of seven core sets becomes one of eight: words 0 to 131 stay, and core set 7 is added,
+/// free, at 132 to 143. Answers the code, 6 inside a tick, where a task is due. Source: profile.
+#[unsafe(no_mangle)]
+pub extern "C" fn agc_migrate(words: &mut [u16; 144]) -> u32
+    ensures code { Coded result 7 words.old (Unit {0}) (Unit {0}) (NoneDue 7 words.old) }
+    ensures served { result ≡ 0
+        → Migrates (image_of 7 words.old) words.new × IsImage 8 words.new }
+    ensures refused { ¬ (result ≡ 0) → words.new ≡ words.old }
+{
+    match image_fault(words, 7) {
+        Some(fault) => fault.code(),
+        None => match migrate(&seven(words)) {
+            None => Fault::NotNow.code(),
+            Some(migrated) => {
+                write_all(&migrated, words);
+                0
+            }
+        },
     }
 }
