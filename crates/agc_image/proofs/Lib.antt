@@ -1,0 +1,3 @@
+pub mod Arrays
+pub mod Codes
+pub mod Frames

@@ -1,0 +1,9 @@
+use Rattle.std.proofs.Common.{◌≡◌, ℕ, ◌<◌, length, slice_index}
+use Rattle.agc_image.proofs.array.seven.Given as goal
+
+abbrev pub invariant-loop-place : goal.invariant-loop-place
+invariant-loop-place l = record {
+  all : length l.array ≡ 144;
+  size : length l.words ≡ 132;
+  same : (k : ℕ) → k < l.place → slice_index l.words k ≡ slice_index l.array k;
+}

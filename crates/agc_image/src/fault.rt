@@ -1,0 +1,62 @@
+// What is wrong with what a caller hands in.
+ghost use Rattle.std.specs.Prelude.{◌≡◌};
+ghost use Rattle.agc_image.specs.Codes.{code_of, code_for, Coded};
+
+use crate::array::{are_words, read};
+use crate::lawful::is_lawful;
+use crate::numbers::sets;
+use agc_word::Erasable;
+
+/// Why a call isn't served. Source: profile.
+#[derive(Clone, Copy, PartialEq, Eq, Debug)]
+pub enum Fault {
+    /// The number of core sets is neither 7 nor 8.
+    NoSuchSets,
+    /// A number of the image is no word of fifteen bits.
+    NotWords,
+    /// The image isn't lawful.
+    Unlawful,
+    /// A number of the call is out of its range.
+    OutOfRange,
+    /// A value of the call is no word of fifteen bits.
+    NotAWord,
+    /// It isn't the time for the call: a tick's call where none of its tasks is due, or the reverse.
+    NotNow,
+}
+
+impl Fault {
+    /// The code of the fault, 1 to 6. Source: profile.
+    pub fn code(self) -> u32
+        ensures { result ≡ code_of self }
+    {
+        match self {
+            Fault::NoSuchSets => 1,
+            Fault::NotWords => 2,
+            Fault::Unlawful => 3,
+            Fault::OutOfRange => 4,
+            Fault::NotAWord => 5,
+            Fault::NotNow => 6,
+        }
+    }
+}
+
+/// What is wrong with an array as an image of so many core sets: None exactly where it is one, also
+/// inside a tick. Source: profile.
+pub fn image_fault(array: &[u16; 144], count: u32) -> Option<Fault>
+    ensures { Coded (code_for result) count array.now (Unit {0}) (Unit {0}) (Unit {0}) }
+{
+    match sets(count) {
+        None => Some(Fault::NoSuchSets),
+        Some(sets) => {
+            if !are_words(array, sets) {
+                return Some(Fault::NotWords);
+            }
+            let mut image = Erasable::new(sets);
+            read(array, sets, &mut image);
+            if !is_lawful(&image) {
+                return Some(Fault::Unlawful);
+            }
+            None
+        }
+    }
+}

@@ -1,0 +1,3 @@
+pub mod Serving
+pub mod Emptying
+pub mod Moving

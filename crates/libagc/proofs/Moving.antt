@@ -1,0 +1,35 @@
+-- From seven core sets to eight.
+use Rattle.std.proofs.Common.{◌≡◌, ℕ, ◌≤◌, List, length, refl, sym, subst, inl, inr, arith}
+use Rattle.std.proofs.lemmas.List.{take_all}
+use Rattle.agc_image.specs.Codes.{Coded}
+use Rattle.agc_image.specs.Images.{size_with, image_of, AreWords, IsLawful, IsImage}
+use Rattle.agc_image.proofs.Codes.{coded_not_now}
+use Rattle.agc_machine.specs.Image.{IsLawfulImage}
+use Rattle.agc_machine.specs.Migration.{Migrates}
+use Rattle.libagc.specs.Tasks.{NoneDue}
+
+-- an image whose words aren't lawful between requests has a task that is due
+pub inside_a_tick : (code : ℕ) (array words : List ℕ) → IsImage 7 array → words ≡ image_of 7 array → ¬ IsLawfulImage words → code ≡ 6 → Coded code 7 array (Unit {0}) (Unit {0}) (NoneDue 7 array)
+inside_a_tick code array words image same unlawful is =
+    rw is (coded_not_now 7 array _ _ _ image tt tt (λ none. unlawful (subst IsLawfulImage (sym same) (record {
+      size = image.lawful.cores.sets.sized;
+      cores = image.lawful.cores;
+      waits = image.lawful.waits;
+      none_due = none;
+      phases = image.lawful.phases;
+    }))))
+
+-- all words of an array are an image of eight core sets
+pub eight : (array : List ℕ) → length array ≡ 144 → AreWords array → IsLawfulImage array → IsImage 8 array
+eight array long range lawful =
+    let whole : image_of 8 array ≡ array = take_all (size_with 8) array (omega arith) in
+    record {
+      count = inr refl;
+      words = rw whole range;
+      lawful = rw whole (record { cores = lawful.cores; waits = lawful.waits; phases = lawful.phases });
+    }
+
+pub migrated_to : (old new words then : List ℕ) → words ≡ image_of 7 old → new ≡ then → length new ≡ 144 → AreWords new → Migrates words then → Migrates (image_of 7 old) new × IsImage 8 new
+migrated_to old new words then same written long range migrates =
+    let moved : Migrates (image_of 7 old) new = subst (λ (w : List ℕ). Migrates w new) same (subst (λ (w : List ℕ). Migrates words w) (sym written) migrates) in
+    (moved, eight new long range moved.lawful)

@@ -1,0 +1,11 @@
+use Rattle.std.proofs.Common.{refl}
+use Rattle.libagc.proofs.Serving.{all_there, serves_cores}
+use Rattle.libagc.proofs.jobs.agc_findvac_trusted.Goals as goal
+
+pub returns-clause-code : goal.returns-clause-code
+returns-clause-code c = all_there _ _ _ _ _ _ c.of.ensures.served c.requires (c.in-Some.ensures.valid.0 refl, c.in-Some-address.ensures.valid.0 refl) (c.in-Some-word.ensures.valid.0 refl) tt
+
+pub returns-clause-served : goal.returns-clause-served
+returns-clause-served c =
+    λ served.
+    serves_cores _ c.args.sets c.args.words.now c.write_back.new.array c.open.new.image c.findvac-reply.new.e c.findvac-reply.result c.of.result c.requires c.open.ensures (rw (← c.in-Some.ensures.value, ← c.in-Some-address.ensures.value, ← c.in-Some-word.ensures.value) c.findvac-reply.ensures) c.findvac-reply.ensures.others c.findvac-reply.ensures.lawful c.write_back.ensures c.of.ensures.reply

@@ -1,0 +1,5 @@
+pub mod Replies
+pub mod Tasks
+pub mod Phases
+pub mod Arithmetic
+pub mod Beginnings

@@ -1,0 +1,22 @@
+-- What is asked of the Waitlist.
+use Rattle.std.specs.Prelude.{◌≡◌, ℕ, Bool, true, false, List}
+use Rattle.agc_plan.specs.declared.reply.Reply.{Reply}
+use Rattle.agc_plan.specs.declared.request.Task.{Task}
+use Rattle.agc_wait.specs.Calls.{Lists}
+use Rattle.agc_wait.specs.Table.{waits_of}
+use Rattle.agc_wait.specs.Waits.{is_due}
+use Rattle.agc_image.specs.Images.{image_of}
+use Rattle.libagc.specs.Replies.{listing}
+
+-- a task is listed where there is room, with this reply
+abbrev pub DoesList : ℕ → Task → List ℕ → List ℕ → Reply → Type 0
+DoesList delay task old new reply =
+    (accepted : Bool) × (Lists delay task old accepted new × (reply ≡ listing accepted))
+
+-- no task is due now
+abbrev pub NoneDue : ℕ → List ℕ → Type 0
+NoneDue sets array = is_due (waits_of (image_of sets array)) ≡ false
+
+-- a task is due now
+abbrev pub OneDue : ℕ → List ℕ → Type 0
+OneDue sets array = is_due (waits_of (image_of sets array)) ≡ true

@@ -1,0 +1,97 @@
+// The calls on a whole image.
+ghost use Rattle.std.specs.Prelude.{◌≡◌, ◌↔◌, ◌≤◌, true, false};
+ghost use Rattle.agc_image.specs.Codes.{Coded};
+ghost use Rattle.agc_image.specs.Images.{IsSets, image_of, IsImage, Changed};
+ghost use Rattle.agc_machine.specs.Migration.{Migrates};
+ghost use Rattle.libagc.specs.Beginnings.{IsFresh, Restarts};
+ghost use Rattle.libagc.specs.Tasks.{NoneDue};
+
+use crate::reply::AgcTruth;
+use agc_image::{Fault, blank, image_fault, open, seven, write_all, write_back};
+use agc_machine::migrate;
+use agc_word::Erasable;
+
+/// Writes the image of a fresh start, whatever stood there: no jobs, no tasks, all groups inactive,
+/// and no codes. Answers the code, 0 or 1. Source: the listings' FRESH START AND RESTART section.
+#[unsafe(no_mangle)]
+pub extern "C" fn agc_clear(words: &mut [u16; 144], sets: u32) -> u32
+    ensures code { (result ≡ 0) ↔ IsSets sets }
+    ensures no_such_sets { (result ≡ 1) ↔ ¬ IsSets sets }
+    ensures served { result ≡ 0 → IsFresh sets words.old words.new }
+    ensures refused { ¬ (result ≡ 0) → words.new ≡ words.old }
+{
+    match agc_image::sets(sets) {
+        None => Fault::NoSuchSets.code(),
+        Some(count) => {
+            let mut image = Erasable::new(count);
+            agc_exec::clear(&mut image);
+            agc_wait::clear(&mut image);
+            agc_phase::clear(&mut image);
+            write_back(&image, words);
+            0
+        }
+    }
+}
+
+/// Whether the array has an image of so many core sets, 7 or 8: code 0 exactly there, else 1, 2 or
+/// 3. Answers true between requests, and false inside a tick, where a task is due. Source: profile.
+#[unsafe(no_mangle)]
+pub extern "C" fn agc_check(words: &[u16; 144], sets: u32) -> AgcTruth
+    ensures code { Coded result.code sets words.now (Unit {0}) (Unit {0}) (Unit {0}) }
+    ensures served { result.code ≡ 0 → (result.truth ≡ true) ↔ NoneDue sets words.now }
+    ensures refused { ¬ (result.code ≡ 0) → result.truth ≡ false }
+{
+    match image_fault(words, sets) {
+        Some(fault) => AgcTruth::refused(fault),
+        None => {
+            let mut image = blank(sets);
+            open(words, sets, &mut image);
+            AgcTruth {
+                code: 0,
+                truth: !agc_wait::due(&image),
+            }
+        }
+    }
+}
+
+/// The software restart, without what the phases begin again: all jobs and tasks are gone, phases
+/// and codes stay. Answers the code. Source: the listings' FRESH START AND RESTART section.
+#[unsafe(no_mangle)]
+pub extern "C" fn agc_restart(words: &mut [u16; 144], sets: u32) -> u32
+    ensures code { Coded result sets words.old (Unit {0}) (Unit {0}) (Unit {0}) }
+    ensures served { result ≡ 0 → Changed (Restarts sets) sets words.old words.new }
+    ensures refused { ¬ (result ≡ 0) → words.new ≡ words.old }
+{
+    match image_fault(words, sets) {
+        Some(fault) => fault.code(),
+        None => {
+            let mut image = blank(sets);
+            open(words, sets, &mut image);
+            agc_exec::clear(&mut image);
+            agc_wait::clear(&mut image);
+            write_back(&image, words);
+            0
+        }
+    }
+}
+
+/// The image of seven core sets becomes one of eight: words 0 to 131 stay, and core set 7 is added,
+/// free, at 132 to 143. Answers the code, 6 inside a tick, where a task is due. Source: profile.
+#[unsafe(no_mangle)]
+pub extern "C" fn agc_migrate(words: &mut [u16; 144]) -> u32
+    ensures code { Coded result 7 words.old (Unit {0}) (Unit {0}) (NoneDue 7 words.old) }
+    ensures served { result ≡ 0
+        → Migrates (image_of 7 words.old) words.new × IsImage 8 words.new }
+    ensures refused { ¬ (result ≡ 0) → words.new ≡ words.old }
+{
+    match image_fault(words, 7) {
+        Some(fault) => fault.code(),
+        None => match migrate(&seven(words)) {
+            None => Fault::NotNow.code(),
+            Some(migrated) => {
+                write_all(&migrated, words);
+                0
+            }
+        },
+    }
+}

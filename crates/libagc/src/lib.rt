@@ -1,0 +1,14 @@
+//! The proved tables of the Executive, the Waitlist and the phases for C: each call works on an
+//! array of 144 numbers that the caller owns, with the words of seven core sets or eight.
+#![tactic(auto)]
+
+mod images;
+mod jobs;
+mod phases;
+mod reply;
+mod tasks;
+mod words;
+
+pub use phases::AgcPhases;
+pub use reply::{AgcNumber, AgcReply, AgcTask, AgcTruth};
+pub use words::{AgcSum, AgcValue};

@@ -1,0 +1,149 @@
+// The calls on phases and FAILREG.
+ghost use Rattle.std.specs.Prelude.{◌≡◌, ◌↔◌, ◌≤◌, ◌==◌, if◌then◌else◌, IsSome, replicate};
+ghost use Rattle.agc_plan.specs.Base.{with_phase};
+ghost use Rattle.agc_plan.specs.Ranges.{IsSix};
+ghost use Rattle.agc_phase.specs.Image.{base_of, Becomes, code_of_word, phases_in, ArePairs};
+ghost use Rattle.agc_image.specs.Codes.{Coded, code_of};
+ghost use Rattle.agc_image.specs.Images.{IsImage, AreWords, Changed};
+ghost use Rattle.libagc.specs.Phases.{Records};
+
+use agc_image::{Fault, blank, image_fault, open, twelve, write_back};
+use agc_phase::{Phases, record_alarm, recover, set_phase};
+
+/// The six phases that twelve phase words tell: a code, and the phases of groups 1 to 6, all 0 where
+/// the code isn't. Source: profile.
+#[repr(C)]
+#[derive(Clone, Copy)]
+pub struct AgcPhases {
+    /// 0, 2 or 3.
+    pub code: u32,
+    /// The phases, 0 to 127.
+    pub phases: [u8; 6],
+}
+
+impl AgcPhases {
+    /// The call was not served.
+    fn refused(fault: Fault) -> AgcPhases
+        ensures { result ≡ record { code = code_of fault; phases = replicate 6 0 } }
+    {
+        AgcPhases {
+            code: fault.code(),
+            phases: [0; 6],
+        }
+    }
+}
+
+/// Sets the phase, 0 to 127, of a restart group, 1 to 6. Answers the code. Source: the listings'
+/// PHASE TABLE MAINTENANCE section; the greatest phase: profile.
+#[unsafe(no_mangle)]
+pub extern "C" fn agc_set_phase(words: &mut [u16; 144], sets: u32, group: u32, phase: u32) -> u32
+    ensures code { Coded result sets words.old (IsSix group × (phase ≤ 127)) (Unit {0}) (Unit {0}) }
+    ensures served { result ≡ 0
+        → Changed (λ old new. Becomes (with_phase group phase (base_of old)) old new)
+        sets words.old words.new }
+    ensures refused { ¬ (result ≡ 0) → words.new ≡ words.old }
+{
+    match image_fault(words, sets) {
+        Some(fault) => fault.code(),
+        None => agc_set_phase_trusted(words, sets, group, phase),
+    }
+}
+
+/// As `agc_set_phase`, for an array that is known to have an image, as every call leaves it.
+/// Source: profile.
+#[unsafe(no_mangle)]
+pub extern "C" fn agc_set_phase_trusted(
+    words: &mut [u16; 144],
+    sets: u32,
+    group: u32,
+    phase: u32,
+) -> u32
+    requires { IsImage sets words.old }
+    ensures code { Coded result sets words.old (IsSix group × (phase ≤ 127)) (Unit {0}) (Unit {0}) }
+    ensures served { result ≡ 0
+        → Changed (λ old new. Becomes (with_phase group phase (base_of old)) old new)
+        sets words.old words.new }
+    ensures refused { ¬ (result ≡ 0) → words.new ≡ words.old }
+{
+    let Some(group) = agc_image::group(group) else {
+        return Fault::OutOfRange.code();
+    };
+    let Some(phase) = agc_image::phase(phase) else {
+        return Fault::OutOfRange.code();
+    };
+    let mut image = blank(sets);
+    open(words, sets, &mut image);
+    set_phase(&mut image, group, phase);
+    write_back(&image, words);
+    0
+}
+
+/// Adds an alarm's code to FAILREG: 01107, 01201, 01202 or 01203. Answers the code of the call, 4
+/// where it is none of these. Source: profile.
+#[unsafe(no_mangle)]
+pub extern "C" fn agc_record_alarm(words: &mut [u16; 144], sets: u32, alarm: u32) -> u32
+    ensures code { Coded result sets words.old
+        (IsSome (code_of_word alarm)) (Unit {0}) (Unit {0}) }
+    ensures served { result ≡ 0 → Changed (Records alarm) sets words.old words.new }
+    ensures refused { ¬ (result ≡ 0) → words.new ≡ words.old }
+{
+    match image_fault(words, sets) {
+        Some(fault) => fault.code(),
+        None => agc_record_alarm_trusted(words, sets, alarm),
+    }
+}
+
+/// As `agc_record_alarm`, for an array that is known to have an image, as every call leaves it.
+/// Source: profile.
+#[unsafe(no_mangle)]
+pub extern "C" fn agc_record_alarm_trusted(words: &mut [u16; 144], sets: u32, alarm: u32) -> u32
+    requires { IsImage sets words.old }
+    ensures code { Coded result sets words.old
+        (IsSome (code_of_word alarm)) (Unit {0}) (Unit {0}) }
+    ensures served { result ≡ 0 → Changed (Records alarm) sets words.old words.new }
+    ensures refused { ¬ (result ≡ 0) → words.new ≡ words.old }
+{
+    let Some(code) = agc_image::alarm_code(alarm) else {
+        return Fault::OutOfRange.code();
+    };
+    let mut image = blank(sets);
+    open(words, sets, &mut image);
+    record_alarm(&mut image, code);
+    write_back(&image, words);
+    0
+}
+
+/// The phases as numbers.
+fn numbers_of(phases: &Phases) -> [u8; 6]
+    ensures { result ≡ phases.now }
+{
+    let mut numbers = [0; 6];
+    for group in 0..6usize {
+        numbers[group] = phases[group].get();
+    }
+    numbers
+}
+
+/// The phases that twelve phase words tell, -PHASE1, PHASE1 to -PHASE6, PHASE6, as they are found
+/// when power comes back. Code 2 where a number is no word, 3 where the words of a pair aren't
+/// complements of each other or a phase is above 127. Source: the listings' FRESH START AND RESTART
+/// section; the greatest phase: profile.
+#[unsafe(no_mangle)]
+pub extern "C" fn agc_recover(words: &[u16; 12]) -> AgcPhases
+    ensures served { (result.code ≡ 0) ↔ (AreWords words.now × ArePairs words.now) }
+    ensures not_words { (result.code ≡ 2) ↔ ¬ AreWords words.now }
+    ensures unlawful { (result.code ≡ 3) ↔ (AreWords words.now × ¬ ArePairs words.now) }
+    ensures phases { result.phases
+        ≡ (if result.code == 0 then phases_in words.now else replicate 6 0) }
+{
+    match twelve(words) {
+        None => AgcPhases::refused(Fault::NotWords),
+        Some(words) => match recover(&words) {
+            None => AgcPhases::refused(Fault::Unlawful),
+            Some(phases) => AgcPhases {
+                code: 0,
+                phases: numbers_of(&phases),
+            },
+        },
+    }
+}
