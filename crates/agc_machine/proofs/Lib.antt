@@ -6,3 +6,4 @@ pub mod Stepping
 pub mod Serving
 pub mod Leading
 pub mod Briefs
+pub mod Moments

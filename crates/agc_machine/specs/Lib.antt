@@ -4,3 +4,4 @@ pub mod Told
 pub mod Stands
 pub mod Machines
 pub mod Image
+pub mod Moments

@@ -5,6 +5,7 @@ mod answer;
 mod brief;
 mod era;
 mod machine;
+mod moment;
 mod step;
 mod tick;
 mod totals;
@@ -12,11 +13,14 @@ mod totals;
 pub use answer::{Answer, Refusal};
 pub use brief::Brief;
 pub use machine::{Machine, NoMemory};
+pub use moment::Moment;
 pub use step::is_tick;
 pub use totals::Totals;
 
 #[cfg(test)]
 mod image_tests;
+#[cfg(test)]
+mod moment_tests;
 #[cfg(test)]
 mod plain_tables;
 #[cfg(test)]
