@@ -8,3 +8,4 @@ pub mod Leading
 pub mod Briefs
 pub mod Roomier
 pub mod Migrating
+pub mod Moments

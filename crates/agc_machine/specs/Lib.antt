@@ -5,3 +5,4 @@ pub mod Stands
 pub mod Machines
 pub mod Image
 pub mod Migration
+pub mod Moments

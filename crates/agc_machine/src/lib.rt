@@ -6,6 +6,7 @@ mod brief;
 mod era;
 mod machine;
 mod migration;
+mod moment;
 mod step;
 mod tick;
 mod totals;
@@ -14,6 +15,7 @@ pub use answer::{Answer, Refusal};
 pub use brief::Brief;
 pub use machine::{Machine, NoMemory};
 pub use migration::migrate;
+pub use moment::Moment;
 pub use step::is_tick;
 pub use totals::Totals;
 
@@ -21,6 +23,8 @@ pub use totals::Totals;
 mod image_tests;
 #[cfg(test)]
 mod migration_tests;
+#[cfg(test)]
+mod moment_tests;
 #[cfg(test)]
 mod plain_tables;
 #[cfg(test)]

@@ -1,0 +1,30 @@
+-- A request's moment, of words that stand for what a machine reaches.
+use Rattle.std.proofs.Common.{◌≡◌, ℕ, List, sym, ◌∙◌, false}
+use Rattle.agc_plan.specs.declared.request.Request.{Request}
+use Rattle.agc_plan.specs.Seats.{places_acted}
+use Rattle.agc_plan.specs.Steps.{acted, begins}
+use Rattle.agc_wait.specs.Table.{waits_of}
+use Rattle.agc_wait.specs.Waits.{due_now}
+use Rattle.agc_wait.proofs.Dues.{is_due-none}
+use Rattle.agc_machine.specs.Image.{IsImage}
+use Rattle.agc_machine.specs.Machines.{Machined, plain_of, places_of}
+use Rattle.agc_machine.specs.Moments.{Acting, IsMoment}
+use Rattle.agc_machine.specs.Stands.{Acts, Steps}
+use Rattle.agc_machine.proofs.Beginning.{same_sets}
+use Rattle.agc_machine.proofs.Serving.{stands_of}
+
+pub moment_is : (m : Machined) (words : List ℕ) (asked : Request) (moment : Acting) → IsImage m words → Acts m.plan asked words moment.reply moment.words → (begins moment.reply ≡ false → due_now (waits_of moment.words) ≡ 0) → IsMoment m asked moment
+moment_is m words asked moment image acts none_due =
+    let steps : Steps moment.words moment.reply (acted m.plan asked (plain_of m)) (places_acted m.plan asked (plain_of m) (places_of m)) = acts.steps (plain_of m) (places_of m) (stands_of m words image) in
+    record {
+      size = acts.sound.size;
+      sets = same_sets words moment.words acts.same_length ∙ image.sets;
+      cores = acts.sound.cores;
+      waits = acts.sound.waits;
+      phases = acts.sound.phases;
+      tidy = record { cores = acts.sound.tidy_cores; waits = acts.sound.tidy_waits };
+      none_due = λ goes. is_due-none (waits_of moment.words) (none_due goes);
+      placed = sym steps.state.work.places_is;
+      stands = record { jobs = sym steps.state.work.jobs_is; tasks = steps.state.work.agenda; base = sym steps.state.base_is };
+      reply = steps.reply_is;
+    }

@@ -1,0 +1,35 @@
+-- The moment when a request has been acted on, and no era has begun with it.
+use Rattle.std.specs.Prelude.{◌≡◌, ℕ, false, List}
+use Rattle.agc_word.specs.Layout.{IsSized, sets_in}
+use Rattle.agc_plan.specs.declared.reply.Reply.{Reply}
+use Rattle.agc_plan.specs.declared.request.Request.{Request}
+use Rattle.agc_plan.specs.Seats.{places_acted}
+use Rattle.agc_plan.specs.Steps.{acted, begins}
+use Rattle.agc_exec.specs.Image.{entries_in}
+use Rattle.agc_exec.specs.Image as cores
+use Rattle.agc_wait.specs.Table.{waits_of}
+use Rattle.agc_wait.specs.Table as table
+use Rattle.agc_wait.specs.Waits.{is_due}
+use Rattle.agc_phase.specs.Image as phases
+use Rattle.agc_machine.specs.Image.{IsTidyImage, WordsStandFor}
+use Rattle.agc_machine.specs.Machines.{Machined, plain_of, places_of}
+
+-- the words then, and what is replied
+pub record Acting : Type 0 where
+  pub words : List ℕ
+  pub reply : Reply
+
+-- what this machine does for this request, before an era begins: its words are lawful and tidy,
+-- and where no era begins no task is due; they stand for what the model does, with the jobs in the
+-- core sets of their placement
+pub record IsMoment (m : Machined) (asked : Request) (moment : Acting) : Type 0 where
+  pub size : IsSized moment.words
+  pub sets : sets_in moment.words ≡ m.plan.sets
+  pub cores : cores.IsLawfulWords moment.words
+  pub waits : table.IsLawfulTable moment.words
+  pub phases : phases.IsLawfulTable moment.words
+  pub tidy : IsTidyImage moment.words
+  pub none_due : begins moment.reply ≡ false → is_due (waits_of moment.words) ≡ false
+  pub placed : entries_in moment.words ≡ places_acted m.plan asked (plain_of m) (places_of m)
+  pub stands : WordsStandFor moment.words (acted m.plan asked (plain_of m)).plain
+  pub reply : moment.reply ≡ (acted m.plan asked (plain_of m)).reply

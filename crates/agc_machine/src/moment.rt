@@ -1,0 +1,90 @@
+// What a request does to a copy of the words, before an era begins with it.
+ghost use Rattle.std.specs.Prelude.{◌≡◌, false};
+ghost use Rattle.agc_word.specs.Layout.{sets_in};
+ghost use Rattle.agc_plan.specs.Plans.{planned_with};
+ghost use Rattle.agc_plan.specs.Steps.{begins};
+ghost use Rattle.agc_wait.specs.Table.{waits_of};
+ghost use Rattle.agc_wait.specs.Waits.{due_now};
+ghost use Rattle.agc_machine.specs.Stands.{IsReady, Acts};
+
+use crate::step::{act, is_tick};
+use crate::tick::tick;
+use agc_plan::{Fired, Plan, Reply, Request};
+use agc_word::{Erasable, Sets};
+use std::marker::Model;
+
+/// What the words hold when a request has been acted on and no era has begun with it, and what is
+/// replied. Contracts see both. Source: profile.
+#[derive(Drop)]
+pub struct Moment {
+    erasable: Erasable,
+    reply: Reply,
+}
+
+impl Model for Moment {
+    ghost use Rattle.agc_machine.specs.Moments.{Acting};
+
+    ghost Value = { Acting };
+
+    ghost view = { λ m. record { words = m.erasable; reply = m.reply } };
+}
+
+impl Moment {
+    /// The words, by place. Source: profile.
+    pub fn words(&self) -> &Erasable
+        ensures { result.now ≡ self.now.words }
+    {
+        &self.erasable
+    }
+
+    /// What is replied. Source: profile.
+    pub fn reply(&self) -> &Reply
+        ensures { result.now ≡ self.now.reply }
+    {
+        &self.reply
+    }
+}
+
+/// The same words.
+fn copy_of(e: &Erasable) -> Erasable
+    ensures { result ≡ e.now }
+{
+    let sets = e.sets();
+    let places = match sets {
+        Sets::Seven => 132,
+        Sets::Eight => 144,
+    };
+    let mut copy = Erasable::new(sets);
+    for place in 0..places {
+        copy.set(place, e.get(place));
+    }
+    copy
+}
+
+/// What a request does to the words, before an era begins with it.
+fn acted(plan: &Plan, e: &mut Erasable, request: &Request) -> Reply
+    requires ready { IsReady e.old }
+    ensures acts { Acts (planned_with plan.now (sets_in e.old)) request.now e.old result e.new }
+    ensures none_due { begins result ≡ false → due_now (waits_of e.new) ≡ 0 }
+{
+    if is_tick(request) {
+        let mut fired = Fired::new();
+        let alarm = tick(plan, e, &mut fired);
+        Reply::Ticked(fired, alarm)
+    } else {
+        let brief = act(e, request);
+        brief.reply()
+    }
+}
+
+/// The moment of a request that is asked of these words.
+pub(crate) fn moment_of(plan: &Plan, e: &Erasable, request: &Request) -> Moment
+    requires ready { IsReady e.now }
+    ensures acts { Acts (planned_with plan.now (sets_in e.now)) request.now e.now result.reply
+        result.words }
+    ensures none_due { begins result.reply ≡ false → due_now (waits_of result.words) ≡ 0 }
+{
+    let mut erasable = copy_of(e);
+    let reply = acted(plan, &mut erasable, request);
+    Moment { erasable, reply }
+}
