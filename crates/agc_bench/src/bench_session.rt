@@ -13,8 +13,9 @@ use agc_plan::Request;
 use agc_text::{Output, write_answer_to, write_answers};
 use std::io::Write;
 
-/// The request for which a pulse of the line asks.
-fn pulse_request(bench: &Bench, line: Line) -> Option<Request>
+/// The request for which a pulse of the line asks, if it asks for any: a tick for a timer's, else the request of the
+/// plan's action. Source: profile.
+pub fn pulse_request(bench: &Bench, line: Line) -> Option<Request>
     ensures { result ≡ pulse_request (bench_plan bench.now) line }
 {
     match line {

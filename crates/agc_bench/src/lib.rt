@@ -30,7 +30,8 @@ pub use agc_text::{
     read_script, report, write_answer, write_answers,
 };
 pub use bench::{Bench, read_bench};
+pub use bench_session::pulse_request;
 pub use fault::BenchFault;
-pub use run::{run_script, serial};
+pub use run::{machine_of, run_script, serial};
 pub use run_fault::RunFault;
 pub use threading::threads;

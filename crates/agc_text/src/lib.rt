@@ -24,3 +24,4 @@ pub use pulses::report_pulses;
 pub use reporting::report;
 pub use script::read_script;
 pub use session::{write_answer, write_answer_to, write_answers};
+pub use writing::put;

@@ -24,12 +24,13 @@ fn put_by_parts<W: Write>(writer: &mut W, bytes: &[u8]) -> Result<(), Output>
     Ok(())
 }
 
-/// Writes all bytes: by one write, which mostly takes them all, and what it left by others.
+/// Writes all bytes: by one write, which mostly takes them all, and what it left by others. Source:
+/// profile.
 ///
 /// # Errors
 ///
 /// Where a write fails, or takes nothing of what is left. A front of the bytes was then written.
-pub(crate) fn put<W: Write>(writer: &mut W, bytes: &[u8]) -> Result<(), Output>
+pub fn put<W: Write>(writer: &mut W, bytes: &[u8]) -> Result<(), Output>
     ensures { Writes (W.contents writer.old) (W.contents writer.new) bytes.now result }
 {
     if bytes.is_empty() {

@@ -1,0 +1,17 @@
+use Rattle.std.proofs.lemmas.Result.{err_from_is_err_and}
+use Rattle.agc_trace.proofs.Whole.{heading_front, lines_front, all_written}
+use Rattle.agc_trace.proofs.runs.trace.Goals as goal
+
+pub returns-in_err-put : goal.returns-in_err-put
+returns-in_err-put g c =
+    let p = err_from_is_err_and c.from_residual-in_err-put.result c.from_residual-in_err-put.ensures.1 in
+    rw (p.1, p.2) (heading_front _ _ c.args.bench.now c.as_bytes.result.now c.as_bytes.ensures.value c.in_err-put.ensures)
+
+pub returns-in_err-trace_bench : goal.returns-in_err-trace_bench
+returns-in_err-trace_bench g c =
+    let p = err_from_is_err_and c.from_residual-in_err-trace_bench.result c.from_residual-in_err-trace_bench.ensures.1 in
+    rw (p.1, p.2) (lines_front _ _ _ c.args.bench.now c.as_bytes.result.now c.in_ok-machine.machine c.as_bytes.ensures.value c.in_ok-machine.ensures.machine c.in_ok-put.ensures c.in_err-trace_bench.ensures.writes)
+
+pub returns : goal.returns
+returns g c =
+    all_written _ _ _ c.args.bench.now c.as_bytes.result.now c.in_ok-machine.machine c.as_bytes.ensures.value c.in_ok-machine.ensures.machine c.in_ok-put.ensures c.in_ok-trace_bench.ensures.writes

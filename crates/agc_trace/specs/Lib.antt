@@ -1,0 +1,5 @@
+pub mod Scenes
+pub mod Lines
+pub mod Traces
+pub mod Reading
+pub mod Runs

@@ -1,0 +1,64 @@
+-- The line of one request.
+use Rattle.std.specs.Prelude.{ℕ, ◌-◌, ◌==◌, if◌then◌else◌, List, [], ◌∷◌, ◌++◌, codes, length, replicate, Option, Some, None, Result}
+use Rattle.std.specs.Fmt.{decimal}
+use Rattle.std.specs.List.{flat_map, range_with_len}
+use Rattle.agc_plan.specs.declared.reply.Reply.{Reply}
+use Rattle.agc_plan.specs.declared.request.Request.{Request}
+use Rattle.agc_plan.specs.Tasks.{Waiting}
+use Rattle.agc_machine.specs.declared.answer.Refusal.{Refusal}
+use Rattle.agc_text.specs.Lines.{line_of}
+use Rattle.agc_text.specs.Numbers.{octal}
+use Rattle.agc_text.specs.Replies.{answer_text}
+use Rattle.agc_trace.specs.declared.seats.Seated.{Seated}
+use Rattle.agc_trace.specs.Scenes.{Scene}
+
+-- a text, as many spaces as bring it to this width, and two more
+abbrev pub column : ℕ → List ℕ → List ℕ
+column width text = text ++ (replicate (width - length text) 32 ++ 32 ∷ 32 ∷ [])
+
+-- who runs
+abbrev pub running_text : Option ℕ → List ℕ
+running_text None = codes "-"
+running_text (Some number) = decimal number
+
+-- what a core set holds: a job's number, in brackets where it sleeps
+abbrev pub seat_text : Option Seated → List ℕ
+seat_text None = codes " ."
+seat_text (Some seat) = if seat.asleep then codes " (" ++ decimal seat.number ++ codes ")" else codes " " ++ decimal seat.number
+
+-- the number of the job that owns an area, if one does
+abbrev pub owner_of : ℕ → List (Option Seated) → Option ℕ
+owner_of area [] = None
+owner_of area (None ∷ seats) = owner_of area seats
+owner_of area (Some seat ∷ seats) = if seat.area == area then Some seat.number else owner_of area seats
+
+abbrev pub owner_text : Option ℕ → List ℕ
+owner_text None = codes " ."
+owner_text (Some number) = codes " " ++ decimal number
+
+-- the owners of areas 1 to 5
+abbrev pub owners_text : List (Option Seated) → List ℕ
+owners_text seats = flat_map (λ area. owner_text (owner_of area seats)) (range_with_len 1 5)
+
+-- a task: its address, and the centiseconds that it still has
+abbrev pub wait_text : Waiting → List ℕ
+wait_text wait = codes " " ++ (octal 5 wait.task.at ++ (codes "+" ++ decimal wait.distance))
+
+abbrev pub waits_text : List Waiting → List ℕ
+waits_text [] = codes " -"
+waits_text (wait ∷ waits) = flat_map wait_text (wait ∷ waits)
+
+-- a state
+unfoldable pub scene_text : Scene → List ℕ
+scene_text scene =
+    column 7 (running_text scene.running) ++ (column 16 (flat_map seat_text scene.seats) ++ (column 10 (owners_text scene.seats) ++ waits_text scene.waits))
+
+-- the columns before the state: the request's number, the centisecond of the era, the request, and
+-- the answer
+unfoldable pub front_text : ℕ → ℕ → Request → Result Reply Refusal → List ℕ
+front_text number time asked answer =
+    column 6 (decimal number) ++ (column 6 (decimal time) ++ (column 22 (line_of asked) ++ column 16 (answer_text answer)))
+
+-- the line of a request
+unfoldable pub line_text : ℕ → ℕ → Request → Result Reply Refusal → Scene → List ℕ
+line_text number time asked answer scene = front_text number time asked answer ++ (scene_text scene ++ 10 ∷ [])

@@ -1,0 +1,39 @@
+-- For the proofs: a scene, as it is read from the words.
+use Rattle.std.specs.Prelude.{◌≡◌, ℕ, Bool, false, List, map, Option, Some, None, option_map}
+use Rattle.agc_word.specs.Layout.{IsSized}
+use Rattle.agc_plan.specs.declared.request.Request.{Request}
+use Rattle.agc_plan.specs.declared.reply.Reply.{Reply}
+use Rattle.agc_plan.specs.Steps.{acted, begins}
+use Rattle.agc_exec.specs.Held.{Held}
+use Rattle.agc_exec.specs.Image.{sets_of, runner_in, IsLawfulWords}
+use Rattle.agc_wait.specs.Table.{waits_of}
+use Rattle.agc_machine.specs.declared.answer.Refusal.{Refusal}
+use Rattle.agc_machine.specs.Machines.{Machined, answer_of, result_of, plain_of}
+use Rattle.agc_machine.specs.Moments.{Acting}
+use Rattle.agc_trace.specs.declared.seats.Seated.{Seated}
+use Rattle.agc_trace.specs.Scenes.{Scene}
+use Rattle.agc_trace.specs.Traces.{scene_unless}
+
+-- a core set's job, as a trace shows it
+abbrev pub seen : Held → Seated
+seen r = record { number = r.number; at = r.at; priority = r.priority; asleep = r.asleep; area = r.area }
+
+-- what each core set holds
+unfoldable pub seats_in : List ℕ → List (Option Seated)
+seats_in words = map (option_map seen) (sets_of words)
+
+abbrev pub scene_in : List ℕ → Scene
+scene_in words = record { running = runner_in words; seats = seats_in words; waits = waits_of words }
+
+-- these words and this reply are what is shown of a request
+pub record IsShown (m : Machined) (asked : Request) (refusal : Option Refusal) (moment : Acting) : Type 0 where
+  pub size : IsSized moment.words
+  pub cores : IsLawfulWords moment.words
+  pub scene : scene_in moment.words ≡ scene_unless refusal m asked
+  pub answer : result_of refusal moment.reply ≡ answer_of m asked
+  pub reply : refusal ≡ None → moment.reply ≡ (acted m.plan asked (plain_of m)).reply
+
+-- whether an era begins with an answer
+abbrev pub begins_unless : Option Refusal → Reply → Bool
+begins_unless None reply = begins reply
+begins_unless (Some refusal) reply = false

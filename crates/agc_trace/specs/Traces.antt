@@ -1,0 +1,57 @@
+-- The trace of a run: a line for each request, with the state in which it was answered.
+use Rattle.std.specs.Prelude.{ℕ, ◌+◌, ◌==◌, if◌then◌else◌, List, [], ◌∷◌, ◌++◌, Option, Some, None}
+use Rattle.std.specs.List.{fold}
+use Rattle.agc_plan.specs.declared.request.Request.{Request}
+use Rattle.agc_plan.specs.Seats.{places_acted}
+use Rattle.agc_plan.specs.Steps.{acted, begins}
+use Rattle.agc_machine.specs.Briefs.{is_tick}
+use Rattle.agc_machine.specs.Machines.{Machined, after, answer_of, refusal_of, plain_of, places_of}
+use Rattle.agc_machine.specs.declared.answer.Refusal.{Refusal}
+use Rattle.agc_trace.specs.Lines.{line_text}
+use Rattle.agc_trace.specs.Scenes.{Scene, scene_of}
+
+-- one more, up to the greatest number of 64 bits
+abbrev pub one_more : ℕ → ℕ
+one_more n = if n == 18446744073709551615 then n else n + 1
+
+-- a run that is traced: the machine, how many requests were asked, and how many ticks were served
+-- since the era began
+pub record Traced : Type 0 where
+  pub machine : Machined
+  pub asked : ℕ
+  pub time : ℕ
+
+-- the state in which a request is answered: what it did, before an era begins with it; a refused
+-- one did nothing
+abbrev pub scene_unless : Option Refusal → Machined → Request → Scene
+scene_unless (Some refusal) m asked = scene_of (plain_of m) (places_of m)
+scene_unless None m asked = scene_of (acted m.plan asked (plain_of m)).plain (places_acted m.plan asked (plain_of m) (places_of m))
+
+-- the time at which a request is answered
+abbrev pub time_unless : Option Refusal → Request → ℕ → ℕ
+time_unless (Some refusal) asked time = time
+time_unless None asked time = if is_tick asked then one_more time else time
+
+-- the time after it: an era begins at 0
+abbrev pub time_after : Option Refusal → Traced → Request → ℕ
+time_after (Some refusal) t asked = t.time
+time_after None t asked = if begins (acted t.machine.plan asked (plain_of t.machine)).reply then 0 else time_unless None asked t.time
+
+-- the line of the next request
+unfoldable pub traced_line : Traced → Request → List ℕ
+traced_line t asked =
+    let refusal = refusal_of t.machine asked in
+    line_text (one_more t.asked) (time_unless refusal asked t.time) asked (answer_of t.machine asked) (scene_unless refusal t.machine asked)
+
+-- the run after it
+abbrev pub traced : Traced → Request → Traced
+traced t asked = record { machine = after t.machine asked; asked = one_more t.asked; time = time_after (refusal_of t.machine asked) t asked }
+
+-- the run after all of these requests, in order
+unfoldable pub traced_all : Traced → List Request → Traced
+traced_all t requests = fold traced t requests
+
+-- their lines
+unfoldable pub traced_lines : Traced → List Request → List ℕ
+traced_lines t [] = []
+traced_lines t (asked ∷ requests) = traced_line t asked ++ traced_lines (traced t asked) requests

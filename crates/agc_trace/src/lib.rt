@@ -1,0 +1,17 @@
+//! The trace of a run: a line for each request, with the tables as they were when it was answered.
+//! Source: profile.
+#![tactic(auto)]
+
+mod cells;
+mod columns;
+mod lines;
+mod numerals;
+mod runs;
+mod seats;
+#[cfg(test)]
+mod tests;
+mod waits;
+#[cfg(test)]
+mod writers;
+
+pub use runs::trace;

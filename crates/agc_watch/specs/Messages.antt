@@ -1,0 +1,15 @@
+-- The text of each fault of the program.
+use Rattle.std.specs.Prelude.{ℕ, List, codes}
+use Rattle.agc_watch.specs.declared.fault.Fault.{Fault}
+use Rattle.agc_watch.specs.declared.fault.Fault.TheVariants.{Words, NoMemory, Output, Read, Bench, Run}
+use Rattle.agc_text.specs.Messages.{read_fault_text}
+use Rattle.agc_bench.specs.Messages.{bench_fault_text, run_fault_text}
+
+-- what stands after `agc_watch: ` on standard error
+abbrev pub fault_text : Fault → List ℕ
+fault_text Words = codes "use trace"
+fault_text NoMemory = codes "no memory"
+fault_text Output = codes "output"
+fault_text (Read fault) = read_fault_text fault
+fault_text (Bench fault) = bench_fault_text fault
+fault_text (Run fault) = run_fault_text fault

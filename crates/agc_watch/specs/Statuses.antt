@@ -1,0 +1,27 @@
+-- The exit statuses.
+use Rattle.std.specs.Prelude.{ℕ, Result, Ok, Err}
+use Rattle.agc_watch.specs.declared.fault.Fault.{Fault}
+use Rattle.agc_watch.specs.declared.fault.Fault.TheVariants.{Words, NoMemory, Output, Read, Bench, Run}
+use Rattle.agc_text.specs.declared.fault.ReadFault.TheVariants as read
+use Rattle.agc_bench.specs.declared.fault.BenchFault.TheVariants as bench
+use Rattle.agc_bench.specs.declared.run_fault.RunFault.TheVariants as run
+
+-- 1: input that is refused; 2: the words; 3: want of memory or of a thread; 4: a read or write that failed; 5: lost shares
+abbrev pub status_of : Fault → ℕ
+status_of Words = 2
+status_of NoMemory = 3
+status_of Output = 4
+status_of (Read read.NoMemory) = 3
+status_of (Read read.Input) = 4
+status_of (Read fault) = 1
+status_of (Bench bench.NoMemory) = 3
+status_of (Bench fault) = 1
+status_of (Run run.NoMemory) = 3
+status_of (Run run.NoThread) = 3
+status_of (Run run.Output) = 4
+status_of (Run run.Lost) = 5
+
+-- 0 where there was no fault
+abbrev pub status_after : Result Unit Fault → ℕ
+status_after (Ok done) = 0
+status_after (Err fault) = status_of fault

@@ -1,0 +1,58 @@
+//! The words of the command line.
+use crate::fault::Fault;
+use clap::error::ErrorKind;
+use clap::{Command, Error};
+use std::alloc::Global;
+
+/// What the program is asked for.
+#[derive(Drop)]
+pub enum Asked {
+    /// The trace of a bench.
+    Trace,
+    /// The help, or the version.
+    Text(Error),
+}
+
+fn asked_by(name: &str) -> Option<Asked> {
+    match name {
+        "trace" => Some(Asked::Trace),
+        _ => None,
+    }
+}
+
+/// The words that clap doesn't take: they ask for a text, or are wrong.
+fn asked_of(error: Error) -> Result<Asked, Fault> {
+    match error.kind() {
+        ErrorKind::DisplayHelp => Ok(Asked::Text(error)),
+        ErrorKind::DisplayVersion => Ok(Asked::Text(error)),
+        ErrorKind::OutOfMemory => Err(Fault::NoMemory),
+        _ => Err(Fault::Words),
+    }
+}
+
+/// What the words of a command line ask for: the program's own name and one subcommand, and no
+/// more; or help, or the version.
+///
+/// # Errors
+///
+/// `Words` for any other words, and `NoMemory`.
+pub fn asked_for(alloc: Global, words: &[String]) -> Result<Asked, Fault> {
+    let command = Command::new(alloc, "agc_watch")
+        .version("1.0.0")
+        .about("Shows what the requests of a bench, on standard input, do to the tables")
+        .subcommand(Command::new(alloc, "trace").about(
+            "Writes a line for each request, with the tables",
+        ))?;
+    match command.try_get_matches_from(words) {
+        Ok(matches) => {
+            if words.len() != 2 {
+                return Err(Fault::Words);
+            }
+            matches
+                .subcommand_name()
+                .and_then(|name| asked_by(name))
+                .ok_or(Fault::Words)
+        }
+        Err(error) => asked_of(error),
+    }
+}
