@@ -1,5 +1,5 @@
 -- The first numbers of an array.
-use Rattle.std.proofs.Common.{◌≡◌, ℕ, ◌<◌, ◌≤◌, List, length, take, slice_index, sym, ◌∙◌, inl, inr, arith}
+use Rattle.std.proofs.Common.{◌≡◌, ℕ, ◌<◌, ◌≤◌, List, length, slice_index, sym, ◌∙◌, inl, inr, arith}
 use Rattle.std.proofs.lemmas.List.{ext_get_or, get_or-take, length-take-le}
 use Rattle.agc_word.specs.declared.sets.Sets.{Sets}
 use Rattle.agc_word.specs.declared.sets.Sets.TheVariants.{Seven, Eight}

@@ -1,7 +1,6 @@
 -- What a call on one table leaves of the image.
-use Rattle.std.proofs.Common.{◌≡◌, ℕ, ◌≤◌, List, length, ap, sym, subst, ◌∙◌, inl, inr, arith}
-use Rattle.std.proofs.lemmas.List.{length-take-le}
-use Rattle.agc_word.specs.Layout.{IsSized, sets_in, others_size, set_size, Keeps, OutsideCores, OutsideWaitlist, OutsidePhases}
+use Rattle.std.proofs.Common.{◌≡◌, ℕ, List, length, sym, subst, ◌∙◌, inl, inr, arith}
+use Rattle.agc_word.specs.Layout.{sets_in, Keeps, OutsideCores, OutsideWaitlist, OutsidePhases}
 use Rattle.agc_word.proofs.Keeping.{kept_also}
 use Rattle.agc_exec.specs.Image as cores
 use Rattle.agc_exec.proofs.Agreeing.{kept_by_waitlist, kept_by_phases, IsLawfulWords-agrees}
@@ -10,7 +9,7 @@ use Rattle.agc_wait.specs.Table as table
 use Rattle.agc_wait.proofs.Same.{IsLawfulTable-same}
 use Rattle.agc_phase.specs.Image as phases
 use Rattle.agc_phase.proofs.Kept.{InPhases, IsLawfulTable-kept}
-use Rattle.agc_image.specs.Images.{IsSets, size_with, image_of, behind, IsLawful, IsImage, IsOpened, IsWritten, Changed}
+use Rattle.agc_image.specs.Images.{IsSets, size_with, image_of, behind, IsLawful, IsOpened, IsWritten, Changed}
 
 -- the Waitlist's words, kept by a call on core sets, or on phases
 table_by_cores : (old new : List ℕ) → Keeps OutsideCores old new → SameTable new old

@@ -6,6 +6,8 @@ mod array;
 mod fault;
 mod lawful;
 mod numbers;
+#[cfg(test)]
+mod tests;
 
 
 pub use array::{blank, open, seven, twelve, write_all, write_back};

@@ -1,6 +1,6 @@
 -- Words whose tables were cleared, one after the other.
 use Rattle.std.proofs.Common.{◌≡◌, ℕ, List, length, replicate, ap, subst, ◌∙◌}
-use Rattle.agc_word.specs.Layout.{IsSized, sets_in, Keeps, OutsidePhases}
+use Rattle.agc_word.specs.Layout.{sets_in, Keeps, OutsidePhases}
 use Rattle.agc_word.specs.Profiles.{count_of, size_of}
 use Rattle.agc_word.specs.declared.sets.Sets.{Sets}
 use Rattle.agc_plan.specs.Base.{fresh_base}

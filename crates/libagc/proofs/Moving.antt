@@ -1,8 +1,8 @@
 -- From seven core sets to eight.
-use Rattle.std.proofs.Common.{◌≡◌, ℕ, ◌≤◌, List, length, refl, sym, subst, inl, inr, arith}
+use Rattle.std.proofs.Common.{◌≡◌, ℕ, List, length, refl, sym, subst, inr, arith}
 use Rattle.std.proofs.lemmas.List.{take_all}
 use Rattle.agc_image.specs.Codes.{Coded}
-use Rattle.agc_image.specs.Images.{size_with, image_of, AreWords, IsLawful, IsImage}
+use Rattle.agc_image.specs.Images.{size_with, image_of, AreWords, IsImage}
 use Rattle.agc_image.proofs.Codes.{coded_not_now}
 use Rattle.agc_machine.specs.Image.{IsLawfulImage}
 use Rattle.agc_machine.specs.Migration.{Migrates}

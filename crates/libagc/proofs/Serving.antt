@@ -1,5 +1,5 @@
 -- What a call answers, from what it did and what it lacked.
-use Rattle.std.proofs.Common.{◌≡◌, ℕ, ◌≤◌, List, length, Option, Some, refl, ap, sym, subst, ◌∙◌, arith}
+use Rattle.std.proofs.Common.{◌≡◌, ℕ, ◌≤◌, List, Option, Some, ap, subst, arith}
 use Rattle.agc_word.specs.Layout.{Keeps, OutsideCores, OutsideWaitlist, OutsidePhases}
 use Rattle.agc_plan.specs.declared.reply.Reply.{Reply}
 use Rattle.agc_exec.specs.Image as cores
@@ -11,7 +11,7 @@ use Rattle.agc_image.specs.Codes.{code_of, code_for, Coded}
 use Rattle.agc_image.specs.Images.{IsImage, IsOpened, IsWritten, Changed}
 use Rattle.agc_image.proofs.Codes.{coded_served, coded_also}
 use Rattle.agc_image.proofs.Frames.{changed, lawful_by_cores, lawful_by_waits, lawful_by_phases}
-use Rattle.libagc.specs.Replies.{told, refusal, Serves, Refuses}
+use Rattle.libagc.specs.Replies.{told, Serves}
 use Rattle.libagc.specs.declared.reply.AgcReply.{AgcReply}
 
 -- an image's call was served

@@ -1,37 +1,14 @@
-// The calls on a whole image.
-ghost use Rattle.std.specs.Prelude.{◌≡◌, ◌↔◌, ◌≤◌, true, false};
+// The calls on a whole image, but for that which makes one.
+ghost use Rattle.std.specs.Prelude.{◌≡◌, ◌↔◌, true, false};
 ghost use Rattle.agc_image.specs.Codes.{Coded};
-ghost use Rattle.agc_image.specs.Images.{IsSets, image_of, IsImage, Changed};
+ghost use Rattle.agc_image.specs.Images.{image_of, IsImage, Changed};
 ghost use Rattle.agc_machine.specs.Migration.{Migrates};
-ghost use Rattle.libagc.specs.Beginnings.{IsFresh, Restarts};
+ghost use Rattle.libagc.specs.Beginnings.{Restarts};
 ghost use Rattle.libagc.specs.Tasks.{NoneDue};
 
 use crate::reply::AgcTruth;
 use agc_image::{Fault, blank, image_fault, open, seven, write_all, write_back};
 use agc_machine::migrate;
-use agc_word::Erasable;
-
-/// Writes the image of a fresh start, whatever stood there: no jobs, no tasks, all groups inactive,
-/// and no codes. Answers the code, 0 or 1. Source: the listings' FRESH START AND RESTART section.
-#[unsafe(no_mangle)]
-pub extern "C" fn agc_clear(words: &mut [u16; 144], sets: u32) -> u32
-    ensures code { (result ≡ 0) ↔ IsSets sets }
-    ensures no_such_sets { (result ≡ 1) ↔ ¬ IsSets sets }
-    ensures served { result ≡ 0 → IsFresh sets words.old words.new }
-    ensures refused { ¬ (result ≡ 0) → words.new ≡ words.old }
-{
-    match agc_image::sets(sets) {
-        None => Fault::NoSuchSets.code(),
-        Some(count) => {
-            let mut image = Erasable::new(count);
-            agc_exec::clear(&mut image);
-            agc_wait::clear(&mut image);
-            agc_phase::clear(&mut image);
-            write_back(&image, words);
-            0
-        }
-    }
-}
 
 /// Whether the array has an image of so many core sets, 7 or 8: code 0 exactly there, else 1, 2 or
 /// 3. Answers true between requests, and false inside a tick, where a task is due. Source: profile.

@@ -9,8 +9,9 @@ ghost use Rattle.agc_image.specs.Images.{IsImage, image_of};
 ghost use Rattle.libagc.specs.Replies.{Refuses, Serves, number_told};
 
 use crate::reply::{AgcNumber, AgcReply};
-use agc_exec::{change_job, end_of_job, findvac, job_sleep, job_wake, novac, prio_change, running};
-use agc_exec::store;
+use agc_exec::{
+    change_job, end_of_job, findvac, job_sleep, job_wake, novac, prio_change, running, store,
+};
 use agc_image::{Fault, blank, image_fault, open, write_back};
 use agc_plan::{Entry, JobNo};
 

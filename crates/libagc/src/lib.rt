@@ -2,6 +2,7 @@
 //! array of 144 numbers that the caller owns, with the words of seven core sets or eight.
 #![tactic(auto)]
 
+mod clearing;
 mod images;
 mod jobs;
 mod phases;

@@ -1,4 +1,4 @@
-use Rattle.std.proofs.Common.{◌≡◌, ap, rules}
+use Rattle.std.proofs.Common.{ap, rules}
 use Rattle.agc_image.specs.Codes.{code_for}
 use Rattle.libagc.proofs.Moving.{inside_a_tick, migrated_to}
 use Rattle.libagc.proofs.Serving.{no_image}

@@ -1,4 +1,4 @@
-use Rattle.std.proofs.Common.{◌≡◌, ap, ◌∙◌}
+use Rattle.std.proofs.Common.{ap}
 use Rattle.agc_image.specs.Codes.{code_for}
 use Rattle.agc_image.specs.Images.{IsImage}
 use Rattle.libagc.proofs.Emptying.{restarted}

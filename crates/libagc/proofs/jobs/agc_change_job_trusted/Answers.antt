@@ -1,4 +1,3 @@
-use Rattle.std.proofs.Common.{refl}
 use Rattle.libagc.proofs.Serving.{all_there, serves_cores}
 use Rattle.libagc.proofs.jobs.agc_change_job_trusted.Goals as goal
 

@@ -1,4 +1,3 @@
-use Rattle.std.proofs.Common.{List, ℕ}
 use Rattle.agc_wait.specs.Calls.{Counts}
 use Rattle.libagc.proofs.Serving.{changed_waits}
 use Rattle.libagc.proofs.tasks.agc_count_time3_trusted.Goals as goal

@@ -1,7 +1,5 @@
-use Rattle.std.proofs.Common.{refl, subst, Bool}
+use Rattle.std.proofs.Common.{refl}
 use Rattle.libagc.specs.Replies.{listing}
-use Rattle.libagc.specs.Tasks.{DoesList}
-use Rattle.agc_plan.specs.declared.request.Task.{Task}
 use Rattle.libagc.proofs.Serving.{serves_waits}
 use Rattle.libagc.proofs.tasks.agc_list_trusted.Goals as goal
 

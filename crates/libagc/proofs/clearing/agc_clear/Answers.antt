@@ -2,7 +2,7 @@ use Rattle.std.proofs.Common.{refl, length, ap, ◌∙◌}
 use Rattle.std.proofs.lemmas.List.{length-replicate}
 use Rattle.agc_word.specs.Profiles.{size_of}
 use Rattle.libagc.proofs.Emptying.{fresh}
-use Rattle.libagc.proofs.images.agc_clear.Goals as goal
+use Rattle.libagc.proofs.clearing.agc_clear.Goals as goal
 
 pub returns-in-Some-clause-served : goal.returns-in-Some-clause-served
 returns-in-Some-clause-served c =

@@ -1,0 +1,108 @@
+"""Compares the exports as crates/libagc has them with agc.h, agc.py and agc.rs: each call's name, what it takes and
+answers, each struct's fields, and each code. Prints what differs, and fails then.
+"""
+
+import ctypes
+import glob
+import os
+import re
+import sys
+
+HERE = os.path.dirname(os.path.abspath(__file__))
+sys.path.insert(0, f"{HERE}/../python")
+import agc
+
+NUMBERS = {"uint32_t": "u32", "int32_t": "i32", "uint8_t": "u8", "bool": "bool"}
+
+
+def text_of(path):
+    with open(path, encoding="utf-8") as file:
+        return file.read()
+
+
+def rust_type(text):
+    text = text.replace("Words", "[u16; 144]") if "Phase" not in text else text.replace("PhaseWords", "[u16; 12]")
+    return text.strip()
+
+
+def of_rust(text, keyword):
+    """Returns calls and structs of Rattle or Rust: the exports or the safe and unsafe declarations."""
+    calls = {}
+    for name, takes, answers in re.findall(keyword + r"fn (agc_\w+)\(([^)]*)\)\s*->\s*(\w+)", text):
+        takes = [rust_type(it.split(":", 1)[1]) for it in takes.split(",") if ":" in it]
+        calls[name] = (takes, answers)
+    structs = {}
+    for name, body in re.findall(r"pub struct (Agc\w+) \{(.*?)\n\}", text, re.S):
+        structs[name] = re.findall(r"pub (\w+): ([^,\n]+),", body)
+    return calls, structs
+
+
+def of_c(text):
+    calls = {}
+    for answers, name, takes in re.findall(r"^(\w+) (agc_\w+)\(([^)]*)\);", text, re.M):
+        shown = []
+        for it in takes.split(", "):
+            array = re.search(r"\[(\w+)\]", it)
+            size = {"AGC_WORDS": 144, "AGC_PHASE_WORDS": 12}[array.group(1)] if array else 0
+            by = "&" if it.startswith("const ") else "&mut "
+            shown.append(f"{by}[u16; {size}]" if array else NUMBERS[it.split()[0]])
+        calls[name] = (shown, NUMBERS.get(answers, answers))
+    structs = {}
+    for body, name in re.findall(r"typedef struct \{ (.*?) \} (Agc\w+);", text):
+        structs[name] = []
+        for part in body.strip(" ;").split("; "):
+            kind, names = part.split(" ", 1)
+            for field in names.split(", "):
+                array = re.match(r"(\w+)\[(\d+)\]", field)
+                shown = f"[{NUMBERS[kind]}; {array.group(2)}]" if array else NUMBERS[kind]
+                structs[name].append((array.group(1) if array else field, shown))
+    return calls, structs
+
+
+PYTHON = {ctypes.c_uint32: "u32", ctypes.c_int32: "i32", ctypes.c_bool: "bool", ctypes.c_uint8 * 6: "[u8; 6]"}
+
+
+def of_python():
+    """Python says of an array neither its size nor whether it is written to."""
+    calls, structs = {}, {}
+    for name, (takes, answers) in agc.signatures().items():
+        calls[name] = ([PYTHON.get(it, "array") for it in takes], PYTHON.get(answers, answers.__name__))
+        if answers not in PYTHON:
+            structs[answers.__name__] = [(field, PYTHON[kind]) for field, kind in answers._fields_]
+    return calls, structs
+
+
+def without_arrays(calls):
+    return {name: (["array" if "[" in it else it for it in takes], answers) for name, (takes, answers) in calls.items()}
+
+
+def compared(name, wanted, found):
+    for key in sorted(set(wanted) | set(found)):
+        if wanted.get(key) != found.get(key):
+            yield f"signatures: {key} of {name} is {found.get(key)}, of the crate {wanted.get(key)}"
+
+
+def main():
+    source = "".join(text_of(it) for it in glob.glob(f"{HERE}/../../crates/libagc/src/*.rt"))
+    calls, structs = of_rust(source, r'no_mangle\)\]\npub extern "C" ')
+    header, module = text_of(f"{HERE}/../include/agc.h"), text_of(f"{HERE}/../rust/agc.rs")
+    faults = []
+    for name, found in [("agc.h", of_c(header)), ("agc.rs", of_rust(module, r"pub (?:safe )?"))]:
+        faults += compared(name, calls, found[0])
+        faults += compared(name, structs, found[1])
+    faults += compared("agc.py", without_arrays(calls), of_python()[0])
+    faults += compared("agc.py", structs, of_python()[1])
+    constants = {name: int(n, 8 if n[0] == "0" else 10) for name, n in re.findall(r"AGC_(\w+) = (\d+)", header)}
+    for name, number in re.findall(r"pub const (\w+): u32 = (\d+);", module):
+        if constants.get(name) != int(number):
+            faults.append(f"signatures: {name} is {constants.get(name)} in agc.h and {number} in agc.rs")
+    for it in [*agc.Code, *agc.Kind]:
+        if constants.get(it.name) != it.value:
+            faults.append(f"signatures: {it.name} is {constants.get(it.name)} in agc.h and {it.value} in agc.py")
+    if len(calls) < 30:
+        faults.append(f"signatures: the crate has {len(calls)} exports")
+    print(*faults, sep="\n", end="\n" if faults else "")
+    return 1 if faults else 0
+
+
+sys.exit(main())
