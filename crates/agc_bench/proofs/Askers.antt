@@ -4,7 +4,8 @@ use Rattle.std.proofs.lemmas.List.{get_or_append_left, get_or-append_right, get_
 use Rattle.std.proofs.lemmas.List.FromFn.{get_or-enumerate_from, length-enumerate_from}
 use Rattle.agc_plan.specs.declared.request.Request.{Request}
 use Rattle.agc_bench.specs.Benches.{Benched}
-use Rattle.agc_bench.specs.Threads.{Worker, Attends, workers_of, threads_of, thread_at}
+use Rattle.agc_bench.specs.Threads.{Worker, Attends, workers_of, threads_of}
+use Rattle.agc_bench.specs.Steps.{thread_at}
 
 -- how many workers there are
 workers_of_length : (bench : Benched) → length (workers_of bench) ≡ length bench.workers

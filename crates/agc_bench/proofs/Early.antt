@@ -11,7 +11,8 @@ use Rattle.std.specs.Io.KnownBytes.{Appends}
 use Rattle.agc_text.specs.Pulses.{pulses_text}
 use Rattle.agc_text.specs.Report.{report_text}
 use Rattle.agc_text.specs.Writing.{AppendsFront, Writes}
-use Rattle.agc_bench.specs.Threads.{AreSettled, IsEarly, IsRun, IsRunReport, WritesRun, WritesSettled}
+use Rattle.agc_bench.specs.Threads.{AreSettled, IsRun, IsRunReport, WritesRun}
+use Rattle.agc_bench.specs.Steps.{IsEarly, WritesSettled}
 
 -- an early fault is handed on, and nothing was written
 pub early_writes : {T : Type 0} (may_stop : ℕ → ℕ → Type 0) (bench : Benched) (written : Option (List ℕ)) (fault : RunFault) (result : Result T RunFault)

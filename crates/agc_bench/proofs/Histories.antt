@@ -20,7 +20,8 @@ use Rattle.agc_bench.specs.Benches.{Benched}
 use Rattle.agc_bench.specs.Runs.{bench_machine, bench_plan}
 use Rattle.agc_desk.specs.Draining.{answers_to}
 use Rattle.agc_bench.specs.Sharing.{AreFresh, AsksOwn, AsksPulses, EachAsks, Finishes, HaveMade, HaveRun, first_calls}
-use Rattle.agc_bench.specs.Threads.{AskedOwn, IsRun, asker_at, askers_of, thread_at}
+use Rattle.agc_bench.specs.Threads.{AskedOwn, IsRun, asker_at, askers_of}
+use Rattle.agc_bench.specs.Steps.{thread_at}
 
 -- the next request's answer, and those of the requests after it
 answers_at : (m : Machined) (rs : List Request) (i : ℕ) (r : Request) (said : Said) → i < length rs → r ≡ get_or rs i r

@@ -10,11 +10,6 @@ use Rattle.agc_text.specs.Report.{report_text}
 use Rattle.agc_text.specs.Session.{answer_lines}
 use Rattle.agc_text.specs.Writing.{AppendsFront, Writes}
 
--- the report of a machine's totals, and of words that are the machine's, was written and nothing else; where a write
--- failed, a front of it
-abbrev pub WritesReport : {T E : Type 0} → Option (List ℕ) → Option (List ℕ) → Machined → Result T E → Type 0
-WritesReport old new machine result = (words : List ℕ) × HandsOut machine words × Writes old new (report_text machine.plan.sets words machine.totals) result
-
 -- the text of a session: a line for each answer, then the report of totals and words of the machine that was reached
 pub record IsSession (machine : Machined) (requests : List Request) (text : List ℕ) : Type 0 where
   pub words : List ℕ

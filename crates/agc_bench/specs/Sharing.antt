@@ -17,7 +17,8 @@ use Rattle.agc_desk.specs.History.{Holder, IsHistory, calls_by}
 use Rattle.agc_desk.specs.Runs.{AsksAll}
 use Rattle.agc_bench.specs.Benches.{Benched}
 use Rattle.agc_bench.specs.Runs.{bench_plan}
-use Rattle.agc_bench.specs.Threads.{Asker, AskedOwn, IsPulse, posts_of, thread_at, threads_of}
+use Rattle.agc_bench.specs.Threads.{Asker, AskedOwn, IsPulse, posts_of, threads_of}
+use Rattle.agc_bench.specs.Steps.{thread_at}
 
 -- the calls of the share of number 0, with these answers
 abbrev pub first_calls : List Said → List Call

@@ -35,10 +35,6 @@ workers_of bench = map (λ w. Worker w.0 w.1) (enumerate_from 0 bench.workers)
 abbrev pub threads_of : Benched → List Asker
 threads_of bench = workers_of bench ++ Attends ∷ []
 
--- who asks in the thread of this number
-abbrev pub thread_at : Benched → ℕ → Asker
-thread_at bench thread = slice_index_or (threads_of bench) thread Attends
-
 -- who asks: the caller of the run, which attends when all threads have ended, and these threads
 abbrev pub askers_of : Benched → List Asker
 askers_of bench = Attends ∷ threads_of bench
@@ -92,21 +88,6 @@ pub record IsRunReport (may_stop : ℕ → ℕ → Type 0) (bench : Benched) (te
   pub pulses : AreSettled bench settled
   pub text_is : text ≡ report_text machine.plan.sets words machine.totals
       ++ pulses_text settled.posted settled.applied settled.owed
-
--- of a machine's words, of these totals and of what became of pulses the lines were written and
--- nothing else; where a write failed, a front of them
-abbrev pub WritesSettled : {T E : Type 0} → Option (List ℕ) → Option (List ℕ)
-    → Machined → Totals → Settled → Result T E → Type 0
-WritesSettled old new machine totals settled result = (words : List ℕ) × HandsOut machine words
-    × Writes old new (report_text machine.plan.sets words totals
-    ++ pulses_text settled.posted settled.applied settled.owed) result
-
--- a fault that comes before the first write; Lost is never answered
-abbrev pub IsEarly : RunFault → Type 0
-IsEarly NoMemory = Unit {0}
-IsEarly NoThread = Unit {0}
-IsEarly Lost = ⊥
-IsEarly Output = ⊥
 
 -- what a run of threads wrote: the report and nothing else; a front of it where a write failed;
 -- nothing where there was no memory or no thread; Lost is never answered

@@ -3,7 +3,8 @@ ghost use Rattle.agc_machine.specs.Machines.{after_all};
 ghost use Rattle.agc_desk.specs.Draining.{answers_to};
 ghost use Rattle.agc_bench.specs.Runs.{bench_machine, bench_plan};
 ghost use Rattle.agc_bench.specs.Sharing.{AsksOwn, AsksPulses, first_calls};
-ghost use Rattle.agc_bench.specs.Threads.{thread_at, threads_of};
+ghost use Rattle.agc_bench.specs.Threads.{threads_of};
+ghost use Rattle.agc_bench.specs.Steps.{thread_at};
 
 use crate::bench::Bench;
 use agc_desk::{Desk, Gate, Latch, Names, Share, Shared, Sharing, attend, work};

@@ -5,7 +5,8 @@ ghost use Rattle.agc_desk.specs.Desks.{new_desk};
 ghost use Rattle.agc_desk.specs.Draining.{answers_to};
 ghost use Rattle.agc_desk.specs.Opening.{names_of};
 ghost use Rattle.agc_bench.specs.Sharing.{AreFresh, AreReady, first_calls};
-ghost use Rattle.agc_bench.specs.Threads.{IsEarly, askers_of};
+ghost use Rattle.agc_bench.specs.Threads.{askers_of};
+ghost use Rattle.agc_bench.specs.Steps.{IsEarly};
 
 use crate::asker::{ask_script, count_threads};
 use crate::bench::Bench;

@@ -5,7 +5,8 @@ ghost use Rattle.agc_desk.specs.Draining.{answers_to};
 ghost use Rattle.agc_desk.specs.Opening.{names_of};
 ghost use Rattle.agc_bench.specs.Runs.{bench_machine, bench_plan};
 ghost use Rattle.agc_bench.specs.Sharing.{AreReady, AsksOwn, EachAsks, HaveRun, first_calls, spent_device};
-ghost use Rattle.agc_bench.specs.Threads.{AreSettled, IsEarly, IsRun, WritesRun, WritesSettled, askers_of, thread_at};
+ghost use Rattle.agc_bench.specs.Threads.{AreSettled, IsRun, WritesRun, askers_of};
+ghost use Rattle.agc_bench.specs.Steps.{IsEarly, WritesSettled, thread_at};
 
 use crate::asker::ask_own;
 use crate::bench::Bench;
