@@ -436,7 +436,8 @@ fn attends_of(value: Option<&Value>) -> Option<u32>
 }
 
 fn sets_of(value: Option<&Value>) -> Option<Sets>
-    ensures value { option_map count_of result ≡ number_or 7 7 8 (option_map (λ v. view v.now) value.entry) }
+    ensures value { option_map count_of result
+        ≡ number_or 7 7 8 (option_map (λ v. view v.now) value.entry) }
     ensures range { IfSome result (λ sets. IsBetween 7 8 (count_of sets)) }
 {
     if number_or(value, 7, 7, 8)? == 7 {

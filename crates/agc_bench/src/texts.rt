@@ -90,7 +90,8 @@ impl<'a> Model for Settings<'a> {
       power = option_map (λ v. map (λ s. s.now) v.items) t.power;
     } };
 
-    ghost invariant = { λ t. IsBetween 7 8 (count_of t.sets) × (t.allowance ≤ 9223372036854775807) × (t.attends ≤ 1000) };
+    ghost invariant = { λ t. IsBetween 7 8 (count_of t.sets)
+        × (t.allowance ≤ 9223372036854775807) × (t.attends ≤ 1000) };
 }
 
 /// What a bench has many of.

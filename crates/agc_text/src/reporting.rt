@@ -90,7 +90,8 @@ fn put_set<W: Write>(words: &[Word], set: usize, writer: &mut W) -> Result<(), O
 fn put_sets<W: Write>(sets: usize, words: &[Word], writer: &mut W) -> Result<(), Output>
     requires all { length words.now ≡ 144 }
     requires sets { sets ≤ 8 }
-    ensures { Writes (W.contents writer.old) (W.contents writer.new) (sets_text sets words.now) result }
+    ensures { Writes (W.contents writer.old) (W.contents writer.new)
+        (sets_text sets words.now) result }
 {
     for set in 0..sets {
         put_set(words, set, writer)?;
@@ -202,10 +203,11 @@ fn profile_line(sets: Sets) -> &'static str
     }
 }
 
-/// Writes the report of a machine's words and totals, of so many core sets: a line for each core set, the VAC areas' use
-/// words, NEWJOB, TIME3, LST1, LST2, the phase words, FAILREG, and the counts. With eight sets a line `SETS 8` stands
-/// before them. A set whose PRIORITY is 77777 is written as `FREE`. Words are five octal digits, counts are decimal. The
-/// writer is not flushed. Source: profile.
+/// Writes the report of a machine's words and totals, of so many core sets: a line for each core
+/// set, the VAC areas' use words, NEWJOB, TIME3, LST1, LST2, the phase words, FAILREG, and the
+/// counts. With eight sets a line `SETS 8` stands before them. A set whose PRIORITY is 77777 is
+/// written as `FREE`. Words are five octal digits, counts are decimal. The writer is not flushed.
+/// Source: profile.
 ///
 /// # Errors
 ///
@@ -216,7 +218,8 @@ pub fn report<W: Write>(
     totals: &Totals,
     writer: &mut W,
 ) -> Result<(), Output>
-    ensures { Writes (W.contents writer.old) (W.contents writer.new) (report_text (count_of sets) words.now totals.now) result }
+    ensures { Writes (W.contents writer.old) (W.contents writer.new)
+        (report_text (count_of sets) words.now totals.now) result }
 {
     let words = &words[..];
     put(writer, profile_line(sets).as_bytes())?;
