@@ -20,7 +20,8 @@ code_for (Some fault) = code_of fault
 
 -- each code comes exactly where what it names is the first that a call lacks: an image, numbers in
 -- range, words, the time for it. 0 comes exactly where it lacks nothing
-pub record Coded (code sets : ℕ) (array : List ℕ) (in_range are_words is_time : Type 0) : Type 0 where
+pub record Coded (code sets : ℕ) (array : List ℕ) (in_range are_words is_time : Type 0)
+    : Type 0 where
   pub served : (code ≡ 0) ↔ (IsImage sets array × in_range × are_words × is_time)
   pub no_such_sets : (code ≡ 1) ↔ ¬ IsSets sets
   pub not_words : (code ≡ 2) ↔ (IsSets sets × ¬ AreWords (image_of sets array))

@@ -1,7 +1,8 @@
 // Reading a caller's array, and writing it back.
 ghost use Rattle.std.specs.Prelude.{◌≡◌, ◌↔◌, IsTrue, IsSome, IfSome, length};
 ghost use Rattle.agc_word.specs.Profiles.{count_of, size_of};
-ghost use Rattle.agc_image.specs.Images.{IsSets, size_with, image_of, AreWords, IsImage, IsOpened, IsWritten};
+ghost use Rattle.agc_image.specs.Images.{IsSets, size_with, image_of, AreWords, IsImage};
+ghost use Rattle.agc_image.specs.Images.{IsOpened, IsWritten};
 
 use agc_word::layout::{OTHERS_SIZE, SET_SIZE};
 use agc_word::{Erasable, Sets, Word};

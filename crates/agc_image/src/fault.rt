@@ -20,7 +20,7 @@ pub enum Fault {
     OutOfRange,
     /// A value of the call is no word of fifteen bits.
     NotAWord,
-    /// It isn't the time for the call: a tick's call where none of its tasks is due, or the reverse.
+    /// It isn't the time for the call: a task is due, or at a dispatch none is.
     NotNow,
 }
 

@@ -1,5 +1,5 @@
-//! Erasable memory in an array of a caller's own, whatever numbers it holds: whether they are an image, how they are read
-//! and written back, and which fault a call's numbers have.
+//! Erasable memory in an array of a caller's own, whatever numbers it holds: whether they are an
+//! image, how they are read and written back, and which fault a call's numbers have.
 #![tactic(auto)]
 
 mod array;
@@ -8,7 +8,6 @@ mod lawful;
 mod numbers;
 #[cfg(test)]
 mod tests;
-
 
 pub use array::{blank, open, seven, twelve, write_all, write_back};
 pub use fault::{Fault, image_fault};

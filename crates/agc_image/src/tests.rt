@@ -1,5 +1,4 @@
-use crate::{Fault, blank, image_fault, open, write_back};
-use agc_word::Word;
+use crate::{Fault, image_fault};
 use std::test::Fail;
 
 /// The words of a machine of eight core sets after a fresh start, by hand.
@@ -21,17 +20,16 @@ fn fresh() -> [u16; 144] {
 }
 
 #[test]
-fn an_array_is_read_and_written_back(rt: HostRuntime) -> Result<(), Fail> {
+fn an_image_is_known_by_its_numbers(rt: HostRuntime) -> Result<(), Fail> {
     let mut array = fresh();
+    assert_eq!(rt; image_fault(&array, 7), None);
     assert_eq!(rt; image_fault(&array, 8), None);
+    assert_eq!(rt; image_fault(&array, 9), Some(Fault::NoSuchSets));
+    array[143] = 0;
     assert_eq!(rt; image_fault(&array, 7), None);
-    let mut image = blank(8);
-    open(&array, 8, &mut image);
-    image.set(143, Word::zero());
-    write_back(&image, &mut array);
-    assert_eq!(rt; array[143], 0);
-    assert_eq!(rt; array[89], 0o77777);
     assert_eq!(rt; image_fault(&array, 8), Some(Fault::Unlawful));
+    array[143] = 0o100000;
     assert_eq!(rt; image_fault(&array, 7), None);
+    assert_eq!(rt; image_fault(&array, 8), Some(Fault::NotWords));
     Ok(())
 }

@@ -7,4 +7,5 @@ use Rattle.agc_phase.specs.Image.{base_of, Becomes, code_of_word}
 -- the code of this word is added to those in FAILREG
 abbrev pub Records : ℕ → List ℕ → List ℕ → Type 0
 Records word old new =
-    (code : Code) × ((code_of_word word ≡ Some code) × Becomes (with_code code (base_of old)) old new)
+    (code : Code)
+    × ((code_of_word word ≡ Some code) × Becomes (with_code code (base_of old)) old new)

@@ -10,8 +10,8 @@ ghost use Rattle.libagc.specs.Phases.{Records};
 use agc_image::{Fault, blank, image_fault, open, twelve, write_back};
 use agc_phase::{Phases, record_alarm, recover, set_phase};
 
-/// The six phases that twelve phase words tell: a code, and the phases of groups 1 to 6, all 0 where
-/// the code isn't. Source: profile.
+/// The six phases that twelve phase words tell: a code, and the phases of groups 1 to 6, all 0
+/// where the code isn't. Source: profile.
 #[repr(C)]
 #[derive(Clone, Copy)]
 pub struct AgcPhases {

@@ -6,8 +6,8 @@ ghost use Rattle.libagc.specs.Replies.{alarm_code, told, refusal, listing};
 use agc_image::Fault;
 use agc_plan::{Alarm, Reply};
 
-/// What a request is answered: a code, 0 where it was served, and then the kind of the reply, and its number: that of a
-/// job, an alarm's code in octal digits, or 0. Source: profile.
+/// What a request is answered: a code, 0 where it was served, and then the kind of the reply, and
+/// its number: that of a job, an alarm as FAILREG has it, or 0. Source: profile.
 #[repr(C)]
 #[derive(Clone, Copy)]
 pub struct AgcReply {
@@ -88,7 +88,8 @@ impl AgcReply {
     }
 }
 
-/// What a call answers by a number: a code, and the number, 0 where the code isn't. Source: profile.
+/// What a call answers by a number: a code, and the number, 0 where the code isn't. Source:
+/// profile.
 #[repr(C)]
 #[derive(Clone, Copy)]
 pub struct AgcNumber {
@@ -133,8 +134,8 @@ impl AgcTruth {
     }
 }
 
-/// A task of the Waitlist: a code, and the task's address and its bank's word, both 0 where the code
-/// isn't. Source: profile.
+/// A task of the Waitlist: a code, and the task's address and its bank's word, both 0 where the
+/// code isn't. Source: profile.
 #[repr(C)]
 #[derive(Clone, Copy)]
 pub struct AgcTask {
