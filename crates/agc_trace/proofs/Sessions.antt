@@ -13,7 +13,7 @@ use Rattle.agc_text.proofs.Steps.{appends_none, up_to_end, writes_first, writes_
 use Rattle.agc_bench.specs.Benches.{Benched}
 use Rattle.agc_desk.specs.Pulses.{repeated}
 use Rattle.agc_bench.specs.Runs.{device_requests, bench_requests}
-use Rattle.agc_trace.specs.Traces.{Traced, traced, traced_all, traced_line, traced_lines}
+use Rattle.agc_trace.specs.Traces.{Traced, traced, traced_all, traced_text, traced_lines}
 
 -- one list of requests after another
 after_append : (m : Traced) (a b : List Request) → traced_all m (a ++ b) ≡ traced_all (traced_all m a) b
@@ -37,7 +37,7 @@ pub after_last : (goal m : Traced) (rs : List Request) (i : ℕ) → length rs �
 unfolding traced_all
 after_last goal m rs i l h = sym (subst (λ (xs : List Request). goal ≡ fold traced m xs) (nothing_left rs i l) h)
 
-pub line_next : (o n : Option (List ℕ)) (text : List ℕ) (m : Traced) (rs : List Request) (i : ℕ) (r : Request) → i < length rs → r ≡ get_or rs i r → AppendsUpTo o n text (traced_lines m (drop i rs)) → AppendsUpTo o n text (traced_line m r ++ traced_lines (traced m r) (drop (i + 1) rs))
+pub line_next : (o n : Option (List ℕ)) (text : List ℕ) (m : Traced) (rs : List Request) (i : ℕ) (r : Request) → i < length rs → r ≡ get_or rs i r → AppendsUpTo o n text (traced_lines m (drop i rs)) → AppendsUpTo o n text (traced_text m r ++ traced_lines (traced m r) (drop (i + 1) rs))
 unfolding traced_lines
 line_next o n text m rs i r l is h = subst (λ (xs : List Request). AppendsUpTo o n text (traced_lines m xs)) (rest_is rs i r l is) h
 
@@ -48,7 +48,7 @@ line_last o n text m rs i l h = up_to_end o n text (subst (λ (xs : List Request
 lines_append : (m : Traced) (a b : List Request) → traced_lines m (a ++ b) ≡ traced_lines m a ++ traced_lines (traced_all m a) b
 unfolding traced_lines traced_all
 lines_append m [] b = refl
-lines_append m (r ∷ a) b = ap (λ (s : List ℕ). traced_line m r ++ s) (lines_append (traced m r) a b) ∙ sym (append_assoc (traced_line m r) (traced_lines (traced m r) a) (traced_lines (traced_all (traced m r) a) b))
+lines_append m (r ∷ a) b = ap (λ (s : List ℕ). traced_text m r ++ s) (lines_append (traced m r) a b) ∙ sym (append_assoc (traced_text m r) (traced_lines (traced m r) a) (traced_lines (traced_all (traced m r) a) b))
 
 -- the requests of the next item, and of those after it
 items_rest : {X : Type 0} → (f : X → List Request) (xs : List X) (i : ℕ) (x : X) → i < length xs → x ≡ get_or xs i x → flat_map f (drop i xs) ≡ f x ++ flat_map f (drop (i + 1) xs)

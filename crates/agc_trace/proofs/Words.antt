@@ -1,5 +1,5 @@
 -- A core set's words, and a task's.
-use Rattle.std.proofs.Common.{◌≡◌, ◌≢◌, ℕ, zero, suc, ◌+◌, ◌-◌, ◌/◌, ◌%◌, ◌<◌, ◌≤◌, ◌==◌, Bool, true, false, List, [], ◌∷◌, ◌++◌, codes, length, drop, drop-cons, add-one, Option, Some, None, option_map, slice_get, slice_index, refl, sym, ap, ◌∙◌, append_assoc, arith}
+use Rattle.std.proofs.Common.{◌≡◌, ◌≢◌, ℕ, zero, suc, ◌+◌, ◌-◌, ◌/◌, ◌%◌, ◌<◌, ◌≤◌, ◌==◌, Bool, true, false, List, [], ◌∷◌, ◌++◌, codes, length, drop, drop-cons, add-one, Option, Some, None, option_map, slice_get, slice_index, refl, sym, ap, ◌∙◌, append_assoc, append-nil, arith}
 use Rattle.std.proofs.lemmas.Grind.{common_steps}
 use Rattle.std.proofs.lemmas.List.{length-map, length-drop, nil_from_length}
 use Rattle.std.proofs.lemmas.Option.{slice_get-map, slice_get-get_or, slice_get_within, get_or_from_slice_get}
@@ -16,6 +16,7 @@ use Rattle.agc_exec.proofs.Ranks.{at_words, held_by-free, held_by-awake, held_by
 use Rattle.agc_exec.proofs.Reading.{get-block_in}
 use Rattle.agc_wait.specs.Table.{waits_from, waits_of, at_in, lst1, gap_of, distance_of, time3}
 use Rattle.agc_trace.specs.declared.seats.Seated.{Seated}
+use Rattle.agc_trace.specs.Accounts.{job_text, jobs_text}
 use Rattle.agc_trace.specs.Lines.{owner_of, wait_text, waits_text}
 use Rattle.agc_trace.specs.Reading.{seen, seats_in}
 
@@ -114,3 +115,15 @@ unfolding waits_of
 some_waits words some =
     let there : (at_in words 0 == 0) ≡ false = grind (arith, common_steps) in
     rw there refl
+
+-- the next job, and no more
+pub jobs_next : (seats : List (Option Seated)) (k : ℕ) (seat : Option Seated) (old new whole : List ℕ) → slice_get seats k ≡ Some seat → new ≡ old ++ job_text k seat → old ++ jobs_text k (drop k seats) ≡ whole → new ++ jobs_text (k + 1) (drop (k + 1) seats) ≡ whole
+jobs_next seats k seat old new whole is made rest =
+    ap (λ (t : List ℕ). t ++ jobs_text (k + 1) (drop (k + 1) seats)) made
+    ∙ append_assoc old (job_text k seat) (jobs_text (k + 1) (drop (k + 1) seats))
+    ∙ ap (λ (l : List (Option Seated)). old ++ jobs_text k l) (sym (next seats k seat is)) ∙ rest
+
+pub jobs_end : (seats : List (Option Seated)) (k : ℕ) (text whole : List ℕ) → length seats ≤ k → text ++ jobs_text k (drop k seats) ≡ whole → text ≡ whole
+jobs_end seats k text whole past rest =
+    let nothing : drop k seats ≡ [] = nil_from_length _ (simp length-drop (omega arith)) in
+    sym (append-nil text) ∙ ap (λ (l : List (Option Seated)). text ++ jobs_text k l) (sym nothing) ∙ rest

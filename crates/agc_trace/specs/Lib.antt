@@ -1,5 +1,6 @@
 pub mod Scenes
 pub mod Lines
+pub mod Accounts
 pub mod Traces
 pub mod Reading
 pub mod Runs

@@ -3,10 +3,13 @@ use Rattle.std.specs.Prelude.{ℕ, ◌+◌, ◌==◌, if◌then◌else◌, List,
 use Rattle.std.specs.List.{fold}
 use Rattle.agc_plan.specs.declared.request.Request.{Request}
 use Rattle.agc_plan.specs.Seats.{places_acted}
-use Rattle.agc_plan.specs.Steps.{acted, begins}
+use Rattle.agc_plan.specs.declared.reply.Alarm.{Alarm}
+use Rattle.agc_plan.specs.declared.reply.Reply.{Reply}
+use Rattle.agc_plan.specs.Steps.{acted, alarm_of, begins}
 use Rattle.agc_machine.specs.Briefs.{is_tick}
 use Rattle.agc_machine.specs.Machines.{Machined, after, answer_of, refusal_of, plain_of, places_of}
 use Rattle.agc_machine.specs.declared.answer.Refusal.{Refusal}
+use Rattle.agc_trace.specs.Accounts.{account_text}
 use Rattle.agc_trace.specs.Lines.{line_text}
 use Rattle.agc_trace.specs.Scenes.{Scene, scene_of}
 
@@ -43,6 +46,27 @@ traced_line t asked =
     let refusal = refusal_of t.machine asked in
     line_text (one_more t.asked) (time_unless refusal asked t.time) asked (answer_of t.machine asked) (scene_unless refusal t.machine asked)
 
+-- the alarm that an answer tells
+abbrev pub told_alarm : Option Refusal → Reply → Option Alarm
+told_alarm (Some refusal) reply = None
+told_alarm None reply = alarm_of reply
+
+-- what is told of it, by the state and the phases in which it came, and the machine as it is now
+abbrev pub account_by : Option Alarm → Machined → Reply → Scene → List ℕ → List ℕ
+account_by None now reply scene phases = []
+account_by (Some alarm) now reply scene phases = account_text now.plan.rows reply alarm scene.seats phases (scene_of (plain_of now) (places_of now))
+
+-- the account of the next request
+unfoldable pub traced_account : Traced → Request → List ℕ
+traced_account t asked =
+    let did = acted t.machine.plan asked (plain_of t.machine) in
+    let refusal = refusal_of t.machine asked in
+    account_by (told_alarm refusal did.reply) (after t.machine asked) did.reply (scene_unless refusal t.machine asked) did.plain.base.phases
+
+-- the line of the next request, and its account
+abbrev pub traced_text : Traced → Request → List ℕ
+traced_text t asked = traced_line t asked ++ traced_account t asked
+
 -- the run after it
 abbrev pub traced : Traced → Request → Traced
 traced t asked = record { machine = after t.machine asked; asked = one_more t.asked; time = time_after (refusal_of t.machine asked) t asked }
@@ -51,7 +75,7 @@ traced t asked = record { machine = after t.machine asked; asked = one_more t.as
 unfoldable pub traced_all : Traced → List Request → Traced
 traced_all t requests = fold traced t requests
 
--- their lines
+-- their lines and accounts
 unfoldable pub traced_lines : Traced → List Request → List ℕ
 traced_lines t [] = []
-traced_lines t (asked ∷ requests) = traced_line t asked ++ traced_lines (traced t asked) requests
+traced_lines t (asked ∷ requests) = traced_text t asked ++ traced_lines (traced t asked) requests

@@ -119,7 +119,7 @@ fn add_runner(cell: &mut ArrayString<256>, runner: Option<JobNo>)
 }
 
 /// Appends a task that fired.
-fn add_fired(cell: &mut ArrayString<256>, task: Task)
+pub(crate) fn add_fired(cell: &mut ArrayString<256>, task: Task)
     requires { length cell.old.bytes + 12 ≤ 256 }
     ensures text { cell.new.bytes ≡ cell.old.bytes ++ fired_text task }
     ensures len { length cell.new.bytes ≡ length cell.old.bytes + 12 }

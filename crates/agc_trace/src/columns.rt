@@ -5,8 +5,8 @@ ghost use Rattle.agc_trace.specs.Lines.{column};
 use arrayvec::ArrayString;
 
 /// Appends so many spaces.
-fn add_blanks(line: &mut ArrayString<1024>, count: usize)
-    requires { length line.old.bytes + count ≤ 1024 }
+fn add_blanks(line: &mut ArrayString<2048>, count: usize)
+    requires { length line.old.bytes + count ≤ 2048 }
     ensures text { line.new.bytes ≡ line.old.bytes ++ replicate count 32 }
     ensures len { length line.new.bytes ≡ length line.old.bytes + count }
 {
@@ -16,8 +16,8 @@ fn add_blanks(line: &mut ArrayString<1024>, count: usize)
 }
 
 /// Appends a column of at least this width.
-pub(crate) fn add_column(line: &mut ArrayString<1024>, width: usize, text: &str)
-    requires { length line.old.bytes + width + length text.now + 2 ≤ 1024 }
+pub(crate) fn add_column(line: &mut ArrayString<2048>, width: usize, text: &str)
+    requires { length line.old.bytes + width + length text.now + 2 ≤ 2048 }
     ensures text { line.new.bytes ≡ line.old.bytes ++ column width text.now }
     ensures len { length line.new.bytes ≤ length line.old.bytes + width + length text.now + 2 }
 {

@@ -2,6 +2,7 @@
 //! Source: profile.
 #![tactic(auto)]
 
+mod account;
 mod cells;
 mod columns;
 mod lines;

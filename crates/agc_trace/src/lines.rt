@@ -98,10 +98,10 @@ fn waits_cell(e: &Erasable) -> ArrayString<256>
 
 /// Appends who runs, what each core set holds, who owns each area, and the tasks.
 #[tactic(auto, unfolding(crate::specs::Lines::scene_text))]
-fn add_scene(line: &mut ArrayString<1024>, e: &Erasable)
+pub(crate) fn add_scene(line: &mut ArrayString<2048>, e: &Erasable)
     requires sized { IsSized e.now }
     requires lawful { IsLawfulWords e.now }
-    requires room { length line.old.bytes + 591 ≤ 1024 }
+    requires room { length line.old.bytes + 591 ≤ 2048 }
     ensures text { line.new.bytes ≡ line.old.bytes ++ scene_text (scene_in e.now) }
     ensures len { length line.new.bytes ≤ length line.old.bytes + 591 }
 {
@@ -114,14 +114,14 @@ fn add_scene(line: &mut ArrayString<1024>, e: &Erasable)
 /// Appends what stands before the state.
 #[tactic(auto, unfolding(crate::specs::Lines::front_text))]
 fn add_front(
-    line: &mut ArrayString<1024>,
+    line: &mut ArrayString<2048>,
     number: u64,
     time: u64,
     request: &Request,
     refusal: Option<Refusal>,
     moment: &Moment,
 )
-    requires { length line.old.bytes + 261 ≤ 1024 }
+    requires { length line.old.bytes + 261 ≤ 2048 }
     ensures text { line.new.bytes ≡ line.old.bytes ++ front_text number time request.now (result_of refusal moment.now.reply) }
     ensures len { length line.new.bytes ≤ length line.old.bytes + 261 }
 {
@@ -139,7 +139,7 @@ pub(crate) fn line_of(
     request: &Request,
     refusal: Option<Refusal>,
     moment: &Moment,
-) -> ArrayString<1024>
+) -> ArrayString<2048>
     requires sized { IsSized moment.now.words }
     requires lawful { IsLawfulWords moment.now.words }
     ensures { result.bytes ≡ line_text number time request.now (result_of refusal moment.now.reply) (scene_in moment.now.words) }

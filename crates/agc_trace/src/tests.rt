@@ -36,3 +36,19 @@ fn a_write_fails_at_each_line(rt: HostRuntime) -> Result<(), Fail> {
     }
     Ok(())
 }
+
+/// A task asks for a sixth area.
+const FULL_BENCH: &str =
+    "script = [\"phase 3 3\", \"findvac 30 04000 00007\", \"findvac 30 04000 00007\", \"findvac 30 04000 00007\", \"findvac 30 04000 00007\", \"findvac 30 04000 00007\", \"list 1 02000 00005\", \"tick\"]\n[[task]]\nat = \"02000\"\nbank = \"00005\"\naction = \"findvac 20 03000 00000\"\n[[phase]]\ngroup = 3\nphase = 3\njob = \"novac 10 06000 00000\"\n";
+
+const FULL_TRACE: &str =
+    "no      time    request                 reply             running   sets              areas       tasks\n1       0       phase 3 3               phased            -         . . . . . . .     . . . . .   -\n2       0       findvac 30 04000 00007  job 1             1         1 . . . . . .     1 . . . .   -\n3       0       findvac 30 04000 00007  job 2             1         1 2 . . . . .     1 2 . . .   -\n4       0       findvac 30 04000 00007  job 3             1         1 2 3 . . . .     1 2 3 . .   -\n5       0       findvac 30 04000 00007  job 4             1         1 2 3 4 . . .     1 2 3 4 .   -\n6       0       findvac 30 04000 00007  job 5             1         1 2 3 4 5 . .     1 2 3 4 5   -\n7       0       list 1 02000 00005      listed            1         1 2 3 4 5 . .     1 2 3 4 5   02000+1\n8       1       tick                    tick 02000/00005 alarm 1201  1         1 2 3 4 5 . .     1 2 3 4 5   -\n        alarm 1201: all five VAC areas are owned\n        raised by task 02000/00005: findvac 20 03000 00000\n          set 0: job 1, priority 30, at 04000, area 1\n          set 1: job 2, priority 30, at 04000, area 2\n          set 2: job 3, priority 30, at 04000, area 3\n          set 3: job 4, priority 30, at 04000, area 4\n          set 4: job 5, priority 30, at 04000, area 5\n        restart by phases 0 0 3 0 0 0                     1         1 . . . . . .     . . . . .   -\n";
+
+#[test]
+fn an_alarm_inside_a_tick(rt: HostRuntime) -> Result<(), Fail> {
+    let bench = read_bench(rt.alloc(), FULL_BENCH)?;
+    let mut writer = Narrow::new(rt.alloc(), 2000, 1000);
+    trace(rt.alloc(), &bench, &mut writer)?;
+    assert_eq!(rt; writer.taken.as_slice(), FULL_TRACE.as_bytes());
+    Ok(())
+}

@@ -1,0 +1,71 @@
+-- What is told of an alarm, below the line of its request.
+use Rattle.std.specs.Prelude.{ℕ, ◌+◌, ◌-◌, ◌==◌, Bool, if◌then◌else◌, List, [], ◌∷◌, ◌++◌, codes, length, slice_get, Option, Some, None}
+use Rattle.std.specs.Fmt.{decimal}
+use Rattle.std.specs.List.{flat_map}
+use Rattle.agc_plan.specs.declared.reply.Alarm.{Alarm}
+use Rattle.agc_plan.specs.declared.reply.Alarm.TheVariants.{A1201, A1202, A1203}
+use Rattle.agc_plan.specs.declared.reply.Reply.{Reply}
+use Rattle.agc_plan.specs.declared.reply.Reply.TheVariants.{Ticked}
+use Rattle.agc_plan.specs.declared.request.Action.{Action}
+use Rattle.agc_plan.specs.declared.request.Task.{Task}
+use Rattle.agc_plan.specs.Plans.{action_in}
+use Rattle.agc_text.specs.Lines.{action_line_of}
+use Rattle.agc_text.specs.Numbers.{octal}
+use Rattle.agc_text.specs.Replies.{fired_text}
+use Rattle.agc_text.specs.Report.{count_text}
+use Rattle.agc_trace.specs.declared.seats.Seated.{Seated}
+use Rattle.agc_trace.specs.Lines.{column, scene_text}
+use Rattle.agc_trace.specs.Scenes.{Scene}
+
+-- which table was full
+abbrev pub full_text : Alarm → List ℕ
+full_text A1201 = codes "        alarm 1201: all five VAC areas are owned\n"
+full_text A1202 = codes "        alarm 1202: a job is in each core set\n"
+full_text A1203 = codes "        alarm 1203: nine tasks wait\n"
+
+-- the task whose action raised it, and this action
+abbrev pub cause_by : List (Task × Action) → Option Task → List ℕ
+cause_by rows None = []
+cause_by rows (Some task) = codes "        raised by task" ++ (fired_text task ++ (codes ": " ++ (action_line_of (action_in rows task) ++ codes "\n")))
+
+-- inside a tick that is the task that fired last
+abbrev pub cause_text : List (Task × Action) → Reply → List ℕ
+cause_text rows (Ticked fired alarm) = cause_by rows (slice_get fired (length fired - 1))
+cause_text rows reply = []
+
+abbrev pub at_text : Bool → List ℕ
+at_text asleep = if asleep then codes ", asleep at " else codes ", at "
+
+abbrev pub area_text : ℕ → List ℕ
+area_text area = if area == 0 then [] else codes ", area " ++ decimal area
+
+-- core set k, and who is there
+abbrev pub who_text : ℕ → Seated → List ℕ
+who_text k seat = codes "          set " ++ (decimal k ++ (codes ": job " ++ (decimal seat.number ++ (codes ", priority " ++ octal 2 seat.priority))))
+
+-- where that job is, and its area
+abbrev pub where_text : Seated → List ℕ
+where_text seat = at_text seat.asleep ++ (octal 5 seat.at ++ (area_text seat.area ++ codes "\n"))
+
+-- the job of core set k, if one is there
+abbrev pub job_text : ℕ → Option Seated → List ℕ
+job_text k None = []
+job_text k (Some seat) = who_text k seat ++ where_text seat
+
+-- the jobs of the core sets from set k on
+abbrev pub jobs_text : ℕ → List (Option Seated) → List ℕ
+jobs_text k [] = []
+jobs_text k (seat ∷ seats) = job_text k seat ++ jobs_text (k + 1) seats
+
+-- who held a full table; the nine tasks stand in the line itself
+abbrev pub holders_text : Alarm → List (Option Seated) → List ℕ
+holders_text A1203 seats = []
+holders_text alarm seats = jobs_text 0 seats
+
+-- the phases with which the era begins, and below the columns the state with which it does
+unfoldable pub again_text : List ℕ → Scene → List ℕ
+again_text phases scene = column 56 (codes "        restart by phases" ++ flat_map count_text phases) ++ (scene_text scene ++ codes "\n")
+
+-- all of it
+unfoldable pub account_text : List (Task × Action) → Reply → Alarm → List (Option Seated) → List ℕ → Scene → List ℕ
+account_text rows reply alarm seats phases after = full_text alarm ++ (cause_text rows reply ++ (holders_text alarm seats ++ again_text phases after))

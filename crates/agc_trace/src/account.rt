@@ -1,0 +1,239 @@
+// What is told of an alarm: which table was full, what raised it, who held it, and what begins again.
+ghost use Rattle.std.specs.Prelude.{◌≡◌, ◌+◌, ◌*◌, ◌≤◌, ◌++◌, codes, length};
+ghost use Rattle.std.specs.List.{flat_map};
+ghost use Rattle.agc_word.specs.Layout.{IsSized};
+ghost use Rattle.agc_exec.specs.Image.{IsLawfulWords};
+ghost use Rattle.agc_phase.specs.Image.{base_of, IsLawfulTable};
+ghost use Rattle.agc_plan.specs.Plans.{action_in};
+ghost use Rattle.agc_text.specs.Lines.{action_line_of};
+ghost use Rattle.agc_text.specs.Report.{count_text};
+ghost use Rattle.agc_trace.specs.Accounts.{full_text, cause_by, cause_text, at_text, area_text, who_text, where_text, job_text, jobs_text, holders_text, again_text, account_text};
+ghost use Rattle.agc_trace.specs.Reading.{seats_in, scene_in};
+
+use crate::cells::{add_fired, add_request};
+use crate::columns::add_column;
+use crate::lines::add_scene;
+use crate::numerals::{add_number, add_priority, add_word};
+use crate::seats::{Seated, seat};
+use agc_machine::Moment;
+use agc_phase::phases;
+use agc_plan::{Action, Alarm, Phase, Plan, Reply, Request, Task};
+use agc_word::Erasable;
+use arrayvec::ArrayString;
+
+/// Which table was full.
+fn full_line(alarm: Alarm) -> &'static str
+    ensures text { result.now ≡ full_text alarm }
+    ensures len { length result.now ≤ 60 }
+{
+    match alarm {
+        Alarm::A1201 => "        alarm 1201: all five VAC areas are owned\n",
+        Alarm::A1202 => "        alarm 1202: a job is in each core set\n",
+        Alarm::A1203 => "        alarm 1203: nine tasks wait\n",
+    }
+}
+
+/// Appends the text of an action.
+fn add_action(cell: &mut ArrayString<256>, action: Action)
+    requires { length cell.old.bytes + 40 ≤ 256 }
+    ensures text { cell.new.bytes ≡ cell.old.bytes ++ action_line_of action }
+    ensures len { length cell.new.bytes ≤ length cell.old.bytes + 40 }
+{
+    match action {
+        Action::Nothing => cell.push_str("nothing"),
+        Action::Novac(priority, entry) => add_request(cell, &Request::Novac(priority, entry)),
+        Action::Findvac(priority, entry) => add_request(cell, &Request::Findvac(priority, entry)),
+        Action::Rouse(at) => add_request(cell, &Request::Rouse(at)),
+        Action::List(delay, task) => add_request(cell, &Request::List(delay, task)),
+    }
+}
+
+/// The task whose action raised the alarm, and this action.
+fn cause_cell(plan: &Plan, task: Option<Task>) -> ArrayString<256>
+    ensures text { result.bytes ≡ cause_by plan.now.rows task }
+    ensures len { length result.bytes ≤ 80 }
+{
+    let mut cell = ArrayString::new();
+    match task {
+        None => {}
+        Some(task) => {
+            cell.push_str("        raised by task");
+            add_fired(&mut cell, task);
+            cell.push_str(": ");
+            add_action(&mut cell, plan.action(&task));
+            cell.push_str("\n");
+        }
+    }
+    cell
+}
+
+/// What raised the alarm, where it came inside a tick.
+fn cause_of(plan: &Plan, reply: &Reply) -> ArrayString<256>
+    ensures text { result.bytes ≡ cause_text plan.now.rows reply.now }
+    ensures len { length result.bytes ≤ 80 }
+{
+    match reply {
+        Reply::Ticked(fired, _) => cause_cell(plan, fired.get(fired.len().saturating_sub(1))),
+        Reply::Established(_) => ArrayString::new(),
+        Reply::Left(_) => ArrayString::new(),
+        Reply::Roused(_) => ArrayString::new(),
+        Reply::NoSleeper => ArrayString::new(),
+        Reply::NoJob => ArrayString::new(),
+        Reply::Runs(_) => ArrayString::new(),
+        Reply::Stored => ArrayString::new(),
+        Reply::Listed => ArrayString::new(),
+        Reply::Phased => ArrayString::new(),
+        Reply::Restarted => ArrayString::new(),
+        Reply::Alarmed(_) => ArrayString::new(),
+    }
+}
+
+fn at_text(asleep: bool) -> &'static str
+    ensures text { result.now ≡ at_text asleep }
+    ensures len { length result.now ≤ 12 }
+{
+    if asleep { ", asleep at " } else { ", at " }
+}
+
+/// Appends a job's area, if it owns one.
+fn add_area(cell: &mut ArrayString<256>, area: u16)
+    requires { length cell.old.bytes + 27 ≤ 256 }
+    ensures text { cell.new.bytes ≡ cell.old.bytes ++ area_text area }
+    ensures len { length cell.new.bytes ≤ length cell.old.bytes + 27 }
+{
+    if area > 0 {
+        cell.push_str(", area ");
+        add_number(cell, area as u64);
+    }
+}
+
+/// The first part of the line of a job in core set k: set, number and priority.
+fn add_who(cell: &mut ArrayString<256>, k: usize, seat: Seated)
+    requires { length cell.old.bytes + 80 ≤ 256 }
+    ensures text { cell.new.bytes ≡ cell.old.bytes ++ who_text k seat }
+    ensures len { length cell.new.bytes ≤ length cell.old.bytes + 80 }
+{
+    cell.push_str("          set ");
+    add_number(cell, k as u64);
+    cell.push_str(": job ");
+    add_number(cell, seat.number as u64);
+    cell.push_str(", priority ");
+    add_priority(cell, seat.priority);
+}
+
+/// The rest of it: where the job is, and its area.
+fn add_where(cell: &mut ArrayString<256>, seat: Seated)
+    requires { length cell.old.bytes + 45 ≤ 256 }
+    ensures text { cell.new.bytes ≡ cell.old.bytes ++ where_text seat }
+    ensures len { length cell.new.bytes ≤ length cell.old.bytes + 45 }
+{
+    cell.push_str(at_text(seat.asleep));
+    add_word(cell, seat.at);
+    add_area(cell, seat.area);
+    cell.push_str("\n");
+}
+
+/// The line of a core set's job, if one is there.
+fn job_cell(k: usize, seat: Option<Seated>) -> ArrayString<256>
+    ensures text { result.bytes ≡ job_text k seat }
+    ensures len { length result.bytes ≤ 125 }
+{
+    let mut cell = ArrayString::new();
+    match seat {
+        None => {}
+        Some(seat) => {
+            add_who(&mut cell, k, seat);
+            add_where(&mut cell, seat);
+        }
+    }
+    cell
+}
+
+/// Appends the lines of all jobs in core sets.
+fn add_jobs(line: &mut ArrayString<2048>, e: &Erasable)
+    requires sized { IsSized e.now }
+    requires room { length line.old.bytes + 1000 ≤ 2048 }
+    ensures text { line.new.bytes ≡ line.old.bytes ++ jobs_text 0 (seats_in e.now) }
+    ensures len { length line.new.bytes ≤ length line.old.bytes + 1000 }
+{
+    for k in 0..e.sets().count() {
+        line.push_str(job_cell(k, seat(e, k)).as_str());
+    }
+}
+
+/// Appends who held the full table.
+fn add_holders(line: &mut ArrayString<2048>, alarm: Alarm, e: &Erasable)
+    requires sized { IsSized e.now }
+    requires room { length line.old.bytes + 1000 ≤ 2048 }
+    ensures text { line.new.bytes ≡ line.old.bytes ++ holders_text alarm (seats_in e.now) }
+    ensures len { length line.new.bytes ≤ length line.old.bytes + 1000 }
+{
+    match alarm {
+        Alarm::A1201 => add_jobs(line, e),
+        Alarm::A1202 => add_jobs(line, e),
+        Alarm::A1203 => {}
+    }
+}
+
+/// The phases with which an era begins.
+fn phases_cell(e: &Erasable) -> ArrayString<256>
+    requires { IsLawfulTable e.now }
+    ensures text { result.bytes ≡ codes "        restart by phases" ++ flat_map count_text (base_of e.now).phases }
+    ensures len { length result.bytes ≤ 151 }
+{
+    let mut cell = ArrayString::new();
+    cell.push_str("        restart by phases");
+    add_phases(&mut cell, &phases(e));
+    cell
+}
+
+/// Appends phases.
+fn add_phases(cell: &mut ArrayString<256>, phases: &[Phase])
+    requires six { length phases.now ≡ 6 }
+    requires room { length cell.old.bytes + 126 ≤ 256 }
+    ensures text { cell.new.bytes ≡ cell.old.bytes ++ flat_map count_text phases.now }
+    ensures len { length cell.new.bytes ≤ length cell.old.bytes + 126 }
+{
+    for phase in phases {
+        cell.push_str(" ");
+        add_number(cell, phase.get() as u64);
+    }
+}
+
+/// Appends the phases with which the era begins, and the state with which it does.
+#[tactic(auto, unfolding(crate::specs::Accounts::again_text))]
+fn add_again(line: &mut ArrayString<2048>, e: &Erasable, after: &Erasable)
+    requires phases { IsLawfulTable e.now }
+    requires sized { IsSized after.now }
+    requires lawful { IsLawfulWords after.now }
+    requires room { length line.old.bytes + 801 ≤ 2048 }
+    ensures text { line.new.bytes ≡ line.old.bytes ++ again_text (base_of e.now).phases (scene_in after.now) }
+    ensures len { length line.new.bytes ≤ length line.old.bytes + 801 }
+{
+    add_column(line, 56, phases_cell(e).as_str());
+    add_scene(line, after);
+    line.push_str("\n");
+}
+
+/// What is told of an alarm: of the moment in which it came, and of the state with which the era
+/// began.
+#[tactic(auto, unfolding(crate::specs::Accounts::account_text))]
+pub(crate) fn account_of(
+    plan: &Plan,
+    moment: &Moment,
+    alarm: Alarm,
+    after: &Moment,
+) -> ArrayString<2048>
+    requires sized { IsSized moment.now.words }
+    requires phases { IsLawfulTable moment.now.words }
+    requires sized_after { IsSized after.now.words }
+    requires lawful { IsLawfulWords after.now.words }
+    ensures { result.bytes ≡ account_text plan.now.rows moment.now.reply alarm (seats_in moment.now.words) (base_of moment.now.words).phases (scene_in after.now.words) }
+{
+    let mut account = ArrayString::new();
+    account.push_str(full_line(alarm));
+    account.push_str(cause_of(plan, moment.reply()).as_str());
+    add_holders(&mut account, alarm, moment.words());
+    add_again(&mut account, moment.words(), after.words());
+    account
+}
