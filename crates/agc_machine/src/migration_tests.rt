@@ -92,7 +92,12 @@ fn a_free_set_comes_behind_the_words(rt: HostRuntime) -> Result<(), Fail> {
     let words = planned_words(rt.alloc())?;
     assert!(rt; is_copied(&words));
     let new = migrate(&words).ok_or("lawful")?;
-    let told = [(90, 0o37634), (119, 0o77774), (120, 0o00003), (143, 0o77777)];
+    let told = [
+        (90, 0o37634),
+        (119, 0o77774),
+        (120, 0o00003),
+        (143, 0o77777),
+    ];
     for (place, bits) in told {
         assert_eq!(rt; new.get(place), Some(&word(bits)?), "place {place}");
     }
@@ -132,7 +137,11 @@ fn one_word_changed_to_an_unlawful_one(rt: HostRuntime) -> Result<(), Fail> {
 #[test]
 fn a_sleeper_of_the_greatest_priority_is_no_runner(rt: HostRuntime) -> Result<(), Fail> {
     let at = Address::new(0o2044).ok_or("address")?;
-    let requests = [novac(0o20, 0o2000)?, Request::Sleep(at), novac(0o10, 0o2100)?];
+    let requests = [
+        novac(0o20, 0o2000)?,
+        Request::Sleep(at),
+        novac(0o10, 0o2100)?,
+    ];
     let mut words = words_after(rt.alloc(), &requests)?;
     assert!(rt; is_copied(&words));
     words[11] = word(0o67777)?;
