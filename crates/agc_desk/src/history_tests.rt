@@ -27,7 +27,15 @@ struct Scene<N: Names> {
     others: Vec<Share<N>>,
 }
 
-// The device that waited longest posts once.
+// A device posts once; answers whether it did.
+fn post_once(device: &mut Device, latch: &Latch, line: Line) -> bool
+    requires { device.old.latch ≡ latch.now }
+    ensures { device.new.latch ≡ latch.now }
+{
+    device.post(latch, line).is_ok()
+}
+
+// The newest device posts once.
 fn post<N: Names>(scene: Scene<N>, account: &mut Account, dice: u32) -> Result<Scene<N>, Fail>
     requires taker { IsOf scene.latch scene.desk.lines.taker }
     requires devices { All (λ d. d.latch ≡ scene.latch) scene.devices.items }
@@ -44,14 +52,14 @@ fn post<N: Names>(scene: Scene<N>, account: &mut Account, dice: u32) -> Result<S
         1 => (Line::Key, 1usize),
         _ => (Line::Radar, 2usize),
     };
-    if device.post(&scene.latch, line).is_ok() != (left > 0) {
+    if post_once(&mut device, &scene.latch, line) != (left > 0) {
         return Err("another number of posts".into());
     }
     if left > 0 {
         account.post(place);
     }
-    scene.devices.insert(0, device)?;
-    scene.left.insert(0, left.saturating_sub(1))?;
+    scene.devices.push(device)?;
+    scene.left.push(left.saturating_sub(1))?;
     Ok(scene)
 }
 
@@ -63,12 +71,14 @@ fn one_more<N: Names>(scene: Scene<N>, dice: u32) -> Result<Scene<N>, Fail>
     ensures devices { IfOk result (λ s. All (λ d. d.latch ≡ s.latch) s.devices.items) }
 {
     let mut scene = scene;
-    if scene.devices.len() < 8 {
-        if let Some(device) = given(&mut scene.desk, &scene.latch, dice % 6) {
-            scene.devices.insert(0, device)?;
-            scene.left.insert(0, dice % 6)?;
-        }
+    if scene.devices.len() >= 8 {
+        return Ok(scene);
     }
+    let Some(device) = given(&mut scene.desk, &scene.latch, dice % 6) else {
+        return Ok(scene);
+    };
+    scene.devices.push(device)?;
+    scene.left.push(dice % 6)?;
     Ok(scene)
 }
 
@@ -165,7 +175,7 @@ fn attached_again<N: Names>(alloc: Global, scene: Scene<N>) -> Result<Scene<N>, 
     Ok(scene)
 }
 
-// Nothing settles without the device that posted last, and nothing changes.
+// Nothing settles without the newest device, and nothing changes.
 fn settled_short<N: Names>(scene: Scene<N>) -> Result<Scene<N>, Fail>
     requires taker { IsOf scene.latch scene.desk.lines.taker }
     requires devices { All (λ d. d.latch ≡ scene.latch) scene.devices.items }
