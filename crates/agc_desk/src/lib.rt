@@ -36,13 +36,9 @@ pub use pulse::{action_request, pulse_request};
 pub use settling::{Unsettled, settle};
 
 #[cfg(test)]
-mod history_tests;
-#[cfg(test)]
 mod line_tests;
 #[cfg(test)]
 mod line_thread_tests;
-#[cfg(test)]
-mod plain_account;
 #[cfg(test)]
 mod settling_tests;
 #[cfg(test)]
