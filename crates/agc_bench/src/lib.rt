@@ -12,17 +12,9 @@ mod opening;
 mod poster;
 mod run;
 mod run_fault;
-#[cfg(test)]
-mod run_tests;
-#[cfg(test)]
-mod tests;
 mod texts;
-#[cfg(test)]
-mod thread_tests;
 mod threading;
 mod values;
-#[cfg(test)]
-mod writers;
 
 pub use agc_desk::Line;
 pub use agc_text::{

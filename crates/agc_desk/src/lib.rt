@@ -34,14 +34,3 @@ pub use history::Opened;
 pub use names::{Blanks, Names, Sharing};
 pub use pulse::{action_request, pulse_request};
 pub use settling::{Unsettled, settle};
-
-#[cfg(test)]
-mod line_tests;
-#[cfg(test)]
-mod line_thread_tests;
-#[cfg(test)]
-mod settling_tests;
-#[cfg(test)]
-mod testing;
-#[cfg(test)]
-mod tests;

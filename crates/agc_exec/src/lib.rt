@@ -12,8 +12,6 @@ mod lawful;
 mod leave;
 mod newjob;
 mod search;
-#[cfg(test)]
-mod tests;
 mod wake;
 
 pub use change::{change_job, prio_change, running, store};

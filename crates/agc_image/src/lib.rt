@@ -6,8 +6,6 @@ mod array;
 mod fault;
 mod lawful;
 mod numbers;
-#[cfg(test)]
-mod tests;
 
 pub use array::{blank, open, seven, twelve, write_all, write_back};
 pub use fault::{Fault, image_fault};

@@ -22,6 +22,3 @@ pub use latch::Latch;
 pub use laws::steps_keep_the_line_account;
 pub use line::Line;
 pub use taker::Taker;
-
-#[cfg(test)]
-mod tests;

@@ -18,14 +18,3 @@ pub use migration::migrate;
 pub use moment::Moment;
 pub use step::is_tick;
 pub use totals::Totals;
-
-#[cfg(test)]
-mod image_tests;
-#[cfg(test)]
-mod migration_tests;
-#[cfg(test)]
-mod moment_tests;
-#[cfg(test)]
-mod plain_tables;
-#[cfg(test)]
-mod tests;

@@ -6,8 +6,6 @@ mod bases;
 mod image;
 pub mod laws;
 mod table;
-#[cfg(test)]
-mod tests;
 
 pub use agc_plan::Code;
 pub use bases::{Base, Phases};

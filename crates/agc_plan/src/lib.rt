@@ -8,8 +8,6 @@ mod number;
 mod plan;
 mod reply;
 mod request;
-#[cfg(test)]
-mod tests;
 
 pub use fired::Fired;
 pub use number::{Address, Delay, Group, JobNo, Limit, Phase, Place, Priority};

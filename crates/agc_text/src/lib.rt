@@ -12,8 +12,6 @@ mod replies;
 mod reporting;
 mod script;
 mod session;
-#[cfg(test)]
-mod tests;
 mod writing;
 
 pub use fault::{Output, ReadFault, ScriptFault};

@@ -9,10 +9,6 @@ mod lines;
 mod numerals;
 mod runs;
 mod seats;
-#[cfg(test)]
-mod tests;
 mod waits;
-#[cfg(test)]
-mod writers;
 
 pub use runs::trace;

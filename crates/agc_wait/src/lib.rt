@@ -7,8 +7,6 @@ mod laws;
 mod moving;
 mod spot;
 mod table;
-#[cfg(test)]
-mod tests;
 
 pub use lawful::is_lawful;
 pub use laws::{earliest_arrival_is_first_in_order, one_table_of_an_agenda, tasks_fire_when_due};

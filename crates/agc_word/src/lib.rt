@@ -4,8 +4,6 @@
 mod erasable;
 pub mod layout;
 mod sets;
-#[cfg(test)]
-mod tests;
 mod word;
 
 pub use erasable::Erasable;
