@@ -1,58 +1,85 @@
 #!/bin/sh
-# Runs the program on standard input, as ./agc script < FILE. It is proved and built first where it is missing or older
-# than its sources, one crate after the other, with a line for each on standard error. What the toolchain says goes to a
-# file, which is named where that fails; the exit status is then 70. Standard output has what the program writes alone.
+# Runs the program on standard input, as ./agc script < FILE. The proved program crates/agc/out/agc, which tools/prove
+# makes, takes this shell's place where it is as new as all sources.
+#
+# Where it is missing or older, today's sources are run unproved by rt try, which takes about a minute. Standard output
+# and the exit status are what the proved program would give; two lines on standard error say how it was run, and a
+# fault's line follows. Standard input is read first, into a file that is removed at the end. Input of more requests
+# than rt try can answer is refused before anything runs. The exit status is 70 where nothing could be answered.
 here=$(cd "$(dirname "$0")" && pwd) || exit 70
 program=$here/crates/agc/out/agc
-newer() {
-    find "$here/crates.txt" "$here"/crates/*/src "$here"/crates/*/specs "$here"/crates/*/proofs -type f -newer "$program" 2> /dev/null
-}
+
+# How long tools/prove takes, as README.md says.
+minutes='about 25 minutes on two cores'
+
+# rt try answers with at most 1,048,576 bytes of output, a reply has at most 124, and the report less than 2,000.
+most_requests=8000
+
+# The program refuses input that is longer, so no more of it is read.
+most_bytes=1048576
+
 say() {
     echo "agc: $*" >&2
 }
-
-# The program's crate and those below it, in the order of crates.txt, which has each crate after those that it uses.
-crates_of_program() {
-    awk -F: '
-        /^[a-z]/ { split($1, words, " "); order[++count] = words[1]; uses[words[1]] = $2 }
-        END {
-            wanted["agc"] = 1
-            for (k = count; k > 0; k--)
-                if (order[k] in wanted) { n = split(uses[order[k]], below, " "); for (i = 1; i <= n; i++) wanted[below[i]] = 1 }
-            for (k = 1; k <= count; k++) if (order[k] in wanted) print order[k]
-        }' "$here/crates.txt"
+newer() {
+    find "$here/crates.txt" "$here"/crates/*/src "$here"/crates/*/specs "$here"/crates/*/proofs -type f -newer "$program" 2> /dev/null
 }
 
-# A library is built once it is proved, and the program once all libraries are.
-build_crate() {
-    cd "$here/crates/$1" || return
-    case $1 in
-        agc) rt run -- script ;;
-        *) rt lib ;;
-    esac
-}
-
-build() {
-    command -v rt > /dev/null || { say "it has to be built, and the Rattle kit's command rt is not on the path"; exit 70; }
-    log=$(mktemp "${TMPDIR:-/tmp}/agc-build.XXXXXX") || exit 70
-    say 'it is proved and built first, once: a quarter of an hour on two idle cores'
-    say "without proof it runs in about a minute: (cd '$here/crates/agc' && rt try -- ${*:-script}) < FILE"
-    crates=$(crates_of_program)
-    all=$(echo "$crates" | wc -l)
-    number=0
-    for crate in $crates; do
-        number=$((number + 1))
-        say "proving $crate, $number of $((all)) .."
-        if ! (build_crate "$crate") < /dev/null > "$log" 2>&1; then
-            say "$crate was not built; what the toolchain said is in $log"
-            exit 70
-        fi
-    done
-    rm "$log"
-    touch "$program"
-}
-
-if [ ! -x "$program" ] || [ -n "$(newer)" ]; then
-    build "$@"
+if [ -x "$program" ] && [ -z "$(newer)" ]; then
+    exec "$program" "$@"
 fi
-exec "$program" "$@"
+if ! command -v rt > /dev/null; then
+    say 'no proved program stands here, and the Rattle kit'\''s command rt, which makes it, is not on the path'
+    exit 70
+fi
+
+# rt ends all that it started when it is told to end.
+stop() {
+    [ -z "$child" ] || { kill "$child"; wait "$child"; } 2> /dev/null
+    exit "$1"
+}
+child=
+room=$(mktemp -d "${TMPDIR:-/tmp}/agc-run.XXXXXX") || exit 70
+trap 'rm -rf "$room"' EXIT
+trap 'stop 129' HUP
+trap 'stop 130' INT
+trap 'stop 143' TERM
+
+# Other words than these the program refuses before it reads.
+: > "$room/input" || exit 70
+case $#:$1 in
+    1:script | 1:serial | 1:threads)
+        if ! head -c $((most_bytes + 1)) > "$room/input" 2> "$room/said"; then
+            say "standard input was not read: $(cat "$room/said")"
+            exit 70
+        fi ;;
+esac
+
+# No fewer requests than the input has: lines of a script, strings of a bench, and pulses of its devices.
+requests=$(LC_ALL=C tr '",{}' '\n\n\n\n' < "$room/input" | LC_ALL=C awk '
+    NF { count++ }
+    sub(/.*pulses *= */, "") { gsub(/_/, ""); count += $0 }
+    END { printf "%.0f\n", count }')
+if [ "$requests" -gt "$most_requests" ]; then
+    say "without the proved program input may have $most_requests requests, not $requests: run tools/prove first ($minutes)"
+    exit 70
+fi
+
+say 'this run is unproved, and takes about a minute'
+say "tools/prove makes the proved program, which answers at once, in $minutes"
+(cd "$here/crates/agc" && exec rt try -- "$@") < "$room/input" > "$room/output" 2> "$room/said" &
+child=$!
+wait "$child"
+tried=$?
+child=
+
+# rt's last line says whether the program ended, and with which status; its own lines come after the program's.
+status=$(sed -n '$s/^run=ended status=\([0-9][0-9]*\) .*/\1/p' "$room/said")
+if [ "$status" != "$tried" ]; then
+    cat "$room/said" >&2
+    say "the unproved run did not answer: rt try ended with status $tried, and says why above; tools/prove makes the proved program"
+    exit 70
+fi
+sed '/^checked: ended status=/,$d' "$room/said" >&2
+cat "$room/output" 2> /dev/null || { say output; exit 4; }
+exit "$status"
