@@ -4,7 +4,8 @@ ghost use Rattle.agc.specs.declared.fault.Fault.TheVariants.{NoMemory, Read, Scr
 ghost use Rattle.agc.specs.Messages.{fault_text};
 ghost use Rattle.agc.specs.Statuses.{status_of};
 
-use agc_bench::{BenchFault, ReadFault, RunFault, ScriptFault};
+use agc_bench::{ReadFault, RunFault, ScriptFault};
+use agc_document::BenchFault;
 use std::alloc::AllocError;
 use std::error::Error;
 use std::fmt;

@@ -1,8 +1,9 @@
 //! What the program does: the words, the reading, the script or bench, the run, in this order.
 use crate::fault::Fault;
 use crate::mode::{Mode, mode_of};
-use agc_bench::{read_all, read_bench, read_script, run_script, serial, threads};
+use agc_bench::{read_all, read_script, run_script, serial, threads};
 use agc_desk::OpenGate;
+use agc_document::read_bench;
 use std::alloc::Global;
 use std::io::{BufWriter, ErrorKind, Read, Write};
 use std::rt::Env;

@@ -3,7 +3,7 @@ use Rattle.std.specs.List.{enumerate_from}
 use Rattle.std.proofs.lemmas.List.{get_or_append_left, get_or-append_right, get_or-map, length-map}
 use Rattle.std.proofs.lemmas.List.FromFn.{get_or-enumerate_from, length-enumerate_from}
 use Rattle.agc_plan.specs.declared.request.Request.{Request}
-use Rattle.agc_bench.specs.Benches.{Benched}
+use Rattle.agc_document.specs.Benches.{Benched}
 use Rattle.agc_bench.specs.Threads.{Worker, Attends, workers_of, threads_of}
 use Rattle.agc_bench.specs.Steps.{thread_at}
 

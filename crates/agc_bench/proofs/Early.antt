@@ -2,7 +2,7 @@ use Rattle.std.proofs.Common.{◌≡◌, ℕ, List, ◌++◌, Option, Result, Ok
 use Rattle.std.specs.Result.{IsErr, IsErrAnd}
 use Rattle.agc_bench.specs.declared.run_fault.RunFault.{RunFault}
 use Rattle.agc_bench.specs.declared.run_fault.RunFault.TheVariants.{NoMemory, Output, NoThread, Lost}
-use Rattle.agc_bench.specs.Benches.{Benched}
+use Rattle.agc_document.specs.Benches.{Benched}
 use Rattle.agc_machine.specs.declared.totals.Totals.{Totals}
 use Rattle.agc_machine.specs.Image.{HandsOut}
 use Rattle.agc_machine.specs.Machines.{Machined}

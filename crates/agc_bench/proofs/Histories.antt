@@ -16,7 +16,7 @@ use Rattle.agc_desk.specs.History.{Holder, IsHistory, Leads, calls_by, numbers_o
 use Rattle.agc_desk.specs.Runs.{requests_of}
 use Rattle.agc_desk.proofs.Calls.{calls_by_append}
 use Rattle.agc_text.proofs.Sessions.{rest_is, nothing_left}
-use Rattle.agc_bench.specs.Benches.{Benched}
+use Rattle.agc_document.specs.Benches.{Benched}
 use Rattle.agc_bench.specs.Runs.{bench_machine, bench_plan}
 use Rattle.agc_desk.specs.Draining.{answers_to}
 use Rattle.agc_bench.specs.Sharing.{AreFresh, AsksOwn, AsksPulses, EachAsks, Finishes, HaveMade, HaveRun, first_calls}

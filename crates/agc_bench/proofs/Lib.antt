@@ -1,8 +1,3 @@
-pub mod Each
-pub mod Names
-pub mod Beside
-pub mod Benches
-pub mod Refusals
 pub mod Sessions
 pub mod Pairs
 pub mod Askers

@@ -4,7 +4,7 @@ use Rattle.atomic_table.specs.Seated.{TableId}
 use Rattle.agc_latch.specs.declared.line.Line.{Line}
 use Rattle.agc_latch.specs.Ends.{Posting}
 use Rattle.agc_desk.specs.History.{Holder}
-use Rattle.agc_bench.specs.Benches.{Benched}
+use Rattle.agc_document.specs.Benches.{Benched}
 use Rattle.agc_bench.specs.Sharing.{spent_device}
 
 -- one element more

@@ -10,7 +10,7 @@ use Rattle.agc_text.specs.Report.{report_text}
 use Rattle.agc_text.specs.Writing.{AppendsFront}
 use Rattle.agc_text.specs.Session.{answer_lines}
 use Rattle.agc_text.proofs.Steps.{appends_none, appends_both, up_to_more_front}
-use Rattle.agc_bench.specs.Benches.{Benched}
+use Rattle.agc_document.specs.Benches.{Benched}
 use Rattle.agc_desk.specs.Pulses.{repeated}
 use Rattle.agc_bench.specs.Runs.{device_requests, bench_requests}
 use Rattle.agc_bench.specs.Session.{IsSession, AppendsSessionFront}

@@ -11,7 +11,7 @@ use Rattle.agc_latch.specs.Ends.{Posting}
 use Rattle.agc_latch.specs.Lines.{on, zeros}
 use Rattle.agc_desk.specs.Lending.{Lent}
 use Rattle.agc_desk.specs.Keeping.{lent_of}
-use Rattle.agc_bench.specs.Benches.{Benched}
+use Rattle.agc_document.specs.Benches.{Benched}
 use Rattle.agc_bench.specs.Sharing.{HaveSettled, spent_device}
 use Rattle.agc_bench.specs.Threads.{AreSettled, posts_of}
 

@@ -1,9 +1,3 @@
-pub mod Texts
-pub mod Keys
-pub mod Gives
-pub mod Benches
-pub mod Kinds
-pub mod Faults
 pub mod Messages
 pub mod Session
 pub mod Runs

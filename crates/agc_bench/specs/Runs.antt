@@ -10,7 +10,7 @@ use Rattle.agc_phase.specs.Image.{minus_in, phase_in}
 use Rattle.agc_machine.specs.Machines.{Machined, begun_with, power_base}
 use Rattle.agc_latch.specs.declared.line.Line.{Line}
 use Rattle.agc_desk.specs.Pulses.{pulse_request, repeated}
-use Rattle.agc_bench.specs.Benches.{Benched}
+use Rattle.agc_document.specs.Benches.{Benched}
 
 -- a plan in which nothing is planned
 abbrev pub empty_plan : Written

@@ -15,7 +15,7 @@ use Rattle.agc_desk.specs.declared.book.Call.{Call}
 use Rattle.agc_desk.specs.Draining.{answers_to}
 use Rattle.agc_desk.specs.History.{Holder, IsHistory, calls_by}
 use Rattle.agc_desk.specs.Runs.{AsksAll}
-use Rattle.agc_bench.specs.Benches.{Benched}
+use Rattle.agc_document.specs.Benches.{Benched}
 use Rattle.agc_bench.specs.Runs.{bench_plan}
 use Rattle.agc_bench.specs.Threads.{Asker, AskedOwn, IsPulse, posts_of, threads_of}
 use Rattle.agc_bench.specs.Steps.{thread_at}

@@ -6,7 +6,7 @@ use Rattle.agc_machine.specs.Image.{HandsOut}
 use Rattle.agc_machine.specs.Machines.{Machined}
 use Rattle.agc_bench.specs.declared.run_fault.RunFault.{RunFault}
 use Rattle.agc_bench.specs.declared.run_fault.RunFault.TheVariants.{NoMemory, Output, NoThread, Lost}
-use Rattle.agc_bench.specs.Benches.{Benched}
+use Rattle.agc_document.specs.Benches.{Benched}
 use Rattle.agc_bench.specs.Threads.{Asker, Attends, threads_of}
 use Rattle.agc_text.specs.Pulses.{pulses_text}
 use Rattle.agc_text.specs.Report.{report_text}

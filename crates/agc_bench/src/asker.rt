@@ -6,8 +6,8 @@ ghost use Rattle.agc_bench.specs.Sharing.{AsksOwn, AsksPulses, first_calls};
 ghost use Rattle.agc_bench.specs.Threads.{threads_of};
 ghost use Rattle.agc_bench.specs.Steps.{thread_at};
 
-use crate::bench::Bench;
 use agc_desk::{Desk, Gate, Latch, Names, Share, Shared, Sharing, attend, work};
+use agc_document::Bench;
 use agc_plan::Request;
 use std::sync::Wait;
 

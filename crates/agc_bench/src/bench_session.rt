@@ -6,8 +6,8 @@ ghost use Rattle.agc_text.specs.Session.{answer_lines};
 ghost use Rattle.agc_desk.specs.Pulses.{pulse_request};
 ghost use Rattle.agc_bench.specs.Runs.{bench_plan, bench_requests, device_requests};
 
-use crate::bench::Bench;
 use agc_desk::{Line, action_request};
+use agc_document::Bench;
 use agc_machine::Machine;
 use agc_plan::Request;
 use agc_text::{Output, write_answer_to, write_answers};

@@ -9,10 +9,10 @@ ghost use Rattle.agc_bench.specs.Threads.{askers_of};
 ghost use Rattle.agc_bench.specs.Steps.{IsEarly};
 
 use crate::asker::{ask_script, count_threads};
-use crate::bench::Bench;
 use crate::poster::devices_of;
 use crate::run_fault::RunFault;
 use agc_desk::{Blanks, Desk, Device, Held, Latch, Names, Share, Sharing, Taker};
+use agc_document::Bench;
 use agc_machine::Machine;
 use std::alloc::Global;
 

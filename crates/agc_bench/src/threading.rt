@@ -9,7 +9,6 @@ ghost use Rattle.agc_bench.specs.Threads.{AreSettled, IsRun, WritesRun, askers_o
 ghost use Rattle.agc_bench.specs.Steps.{IsEarly, WritesSettled, thread_at};
 
 use crate::asker::ask_own;
-use crate::bench::Bench;
 use crate::closing::finish;
 use crate::opening::{RunParts, open};
 use crate::poster::post_all;
@@ -18,6 +17,7 @@ use crate::run_fault::RunFault;
 use agc_desk::{
     Blanks, Device, Gate, Held, Latch, Line, Names, Settled, Share, Shared, Sharing, Taker,
 };
+use agc_document::Bench;
 use agc_machine::{Machine, Totals};
 use agc_text::{Output, report, report_pulses};
 use std::alloc::Global;

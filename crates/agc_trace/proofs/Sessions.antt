@@ -10,7 +10,7 @@ use Rattle.std.proofs.lemmas.List.{nil_from_length}
 use Rattle.agc_plan.specs.declared.request.Request.{Request}
 use Rattle.agc_text.specs.Writing.{AppendsUpTo, AppendsFront, Writes}
 use Rattle.agc_text.proofs.Steps.{appends_none, up_to_end, writes_first, writes_second}
-use Rattle.agc_bench.specs.Benches.{Benched}
+use Rattle.agc_document.specs.Benches.{Benched}
 use Rattle.agc_desk.specs.Pulses.{repeated}
 use Rattle.agc_bench.specs.Runs.{device_requests, bench_requests}
 use Rattle.agc_trace.specs.Traces.{Traced, traced, traced_all, traced_text, traced_lines}

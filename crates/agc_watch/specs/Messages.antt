@@ -3,7 +3,8 @@ use Rattle.std.specs.Prelude.{ℕ, List, codes}
 use Rattle.agc_watch.specs.declared.fault.Fault.{Fault}
 use Rattle.agc_watch.specs.declared.fault.Fault.TheVariants.{Words, NoMemory, Output, Read, Bench, Run}
 use Rattle.agc_text.specs.Messages.{read_fault_text}
-use Rattle.agc_bench.specs.Messages.{bench_fault_text, run_fault_text}
+use Rattle.agc_document.specs.Messages.{bench_fault_text}
+use Rattle.agc_bench.specs.Messages.{run_fault_text}
 
 -- what stands after `agc_watch: ` on standard error
 abbrev pub fault_text : Fault → List ℕ

@@ -3,7 +3,7 @@ use Rattle.std.specs.Prelude.{ℕ, Result, Ok, Err}
 use Rattle.agc_watch.specs.declared.fault.Fault.{Fault}
 use Rattle.agc_watch.specs.declared.fault.Fault.TheVariants.{Words, NoMemory, Output, Read, Bench, Run}
 use Rattle.agc_text.specs.declared.fault.ReadFault.TheVariants as read
-use Rattle.agc_bench.specs.declared.fault.BenchFault.TheVariants as bench
+use Rattle.agc_document.specs.declared.fault.BenchFault.TheVariants as bench
 use Rattle.agc_bench.specs.declared.run_fault.RunFault.TheVariants as run
 
 -- 1: input that is refused; 2: the words; 3: want of memory or of a thread; 4: a read or write that failed; 5: lost shares

@@ -4,7 +4,8 @@ ghost use Rattle.agc_watch.specs.declared.fault.Fault.TheVariants.{NoMemory, Rea
 ghost use Rattle.agc_watch.specs.Messages.{fault_text};
 ghost use Rattle.agc_watch.specs.Statuses.{status_of};
 
-use agc_bench::{BenchFault, ReadFault, RunFault};
+use agc_bench::{ReadFault, RunFault};
+use agc_document::BenchFault;
 use std::alloc::AllocError;
 use std::error::Error;
 use std::fmt;

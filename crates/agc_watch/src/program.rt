@@ -1,7 +1,8 @@
 //! What the program does: the words, the reading, the bench, its trace, in this order.
 use crate::fault::Fault;
 use crate::mode::{Asked, asked_for};
-use agc_bench::{read_all, read_bench};
+use agc_bench::read_all;
+use agc_document::read_bench;
 use agc_trace::trace;
 use std::alloc::Global;
 use std::io::{BufWriter, ErrorKind, Read, Write};

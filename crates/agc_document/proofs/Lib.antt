@@ -1,0 +1,5 @@
+pub mod Each
+pub mod Names
+pub mod Beside
+pub mod Benches
+pub mod Refusals

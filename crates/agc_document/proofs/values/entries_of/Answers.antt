@@ -1,0 +1,14 @@
+use Rattle.std.proofs.Common.{◌∙◌}
+use Rattle.agc_document.specs.Benches.{entry_texts, IsEntry}
+use Rattle.agc_document.proofs.Beside.{refused_here, beside_here, all_beside}
+use Rattle.agc_document.proofs.values.entries_of.Goals as goal
+
+pub returns-in-None-clause-refused : goal.returns-in-None-clause-refused
+returns-in-None-clause-refused c =
+    refused_here entry_texts IsEntry c.args.texts.now c.loop-text.text-index c.text-item.result c.loop-text-test.true (λ r h e. c.in-None.ensures.only r h (c.text-item.is ∙ e))
+
+pub loop-text-preserved : goal.loop-text-preserved
+loop-text-preserved c = record {
+  lawful = all_beside IsEntry c.loop-text.entries.items c.push.new.self.items c.in-Some.entry c.loop-text.invariant.lawful c.in-Some.ensures.found.0 c.in_ok-push-in-Some.ensures.items;
+  texts = beside_here entry_texts c.args.texts.now c.loop-text.text-index c.text-item.result c.loop-text.entries.items c.push.new.self.items c.in-Some.entry c.loop-text-test.true c.text-item.is c.in-Some.ensures.found.1 c.loop-text.invariant.texts c.in_ok-push-in-Some.ensures.items;
+}

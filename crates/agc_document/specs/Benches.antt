@@ -1,0 +1,132 @@
+-- A bench: its values, their ranges and their texts.
+use Rattle.std.specs.Prelude.{◌≡◌, ◌≤◌, ℕ, List, codes, map, length, Option, Some, None}
+use Rattle.std.specs.Option.{option_map}
+use Rattle.std.specs.List.{AllByRecursion}
+use Rattle.agc_plan.specs.declared.request.Task.{Task}
+use Rattle.agc_plan.specs.declared.request.Action.{Action}
+use Rattle.agc_plan.specs.declared.request.JobStart.{JobStart}
+use Rattle.agc_plan.specs.declared.request.JobStart.TheVariants.{Novac as WithoutArea, Findvac as WithArea}
+use Rattle.agc_plan.specs.declared.request.Request.{Request}
+use Rattle.agc_plan.specs.declared.request.Request.TheVariants.{Novac, Findvac, List as ListTask}
+use Rattle.agc_plan.specs.Begins.{Begins}
+use Rattle.agc_plan.specs.Plans.{fault_of}
+use Rattle.agc_plan.specs.Ranges.{IsBetween, IsSix, IsRequest, IsAction, IsTask}
+use Rattle.agc_latch.specs.declared.line.Line.{Line}
+use Rattle.agc_latch.specs.declared.line.Line.TheVariants.{Timer, Key, Radar}
+use Rattle.agc_text.specs.Numbers.{octal, IsWord}
+use Rattle.agc_text.specs.Lines.{line_of, action_line_of}
+use Rattle.agc_document.specs.Texts.{RowTexts, EntryTexts, DeviceTexts, Settings, Lists, Texts}
+
+-- the values of a bench
+pub record Benched : Type 0 where
+  pub sets : ℕ
+  pub limit : ℕ
+  pub allowance : ℕ
+  pub attends : ℕ
+  pub key : Action
+  pub radar : Action
+  pub power : Option (List ℕ)
+  pub script : List Request
+  pub rows : List (Task × Action)
+  pub entries : List Begins
+  pub workers : List (List Request)
+  pub devices : List (Line × ℕ)
+
+-- the request that establishes the same job
+abbrev pub job_request : JobStart → Request
+job_request (WithoutArea priority entry) = Novac priority entry
+job_request (WithArea priority entry) = Findvac priority entry
+
+-- the request that lists the same task
+abbrev pub timed_request : ℕ × Task → Request
+timed_request t = ListTask t.0 t.1
+
+-- the text of a device's line
+abbrev pub kind_text : Line → List ℕ
+kind_text Timer = codes "timer"
+kind_text Key = codes "key"
+kind_text Radar = codes "radar"
+
+-- the texts of a row
+abbrev pub row_texts : Task × Action → RowTexts
+row_texts r = record { at = octal 5 r.0.at; bank = octal 5 r.0.bank; action = action_line_of r.1 }
+
+-- the numbers and texts of a phase entry
+abbrev pub entry_texts : Begins → EntryTexts
+entry_texts b = record { group = b.group; phase = b.phase; job = option_map (λ j. line_of (job_request j)) b.job; task = option_map (λ t. line_of (timed_request t)) b.task }
+
+-- the text and number of a device
+abbrev pub device_texts : Line × ℕ → DeviceTexts
+device_texts d = record { line = kind_text d.0; pulses = d.1 }
+
+-- the texts of a power-up's phase words
+abbrev pub power_texts : Option (List ℕ) → Option (List (List ℕ))
+power_texts power = option_map (map (octal 5)) power
+
+-- the numbers and texts of what a bench has once
+abbrev pub settings_texts : Benched → Settings
+settings_texts b = record { sets = b.sets; limit = b.limit; allowance = b.allowance; attends = b.attends; key = action_line_of b.key; radar = action_line_of b.radar; power = power_texts b.power }
+
+-- the texts of what a bench has many of
+abbrev pub lists_texts : Benched → Lists
+lists_texts b = record { script = map line_of b.script; rows = map row_texts b.rows; entries = map entry_texts b.entries; workers = map (map line_of) b.workers; devices = map device_texts b.devices }
+
+-- the numbers and texts of a bench
+abbrev pub bench_texts : Benched → Texts
+bench_texts b = record { settings = settings_texts b; lists = lists_texts b }
+
+-- a row's numbers are in their ranges
+abbrev pub IsRow : Task × Action → Type 0
+IsRow r = IsTask r.0 × IsAction r.1
+
+-- a job's numbers are in their ranges
+abbrev pub IsJob : Option JobStart → Type 0
+IsJob None = Unit {0}
+IsJob (Some j) = IsRequest (job_request j)
+
+-- the numbers of a task and its delay are in their ranges
+abbrev pub IsTimed : Option (ℕ × Task) → Type 0
+IsTimed None = Unit {0}
+IsTimed (Some t) = IsRequest (timed_request t)
+
+-- a phase entry's numbers are in their ranges
+pub record IsEntry (b : Begins) : Type 0 where
+  pub group : IsSix b.group
+  pub phase : IsBetween 1 127 b.phase
+  pub job : IsJob b.job
+  pub task : IsTimed b.task
+
+-- a device's pulses are in their range
+abbrev pub IsDevice : Line × ℕ → Type 0
+IsDevice d = d.1 ≤ 1000000
+
+-- twelve words
+abbrev pub IsPower : Option (List ℕ) → Type 0
+IsPower None = Unit {0}
+IsPower (Some words) = (length words ≡ 12) × AllByRecursion IsWord words
+
+-- all of these are requests
+abbrev pub AreRequests : List Request → Type 0
+AreRequests rs = AllByRecursion IsRequest rs
+
+-- the ranges of a bench
+pub record IsInRange (b : Benched) : Type 0 where
+  pub sets : IsBetween 7 8 b.sets
+  pub limit : IsBetween 1 1000000 b.limit
+  pub allowance : b.allowance ≤ 9223372036854775807
+  pub attends : b.attends ≤ 1000
+  pub key : IsAction b.key
+  pub radar : IsAction b.radar
+  pub power : IsPower b.power
+  pub script : AreRequests b.script
+  pub rows : AllByRecursion IsRow b.rows
+  pub entries : AllByRecursion IsEntry b.entries
+  pub workers : AllByRecursion AreRequests b.workers
+  pub few_workers : length b.workers ≤ 32
+  pub devices : AllByRecursion IsDevice b.devices
+  pub few_devices : length b.devices ≤ 32
+
+-- a bench: in its ranges, and with rows and entries that make a plan
+pub record IsBench (b : Benched) : Type 0 where
+  pub in_range : IsInRange b
+  pub planned : fault_of b.rows b.entries ≡ None

@@ -1,0 +1,253 @@
+ghost use Rattle.std.specs.Prelude.{◌≡◌, ◌≢◌, ◌≤◌, ◌⊎◌, length, map, Some, None, IfOk, IfErr};
+ghost use Rattle.toml.specs.Parse.{parse_document};
+ghost use Rattle.agc_word.specs.Profiles.{count_of};
+ghost use Rattle.agc_plan.specs.Plans.{fault_of};
+ghost use Rattle.agc_plan.specs.declared.plan.PlanFault.{PlanFault};
+ghost use Rattle.agc_document.specs.Benches.{Benched, bench_texts, IsInRange, IsBench};
+ghost use Rattle.agc_document.specs.Faults.{bench_fault, HasTexts, RefusesBench};
+ghost use Rattle.agc_document.specs.Gives.{RefusedLine};
+
+use crate::fault::BenchFault;
+use crate::keys::texts_in;
+use crate::texts::Texts;
+use crate::values::{devices_of, entries_of, power_of, requests_of, rows_of, workers_of};
+use agc_latch::Line;
+use agc_plan::{Action, Limit, PhaseEntry, Plan, Request, Task};
+use agc_text::parse_action;
+use agc_word::{Sets, Word};
+use std::alloc::Global;
+use std::marker::Model;
+
+#[derive(Drop)]
+struct Parts {
+    sets: Sets,
+    limit: Limit,
+    allowance: u64,
+    attends: u32,
+    key: Action,
+    radar: Action,
+    power: Option<[Word; 12]>,
+    script: Vec<Request>,
+    rows: Vec<(Task, Action)>,
+    entries: Vec<PhaseEntry>,
+    workers: Vec<Vec<Request>>,
+    devices: Vec<(Line, u32)>,
+}
+
+impl Model for Parts {
+    ghost use Rattle.std.specs.Prelude.{map};
+    ghost use Rattle.agc_word.specs.Profiles.{count_of};
+    ghost use Rattle.agc_document.specs.Benches.{Benched};
+
+    ghost Value = { Benched };
+
+    ghost view = { λ p. record {
+      sets = count_of p.sets;
+      limit = p.limit;
+      allowance = p.allowance;
+      attends = p.attends;
+      key = p.key;
+      radar = p.radar;
+      power = p.power;
+      script = p.script.items;
+      rows = p.rows.items;
+      entries = p.entries.items;
+      workers = map (λ w. w.items) p.workers.items;
+      devices = p.devices.items;
+    } };
+}
+
+/// A bench: what a machine is run on. Its numbers are in their ranges, and its rows and entries make a plan. Contracts
+/// see its values. Source: profile.
+#[derive(Drop)]
+pub struct Bench {
+    parts: Parts,
+}
+
+impl Model for Bench {
+    ghost use Rattle.agc_document.specs.Benches.{Benched, IsBench};
+
+    ghost Value = { Benched };
+
+    ghost view = { λ b. b.parts };
+
+    ghost invariant = { λ b. IsBench b.parts };
+}
+
+impl Bench {
+    /// How many core sets the machine has. Source: profile.
+    pub fn sets(&self) -> Sets
+        ensures { count_of result ≡ self.now.sets }
+    {
+        self.parts.sets
+    }
+
+    /// How many requests the log may hold, 1 to 1,000,000. Source: profile.
+    pub fn limit(&self) -> Limit
+        ensures { result ≡ self.now.limit }
+    {
+        self.parts.limit
+    }
+
+    /// How many calls the machine may serve, below 2 to the 63rd. Source: profile.
+    pub fn allowance(&self) -> u64
+        ensures value { result ≡ self.now.allowance }
+        ensures range { result ≤ 9223372036854775807 }
+    {
+        self.parts.allowance
+    }
+
+    /// How often one thread attends to pulses while `threads` of `agc_bench` runs, 0 to 1000. Source: profile.
+    pub fn attends(&self) -> u32
+        ensures value { result ≡ self.now.attends }
+        ensures range { result ≤ 1000 }
+    {
+        self.parts.attends
+    }
+
+    /// What is done for a key pulse. Source: profile.
+    pub fn key(&self) -> Action
+        ensures { result ≡ self.now.key }
+    {
+        self.parts.key
+    }
+
+    /// What is done for a radar pulse. Source: profile.
+    pub fn radar(&self) -> Action
+        ensures { result ≡ self.now.radar }
+    {
+        self.parts.radar
+    }
+
+    /// The twelve phase words of a power-up, -PHASE1 first. None for a fresh start. Source: profile.
+    pub fn power(&self) -> Option<[Word; 12]>
+        ensures { result ≡ self.now.power }
+    {
+        self.parts.power
+    }
+
+    /// The requests that are asked first, in order. Source: profile.
+    pub fn script(&self) -> &[Request]
+        ensures { result.now ≡ self.now.script }
+    {
+        self.parts.script.as_slice()
+    }
+
+    /// The action of each task that has one. With `entries` these rows make a plan, want of memory aside. Source: profile.
+    pub fn rows(&self) -> &[(Task, Action)]
+        ensures value { result.now ≡ self.now.rows }
+        ensures planned { fault_of self.now.rows self.now.entries ≡ None }
+    {
+        self.parts.rows.as_slice()
+    }
+
+    /// What begins with each era while its group stands in its phase. Source: profile.
+    pub fn entries(&self) -> &[PhaseEntry]
+        ensures value { result.now ≡ self.now.entries }
+        ensures planned { fault_of self.now.rows self.now.entries ≡ None }
+    {
+        self.parts.entries.as_slice()
+    }
+
+    /// The requests of each worker, in order; at most 32 workers. Source: profile.
+    pub fn workers(&self) -> &[Vec<Request>]
+        ensures value { map (λ w. w.items) result.now ≡ self.now.workers }
+        ensures few { length result.now ≤ 32 }
+    {
+        self.parts.workers.as_slice()
+    }
+
+    /// The line of each device, and how many pulses it sends, 0 to 1,000,000; at most 32 devices. Source: profile.
+    pub fn devices(&self) -> &[(Line, u32)]
+        ensures value { result.now ≡ self.now.devices }
+        ensures few { length result.now ≤ 32 }
+    {
+        self.parts.devices.as_slice()
+    }
+}
+
+/// What an option holds, and a fault `Line` where there is nothing.
+fn or_line<T: Drop>(value: Option<T>) -> Result<T, BenchFault>
+    ensures found { IfOk result (λ x. value ≡ Some x) }
+    ensures refused { IfErr result (λ fault. (fault ≡ BenchFault.Line) × (value ≡ None)) }
+{
+    match value {
+        Some(value) => Ok(value),
+        None => Err(BenchFault::Line),
+    }
+}
+
+/// The values that numbers and texts spell.
+fn parts_of(alloc: Global, texts: &Texts<'_>) -> Result<Parts, BenchFault>
+    ensures found { IfOk result (λ p. IsInRange (p) × (texts.now ≡ bench_texts (p))) }
+    ensures refused { IfErr result (RefusedLine ((b : Benched) → IsInRange b → texts.now ≢ bench_texts b)) }
+{
+    let limit = or_line(Limit::new(texts.settings.limit))?;
+    let key = or_line(parse_action(texts.settings.key))?;
+    let radar = or_line(parse_action(texts.settings.radar))?;
+    let power = or_line(power_of(&texts.settings.power))?;
+    let script = requests_of(alloc, texts.lists.script.as_slice())?;
+    let rows = rows_of(alloc, texts.lists.rows.as_slice())?;
+    let entries = entries_of(alloc, texts.lists.entries.as_slice())?;
+    let workers = workers_of(alloc, texts.lists.workers.as_slice())?;
+    let devices = devices_of(alloc, texts.lists.devices.as_slice())?;
+    Ok(Parts {
+        sets: texts.settings.sets,
+        limit,
+        allowance: texts.settings.allowance,
+        attends: texts.settings.attends,
+        key,
+        radar,
+        power,
+        script,
+        rows,
+        entries,
+        workers,
+        devices,
+    })
+}
+
+/// The bench of parts whose rows and entries make a plan.
+fn planned(alloc: Global, parts: Parts) -> Result<Bench, BenchFault>
+    requires { IsInRange (parts) }
+    ensures found { IfOk result (λ b. IsBench b × (b ≡ parts)) }
+    ensures refused { IfErr result (λ fault. (fault ≡ BenchFault.NoMemory) ⊎ ((f : PlanFault) × (fault ≡ bench_fault f) × (fault_of parts.rows parts.entries ≡ Some f))) }
+{
+    match Plan::new(
+        alloc,
+        parts.rows.as_slice(),
+        parts.entries.as_slice(),
+        parts.key,
+        parts.radar,
+    ) {
+        Ok(_plan) => Ok(Bench { parts }),
+        Err(fault) => Err(BenchFault::from(fault)),
+    }
+}
+
+/// The bench that a TOML document is: its values, and for each key that is missing the value that stands for it.
+/// Source: profile.
+///
+/// # Errors
+///
+/// The first that applies: `NotToml`; `Key`, an unknown key at any level, a missing required key, a value of another
+/// kind, an integer out of range, `power` of another length than 12, more than 32 workers or devices; `Line`, a text
+/// that is not of its form; `TaskTwice`, `PhaseTwice` and `TooManyAreas`, rows and entries that make no plan.
+/// `NoMemory` may come in place of any.
+pub fn read_bench(alloc: Global, text: &str) -> Result<Bench, BenchFault>
+    ensures found { IfOk result (λ b. IsBench b × HasTexts (parse_document text.now) (bench_texts b)) }
+    ensures refused { IfErr result (RefusesBench (parse_document text.now)) }
+{
+    let table = match toml::table_from_str(alloc, text) {
+        Ok(table) => table,
+        Err(error) => {
+            if error.is_memory() {
+                return Err(BenchFault::NoMemory);
+            }
+            return Err(BenchFault::NotToml);
+        }
+    };
+    let texts = texts_in(alloc, &table)?;
+    let parts = parts_of(alloc, &texts)?;
+    planned(alloc, parts)
+}

@@ -1,0 +1,137 @@
+//! The numbers and texts of a bench, which borrow from its document.
+use agc_word::Sets;
+use std::marker::Model;
+
+/// The texts of a task's row.
+#[derive(Drop)]
+pub(crate) struct RowTexts<'a> {
+    pub(crate) at: &'a str,
+    pub(crate) bank: &'a str,
+    pub(crate) action: &'a str,
+}
+
+impl<'a> Model for RowTexts<'a> {
+    ghost use Rattle.agc_document.specs.Texts.{RowTexts as Texts};
+
+    ghost Value = { Texts };
+
+    ghost view = { λ t. record { at = t.at.now; bank = t.bank.now; action = t.action.now } };
+}
+
+/// A phase entry: its numbers, and the texts of its job and its task.
+#[derive(Drop)]
+pub(crate) struct EntryTexts<'a> {
+    pub(crate) group: u8,
+    pub(crate) phase: u8,
+    pub(crate) job: Option<&'a str>,
+    pub(crate) task: Option<&'a str>,
+}
+
+impl<'a> Model for EntryTexts<'a> {
+    ghost use Rattle.std.specs.Option.{option_map};
+    ghost use Rattle.agc_document.specs.Texts.{EntryTexts as Texts};
+
+    ghost Value = { Texts };
+
+    ghost view = { λ t. record {
+      group = t.group;
+      phase = t.phase;
+      job = option_map (λ s. s.now) t.job;
+      task = option_map (λ s. s.now) t.task;
+    } };
+}
+
+/// A device: the text of its line, and its pulses.
+#[derive(Drop)]
+pub(crate) struct DeviceTexts<'a> {
+    pub(crate) line: &'a str,
+    pub(crate) pulses: u32,
+}
+
+impl<'a> Model for DeviceTexts<'a> {
+    ghost use Rattle.std.specs.Prelude.{◌≤◌};
+    ghost use Rattle.agc_document.specs.Texts.{DeviceTexts as Texts};
+
+    ghost Value = { Texts };
+
+    ghost view = { λ t. record { line = t.line.now; pulses = t.pulses } };
+
+    ghost invariant = { λ t. t.pulses ≤ 1000000 };
+}
+
+/// What a bench has once.
+#[derive(Drop)]
+pub(crate) struct Settings<'a> {
+    pub(crate) sets: Sets,
+    pub(crate) limit: u32,
+    pub(crate) allowance: u64,
+    pub(crate) attends: u32,
+    pub(crate) key: &'a str,
+    pub(crate) radar: &'a str,
+    pub(crate) power: Option<Vec<&'a str>>,
+}
+
+impl<'a> Model for Settings<'a> {
+    ghost use Rattle.std.specs.Prelude.{◌≤◌, map};
+    ghost use Rattle.std.specs.Option.{option_map};
+    ghost use Rattle.agc_word.specs.Profiles.{count_of};
+    ghost use Rattle.agc_plan.specs.Ranges.{IsBetween};
+    ghost use Rattle.agc_document.specs.Texts.{Settings as Texts};
+
+    ghost Value = { Texts };
+
+    ghost view = { λ t. record {
+      sets = count_of t.sets;
+      limit = t.limit;
+      allowance = t.allowance;
+      attends = t.attends;
+      key = t.key.now;
+      radar = t.radar.now;
+      power = option_map (λ v. map (λ s. s.now) v.items) t.power;
+    } };
+
+    ghost invariant = { λ t. IsBetween 7 8 (count_of t.sets)
+        × (t.allowance ≤ 9223372036854775807) × (t.attends ≤ 1000) };
+}
+
+/// What a bench has many of.
+#[derive(Drop)]
+pub(crate) struct Lists<'a> {
+    pub(crate) script: Vec<&'a str>,
+    pub(crate) rows: Vec<RowTexts<'a>>,
+    pub(crate) entries: Vec<EntryTexts<'a>>,
+    pub(crate) workers: Vec<Vec<&'a str>>,
+    pub(crate) devices: Vec<DeviceTexts<'a>>,
+}
+
+impl<'a> Model for Lists<'a> {
+    ghost use Rattle.std.specs.Prelude.{◌≤◌, map, length};
+    ghost use Rattle.agc_document.specs.Texts.{Lists as Texts};
+
+    ghost Value = { Texts };
+
+    ghost view = { λ t. record {
+      script = map (λ s. s.now) t.script.items;
+      rows = t.rows.items;
+      entries = t.entries.items;
+      workers = map (λ v. map (λ s. s.now) v.items) t.workers.items;
+      devices = t.devices.items;
+    } };
+
+    ghost invariant = { λ t. (length t.workers.items ≤ 32) × (length t.devices.items ≤ 32) };
+}
+
+/// All of a bench.
+#[derive(Drop)]
+pub(crate) struct Texts<'a> {
+    pub(crate) settings: Settings<'a>,
+    pub(crate) lists: Lists<'a>,
+}
+
+impl<'a> Model for Texts<'a> {
+    ghost use Rattle.agc_document.specs.Texts.{Texts as AllTexts};
+
+    ghost Value = { AllTexts };
+
+    ghost view = { λ t. record { settings = t.settings; lists = t.lists } };
+}
