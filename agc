@@ -1,18 +1,20 @@
 #!/bin/sh
-# Runs the program on standard input, as ./agc script < FILE. The proved program crates/agc/out/agc, which tools/prove
-# makes, takes this shell's place where it is as new as all sources.
+# Runs the program on standard input, as ./agc script < FILE. The proved program crates/agc/out/agc,
+# which tools/prove makes, takes this shell's place where it is as new as all sources.
 #
-# Where it is missing or older, today's sources are run unproved by rt try, which takes about a minute. Standard output
-# and the exit status are what the proved program would give; two lines on standard error say how it was run, and a
-# fault's line follows. Standard input is read first, into a file that is removed at the end. Input of more requests
-# than rt try can answer is refused before anything runs. The exit status is 70 where nothing could be answered.
+# Where it is missing or older, today's sources are run unproved by rt try, which takes about a
+# minute. Standard output and the exit status are what the proved program would give; two lines on
+# standard error say how it was run, and a fault's line follows. Standard input is read first, into
+# a file that is removed at the end. Input of more requests than rt try can answer is refused before
+# anything runs. The exit status is 70 where nothing could be answered.
 here=$(cd "$(dirname "$0")" && pwd) || exit 70
 program=$here/crates/agc/out/agc
 
 # How long tools/prove takes, as README.md says.
 minutes='about 25 minutes on two cores'
 
-# rt try answers with at most 1,048,576 bytes of output, a reply has at most 124, and the report less than 2,000.
+# rt try answers with at most 1,048,576 bytes of output, a reply has at most 124, and the report
+# less than 2,000.
 most_requests=8000
 
 # The program refuses input that is longer, so no more of it is read.
@@ -55,7 +57,8 @@ case $#:$1 in
         fi ;;
 esac
 
-# No fewer requests than the input has: lines of a script, strings of a bench, and pulses of its devices.
+# No fewer requests than the input has: lines of a script, strings of a bench, and pulses of its
+# devices.
 requests=$(LC_ALL=C tr '",{}' '\n\n\n\n' < "$room/input" | LC_ALL=C awk '
     NF { count++ }
     sub(/.*pulses *= */, "") { gsub(/_/, ""); count += $0 }
@@ -73,7 +76,8 @@ wait "$child"
 tried=$?
 child=
 
-# rt's last line says whether the program ended, and with which status; its own lines come after the program's.
+# rt's last line says whether the program ended, and with which status; its own lines come after the
+# program's.
 status=$(sed -n '$s/^run=ended status=\([0-9][0-9]*\) .*/\1/p' "$room/said")
 if [ "$status" != "$tried" ]; then
     cat "$room/said" >&2
