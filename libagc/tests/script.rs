@@ -98,6 +98,9 @@ impl Run {
     }
 
     fn report(&mut self) {
+        if self.sets == 8 {
+            self.out.push_str("SETS 8\n");
+        }
         for k in 0..self.sets as usize {
             let first = if k < 7 { 12 * k } else { 132 };
             if self.words[first + 11] == 0o77777 {
