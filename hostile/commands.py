@@ -17,6 +17,17 @@ EIGHT_JOBS = """allowance = 10
 script = [%s "tick", "tick", "tick", "tick"]
 """ % ('"novac 20 02000 00005", ' * 8)
 
+# A kit that proves nothing: it builds a program that ends with status 7, and tries by saying so.
+KIT = """#!/bin/sh
+case "$1 $2" in
+    'all check') printf '== agc\\n== summary\\n' ;;
+    'run --') mkdir -p out && cp ../../program out/agc && echo 'rt: running out/agc; ' ;;
+    'try --') echo tried; printf 'checked: ended status=0\\nrun=ended status=0 \\n' >&2 ;;
+esac
+"""
+PROGRAM = "#!/bin/sh\necho ran $*\necho own line >&2\nexit 7\n"
+NEEDED = "sh dirname find sort xargs cksum cp mkdir mktemp head cat tr awk sed rm".split()
+
 # A program that does what its bench says, as a script of the shell.
 OBEYING = "#!/bin/sh\nexec sh\n"
 REPORT = "printf 'SERVED 3\\nALARMS 0 0 0\\nRESTARTS 0\\n'"
@@ -150,3 +161,74 @@ def outputs(hostile, room):
             is_right = (status, said) == (4, f"many: output: {fault}\n")
             hostile.expect(f"many, output {fault}: status {status}, {said}", is_right)
     os.close(broken)
+
+
+class Clone:
+    """A clone of one crate, with ./agc, tools/prove and a kit."""
+
+    def __init__(self, hostile, room):
+        self.hostile, self.room = hostile, room
+
+    def fill(self):
+        for name in ("agc", "tools/prove", "tools/sources"):
+            os.makedirs(os.path.dirname(f"{self.room}/{name}"), exist_ok=True)
+            shutil.copy(f"{TOP}/{name}", f"{self.room}/{name}")
+        write(f"{self.room}/crates.txt", "agc:\n")
+        for name, text in (("src/main.rt", "fn main() {}\n"), ("args", "script\n"), ("stdin", "")):
+            write(f"{self.room}/crates/agc/{name}", text)
+        write(f"{self.room}/program", PROGRAM, 0o755)
+        write(f"{self.room}/kit/rt", KIT, 0o755)
+        os.mkdir(f"{self.room}/tools-of-system")
+        for name in NEEDED:
+            os.symlink(shutil.which(name), f"{self.room}/tools-of-system/{name}")
+
+    def copy(self, name):
+        """A copy whose files are all new, the sources newest."""
+        shutil.copytree(self.room, name, symlinks=True, copy_function=shutil.copy)
+        clone = Clone(self.hostile, name)
+        clone.date(60)
+        return clone
+
+    def date(self, seconds):
+        """Dates the source so many seconds from now."""
+        when = time.time() + seconds
+        os.utime(f"{self.room}/crates/agc/src/main.rt", (when, when))
+
+    def run(self, command, *words, kit=True):
+        self.hostile.runs += 1
+        path = f"{self.room}/tools-of-system" + (f":{self.room}/kit" if kit else "")
+        return ended([*command, *words], env={"PATH": path})
+
+    def expect(self, what, wanted, *words, kit=True):
+        """What ./agc writes and how it ends: with the first line on standard error, where there is one, by its end."""
+        status, text, said = self.run([f"{self.room}/agc"], *words, kit=kit)
+        lines = said.splitlines()
+        first = lines[0] if len(lines) > 1 else ""
+        is_right = (status, text) == wanted[:2] and first.endswith(wanted[2]) and bool(first) == bool(wanted[2])
+        self.hostile.expect(f"./agc, {what}: status {status}, {text}, {said}", is_right)
+
+
+def starter(hostile):
+    """./agc runs the program that was built from the sources that stand there, and what is there without the kit."""
+    ran, tried = (7, "ran script\n", ""), (0, "tried\n", "takes about a minute")
+    with tempfile.TemporaryDirectory() as room:
+        clone = Clone(hostile, f"{room}/clone")
+        clone.fill()
+        status, _, said = clone.run([f"{room}/clone/agc"], "script", kit=False)
+        hostile.expect(f"./agc with nothing: status {status}, {said}", status == 70)
+        clone.expect("before it is built", tried, "script")
+        status, text, _ = clone.run([sys.executable, f"{room}/clone/tools/prove"])
+        hostile.expect(f"tools/prove with a kit that proves nothing: status {status}, {text}", status == 0)
+        clone.expect("when it is built", ran, "script")
+        copy = clone.copy(f"{room}/copy")
+        copy.expect("copied", ran, "script")
+        copy.expect("copied, without the kit", ran, "script", kit=False)
+        write(f"{room}/copy/crates/agc/src/main.rt", "fn main() { }\n")
+        copy.expect("changed", tried, "script")
+        copy.date(-9999)
+        copy.expect("changed, and dated back", tried, "script")
+        copy.expect("changed, without the kit", (*ran[:2], "is not on the path"), "script", kit=False)
+        write(f"{room}/copy/crates/agc/out/agc", f"{PROGRAM}#\n", 0o755)
+        copy.expect("built by others", ran, "script")
+        copy.date(60)
+        copy.expect("built by others, and older", tried, "script")
