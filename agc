@@ -41,6 +41,10 @@ is_of_sources() {
     fi
 }
 
+case $#:$1 in
+    1:script | 1:serial | 1:threads) ;;
+    *) say 'README.md shows how to call it; docs/FORMATS.md says what script, serial and threads read and write' ;;
+esac
 if [ -x "$program" ] && is_of_sources; then
     exec "$program" "$@"
 fi

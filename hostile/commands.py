@@ -232,3 +232,7 @@ def starter(hostile):
         copy.expect("built by others", ran, "script")
         copy.date(60)
         copy.expect("built by others, and older", tried, "script")
+        explained = "docs/FORMATS.md says what script, serial and threads read and write"
+        for words in ([], ["--help"], ["help"], ["script", "serial"]):
+            wanted = (7, f"ran {' '.join(words)}".strip() + "\n", explained)
+            clone.expect(f"asked for {words}", wanted, *words)
