@@ -223,6 +223,11 @@ def starter(hostile):
         copy = clone.copy(f"{room}/copy")
         copy.expect("copied", ran, "script")
         copy.expect("copied, without the kit", ran, "script", kit=False)
+        linked = Clone(hostile, f"{room}/linked")
+        os.mkdir(linked.room)
+        for name in os.listdir(copy.room):
+            os.symlink(f"{copy.room}/{name}", f"{linked.room}/{name}")
+        linked.expect("called in a folder of links", ran, "script")
         write(f"{room}/copy/crates/agc/src/main.rt", "fn main() { }\n")
         copy.expect("changed", tried, "script")
         copy.date(-9999)
