@@ -152,11 +152,20 @@ static void words(void) {
     check(agc_pointer(NULL) == AGC_NULL && agc_pointer(image) == AGC_OK, "agc_pointer", 7, 7);
 }
 
+static void texts(void) {
+    check(!strcmp(agc_code_text(AGC_OK), "the call was served"), "agc_code_text", 7, 0);
+    check(!strcmp(agc_code_text(4), "a number of the call is out of its range"), "agc_code_text", 7, 4);
+    check(!strcmp(agc_code_text(8), "no call answers this code"), "agc_code_text", 7, 8);
+    check(!strcmp(agc_reply_text(AGC_NO_SLEEPER), "no job sleeps at that address"), "agc_reply_text", 7, 0);
+    check(!strcmp(agc_reply_text(0), "no reply is of this kind"), "agc_reply_text", 7, 0);
+}
+
 int main(void) {
     agc_clear(image, 7);
     images();
     numbers();
     ticks();
     words();
+    texts();
     return failed;
 }

@@ -85,6 +85,7 @@ static void put(const char *name, int from, int to) {
 }
 
 static void report(void) {
+    if (sets == 8) puts("SETS 8");
     for (uint32_t k = 0; k < sets; k++) {
         int first = k < 7 ? 12 * (int)k : 132;
         char name[16];

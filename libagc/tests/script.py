@@ -29,8 +29,6 @@ CALLS = {
     "store": (Image.store, (10, 8)),
     "list": (Image.list, (10, 8, 8)),
 }
-TABLES = [("VAC", 84, 89), ("NEWJOB", 89, 90), ("TIME3", 90, 91), ("LST1", 91, 99), ("LST2", 99, 117)]
-TABLES += [("PHASE", 117, 129), ("FAILREG", 129, 132)]
 
 
 def tick(image):
@@ -63,18 +61,8 @@ def serve(image, line, totals):
     return f"alarm {reply.number:o}"
 
 
-def spelled(words):
-    return " ".join(f"{word:05o}" for word in words)
-
-
 def report(image, served, totals):
-    words = image.words
-    for k in range(image.sets):
-        first = 12 * k if k < 7 else 132
-        own = words[first : first + 12]
-        print(f"SET {k}", "FREE" if own[11] == 0o77777 else spelled(own))
-    for name, start, end in TABLES:
-        print(name, spelled(words[start:end]))
+    print(image)
     print("SERVED", served)
     print("ALARMS", totals[0o1201], totals[0o1202], totals[0o1203])
     print("RESTARTS", totals["restarts"])

@@ -98,6 +98,9 @@ impl Run {
     }
 
     fn report(&mut self) {
+        if self.sets == 8 {
+            self.out.push_str("SETS 8\n");
+        }
         for k in 0..self.sets as usize {
             let first = if k < 7 { 12 * k } else { 132 };
             if self.words[first + 11] == 0o77777 {
@@ -137,6 +140,8 @@ fn refuses() {
     assert_eq!(agc_value(0o77776), AgcValue { code: OK, value: -1 });
     assert_eq!(agc_add(0o37777, 1), AgcSum { code: OK, bits: 0, overflow: true });
     assert_eq!(agc_recover(&[0; 12]).code, UNLAWFUL);
+    assert_eq!(agc_code_text(NOT_A_WORD), "a word of the call is above 077777");
+    assert_eq!(agc_reply_text(STORED), "a work word was set");
 }
 
 fn main() {
