@@ -5,7 +5,7 @@ use Rattle.agc_desk.specs.Desks.{Desked}
 use Rattle.agc_desk.specs.Draining.{answers_to}
 use Rattle.agc_desk.specs.History.{Holder}
 use Rattle.agc_desk.specs.Keeping.{IsLent, lent_of}
-use Rattle.agc_bench.specs.Sharing.{AreFresh, first_calls}
+use Rattle.agc_bench.specs.Sharing.{first_calls}
 use Rattle.agc_bench.specs.Threads.{askers_of}
 use Rattle.agc_bench.proofs.Histories.{begins_with, same_number}
 use Rattle.agc_bench.proofs.Settling.{of_latch}
