@@ -42,6 +42,16 @@ fn settle_all<N: Names>(
     }
 }
 
+/// All shares, the caller's first.
+fn with_first<N: Names>(first: Share<N>, shares: Vec<Share<N>>) -> Result<Vec<Share<N>>, RunFault>
+    ensures all { IfOk result (λ v. v.items ≡ first ∷ shares.items) }
+    ensures early { IfErr result (λ fault. fault ≡ RunFault.NoMemory) }
+{
+    let mut all = shares;
+    all.insert(0, first)?;
+    Ok(all)
+}
+
 /// Gathers all shares of a desk, the caller's first.
 fn gather_all<N: Names>(
     desk: Desk<N>,
@@ -53,8 +63,7 @@ fn gather_all<N: Names>(
     ensures grown { IfOk result (λ r. add r.1 N.first.totals ≡ r.0.totals) }
     ensures early { IfErr result (λ fault. fault ≡ RunFault.NoMemory) }
 {
-    let mut all = shares;
-    all.insert(0, first)?;
+    let all = with_first(first, shares)?;
     match gather(desk, all) {
         Ok(gathered) => Ok(gathered),
         Err(_left) => Err(RunFault::Lost),
