@@ -24,20 +24,22 @@ most_bytes=1048576
 say() {
     echo "agc: $*" >&2
 }
-newer() {
-    find "$here/crates.txt" "$here"/crates/*/src "$here"/crates/*/specs "$here"/crates/*/proofs -type f -newer "$program" 2> /dev/null
+sources_that_are() {
+    find "$here/crates.txt" "$here"/crates/*/src "$here"/crates/*/specs "$here"/crates/*/proofs -type f "$1" "$program" 2> /dev/null
 }
 
-# tools/prove keeps beside the program its checksum and that of its sources, so that a copy is known
-# whatever the times of its files are. A program that was built otherwise has to be as new as all
-# sources.
+# Where no source came here or changed since the program was built, that is told at once. Else the
+# checksums are compared, the program's and its sources', that tools/prove keeps beside the program:
+# so a copy is known whatever the times of its files are. A program without them has to be as new as
+# all sources.
 is_of_sources() {
+    [ -n "$(sources_that_are -cnewer)" ] || return 0
     built=
     [ ! -r "$program.sums" ] || { read -r built; read -r kept; } < "$program.sums"
     if [ "$built" = "$(cksum < "$program")" ]; then
         [ "$kept" = "$("$here/tools/sources")" ]
     else
-        [ -z "$(newer)" ]
+        [ -z "$(sources_that_are -newer)" ]
     fi
 }
 

@@ -90,19 +90,19 @@ def rows_of_faults(hostile, room):
 def rows_of_runs(hostile, room):
     """A run that goes on, one that is killed, and one that writes no report are told of in their rows."""
     write(f"{room}/obeying", OBEYING, 0o755)
-    write(f"{room}/a-long.toml", "exec sleep 9")
-    write(f"{room}/b-apart.toml", "sleep 9; echo")
+    write(f"{room}/a-long.toml", "exec sleep 20")
+    write(f"{room}/b-apart.toml", "sleep 20; echo")
     write(f"{room}/c-killed.toml", "kill -SEGV $$")
     write(f"{room}/d-silent.toml", "exit 7")
     write(f"{room}/e-other.toml", "echo SET")
     began = time.monotonic()
-    words = (room, "--program", f"{room}/obeying", "--seconds", "0.5", "--keep", f"{room}/kept")
+    words = (room, "--program", f"{room}/obeying", "--seconds", "2", "--keep", f"{room}/kept")
     status, text, _ = run_many(hostile, *words)
     wanted = (HEAD + "a-long,,,,,,,,,too long\nb-apart,,,,,,,,,too long\n"
               "c-killed,,,,,,,,,killed by SIGSEGV\nd-silent,7,,,,,,,,it says nothing\n"
               "e-other,0,,,,,,,,it wrote no report\n")
     hostile.expect(f"many, of runs: status {status}, {text}", (status, text) == (1, wanted))
-    hostile.expect("many ends what is too long", time.monotonic() - began < 8)
+    hostile.expect("many ends what is too long", time.monotonic() - began < 15)
     hostile.expect("many keeps what was written", read(f"{room}/kept/e-other.out") == "SET\n")
 
 
@@ -110,7 +110,7 @@ def tables_left(hostile, room):
     """The rows of a run that is killed are there; --resume adds the others, and runs none again."""
     write(f"{room}/obeying", OBEYING, 0o755)
     write(f"{room}/a.toml", f"echo SET; {REPORT}")
-    write(f"{room}/b.toml", "exec sleep 9")
+    write(f"{room}/b.toml", "exec sleep 20")
     write(f"{room}/c.toml", f"echo no job; echo SET; {REPORT}")
     words = [room, "--program", f"{room}/obeying"]
     table = f"{room}/table"
