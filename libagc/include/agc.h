@@ -36,13 +36,14 @@
 #include <stdbool.h>
 #include <stddef.h>
 #include <stdint.h>
+#include <string.h>
 
 #ifdef __cplusplus
 extern "C" {
 #endif
 
-/* How many numbers an array has, and how many agc_recover wants. */
-enum { AGC_WORDS = 144, AGC_PHASE_WORDS = 12 };
+/* How many numbers an array has, how many agc_recover wants, and where -PHASE1, the first of them, is. */
+enum { AGC_WORDS = 144, AGC_PHASE_WORDS = 12, AGC_PHASE_PLACE = 117 };
 
 /* The codes. A call answers the first that applies. */
 enum {
@@ -78,6 +79,9 @@ enum {
     AGC_ALARM_1203 = 01203  /* nine tasks wait */
 };
 
+/* How the job of a plan's entry is established; 0 where the entry has no job. */
+enum { AGC_NOVAC = 1, AGC_FINDVAC = 2 };
+
 /* A function of this header itself, and a type that has a bool. C90 has neither `inline` nor
    `bool`, and GNU's compilers have words by which they take both there. */
 #if defined __cplusplus || (defined __STDC_VERSION__ && __STDC_VERSION__ >= 199901L)
@@ -111,6 +115,15 @@ AGC_TYPE struct { uint32_t code, bits; bool overflow; } AgcSum;
 
 /* The value of a word, -16383 to 16383. */
 typedef struct { uint32_t code; int32_t value; } AgcValue;
+
+/* An entry of a plan: what begins again while a restart group, 1 to 6, stands in a phase, 1 to 127.
+   A job, where `job` isn't 0, and a task, where `delay` isn't 0; their numbers are those of the
+   calls agc_novac, agc_findvac and agc_list. */
+typedef struct {
+    uint32_t group, phase;
+    uint32_t job, priority, job_at, job_bank;
+    uint32_t delay, task_at, task_bank;
+} AgcEntry;
 
 /* What a code says: a constant text, never null, whatever the number. */
 AGC_INLINE const char *agc_code_text(uint32_t code) {
@@ -231,6 +244,49 @@ AgcPhases agc_recover(const uint16_t words[AGC_PHASE_WORDS]);
 AgcSum agc_add(uint32_t a, uint32_t b);
 AgcNumber agc_negative(uint32_t word);
 AgcValue agc_value(uint32_t word);
+
+/* What an entry of a plan has begins: its job, then its task. For agc_begin. */
+AGC_INLINE uint32_t agc_begin_entry(uint16_t words[AGC_WORDS], uint32_t sets, const AgcEntry *entry) {
+    AgcReply reply = {AGC_OK, 0, 0};
+    switch (entry->job) {
+    case 0: break;
+    case AGC_NOVAC: reply = agc_novac_trusted(words, sets, entry->priority, entry->job_at, entry->job_bank); break;
+    case AGC_FINDVAC: reply = agc_findvac_trusted(words, sets, entry->priority, entry->job_at, entry->job_bank); break;
+    default: return AGC_OUT_OF_RANGE;
+    }
+    if (reply.reply == AGC_ALARMED) return AGC_OUT_OF_RANGE;
+    if (reply.code == AGC_OK && entry->delay != 0)
+        reply = agc_list_trusted(words, sets, entry->delay, entry->task_at, entry->task_bank);
+    return reply.code;
+}
+
+/* An era begins, as after an alarm: its code is recorded, all jobs and tasks are gone, and then for
+   groups 1 to 6 in order the plan's entry for the group's phase begins, its job and then its task.
+   `alarm` is one of the four, or 0 where none is recorded, as at a restart by request. A group of
+   phase 0, or of one that has no entry, begins nothing; of two entries for a phase the first counts.
+   AGC_OUT_OF_RANGE and AGC_NOT_A_WORD are those of the alarm and of the entries that begin, the first
+   that can't; AGC_OUT_OF_RANGE also where all six groups begin a job by AGC_FINDVAC, since there are
+   five VAC areas. It looks at the whole image, and has no trusted form. */
+AGC_INLINE uint32_t agc_begin(uint16_t words[AGC_WORDS], uint32_t sets, uint32_t alarm, const AgcEntry *plan,
+                              size_t entries) {
+    uint16_t era[AGC_WORDS] = {0};
+    const size_t size = (sets == 8 ? 144 : 132) * sizeof *words;
+    AgcPhases now;
+    uint32_t code, group, phase;
+    size_t k;
+    if (sets != 7 && sets != 8) return AGC_NO_SUCH_SETS;
+    memcpy(era, words, size);
+    code = agc_restart(era, sets);
+    if (code == AGC_OK && alarm != 0) code = agc_record_alarm_trusted(era, sets, alarm);
+    now = agc_recover(era + AGC_PHASE_PLACE);
+    for (group = 1; code == AGC_OK && group <= 6; group++) {
+        phase = now.phases[group - 1];
+        for (k = 0; k < entries && (plan[k].group != group || plan[k].phase != phase); k++) {}
+        if (phase != 0 && k < entries) code = agc_begin_entry(era, sets, plan + k);
+    }
+    if (code == AGC_OK) memcpy(words, era, size);
+    return code;
+}
 
 #undef AGC_INLINE
 #undef AGC_TYPE

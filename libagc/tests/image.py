@@ -9,7 +9,7 @@ import subprocess
 import sys
 
 import agc
-from agc import Code, Image, Lacking
+from agc import Code, Entry, Image, Lacking, Listing, Start
 
 HERE = os.path.dirname(os.path.abspath(__file__))
 COPIES = [copy.copy, copy.deepcopy, lambda it: pickle.loads(pickle.dumps(it))]
@@ -97,6 +97,48 @@ def words_are_a_tuple():
     raised(TypeError, lambda: operator.setitem(image.words, 0, 5))
 
 
+def an_era_begins():
+    """Group 4 stands in phase 5: after the alarm there are its job, with the first area, and its task."""
+    plan = [Entry(4, 5, Start(0o25, 0o6000, 9, area=True), Listing(10, 0o6100, 9)), Entry(4, 5), Entry(3, 0, Start(1, 1, 1))]
+    for image in (busy(), Image(8)):
+        image.set_phase(4, 5)
+        image.begin(iter(plan), 0o1202)
+        lines = str(image).split("\n")
+        assert "SET 0 00001 00000 00000 00000 00000 00000 00000 00000 06000 00011 00000 25300" in lines
+        assert "SET 1 FREE" in lines and "VAC 00000 00354 00430 00504 00560" in lines
+        assert "TIME3 37766" in lines and "LST2 06100 00011" + " 00000" * 16 in lines
+        assert "FAILREG 01202 00000 01202" in lines
+        image.begin([])
+        after = str(image).split("\n")
+        assert image.running() == 0 and "SET 0 FREE" in after and after[-2:] == lines[-2:]
+
+
+def an_era_that_cannot_begin():
+    """Image and phases are then as they were, and what is raised says why."""
+    image = busy()
+    for group in range(1, 7):
+        image.set_phase(group, 1)
+    was = image.words
+    six = [Entry(group, 1, Start(1, 1, 1, True)) for group in range(1, 7)]
+    job, task = Start(1, 1, 1), Listing(1, 1, 1)
+    for code, plan, alarm in [
+        (Code.OUT_OF_RANGE, [], 1201),
+        (Code.OUT_OF_RANGE, six, 0o1201),
+        (Code.OUT_OF_RANGE, [Entry(6, 1, job._replace(priority=2**32 + 1))], 0),
+        (Code.NOT_A_WORD, [Entry(1, 1, job), Entry(6, 1, None, task._replace(bank=32768))], 0o1203),
+    ]:
+        try:
+            image.begin(plan, alarm)
+        except Lacking as lacking:
+            assert lacking.code == code and image.words == was
+        else:
+            raise AssertionError(code)
+    raised(TypeError, lambda: image.begin([Entry(1, 1, job._replace(at=1.0))]))
+    raised(TypeError, lambda: image.begin([], "1201"))
+    image.begin(six[1:], 0o1201)
+    assert image.words[84:89] == (0, 0, 0, 0, 0) and image != busy()
+
+
 def what_is_no_number():
     image = Image(7)
     number = "a number has to be an int, and {} is of type {}"
@@ -154,6 +196,8 @@ def main():
         images_compare,
         images_print,
         words_are_a_tuple,
+        an_era_begins,
+        an_era_that_cannot_begin,
         what_is_no_number,
         lacking_has_a_sentence,
         a_wrong_library_is_told,
