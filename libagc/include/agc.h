@@ -42,7 +42,7 @@
 extern "C" {
 #endif
 
-/* How many numbers an array has, how many agc_recover wants, and where -PHASE1, the first of them, is. */
+/* How many numbers an array has, how many agc_recover wants, and the place of -PHASE1, their first. */
 enum { AGC_WORDS = 144, AGC_PHASE_WORDS = 12, AGC_PHASE_PLACE = 117 };
 
 /* The codes. A call answers the first that applies. */
@@ -123,7 +123,7 @@ typedef struct {
     uint32_t group, phase;
     uint32_t job, priority, job_at, job_bank;
     uint32_t delay, task_at, task_bank;
-} AgcEntry;
+} AgcPhaseEntry;
 
 /* What a code says: a constant text, never null, whatever the number. */
 AGC_INLINE const char *agc_code_text(uint32_t code) {
@@ -245,8 +245,8 @@ AgcSum agc_add(uint32_t a, uint32_t b);
 AgcNumber agc_negative(uint32_t word);
 AgcValue agc_value(uint32_t word);
 
-/* What an entry of a plan has begins: its job, then its task. For agc_begin. */
-AGC_INLINE uint32_t agc_begin_entry(uint16_t words[AGC_WORDS], uint32_t sets, const AgcEntry *entry) {
+/* What an entry has begins: its job, then its task. For agc_begin. */
+AGC_INLINE uint32_t agc_begin_entry(uint16_t words[AGC_WORDS], uint32_t sets, const AgcPhaseEntry *entry) {
     AgcReply reply = {AGC_OK, 0, 0};
     switch (entry->job) {
     case 0: break;
@@ -264,10 +264,10 @@ AGC_INLINE uint32_t agc_begin_entry(uint16_t words[AGC_WORDS], uint32_t sets, co
    groups 1 to 6 in order the plan's entry for the group's phase begins, its job and then its task.
    `alarm` is one of the four, or 0 where none is recorded, as at a restart by request. A group of
    phase 0, or of one that has no entry, begins nothing; of two entries for a phase the first counts.
-   AGC_OUT_OF_RANGE and AGC_NOT_A_WORD are those of the alarm and of the entries that begin, the first
-   that can't; AGC_OUT_OF_RANGE also where all six groups begin a job by AGC_FINDVAC, since there are
-   five VAC areas. It looks at the whole image, and has no trusted form. */
-AGC_INLINE uint32_t agc_begin(uint16_t words[AGC_WORDS], uint32_t sets, uint32_t alarm, const AgcEntry *plan,
+   AGC_OUT_OF_RANGE and AGC_NOT_A_WORD are those of the alarm and of the entries that begin, in this
+   order; AGC_OUT_OF_RANGE also where all six groups begin a job by AGC_FINDVAC, since there are five
+   VAC areas. It looks at the whole image, and has no trusted form. */
+AGC_INLINE uint32_t agc_begin(uint16_t words[AGC_WORDS], uint32_t sets, uint32_t alarm, const AgcPhaseEntry *plan,
                               size_t entries) {
     uint16_t era[AGC_WORDS] = {0};
     const size_t size = (sets == 8 ? 144 : 132) * sizeof *words;

@@ -125,8 +125,8 @@ static void numbers(void) {
 }
 
 static void eras(void) {
-    AgcEntry job = {6, 127, AGC_NOVAC, 31, 16383, 32767, 0, 0, 0}, task = {6, 127, 0, 0, 0, 0, 16250, 16383, 32767};
-    AgcEntry six[6], of_phase_0 = {1, 0, 3, 0, 0, 0, 0, 0, 0};
+    AgcPhaseEntry job = {6, 127, AGC_NOVAC, 31, 16383, 32767, 0, 0, 0}, task = {6, 127, 0, 0, 0, 0, 16250, 16383, 32767};
+    AgcPhaseEntry six[6], of_phase_0 = {1, 0, 3, 0, 0, 0, 0, 0, 0};
     BROKEN("agc_begin", agc_begin(w, s, 0, NULL, 0));
     IS("agc_begin", 1, agc_begin(w, 4294967295u, 0, NULL, 0));
     IS("agc_begin", 4, agc_begin(w, s, 1201, NULL, 0));
@@ -134,7 +134,7 @@ static void eras(void) {
     IS("agc_begin of phase 0", 0, agc_begin(w, s, 0, &of_phase_0, 1));
 #define ONE(ENTRY, CHANGE, CODE)                                                             \
     do {                                                                                     \
-        AgcEntry e = ENTRY;                                                                  \
+        AgcPhaseEntry e = ENTRY;                                                                  \
         e.CHANGE;                                                                            \
         IS("agc_begin, " #ENTRY " " #CHANGE, CODE,                                           \
            (agc_set_phase(w, s, 6, 127), memcpy(was, w, sizeof w), agc_begin(w, s, AGC_ALARM_1202, &e, 1))); \
@@ -153,7 +153,7 @@ static void eras(void) {
     ONE(task, group = 5, 0);
     ONE(task, phase = 0, 0);
     for (uint32_t k = 0; k < 6; k++) {
-        AgcEntry it = {k + 1, 1, AGC_FINDVAC, 1, 1, 0, 0, 0, 0};
+        AgcPhaseEntry it = {k + 1, 1, AGC_FINDVAC, 1, 1, 0, 0, 0, 0};
         six[k] = it;
         agc_set_phase(image, 7, k + 1, 1);
     }

@@ -9,7 +9,7 @@ import subprocess
 import sys
 
 import agc
-from agc import Code, Entry, Image, Lacking, Listing, Start
+from agc import Code, Image, JobStart, Lacking, Listing, PhaseEntry
 
 HERE = os.path.dirname(os.path.abspath(__file__))
 COPIES = [copy.copy, copy.deepcopy, lambda it: pickle.loads(pickle.dumps(it))]
@@ -99,7 +99,8 @@ def words_are_a_tuple():
 
 def an_era_begins():
     """Group 4 stands in phase 5: after the alarm there are its job, with the first area, and its task."""
-    plan = [Entry(4, 5, Start(0o25, 0o6000, 9, area=True), Listing(10, 0o6100, 9)), Entry(4, 5), Entry(3, 0, Start(1, 1, 1))]
+    others = [PhaseEntry(4, 5), PhaseEntry(4, 6, JobStart(1, 1, 1)), PhaseEntry(3, 0, JobStart(1, 1, 1))]
+    plan = [PhaseEntry(4, 5, JobStart(0o25, 0o6000, 9, area=True), Listing(10, 0o6100, 9)), *others]
     for image in (busy(), Image(8)):
         image.set_phase(4, 5)
         image.begin(iter(plan), 0o1202)
@@ -114,18 +115,18 @@ def an_era_begins():
 
 
 def an_era_that_cannot_begin():
-    """Image and phases are then as they were, and what is raised says why."""
+    """The image is then as it was, and what is raised says why."""
     image = busy()
     for group in range(1, 7):
         image.set_phase(group, 1)
     was = image.words
-    six = [Entry(group, 1, Start(1, 1, 1, True)) for group in range(1, 7)]
-    job, task = Start(1, 1, 1), Listing(1, 1, 1)
+    six = [PhaseEntry(group, 1, JobStart(1, 1, 1, True)) for group in range(1, 7)]
+    job, task = JobStart(1, 1, 1), Listing(1, 1, 1)
     for code, plan, alarm in [
         (Code.OUT_OF_RANGE, [], 1201),
         (Code.OUT_OF_RANGE, six, 0o1201),
-        (Code.OUT_OF_RANGE, [Entry(6, 1, job._replace(priority=2**32 + 1))], 0),
-        (Code.NOT_A_WORD, [Entry(1, 1, job), Entry(6, 1, None, task._replace(bank=32768))], 0o1203),
+        (Code.OUT_OF_RANGE, [PhaseEntry(6, 1, job._replace(priority=2**32 + 1))], 0),
+        (Code.NOT_A_WORD, [PhaseEntry(1, 1, job), PhaseEntry(6, 1, None, task._replace(bank=32768))], 0o1203),
     ]:
         try:
             image.begin(plan, alarm)
@@ -133,7 +134,7 @@ def an_era_that_cannot_begin():
             assert lacking.code == code and image.words == was
         else:
             raise AssertionError(code)
-    raised(TypeError, lambda: image.begin([Entry(1, 1, job._replace(at=1.0))]))
+    raised(TypeError, lambda: image.begin([PhaseEntry(1, 1, job._replace(at=1.0))]))
     raised(TypeError, lambda: image.begin([], "1201"))
     image.begin(six[1:], 0o1201)
     assert image.words[84:89] == (0, 0, 0, 0, 0) and image != busy()

@@ -13,7 +13,7 @@ static bool trusted;
 static unsigned served, alarms[3], restarts;
 
 /* The plan: what begins again, and the actions of tasks, each a script line. */
-static AgcEntry entries[16];
+static AgcPhaseEntry entries[16];
 static struct { unsigned at, bank; char action[64]; } rows[16];
 static size_t entry_count, row_count;
 
@@ -142,12 +142,13 @@ static void start(uint32_t wanted) {
 
 static void end(void) {
     if (!agc_check(words, sets).truth) want(97);
+    for (int place = 132; sets == 7 && place < AGC_WORDS; place++) want(words[place] == 0xffff ? AGC_OK : 96);
     report();
 }
 
 static void take(const char *line) {
     unsigned wanted;
-    AgcEntry *e = &entries[entry_count];
+    AgcPhaseEntry *e = &entries[entry_count];
     if (sscanf(line, "next %u", &wanted) == 1) {
         end();
         start(wanted);

@@ -6,7 +6,7 @@ Other lines are those that eras.py writes: the plan, and where the next bench be
 
 import sys
 
-from agc import Code, Entry, Image, Kind, Lacking, Listing, Start
+from agc import Code, Image, JobStart, Kind, Lacking, Listing, PhaseEntry
 
 LINES = {
     Kind.ESTABLISHED: "job {}",
@@ -87,9 +87,9 @@ class Run:
     def entry(self, texts):
         bases = (10, 10, 10, 8, 8, 8, 10, 8, 8)
         group, phase, kind, *rest = (int(text, base) for text, base in zip(texts, bases))
-        job = Start(*rest[:3], area=kind == 2) if kind else None
+        job = JobStart(*rest[:3], area=kind == 2) if kind else None
         task = Listing(*rest[3:]) if rest[3] else None
-        self.entries.append(Entry(group, phase, job, task))
+        self.entries.append(PhaseEntry(group, phase, job, task))
 
     def report(self):
         print(self.image)

@@ -16,7 +16,7 @@ struct Run {
     served: u32,
     alarms: [u32; 3],
     restarts: u32,
-    entries: Vec<Entry>,
+    entries: Vec<PhaseEntry>,
     rows: Vec<(u32, u32, String)>,
     out: String,
 }
@@ -122,11 +122,11 @@ impl Run {
         let (priority, at, bank) = (eight(3), eight(4), eight(5));
         let job = match ten(2) {
             0 => None,
-            1 => Some(Start::Novac { priority, at, bank }),
-            _ => Some(Start::Findvac { priority, at, bank }),
+            1 => Some(JobStart::Novac { priority, at, bank }),
+            _ => Some(JobStart::Findvac { priority, at, bank }),
         };
         let task = Some(Listing { delay: ten(6), at: eight(7), bank: eight(8) }).filter(|it| it.delay != 0);
-        self.entries.push(Entry { group: ten(0), phase: ten(1), job, task });
+        self.entries.push(PhaseEntry { group: ten(0), phase: ten(1), job, task });
     }
 
     fn take(&mut self, line: &str) {
@@ -195,14 +195,14 @@ fn refuses() {
     assert_eq!(agc_recover(&[0; 12]).code, UNLAWFUL);
     assert_eq!(agc_code_text(NOT_A_WORD), "a word of the call is above 077777");
     assert_eq!(agc_reply_text(STORED), "a work word was set");
-    let job = |bank| Entry { group: 6, phase: 1, job: Some(Start::Novac { priority: 1, at: 1, bank }), task: None };
+    let job = |bank| PhaseEntry { group: 6, phase: 1, job: Some(JobStart::Novac { priority: 1, at: 1, bank }), task: None };
     want(agc_set_phase(&mut words, 8, 6, 1));
     let was = words;
     assert_eq!(agc_begin(&mut words, 9, 0, &[]), NO_SUCH_SETS);
     assert_eq!(agc_begin(&mut words, 8, 1201, &[]), OUT_OF_RANGE);
     assert_eq!(agc_begin(&mut words, 8, 0o1201, &[job(32768)]), NOT_A_WORD);
-    let six: Vec<Entry> = (1..=6)
-        .map(|group| Entry { group, phase: 1, job: Some(Start::Findvac { priority: 1, at: 1, bank: 1 }), task: None })
+    let six: Vec<PhaseEntry> = (1..=6)
+        .map(|group| PhaseEntry { group, phase: 1, job: Some(JobStart::Findvac { priority: 1, at: 1, bank: 1 }), task: None })
         .collect();
     assert_eq!(words, was);
     (1..=5).for_each(|group| want(agc_set_phase(&mut words, 8, group, 1)));

@@ -108,6 +108,7 @@ def main():
     calls, structs = of_rust(source, r'no_mangle\)\]\npub extern "C" ')
     header, module = text_of(f"{HERE}/../include/agc.h"), text_of(f"{HERE}/../rust/agc.rs")
     faults = []
+    # agc_begin stands before the block of declarations
     rust = of_rust(module[module.index('extern "C"') :], r"pub (?:safe )?")[0], of_rust(module, "")[1]
     for name, found in [("agc.h", of_c(header)), ("agc.rs", rust)]:
         faults += compared(name, calls, found[0])
