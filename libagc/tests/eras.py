@@ -3,7 +3,7 @@
     eras.py PROGRAM SEED COUNT LINES WANTED
 
 Each bench is TOML, which the program reads and this script reads back. For the callers, LINES has of each bench the
-plan's lines, `entry` and `row`, and its script; a line `next SETS` parts two benches. WANTED has what the program
+plan's lines, `entry` and `row`, the words found at power-up and its script; a line `next SETS` parts two benches. WANTED has what the program
 wrote. The first bench has seven core sets. Fails where an alarm never came, by itself or inside a tick.
 """
 
@@ -47,10 +47,20 @@ class Dice(random.Random):
             text += f'task = "{self.task(self.choice([2, 10, 16250]))}"\n'
         return text
 
+    def power(self):
+        words = []
+        for _ in range(6):
+            phase = self.choice([0, 1, 2, 127] * 15 + [128])
+            words += [0o77777 - phase, phase]
+        if self.random() < 0.2:
+            words[self.randint(0, 11)] ^= 1
+        return [f"{it:05o}" for it in words]
+
     def bench(self, sets):
         kinds = KINDS + [self.choice(["novac", "findvac", "list", "tick"])] * 40
         script = [self.line(self.choice(kinds)) for _ in range(self.randint(20, 200))]
-        text = f"sets = {sets}\nscript = {script}\n".replace("'", '"')
+        power = f"power = {self.power()}\n" if self.random() < 0.3 else ""
+        text = f"sets = {sets}\n{power}script = {script}\n".replace("'", '"')
         for at in range(self.randint(0, 5)):
             action = self.line(self.choice(["nothing", "novac", "findvac", "rouse", "list", "list"]))
             text += f'\n[[task]]\nat = "{0o2000 + at:05o}"\nbank = "00005"\naction = "{action}"\n'
@@ -72,6 +82,8 @@ def lines_of(bench):
     for task in bench.get("task", []):
         if task["action"] != "nothing":
             yield f"row {task['at']} {task['bank']} {task['action']}"
+    if "power" in bench:
+        yield " ".join(["power", *bench["power"]])
     yield from bench["script"]
 
 

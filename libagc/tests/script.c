@@ -132,6 +132,16 @@ static void report(void) {
     printf("SERVED %u\nALARMS %u %u %u\nRESTARTS %u\n", served, alarms[0], alarms[1], alarms[2], restarts);
 }
 
+/* Power comes back, and these twelve phase words are found. */
+static void power_up(const char *texts) {
+    uint16_t found[AGC_PHASE_WORDS];
+    char *rest;
+    for (int k = 0; k < AGC_PHASE_WORDS; k++, texts = rest) found[k] = (uint16_t)strtoul(texts, &rest, 8);
+    AgcPhases then = agc_recover(found);
+    for (uint32_t k = 0; k < 6; k++) want(ASK(agc_set_phase, words, sets, k + 1, then.phases[k]));
+    want(agc_begin(words, sets, then.code == AGC_OK ? 0 : AGC_ALARM_1107, entries, entry_count));
+}
+
 static void start(uint32_t wanted) {
     sets = wanted;
     served = restarts = alarms[0] = alarms[1] = alarms[2] = 0;
@@ -157,6 +167,8 @@ static void take(const char *line) {
     } else if (sscanf(line, "entry %u %u %u %o %o %o %u %o %o", &e->group, &e->phase, &e->job, &e->priority, &e->job_at,
                       &e->job_bank, &e->delay, &e->task_at, &e->task_bank) == 9) {
         entry_count++;
+    } else if (!strncmp(line, "power ", 6)) {
+        power_up(line + 6);
     } else {
         serve(line);
     }

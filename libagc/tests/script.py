@@ -6,7 +6,7 @@ Other lines are those that eras.py writes: the plan, and where the next bench be
 
 import sys
 
-from agc import Code, Image, JobStart, Kind, Lacking, Listing, PhaseEntry
+from agc import Code, Image, JobStart, Kind, Lacking, Listing, PhaseEntry, recover
 
 LINES = {
     Kind.ESTABLISHED: "job {}",
@@ -91,6 +91,16 @@ class Run:
         task = Listing(*rest[3:]) if rest[3] else None
         self.entries.append(PhaseEntry(group, phase, job, task))
 
+    def power_up(self, texts):
+        """Power comes back, and these twelve phase words are found."""
+        try:
+            phases, alarm = recover([int(it, 8) for it in texts]), 0
+        except Lacking:
+            phases, alarm = [], 0o1107
+        for group, phase in enumerate(phases, 1):
+            self.image.set_phase(group, phase)
+        self.image.begin(self.entries, alarm)
+
     def report(self):
         print(self.image)
         print("SERVED", self.served)
@@ -136,6 +146,8 @@ def main():
             run.rows[int(at, 8), int(bank, 8)] = " ".join(action)
         elif name == "entry":
             run.entry(texts)
+        elif name == "power":
+            run.power_up(texts)
         else:
             print(run.serve(line.rstrip("\n")))
     run.report()

@@ -129,6 +129,17 @@ impl Run {
         self.entries.push(PhaseEntry { group: ten(0), phase: ten(1), job, task });
     }
 
+    /// Power comes back, and these twelve phase words are found.
+    fn power_up(&mut self, texts: &[&str]) {
+        let found: PhaseWords = std::array::from_fn(|k| number(texts[k], 8) as u16);
+        let then = agc_recover(&found);
+        for (group, phase) in (1..).zip(then.phases) {
+            want(agc_set_phase(&mut self.words, self.sets, group, phase.into()));
+        }
+        let alarm = if then.code == OK { 0 } else { 0o1107 };
+        want(agc_begin(&mut self.words, self.sets, alarm, &self.entries));
+    }
+
     fn take(&mut self, line: &str) {
         let parts: Vec<&str> = line.split(' ').collect();
         match parts[..] {
@@ -138,6 +149,7 @@ impl Run {
             }
             ["row", at, bank, ..] => self.rows.push((number(at, 8), number(bank, 8), parts[3..].join(" "))),
             ["entry", ..] => self.entry(&parts[1..]),
+            ["power", ..] => self.power_up(&parts[1..]),
             _ => self.serve(line),
         }
     }
