@@ -1,10 +1,12 @@
-"""Random benches with plans, in which eras begin: what `agc serial` writes of them, and the lines for the callers.
+"""Random benches with plans, in which eras begin: what `agc serial` writes of them, and the lines
+for the callers.
 
     eras.py PROGRAM SEED COUNT LINES WANTED
 
-Each bench is TOML, which the program reads and this script reads back. For the callers, LINES has of each bench the
-plan's lines, `entry` and `row`, the words found at power-up and its script; a line `next SETS` parts two benches. WANTED has what the program
-wrote. The first bench has seven core sets. Fails where an alarm never came, by itself or inside a tick.
+Each bench is TOML, which the program reads and this script reads back. For the callers, LINES has
+of each bench the plan's lines, `entry` and `row`, the words found at power-up, and its script; a
+line `next SETS` parts two benches. WANTED has what the program wrote. The first bench has seven
+core sets. Fails where an alarm never came, by itself or inside a tick.
 """
 
 import random
