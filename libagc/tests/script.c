@@ -13,8 +13,9 @@ static bool trusted;
 static unsigned served, alarms[3], restarts;
 
 /* The plan: what begins again, and the actions of tasks, each a script line. */
-static AgcPhaseEntry entries[16];
-static struct { unsigned at, bank; char action[64]; } rows[16];
+enum { MOST = 32 };
+static AgcPhaseEntry entries[MOST];
+static struct { unsigned at, bank; char action[64]; } rows[MOST];
 static size_t entry_count, row_count;
 
 #define ASK(NAME, ...) (trusted ? NAME##_trusted(__VA_ARGS__) : NAME(__VA_ARGS__))
@@ -159,6 +160,7 @@ static void end(void) {
 static void take(const char *line) {
     unsigned wanted;
     AgcPhaseEntry *e = &entries[entry_count];
+    want(entry_count + 1 < MOST && row_count + 1 < MOST ? AGC_OK : 95);
     if (sscanf(line, "next %u", &wanted) == 1) {
         end();
         start(wanted);
