@@ -1,13 +1,13 @@
 -- What a desk does as it is drained.
-use Rattle.std.specs.Prelude.{◌≡◌, ◌↔◌, ℕ, ◌+◌, ◌<◌, List, [], ◌∷◌, ◌++◌, map, IsNone, IsOk}
+use Rattle.std.specs.Prelude.{◌≡◌, ◌↔◌, ℕ, ◌+◌, ◌*◌, ◌<◌, ◌≤◌, List, [], ◌∷◌, ◌++◌, map, IsNone, IsOk}
 use Rattle.std.specs.List.{All}
 use Rattle.std.specs.Option.{option_and_then, option_to_list}
 use Rattle.atomic_table.specs.Seated.{TableId}
 use Rattle.agc_latch.specs.declared.line.Line.{Line}
 use Rattle.agc_latch.specs.Lines.{on, word_of}
-use Rattle.agc_latch.specs.Accounts.{IsOf, LineAccounts, given_of, latch_of, taken_on}
+use Rattle.agc_latch.specs.Accounts.{IsKept, IsOf, LineAccounts, given_of, latch_of, taken_on}
 use Rattle.agc_plan.specs.declared.request.Request.{Request}
-use Rattle.agc_machine.specs.Machines.{Machined, after, after_all, answer_of, refusal_of}
+use Rattle.agc_machine.specs.Machines.{IsLawful, Machined, after, after_all, answer_of, refusal_of}
 use Rattle.agc_machine.specs.Said.{Said}
 use Rattle.agc_machine.specs.Told.{add}
 use Rattle.agc_desk.specs.declared.book.Call.{Call}
@@ -83,12 +83,17 @@ pub record Drains (old : Desked) (share : Holder)
       (first_request old.machine.plan now.lines.owed)
   pub none_left : IsNone result.refused ↔ ((line : Line) → on line now.lines.owed ≡ 0)
 
--- so a desk of this type may be drained: the calls of its history lead to its machine from the one
--- with which it was made, and its taker, if it has one, is of the latch
+-- so a desk of this type may be drained: the calls of its history lead to its lawful machine from
+-- the one with which it was made, and its taker, if it has one, is of the latch; what accounts keep
+-- they keep, and no more was taken than 64 devices may post
 pub record Attends (first : Machined) (latch : TableId)
     (share : Holder) (result : Drained) (new : Holder) : Type 0 where
   pub old : Desked
   pub now : Desked
   pub leads : Leads first old.history old.machine
+  pub lawful : IsLawful old.machine
+  pub kept : IsKept old.lines
+  pub kept_after : IsKept now.lines
+  pub few : (line : Line) → on line result.taken ≤ 64 * 4294967295
   pub taker : IsOf latch old.lines.taker
   pub drains : Drains old share result now new

@@ -2,7 +2,7 @@ ghost use Rattle.std.specs.Prelude.{◌≡◌, ◌+◌, ◌++◌, ◌∷◌, ◌
 ghost use Rattle.std.specs.Prelude.{All, IsOk, IsNone, IfOk, IfErr, IfSome, IfNone, OnErr, OnOk};
 ghost use Rattle.std.specs.Prelude.{vec_len};
 ghost use Rattle.agc_latch.specs.Accounts.{Applies, AreAll, Collects, Gives, Settles};
-ghost use Rattle.agc_latch.specs.Accounts.{IsBalanced, IsOf, with_taker};
+ghost use Rattle.agc_latch.specs.Accounts.{IsKept, IsOf, with_taker};
 ghost use Rattle.agc_latch.specs.Ends.{new_device};
 ghost use Rattle.agc_latch.specs.Lines.{on};
 ghost use Rattle.agc_machine.specs.Machines.{IsLawful, after, answer_of};
@@ -116,6 +116,17 @@ impl<N: Names> Desk<N> {
         &self.machine
     }
 
+    /// What holds of every desk, told to who has it under a lock, where the type alone says it: its
+    /// history leads to its machine, which is lawful, and its accounts of lines are kept.
+    pub(crate) fn tell_law(&self)
+        ensures leads { Leads N.first self.now.history self.now.machine }
+        ensures lawful { IsLawful self.now.machine }
+        ensures kept { IsKept self.now.lines }
+    {
+        let _ = self.machine.totals();
+        let _ = self.lines.owed();
+    }
+
     /// A share with which nothing was asked, of the least number that was not given out; none where
     /// 64 were. Source: profile.
     pub fn share(&mut self) -> Option<Share<N>>
@@ -183,7 +194,7 @@ impl<N: Names> Desk<N> {
     /// profile.
     pub fn applied(&self) -> [u64; 3]
         ensures applied { result ≡ self.now.lines.applied }
-        ensures balanced { IsBalanced self.now.lines }
+        ensures kept { IsKept self.now.lines }
     {
         self.lines.applied()
     }
@@ -191,7 +202,7 @@ impl<N: Names> Desk<N> {
     /// How many pulses were taken and not yet applied, per line. Source: profile.
     pub fn owed(&self) -> [u64; 3]
         ensures owed { result ≡ self.now.lines.owed }
-        ensures balanced { IsBalanced self.now.lines }
+        ensures kept { IsKept self.now.lines }
     {
         self.lines.owed()
     }
