@@ -1,5 +1,5 @@
 -- The history of a run: the script's calls, and those of the threads.
-use Rattle.std.proofs.Common.{rules, ◌≡◌, ℕ, zero, suc, ◌+◌, ◌<◌, ◌≤◌, ◌==◌, true, false, nat_eq, List, [], ◌∷◌, ◌++◌, length, get_or, take, drop, arith, refl, sym, ap, subst, ◌∙◌, append_assoc}
+use Rattle.std.proofs.Common.{rules, ◌≡◌, ℕ, zero, suc, ◌+◌, ◌<◌, ◌≤◌, ◌==◌, true, false, nat_eq, List, [], ◌∷◌, ◌++◌, length, get_or, take, drop, None, arith, refl, sym, ap, subst, ◌∙◌, append_assoc}
 use Rattle.std.specs.List.{Contains}
 use Rattle.std.proofs.lemmas.Bool.Decides.{nat_tests}
 use Rattle.std.proofs.lemmas.List.{append-nil, append_cancel_left, get_or-map, length-map, take-append-drop}
@@ -37,11 +37,11 @@ answers_next goal so_far m rs i r said below is asked answered whole =
 
 pub calls_next : (goal so_far : List Call) (m : Machined) (rs : List Request) (i : ℕ) (r : Request) (n : ℕ) (said : Said) → i < length rs → r ≡ get_or rs i r → n ≡ 0
     → said.request ≡ r → said.outcome ≡ answer_of m r → goal ≡ so_far ++ first_calls (answers_to m (drop i rs))
-    → goal ≡ (so_far ++ record { by = n; answer = said } ∷ []) ++ first_calls (answers_to (after m r) (drop (i + 1) rs))
+    → goal ≡ (so_far ++ record { by = n; answer = said; pulse = None } ∷ []) ++ first_calls (answers_to (after m r) (drop (i + 1) rs))
 calls_next goal so_far m rs i r n said below is first asked answered whole =
     whole ∙ (ap (λ l. so_far ++ first_calls l) (answers_at m rs i r said below is asked answered)
-    ∙ (ap (λ k. so_far ++ record { by = k; answer = said } ∷ first_calls (answers_to (after m r) (drop (i + 1) rs))) (sym first)
-    ∙ sym (append_assoc so_far (record { by = n; answer = said } ∷ []) (first_calls (answers_to (after m r) (drop (i + 1) rs))))))
+    ∙ (ap (λ k. so_far ++ record { by = k; answer = said; pulse = None } ∷ first_calls (answers_to (after m r) (drop (i + 1) rs))) (sym first)
+    ∙ sym (append_assoc so_far (record { by = n; answer = said; pulse = None } ∷ []) (first_calls (answers_to (after m r) (drop (i + 1) rs))))))
 
 -- and after the last
 pub answers_last : (goal so_far : List Said) (m : Machined) (rs : List Request) (i : ℕ) → length rs ≤ i → goal ≡ so_far ++ answers_to m (drop i rs) → so_far ≡ goal

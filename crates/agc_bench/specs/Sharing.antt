@@ -1,5 +1,5 @@
 -- Of proofs alone: what the threads of a run know of their shares and devices.
-use Rattle.std.specs.Prelude.{◌≡◌, ℕ, ◌+◌, ◌<◌, List, [], ◌∷◌, ◌++◌, length, map, slice_index_or}
+use Rattle.std.specs.Prelude.{◌≡◌, ℕ, ◌+◌, ◌<◌, List, [], ◌∷◌, ◌++◌, length, map, slice_index_or, None}
 use Rattle.std.specs.List.{All}
 use Rattle.atomic_table.specs.Seated.{TableId}
 use Rattle.agc_plan.specs.declared.request.Request.{Request}
@@ -20,9 +20,9 @@ use Rattle.agc_bench.specs.Runs.{bench_plan}
 use Rattle.agc_bench.specs.Threads.{Asker, AskedOwn, IsPulse, posts_of, threads_of}
 use Rattle.agc_bench.specs.Steps.{thread_at}
 
--- the calls of the share of number 0, with these answers
+-- the calls of the share of number 0, with these answers, of no line's pulse
 abbrev pub first_calls : List Said → List Call
-first_calls told = map (λ said. record { by = 0; answer = said }) told
+first_calls told = map (λ said. record { by = 0; answer = said; pulse = None }) told
 
 -- shares with which nothing was asked, numbered from this one on
 abbrev pub AreFresh : ℕ → List Holder → Type 0
