@@ -12,6 +12,7 @@ use Rattle.agc_latch.specs.Lines.{on}
 use Rattle.agc_machine.specs.Machines.{Machined}
 use Rattle.agc_machine.specs.Said.{Said}
 use Rattle.agc_desk.specs.declared.book.Call.{Call}
+use Rattle.agc_desk.specs.Desks.{ArePulses}
 use Rattle.agc_desk.specs.Draining.{answers_to}
 use Rattle.agc_desk.specs.History.{Holder, IsHistory, calls_by}
 use Rattle.agc_desk.specs.Runs.{AsksAll}
@@ -89,10 +90,12 @@ pub record HaveSettled (devices : List Posting) (settled : Settled) : Type 0 whe
       → on line settled.posted ≡ on line settled.applied + on line settled.owed
 
 -- after these calls the caller attends with its share, and then the calls that were made with that
--- share and with these are one history, which leads to the machine
+-- share and with these are one history, which leads to the machine, and of whose pulses so many are
+-- told to be applied
 pub record Finishes (first : Machined) (calls : List Call) (caller : Holder) (shares : List Holder)
-    (machine : Machined) : Type 0 where
+    (machine : Machined) (applied : List ℕ) : Type 0 where
   pub more : List Call
   pub now : Holder
   pub attended : AsksPulses first.plan caller now
   pub whole : IsHistory first (now ∷ shares) (calls ++ more) machine
+  pub pulses : ArePulses first.plan (calls ++ more) applied
