@@ -33,17 +33,17 @@ settled_written old new machine totals settled sets words result same image writ
 
 -- the text of a run was written
 pub run_written : (may_stop : ℕ → ℕ → Type 0) (bench : Benched) (machine : Machined) (totals : Totals) (settled : Settled) (old new : Option (List ℕ))
-    → IsRun may_stop bench machine → totals ≡ machine.totals → AreSettled bench settled
+    → IsRun may_stop bench machine settled.applied → totals ≡ machine.totals → AreSettled bench settled
     → (words : List ℕ) × HandsOut machine words × Appends old new (report_text machine.plan.sets words totals ++ pulses_text settled.posted settled.applied settled.owed)
     → (text : List ℕ) × IsRunReport may_stop bench text × Appends old new text
 run_written may_stop bench machine totals settled old new run same pulses written = (
   report_text machine.plan.sets written.0 totals ++ pulses_text settled.posted settled.applied settled.owed,
   record {
     machine = machine;
+    settled = settled;
     run = run;
     words = written.0;
     words_are = written.1;
-    settled = settled;
     pulses = pulses;
     text_is = ap (λ t. report_text machine.plan.sets written.0 t ++ pulses_text settled.posted settled.applied settled.owed) same;
   },
@@ -52,7 +52,7 @@ run_written may_stop bench machine totals settled old new run same pulses writte
 
 -- a front of it was written where a write failed
 pub output_writes : {T : Type 0} (may_stop : ℕ → ℕ → Type 0) (bench : Benched) (machine : Machined) (totals : Totals) (settled : Settled) (old new : Option (List ℕ)) (result : Result T RunFault)
-    → IsRun may_stop bench machine → totals ≡ machine.totals → AreSettled bench settled
+    → IsRun may_stop bench machine settled.applied → totals ≡ machine.totals → AreSettled bench settled
     → (words : List ℕ) × HandsOut machine words × AppendsFront old new (report_text machine.plan.sets words totals ++ pulses_text settled.posted settled.applied settled.owed)
     → IsErr result → IsErrAnd result (λ e. e ≡ Output) → WritesRun may_stop bench old new result
 output_writes may_stop bench machine totals settled old new (Ok x) run same pulses written is output = absurd cc
@@ -60,10 +60,10 @@ output_writes may_stop bench machine totals settled old new (Err Output) run sam
   report_text machine.plan.sets written.0 totals ++ pulses_text settled.posted settled.applied settled.owed,
   record {
     machine = machine;
+    settled = settled;
     run = run;
     words = written.0;
     words_are = written.1;
-    settled = settled;
     pulses = pulses;
     text_is = ap (λ t. report_text machine.plan.sets written.0 t ++ pulses_text settled.posted settled.applied settled.owed) same;
   },

@@ -1,18 +1,22 @@
 -- The history of a run: the script's calls, and those of the threads.
-use Rattle.std.proofs.Common.{rules, ◌≡◌, ℕ, zero, suc, ◌+◌, ◌<◌, ◌≤◌, ◌==◌, true, false, nat_eq, List, [], ◌∷◌, ◌++◌, length, get_or, take, drop, arith, refl, sym, ap, subst, ◌∙◌, append_assoc}
-use Rattle.std.specs.List.{Contains}
+use Rattle.std.proofs.Common.{rules, ◌≡◌, ℕ, zero, suc, ◌+◌, ◌<◌, ◌≤◌, ◌==◌, true, false, ◌&&◌, Bool, cond, is_ok, nat_eq, List, [], ◌∷◌, ◌++◌, length, get_or, take, drop, None, arith, refl, sym, ap, subst, ◌∙◌, append_assoc}
+use Rattle.std.specs.List.{Contains, filter}
 use Rattle.std.proofs.lemmas.Bool.Decides.{nat_tests}
 use Rattle.std.proofs.lemmas.List.{append-nil, append_cancel_left, get_or-map, length-map, take-append-drop}
 use Rattle.std.proofs.lemmas.List.Elements.{All-drop}
+use Rattle.std.proofs.lemmas.List.Sums.{length-filter}
 use Rattle.agc_plan.specs.declared.request.Request.{Request}
 use Rattle.atomic_table.specs.Seated.{TableId}
 use Rattle.agc_latch.specs.Ends.{Posting}
+use Rattle.agc_latch.specs.declared.line.Line.{Line}
+use Rattle.agc_plan.specs.Plans.{Planned}
 use Rattle.agc_machine.specs.declared.totals.Totals.{Totals}
 use Rattle.agc_machine.specs.Told.{add, nothing}
 use Rattle.agc_machine.specs.Machines.{Machined, after, after_all, answer_of}
 use Rattle.agc_machine.specs.Said.{Said}
 use Rattle.agc_desk.specs.declared.book.Call.{Call}
-use Rattle.agc_desk.specs.History.{Holder, IsHistory, Leads, calls_by, numbers_of}
+use Rattle.agc_desk.specs.Desks.{ArePulses}
+use Rattle.agc_desk.specs.History.{Holder, IsHistory, Leads, applied_in, calls_by, is_of, numbers_of}
 use Rattle.agc_desk.specs.Runs.{requests_of}
 use Rattle.agc_desk.proofs.Calls.{calls_by_append}
 use Rattle.agc_text.proofs.Sessions.{rest_is, nothing_left}
@@ -37,11 +41,11 @@ answers_next goal so_far m rs i r said below is asked answered whole =
 
 pub calls_next : (goal so_far : List Call) (m : Machined) (rs : List Request) (i : ℕ) (r : Request) (n : ℕ) (said : Said) → i < length rs → r ≡ get_or rs i r → n ≡ 0
     → said.request ≡ r → said.outcome ≡ answer_of m r → goal ≡ so_far ++ first_calls (answers_to m (drop i rs))
-    → goal ≡ (so_far ++ record { by = n; answer = said } ∷ []) ++ first_calls (answers_to (after m r) (drop (i + 1) rs))
+    → goal ≡ (so_far ++ record { by = n; answer = said; pulse = None } ∷ []) ++ first_calls (answers_to (after m r) (drop (i + 1) rs))
 calls_next goal so_far m rs i r n said below is first asked answered whole =
     whole ∙ (ap (λ l. so_far ++ first_calls l) (answers_at m rs i r said below is asked answered)
-    ∙ (ap (λ k. so_far ++ record { by = k; answer = said } ∷ first_calls (answers_to (after m r) (drop (i + 1) rs))) (sym first)
-    ∙ sym (append_assoc so_far (record { by = n; answer = said } ∷ []) (first_calls (answers_to (after m r) (drop (i + 1) rs))))))
+    ∙ (ap (λ k. so_far ++ record { by = k; answer = said; pulse = None } ∷ first_calls (answers_to (after m r) (drop (i + 1) rs))) (sym first)
+    ∙ sym (append_assoc so_far (record { by = n; answer = said; pulse = None } ∷ []) (first_calls (answers_to (after m r) (drop (i + 1) rs))))))
 
 -- and after the last
 pub answers_last : (goal so_far : List Said) (m : Machined) (rs : List Request) (i : ℕ) → length rs ≤ i → goal ≡ so_far ++ answers_to m (drop i rs) → so_far ≡ goal
@@ -83,13 +87,35 @@ number_at : (calls : List Call) (may_stop : ℕ → ℕ → Type 0) (bench : Ben
 number_at calls may_stop bench starts back begun asked many i d below =
     (asked i d d below).all.number ∙ ap (λ h. h.number) (begun i d (omega (arith, many, below)))
 
+-- a call of no pulse is not counted
+none_counted : (line : Line) (number : ℕ) (said : Said) (calls : List Call)
+    → applied_in line (record { by = number; answer = said; pulse = None } ∷ calls) ≡ applied_in line calls
+none_counted line number said calls =
+    let call : Call = record { by = number; answer = said; pulse = None } in
+    sym (length-filter (λ (c : Call). is_ok c.answer.outcome && is_of line c.pulse) (call ∷ calls))
+    ∙ (ap (λ (b : Bool). length (cond b (call ∷ filter (λ (c : Call). is_ok c.answer.outcome && is_of line c.pulse) calls) (filter (λ (c : Call). is_ok c.answer.outcome && is_of line c.pulse) calls))) (and_off (is_ok said.outcome))
+    ∙ length-filter (λ (c : Call). is_ok c.answer.outcome && is_of line c.pulse) calls)
+  where
+    and_off : (b : Bool) → (b && false) ≡ false
+    and_off true = refl
+    and_off false = refl
+
+-- the script's calls are no pulses
+pulses_past : (plan : Planned) (told : List Said) (rest : List Call) (applied : List ℕ) → ArePulses plan (first_calls told ++ rest) applied → ArePulses plan rest applied
+pulses_past plan [] rest applied pulses = pulses
+pulses_past plan (said ∷ more) rest applied pulses =
+    pulses_past plan more rest applied (record {
+      each = λ k d below. pulses.each (suc k) d (omega (arith, below));
+      counted = λ line some. pulses.counted line some ∙ none_counted line 0 said (first_calls more ++ rest);
+    })
+
 -- where a history begins with the script's calls, and each share's holder asked then what is its own, it is a run
-pub run_of : (may_stop : ℕ → ℕ → Type 0) (bench : Benched) (first : Machined) (history : List Call) (last : Machined) (starts back : List Holder)
-    → first ≡ bench_machine bench → IsHistory first back history last
+pub run_of : (may_stop : ℕ → ℕ → Type 0) (bench : Benched) (first : Machined) (history : List Call) (last : Machined) (starts back : List Holder) (applied : List ℕ)
+    → first ≡ bench_machine bench → IsHistory first back history last → ArePulses (bench_plan bench) history applied
     → take (length (first_calls (answers_to first bench.script))) history ≡ first_calls (answers_to first bench.script)
     → HaveMade (first_calls (answers_to first bench.script)) starts → EachAsks may_stop (bench_plan bench) (asker_at bench) starts back
-    → length back ≡ length starts → length starts ≡ length (askers_of bench) → IsRun may_stop bench last
-run_of may_stop bench first history last starts back is whole begins begun asked many for_each =
+    → length back ≡ length starts → length starts ≡ length (askers_of bench) → IsRun may_stop bench last applied
+run_of may_stop bench first history last starts back applied is whole pulses begins begun asked many for_each =
     let begin : List Call = first_calls (answers_to first bench.script) in
     let rest : List Call = drop (length begin) history in
     let parts : history ≡ begin ++ rest = sym (take-append-drop (length begin) history) ∙ ap (λ l. l ++ rest) begins in
@@ -115,6 +141,7 @@ run_of may_stop bench first history last starts back is whole begins begun asked
           let place = get_or-map (λ (h : Holder). h.number) back among.0 d0 (get_or rest k d).by far in
           let number = number_at begin may_stop bench starts back begun asked many among.0 d0 far in
           omega (arith, far, among.2, place, number, many, for_each);
+      pulses = pulses_past (bench_plan bench) (answers_to first bench.script) rest applied (subst (λ l. ArePulses (bench_plan bench) l applied) parts pulses);
     }
 
 -- a number is equal to itself, and to those that the test says
@@ -162,11 +189,11 @@ unfolding bench_machine
 none_before bench first told total is grown = sym (with_nothing told) ∙ (sym (ap (λ (m : Machined). add told m.totals) is) ∙ grown)
 
 -- when the threads have ended, and then the caller attended, it is a run
-pub run_finished : (may_stop : ℕ → ℕ → Type 0) (bench : Benched) (first : Machined) (latch : TableId) (calls : List Call) (caller : Holder) (shares : List Holder) (devices : List Posting) (last : Machined)
+pub run_finished : (may_stop : ℕ → ℕ → Type 0) (bench : Benched) (first : Machined) (latch : TableId) (calls : List Call) (caller : Holder) (shares : List Holder) (devices : List Posting) (last : Machined) (applied : List ℕ)
     → first ≡ bench_machine bench
     → take (length (first_calls (answers_to first bench.script))) calls ≡ first_calls (answers_to first bench.script)
-    → HaveRun may_stop first bench latch caller shares devices → Finishes first calls caller shares last → IsRun may_stop bench last
-run_finished may_stop bench first latch calls caller shares devices last is begins ran ends =
+    → HaveRun may_stop first bench latch caller shares devices → Finishes first calls caller shares last applied → IsRun may_stop bench last applied
+run_finished may_stop bench first latch calls caller shares devices last applied is begins ran ends =
     let answers : List Said = answers_to first bench.script in
     let starts : List Holder = caller ∷ ran.starts in
     let caller_is : caller ≡ record { number = 0; heard = calls_by 0 (first_calls answers) } =
@@ -174,5 +201,6 @@ run_finished may_stop bench first latch calls caller shares devices last is begi
     let begun : HaveMade (first_calls answers) starts = made (first_calls answers) caller ran.starts caller_is (λ n. calls_by_others n answers) ran.ready.fresh in
     let attended : AsksPulses (bench_plan bench) caller ends.now = subst (λ p. AsksPulses p caller ends.now) (plan_is bench first is) ends.attended in
     let asked : EachAsks may_stop (bench_plan bench) (asker_at bench) starts (ends.now ∷ shares) = each_all may_stop bench caller ends.now ran.starts shares attended ran.each in
-    run_of may_stop bench first (calls ++ ends.more) last starts (ends.now ∷ shares) is ends.whole
+    run_of may_stop bench first (calls ++ ends.more) last starts (ends.now ∷ shares) applied is ends.whole
+    (subst (λ p. ArePulses p (calls ++ ends.more) applied) (plan_is bench first is) ends.pulses)
     (begins_on (first_calls answers) calls ends.more begins) begun asked (omega (arith, ran.for_each)) (omega (arith, ran.ready.for_each))

@@ -1,9 +1,9 @@
 -- What is asked as one attends are pulses' requests.
-use Rattle.std.proofs.Common.{◌≡◌, ℕ, List, [], ◌∷◌, ◌++◌, Option, None, Some, refl, ap, subst, ◌∙◌, append_assoc}
+use Rattle.std.proofs.Common.{◌≡◌, ℕ, List, [], ◌∷◌, ◌++◌, Option, None, Some, get_or, refl, ap, subst, ◌∙◌, append_assoc}
 use Rattle.std.specs.List.{All}
-use Rattle.std.specs.Option.{option_and_then, option_to_list}
+use Rattle.std.specs.Option.{option_and_then, option_map, option_to_list}
 use Rattle.std.proofs.lemmas.List.{map-append}
-use Rattle.std.proofs.lemmas.List.Elements.{All-append, All-nil, All-push, All-replicate}
+use Rattle.std.proofs.lemmas.List.Elements.{All-append, All-map, All-nil, All-push, All-replicate}
 use Rattle.atomic_table.specs.Seated.{TableId}
 use Rattle.agc_plan.specs.declared.request.Request.{Request}
 use Rattle.agc_plan.specs.Plans.{Planned}
@@ -14,33 +14,45 @@ use Rattle.agc_machine.specs.Machines.{Machined, after}
 use Rattle.agc_machine.specs.Said.{Said}
 use Rattle.agc_desk.specs.declared.drain.Drained.{Drained}
 use Rattle.agc_desk.specs.Desks.{Desked}
-use Rattle.agc_desk.specs.Draining.{Attends, Drains, ServesAll, answers_to, drain_requests}
+use Rattle.agc_desk.specs.Draining.{Attends, Drains, ServesAll, answers_to, drained_by, requests_by}
 use Rattle.agc_desk.specs.History.{Holder, Leads}
-use Rattle.agc_desk.specs.Pulses.{first_line, pulse_request, pulse_requests, repeated}
+use Rattle.agc_desk.specs.Pulses.{Pulse, first_line, pulse_of, pulse_request, pulses_of, repeated}
 use Rattle.agc_desk.specs.Runs.{AsksAll, requests_of}
+use Rattle.agc_desk.specs.Stages.{pulse_on}
 use Rattle.agc_desk.proofs.Calls.{same_setting}
 use Rattle.agc_desk.proofs.Runs.{asks_none}
 use Rattle.agc_bench.specs.Sharing.{AsksPulses}
 use Rattle.agc_bench.specs.Threads.{IsPulse}
 
--- all pulses of a line ask for the same
-line_pulses : (plan : Planned) (line : Line) (o : Option Request) (n : ℕ) → pulse_request plan line ≡ o → All (IsPulse plan) (repeated o n)
-line_pulses plan line None n is = All-nil (IsPulse plan)
-line_pulses plan line (Some asked) n is = All-replicate (IsPulse plan) n asked (line, is)
+-- the pulse asks for what pulses of its line ask for
+abbrev IsOfLine : Planned → Pulse → Type 0
+IsOfLine plan pulse = pulse_request plan pulse.line ≡ Some pulse.request
 
-applied_pulses : (plan : Planned) (applied : List ℕ) → All (IsPulse plan) (pulse_requests plan applied)
+-- all pulses of a line ask for the same
+line_pulses : (plan : Planned) (line : Line) (o : Option Request) (n : ℕ) → pulse_request plan line ≡ o
+    → All (IsOfLine plan) (repeated (option_map (λ (asked : Request). pulse_on line asked) o) n)
+line_pulses plan line None n is = All-nil (IsOfLine plan)
+line_pulses plan line (Some asked) n is = All-replicate (IsOfLine plan) n (pulse_on line asked) is
+
+applied_pulses : (plan : Planned) (applied : List ℕ) → All (IsOfLine plan) (pulses_of plan applied)
 applied_pulses plan applied =
-    All-append (IsPulse plan) _ _ (line_pulses plan Timer (pulse_request plan Timer) (on Timer applied) refl)
-    (All-append (IsPulse plan) _ _ (line_pulses plan Key (pulse_request plan Key) (on Key applied) refl)
+    All-append (IsOfLine plan) _ _ (line_pulses plan Timer (pulse_request plan Timer) (on Timer applied) refl)
+    (All-append (IsOfLine plan) _ _ (line_pulses plan Key (pulse_request plan Key) (on Key applied) refl)
     (line_pulses plan Radar (pulse_request plan Radar) (on Radar applied) refl))
 
-one_pulse : (plan : Planned) (line : Line) (o : Option Request) → pulse_request plan line ≡ o → All (IsPulse plan) (option_to_list o)
-one_pulse plan line None is = All-nil (IsPulse plan)
-one_pulse plan line (Some asked) is = All-push (IsPulse plan) [] asked (All-nil (IsPulse plan)) (line, is)
+one_pulse : (plan : Planned) (line : Line) (o : Option Request) → pulse_request plan line ≡ o
+    → All (IsOfLine plan) (option_to_list (option_map (λ (asked : Request). pulse_on line asked) o))
+one_pulse plan line None is = All-nil (IsOfLine plan)
+one_pulse plan line (Some asked) is = All-push (IsOfLine plan) [] (pulse_on line asked) (All-nil (IsOfLine plan)) is
 
-next_pulse : (plan : Planned) (o : Option Line) → All (IsPulse plan) (option_to_list (option_and_then (pulse_request plan) o))
-next_pulse plan None = All-nil (IsPulse plan)
+next_pulse : (plan : Planned) (o : Option Line) → All (IsOfLine plan) (option_to_list (option_and_then (pulse_of plan) o))
+next_pulse plan None = All-nil (IsOfLine plan)
 next_pulse plan (Some line) = one_pulse plan line (pulse_request plan line) refl
+
+-- what such pulses ask for are pulses' requests
+requests_pulses : (plan : Planned) (pulses : List Pulse) → All (IsOfLine plan) pulses → All (IsPulse plan) (requests_by pulses)
+requests_pulses plan pulses all =
+    All-map (IsPulse plan) (λ (pulse : Pulse). pulse.request) pulses (λ k d below. ((get_or pulses k d).line, all k d below))
 
 -- the requests of answers are those that were asked
 pub requests_answered : (m : Machined) (asked : List Request) → requests_of (answers_to m asked) ≡ asked
@@ -48,12 +60,12 @@ unfolding answers_to
 requests_answered m [] = refl
 requests_answered m (r ∷ more) = ap (λ l. r ∷ l) (requests_answered (after m r) more)
 
-asks_served : (asked : List Request) (old : Desked) (share : Holder) (now : Desked) (new : Holder) → ServesAll asked old share now new → AsksAll share asked new
+asks_served : (asked : List Pulse) (old : Desked) (share : Holder) (now : Desked) (new : Holder) → ServesAll asked old share now new → AsksAll share (requests_by asked) new
 asks_served asked old share now new served = record {
-  told = answers_to old.machine asked;
+  told = answers_to old.machine (requests_by asked);
   number = ap (λ (h : Holder). h.number) served.heard;
   heard = ap (λ (h : Holder). h.heard) served.heard;
-  asked = requests_answered old.machine asked;
+  asked = requests_answered old.machine (requests_by asked);
 }
 
 -- what a drain asks
@@ -61,9 +73,10 @@ pub drains_pulses : (plan : Planned) (old : Desked) (share : Holder) (result : D
     → old.machine.plan ≡ plan → Drains old share result now new → AsksPulses plan share new
 drains_pulses plan old share result now new is drains =
     subst (λ p. AsksPulses p share new) is (record {
-      asked = drain_requests old result.applied now.lines;
-      own = All-append (IsPulse old.machine.plan) _ _ (applied_pulses old.machine.plan result.applied) (next_pulse old.machine.plan (first_line now.lines.owed));
-      all = asks_served (drain_requests old result.applied now.lines) old share now new drains.asked;
+      asked = requests_by (drained_by old result.applied now.lines);
+      own = requests_pulses old.machine.plan (drained_by old result.applied now.lines)
+          (All-append (IsOfLine old.machine.plan) _ _ (applied_pulses old.machine.plan result.applied) (next_pulse old.machine.plan (first_line now.lines.owed)));
+      all = asks_served (drained_by old result.applied now.lines) old share now new drains.asked;
     })
 
 asks_both : (a b c : Holder) (rs qs : List Request) → AsksAll a rs b → AsksAll b qs c → AsksAll a (rs ++ qs) c

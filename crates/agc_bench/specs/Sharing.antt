@@ -1,5 +1,5 @@
 -- Of proofs alone: what the threads of a run know of their shares and devices.
-use Rattle.std.specs.Prelude.{◌≡◌, ℕ, ◌+◌, ◌<◌, List, [], ◌∷◌, ◌++◌, length, map, slice_index_or}
+use Rattle.std.specs.Prelude.{◌≡◌, ℕ, ◌+◌, ◌<◌, List, [], ◌∷◌, ◌++◌, length, map, slice_index_or, None}
 use Rattle.std.specs.List.{All}
 use Rattle.atomic_table.specs.Seated.{TableId}
 use Rattle.agc_plan.specs.declared.request.Request.{Request}
@@ -12,6 +12,7 @@ use Rattle.agc_latch.specs.Lines.{on}
 use Rattle.agc_machine.specs.Machines.{Machined}
 use Rattle.agc_machine.specs.Said.{Said}
 use Rattle.agc_desk.specs.declared.book.Call.{Call}
+use Rattle.agc_desk.specs.Desks.{ArePulses}
 use Rattle.agc_desk.specs.Draining.{answers_to}
 use Rattle.agc_desk.specs.History.{Holder, IsHistory, calls_by}
 use Rattle.agc_desk.specs.Runs.{AsksAll}
@@ -20,9 +21,9 @@ use Rattle.agc_bench.specs.Runs.{bench_plan}
 use Rattle.agc_bench.specs.Threads.{Asker, AskedOwn, IsPulse, posts_of, threads_of}
 use Rattle.agc_bench.specs.Steps.{thread_at}
 
--- the calls of the share of number 0, with these answers
+-- the calls of the share of number 0, with these answers, of no line's pulse
 abbrev pub first_calls : List Said → List Call
-first_calls told = map (λ said. record { by = 0; answer = said }) told
+first_calls told = map (λ said. record { by = 0; answer = said; pulse = None }) told
 
 -- shares with which nothing was asked, numbered from this one on
 abbrev pub AreFresh : ℕ → List Holder → Type 0
@@ -89,10 +90,12 @@ pub record HaveSettled (devices : List Posting) (settled : Settled) : Type 0 whe
       → on line settled.posted ≡ on line settled.applied + on line settled.owed
 
 -- after these calls the caller attends with its share, and then the calls that were made with that
--- share and with these are one history, which leads to the machine
+-- share and with these are one history, which leads to the machine, and of whose pulses so many are
+-- told to be applied
 pub record Finishes (first : Machined) (calls : List Call) (caller : Holder) (shares : List Holder)
-    (machine : Machined) : Type 0 where
+    (machine : Machined) (applied : List ℕ) : Type 0 where
   pub more : List Call
   pub now : Holder
   pub attended : AsksPulses first.plan caller now
   pub whole : IsHistory first (now ∷ shares) (calls ++ more) machine
+  pub pulses : ArePulses first.plan (calls ++ more) applied

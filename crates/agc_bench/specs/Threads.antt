@@ -10,6 +10,7 @@ use Rattle.agc_latch.specs.Lines.{on, raised, word_of, zeros}
 use Rattle.agc_machine.specs.Image.{HandsOut}
 use Rattle.agc_machine.specs.Machines.{Machined, after_all}
 use Rattle.agc_desk.specs.declared.book.Call.{Call}
+use Rattle.agc_desk.specs.Desks.{ArePulses}
 use Rattle.agc_desk.specs.History.{Leads, calls_by}
 use Rattle.agc_desk.specs.Pulses.{pulse_request}
 use Rattle.agc_desk.specs.Runs.{IsFront, requests_of}
@@ -54,14 +55,18 @@ AskedOwn may_stop plan Attends asked = All (IsPulse plan) asked
 
 -- The machine that a run leaves: the script was asked of the bench's machine, and then, in some
 -- order, each worker asked what is its own, in its own order; all else that was asked are pulses'
--- requests, by the thread that attends and by the caller.
-pub record IsRun (may_stop : ℕ → ℕ → Type 0) (bench : Benched) (machine : Machined) : Type 0 where
+-- requests, by the thread that attends and by the caller. An entry that is a line's pulse has the
+-- request of its pulses; and on a line whose pulses ask for something, so many are told to be
+-- applied as there are entries that are its pulses and were not refused.
+pub record IsRun (may_stop : ℕ → ℕ → Type 0) (bench : Benched)
+    (machine : Machined) (applied : List ℕ) : Type 0 where
   pub calls : List Call
   pub leads : Leads (after_all (bench_machine bench) bench.script) calls machine
   pub each : (number : ℕ) → number < length (askers_of bench)
       → AskedOwn may_stop (bench_plan bench) (asker_at bench number)
       (requests_of (calls_by number calls))
   pub no_other : All (λ call. call.by < length (askers_of bench)) calls
+  pub pulses : ArePulses (bench_plan bench) calls applied
 
 -- what a device posts per line: all its pulses, on its own
 abbrev pub posts_of : Line × ℕ → List ℕ
@@ -80,10 +85,10 @@ pub record AreSettled (bench : Benched) (settled : Settled) : Type 0 where
 -- the report of the machine that a run leaves, and the lines of what became of the pulses
 pub record IsRunReport (may_stop : ℕ → ℕ → Type 0) (bench : Benched) (text : List ℕ) : Type 0 where
   pub machine : Machined
-  pub run : IsRun may_stop bench machine
+  pub settled : Settled
+  pub run : IsRun may_stop bench machine settled.applied
   pub words : List ℕ
   pub words_are : HandsOut machine words
-  pub settled : Settled
   pub pulses : AreSettled bench settled
   pub text_is : text ≡ report_text machine.plan.sets words machine.totals
       ++ pulses_text settled.posted settled.applied settled.owed

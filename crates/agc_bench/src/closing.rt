@@ -2,7 +2,7 @@ ghost use Rattle.std.specs.Prelude.{◌≡◌, ◌+◌, ◌++◌, ◌∷◌, All
 ghost use Rattle.agc_latch.specs.Accounts.{IsOf};
 ghost use Rattle.agc_latch.specs.Lines.{zeros};
 ghost use Rattle.agc_machine.specs.Told.{add};
-ghost use Rattle.agc_desk.specs.Desks.{with_lines};
+ghost use Rattle.agc_desk.specs.Desks.{ArePulses, with_lines};
 ghost use Rattle.agc_desk.specs.History.{IsHistory};
 ghost use Rattle.agc_desk.specs.Keeping.{lent_of};
 ghost use Rattle.agc_bench.specs.Sharing.{AsksPulses, Finishes, GoesOn, HaveSettled};
@@ -35,6 +35,7 @@ fn settle_all<N: Names>(
     ensures ok { IsOk result }
     ensures desk { IfOk result (λ r. r.0 ≡ with_lines r.0.lines desk) }
     ensures settled { IfOk result (λ r. HaveSettled devices.items r.1) }
+    ensures applied { IfOk result (λ r. r.1.applied ≡ r.0.lines.applied) }
 {
     match settle(desk, latch, devices) {
         Ok(settled) => Ok(settled),
@@ -61,6 +62,7 @@ fn gather_all<N: Names>(
     requires { desk.given ≡ vec_len shares + 1 }
     ensures history { IfOk result (λ r. IsHistory N.first (first ∷ shares.items) desk.history r.0) }
     ensures grown { IfOk result (λ r. add r.1 N.first.totals ≡ r.0.totals) }
+    ensures pulses { IfOk result (λ _. ArePulses N.first.plan desk.history desk.lines.applied) }
     ensures early { IfErr result (λ fault. fault ≡ RunFault.NoMemory) }
 {
     let all = with_first(first, shares)?;
@@ -83,7 +85,8 @@ pub(crate) fn finish<N: Names>(
     requires lent { lent_of desk.lines ≡ record
         { latch = Some latch; given = vec_len devices; settled = zeros } }
     requires devices { All (λ d. d.latch ≡ latch) devices.items }
-    ensures run { IfOk result (λ r. Finishes N.first desk.history first shares.items r.0) }
+    ensures run { IfOk result (λ r. Finishes N.first desk.history first shares.items r.0
+        r.2.applied) }
     ensures grown { IfOk result (λ r. add r.1 N.first.totals ≡ r.0.totals) }
     ensures settled { IfOk result (λ r. HaveSettled devices.items r.2) }
     ensures early { IfErr result (λ fault. fault ≡ RunFault.NoMemory) }

@@ -227,7 +227,8 @@ fn gathered<N: Sharing + Send + Sync, G: Gate + Sync, W: Threads + Wait + Sync>(
       given = length bench.now.devices;
       settled = zeros;
     } }
-    ensures run { IfOk result (λ r. IsRun (λ n call. G.may_stop gate.now n call) bench.now r.0) }
+    ensures run { IfOk result (λ r. IsRun (λ n call. G.may_stop gate.now n call) bench.now r.0
+        r.2.applied) }
     ensures totals { IfOk result (λ r. r.1 ≡ r.0.totals) }
     ensures pulses { IfOk result (λ r. AreSettled bench.now r.2) }
     ensures early { IfErr result (λ fault. IsEarly fault) }

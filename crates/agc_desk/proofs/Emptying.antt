@@ -1,7 +1,7 @@
 -- Requests that a desk is asked one after another, and lines that are drained one after another.
-use Rattle.std.proofs.Common.{◌≡◌, ℕ, ◌+◌, ◌<◌, ◌==◌, Bool, true, false, true≢false, if◌then◌else◌, List, [], ◌∷◌, ◌++◌, replicate, Option, None, Some, Result, Ok, Err, IsOk, is_some, refl, sym, ap, ◌∙◌, subst, append_assoc, append-nil, arith}
+use Rattle.std.proofs.Common.{◌≡◌, ℕ, ◌+◌, ◌<◌, ◌≤◌, ◌==◌, Bool, true, false, true≢false, if◌then◌else◌, List, [], ◌∷◌, ◌++◌, replicate, Option, None, Some, Result, Ok, Err, IsOk, is_some, refl, sym, ap, ◌∙◌, subst, append_assoc, append-nil, arith}
 use Rattle.std.specs.List.{fold}
-use Rattle.std.specs.Option.{option_and_then, option_to_list}
+use Rattle.std.specs.Option.{option_and_then, option_map, option_to_list}
 use Rattle.std.proofs.lemmas.Bool.Decides.{nat_tests}
 use Rattle.std.proofs.lemmas.List.{map-append, replicate_more}
 use Rattle.std.proofs.lemmas.List.Elements.{All-append, All-nil, All-push}
@@ -17,21 +17,50 @@ use Rattle.agc_machine.specs.declared.totals.Totals.{Totals}
 use Rattle.agc_machine.specs.Machines.{Machined, after, after_all, after_unless, answer_of, refusal_of, result_of, stepped}
 use Rattle.agc_machine.specs.Said.{Said}
 use Rattle.agc_machine.specs.Told.{add, nothing, told}
-use Rattle.agc_machine.proofs.Leading.{after_append}
 use Rattle.agc_desk.specs.declared.book.Call.{Call}
 use Rattle.agc_desk.specs.Accounts.{told_in}
 use Rattle.agc_desk.specs.Desks.{Desked, with_lines}
-use Rattle.agc_desk.specs.Draining.{NoneRefused, ServesAll, answers_to, calls_of, with_asked, with_heard}
+use Rattle.agc_desk.specs.Draining.{NoneRefused, ServesAll, answers_to, calls_of, pulse_refusal, requests_by, with_asked, with_heard}
 use Rattle.agc_desk.specs.History.{Holder}
-use Rattle.agc_desk.specs.Pulses.{pulse_request, repeated}
-use Rattle.agc_desk.specs.Stages.{DrainsLine, next_request}
+use Rattle.agc_desk.specs.Pulses.{Pulse, pulse_of, pulse_request, repeated}
+use Rattle.agc_desk.specs.Stages.{DrainsLine, Marks, next_pulse, pulse_on}
 use Rattle.agc_desk.proofs.Calls.{with_nothing}
 
--- the answers to one list of requests after another
-pub answers_append : (m : Machined) (a b : List Request) → answers_to m (a ++ b) ≡ answers_to m a ++ answers_to (after_all m a) b
+-- no request changes a machine's plan
+same_plan_unless : (o : Option Refusal) (m : Machined) (q : Request) → (after_unless o m q).plan ≡ m.plan
+same_plan_unless None m q = refl
+same_plan_unless (Some r) m q = refl
+
+pub same_plan : (m : Machined) (asked : List Request) → (after_all m asked).plan ≡ m.plan
+unfolding after_all
+same_plan m [] = refl
+same_plan m (q ∷ qs) = same_plan (after m q) qs ∙ same_plan_unless (refusal_of m q) m q
+
+-- what a machine answers that is asked for pulses, and the machine after that
+abbrev pub told_by : Machined → List Pulse → List Said
+told_by m asked = answers_to m (requests_by asked)
+
+abbrev pub after_by : Machined → List Pulse → Machined
+after_by m asked = after_all m (requests_by asked)
+
+pub told_by_append : (m : Machined) (a b : List Pulse) → told_by m (a ++ b) ≡ told_by m a ++ told_by (after_by m a) b
 unfolding answers_to after_all
-answers_append m [] b = refl
-answers_append m (q ∷ qs) b = ap (λ l. record { request = q; outcome = answer_of m q } ∷ l) (answers_append (after m q) qs b)
+told_by_append m [] b = refl
+told_by_append m (p ∷ ps) b =
+    ap (λ l. record { request = p.request; outcome = answer_of m p.request } ∷ l) (told_by_append (after m p.request) ps b)
+
+after_by_append : (m : Machined) (a b : List Pulse) → after_by m (a ++ b) ≡ after_by (after_by m a) b
+unfolding after_all
+after_by_append m [] b = refl
+after_by_append m (p ∷ ps) b = after_by_append (after m p.request) ps b
+
+calls_append : (number : ℕ) (m : Machined) (a b : List Pulse)
+    → calls_of number m (a ++ b) ≡ calls_of number m a ++ calls_of number (after_by m a) b
+unfolding calls_of after_all
+calls_append number m [] b = refl
+calls_append number m (p ∷ ps) b =
+    ap (λ l. record { by = number; answer = record { request = p.request; outcome = answer_of m p.request }; pulse = Some p.line } ∷ l)
+    (calls_append number (after m p.request) ps b)
 
 add_assoc : (s t u : Totals) → add (add s t) u ≡ add s (add t u)
 add_assoc s t u =
@@ -65,20 +94,18 @@ unfolding told_in
 told_append a b = fold-append (λ total said. add total (told said.outcome)) nothing a b ∙ told_from (told_in a) b
 
 asked_none : (number : ℕ) (d : Desked) → d ≡ with_asked number [] d
-unfolding answers_to after_all told_in
+unfolding answers_to after_all told_in calls_of
 asked_none number d =
     λ i. record d { history = sym (append-nil d.history) i; booked = with_nothing d.booked i }
 
-asked_append : (number : ℕ) (a b : List Request) (d : Desked)
+asked_append : (number : ℕ) (a b : List Pulse) (d : Desked)
     → with_asked number b (with_asked number a d) ≡ with_asked number (a ++ b) d
 asked_append number a b d =
-    let answers = answers_append d.machine a b in
-    let history : (d.history ++ calls_of number (answers_to d.machine a)) ++ calls_of number (answers_to (after_all d.machine a) b) ≡ d.history ++ calls_of number (answers_to d.machine (a ++ b)) =
-    append_assoc d.history _ _
-    ∙ ap (λ (l : List Call). d.history ++ l) (sym (map-append (λ (s : Said). record { by = number; answer = s }) (answers_to d.machine a) (answers_to (after_all d.machine a) b)) ∙ ap (calls_of number) (sym answers)) in
-    let booked : add (add d.booked (told_in (answers_to d.machine a))) (told_in (answers_to (after_all d.machine a) b)) ≡ add d.booked (told_in (answers_to d.machine (a ++ b))) =
-    add_assoc d.booked _ _ ∙ ap (λ t. add d.booked t) (sym (told_append _ _) ∙ ap told_in (sym answers)) in
-    λ i. record d { machine = sym (after_append d.machine a b) i; history = history i; booked = booked i }
+    let history : (d.history ++ calls_of number d.machine a) ++ calls_of number (after_by d.machine a) b ≡ d.history ++ calls_of number d.machine (a ++ b) =
+    append_assoc d.history _ _ ∙ ap (λ (l : List Call). d.history ++ l) (sym (calls_append number d.machine a b)) in
+    let booked : add (add d.booked (told_in (told_by d.machine a))) (told_in (told_by (after_by d.machine a) b)) ≡ add d.booked (told_in (told_by d.machine (a ++ b))) =
+    add_assoc d.booked _ _ ∙ ap (λ t. add d.booked t) (sym (told_append _ _) ∙ ap told_in (sym (told_by_append d.machine a b))) in
+    λ i. record d { machine = sym (after_by_append d.machine a b) i; history = history i; booked = booked i }
 
 -- nothing was asked
 pub serves_none : (d : Desked) (s : Holder) → ServesAll [] d s d s
@@ -89,39 +116,38 @@ serves_none d s = record {
 }
 
 -- first these were asked, and then those
-pub serves_append : (a b : List Request) (old : Desked) (s : Holder) (mid : Desked) (t : Holder) (now : Desked) (new : Holder)
+pub serves_append : (a b : List Pulse) (old : Desked) (s : Holder) (mid : Desked) (t : Holder) (now : Desked) (new : Holder)
     → ServesAll a old s mid t → ServesAll b mid t now new → ServesAll (a ++ b) old s now new
 serves_append a b old s mid t now new first next =
     let number : t.number ≡ s.number = ap (λ (h : Holder). h.number) first.heard in
-    let machine : mid.machine ≡ after_all old.machine a = ap (λ (d : Desked). d.machine) first.desk in
+    let machine : mid.machine ≡ after_by old.machine a = ap (λ (d : Desked). d.machine) first.desk in
     record {
       desk = next.desk
           ∙ (ap (λ (n : ℕ). with_lines now.lines (with_asked n b mid)) number
           ∙ (ap (λ (d : Desked). with_lines now.lines (with_asked s.number b d)) first.desk
           ∙ ap (with_lines now.lines) (asked_append s.number a b old)));
       heard = next.heard
-          ∙ (ap (λ (h : Holder). with_heard (answers_to mid.machine b) h) first.heard
-          ∙ (ap (λ (m : Machined). with_heard (answers_to m b) (with_heard (answers_to old.machine a) s)) machine
-          ∙ ap (λ l. record s { heard = l }) (append_assoc s.heard _ _ ∙ ap (λ l. s.heard ++ l) (sym (answers_append old.machine a b)))));
+          ∙ (ap (λ (h : Holder). with_heard (told_by mid.machine b) h) first.heard
+          ∙ (ap (λ (m : Machined). with_heard (told_by m b) (with_heard (told_by old.machine a) s)) machine
+          ∙ ap (λ l. record s { heard = l }) (append_assoc s.heard _ _ ∙ ap (λ l. s.heard ++ l) (sym (told_by_append old.machine a b)))));
     }
 
 -- what changes the accounts of lines alone, after these were asked
-pub serves_lines : (a : List Request) (old : Desked) (s : Holder) (mid : Desked) (t : Holder) (now : Desked)
+pub serves_lines : (a : List Pulse) (old : Desked) (s : Holder) (mid : Desked) (t : Holder) (now : Desked)
     → ServesAll a old s mid t → now ≡ with_lines now.lines mid → ServesAll a old s now t
 serves_lines a old s mid t now before next =
     record { desk = next ∙ ap (with_lines now.lines) before.desk; heard = before.heard }
 
--- one request was asked
-pub serves_one : (q : Request) (old : Desked) (s : Holder) (said : Said) (now : Desked) (new : Holder)
-    → said.request ≡ q → said.outcome ≡ answer_of old.machine q
-    → now ≡ record old { machine = after old.machine q; history = old.history ++ record { by = s.number; answer = said } ∷ []; booked = add old.booked (told said.outcome) }
-    → new ≡ record s { heard = s.heard ++ said ∷ [] } → ServesAll (q ∷ []) old s now new
-unfolding answers_to after_all told_in
-serves_one q old s said now new request outcome desk heard =
-    let it : said ≡ record { request = q; outcome = answer_of old.machine q } = λ i. record { request = request i; outcome = outcome i } in
-    let lines : old.lines ≡ now.lines = sym (ap (λ (d : Desked). d.lines) desk) in
+-- the desk was asked for one pulse
+pub serves_one : (p : Pulse) (old : Desked) (s : Holder) (said : Said) (now : Desked) (new : Holder)
+    → said.request ≡ p.request → said.outcome ≡ answer_of old.machine p.request
+    → now ≡ with_lines now.lines (record old { machine = after old.machine p.request; history = old.history ++ record { by = s.number; answer = said; pulse = Some p.line } ∷ []; booked = add old.booked (told said.outcome) })
+    → new ≡ record s { heard = s.heard ++ said ∷ [] } → ServesAll (p ∷ []) old s now new
+unfolding answers_to after_all told_in calls_of
+serves_one p old s said now new request outcome desk heard =
+    let it : said ≡ record { request = p.request; outcome = answer_of old.machine p.request } = λ i. record { request = request i; outcome = outcome i } in
     record {
-      desk = desk ∙ (λ i. record old { machine = after old.machine q; history = old.history ++ record { by = s.number; answer = it i } ∷ []; booked = add old.booked (sym (nothing_and (told (it i).outcome)) i); lines = lines i });
+      desk = desk ∙ (λ i. with_lines now.lines (record old { machine = after old.machine p.request; history = old.history ++ record { by = s.number; answer = it i; pulse = Some p.line } ∷ []; booked = add old.booked (sym (nothing_and (told (it i).outcome)) i) }));
       heard = heard ∙ ap (λ (x : Said). record s { heard = s.heard ++ x ∷ [] }) it;
     }
 
@@ -142,15 +168,15 @@ still_refused m q r e =
     ap (λ n. refusal_of n q) (same_after m q r e) ∙ refused_is (refusal_of m q) (stepped m q).reply r e
 
 -- the next request of a line
-pub next_is : (plan : Planned) (line : Line) (owed : List ℕ) → 0 < on line owed → next_request plan line owed ≡ pulse_request plan line
+pub next_is : (plan : Planned) (line : Line) (owed : List ℕ) → 0 < on line owed → next_pulse plan line owed ≡ pulse_of plan line
 next_is plan line owed some =
     let test : (on line owed == 0) ≡ false = grind (arith, nat_tests, some) in
-    ap (λ (b : Bool). option_and_then (pulse_request plan) (if b then None else Some line)) test
+    ap (λ (b : Bool). option_and_then (pulse_of plan) (if b then None else Some line)) test
 
-pub next_none : (plan : Planned) (line : Line) (owed : List ℕ) → on line owed ≡ 0 → next_request plan line owed ≡ None
+pub next_none : (plan : Planned) (line : Line) (owed : List ℕ) → on line owed ≡ 0 → next_pulse plan line owed ≡ None
 next_none plan line owed none =
     let test : (on line owed == 0) ≡ true = grind (arith, nat_tests, none) in
-    ap (λ (b : Bool). option_and_then (pulse_request plan) (if b then None else Some line)) test
+    ap (λ (b : Bool). option_and_then (pulse_of plan) (if b then None else Some line)) test
 
 -- no pulse of a line is applied
 pub applies_none : (line : Line) (l : LineAccounts) → Applies line 0 l l
@@ -179,8 +205,8 @@ applies_more line n a b c before now = record {
 -- what the accounts are after the first so many pulses of a line were applied
 pub record Applied (line : Line) (q : Request) (n : ℕ) (old : Desked) (s : Holder) (mid : Desked) (t : Holder) : Type 0 where
   pub lines : Applies line n old.lines mid.lines
-  pub asked : ServesAll (replicate n q) old s mid t
-  pub served : NoneRefused (answers_to old.machine (replicate n q))
+  pub asked : ServesAll (replicate n (pulse_on line q)) old s mid t
+  pub served : NoneRefused (told_by old.machine (replicate n (pulse_on line q)))
 
 pub applied_none : (line : Line) (q : Request) (d : Desked) (s : Holder) → Applied line q 0 d s d s
 unfolding answers_to
@@ -193,30 +219,45 @@ applied_none line q d s = record {
 is_ok_of : (o : Result Reply Refusal) (reply : Reply) → o ≡ Ok reply → IsOk o
 is_ok_of o reply e = subst (λ (x : Result Reply Refusal). IsOk x) (sym e) refl
 
-served_one : (m : Machined) (q : Request) (reply : Reply) → answer_of m q ≡ Ok reply → NoneRefused (answers_to m (q ∷ []))
+served_one : (m : Machined) (p : Pulse) (reply : Reply) → answer_of m p.request ≡ Ok reply → NoneRefused (told_by m (p ∷ []))
 unfolding answers_to
-served_one m q reply e = All-push (λ (x : Said). IsOk x.outcome) [] (record { request = q; outcome = answer_of m q }) (All-nil (λ (x : Said). IsOk x.outcome)) (is_ok_of (answer_of m q) reply e)
+served_one m p reply e = All-push (λ (x : Said). IsOk x.outcome) [] (record { request = p.request; outcome = answer_of m p.request }) (All-nil (λ (x : Said). IsOk x.outcome)) (is_ok_of (answer_of m p.request) reply e)
 
 -- one more was served and applied
-pub applied_more : (line : Line) (q : Request) (n : ℕ) (old : Desked) (s : Holder) (mid : Desked) (t : Holder) (said : Said) (now : Desked) (new : Holder) (last : Desked) (reply : Reply)
+pub applied_more : (line : Line) (q : Request) (n : ℕ) (old : Desked) (s : Holder) (mid : Desked) (t : Holder) (said : Said) (now : Desked) (new : Holder) (reply : Reply)
     → Applied line q n old s mid t → said.request ≡ q → said.outcome ≡ answer_of mid.machine q
-    → now ≡ record mid { machine = after mid.machine q; history = mid.history ++ record { by = t.number; answer = said } ∷ []; booked = add mid.booked (told said.outcome) }
+    → now ≡ with_lines now.lines (record mid { machine = after mid.machine q; history = mid.history ++ record { by = t.number; answer = said; pulse = Some line } ∷ []; booked = add mid.booked (told said.outcome) })
     → new ≡ record t { heard = t.heard ++ said ∷ [] } → said.outcome ≡ Ok reply
-    → Applies line 1 now.lines last.lines → last ≡ with_lines last.lines now
-    → Applied line q (n + 1) old s last new
-applied_more line q n old s mid t said now new last reply before request outcome desk heard ok lines rest =
-    let machine : mid.machine ≡ after_all old.machine (replicate n q) = ap (λ (d : Desked). d.machine) before.asked.desk in
-    let next = serves_one q mid t said now new request outcome desk heard in
-    let all = serves_append (replicate n q) (q ∷ []) old s mid t now new before.asked next in
+    → Marks (Some line) said.outcome mid.lines now.lines
+    → Applied line q (n + 1) old s now new
+applied_more line q n old s mid t said now new reply before request outcome desk heard ok marks =
+    let p : Pulse = pulse_on line q in
+    let machine : mid.machine ≡ after_by old.machine (replicate n p) = ap (λ (d : Desked). d.machine) before.asked.desk in
+    let next = serves_one p mid t said now new request outcome desk heard in
+    let all = serves_append (replicate n p) (p ∷ []) old s mid t now new before.asked next in
+    let lines : Applies line 1 mid.lines now.lines = subst (λ (o : Result Reply Refusal). Marks (Some line) o mid.lines now.lines) ok marks in
     let served = All-append (λ (x : Said). IsOk x.outcome) _ _ before.served
-    (subst (λ (m : Machined). NoneRefused (answers_to m (q ∷ []))) machine (served_one mid.machine q reply (sym outcome ∙ ok))) in
+    (subst (λ (m : Machined). NoneRefused (told_by m (p ∷ []))) machine (served_one mid.machine p reply (sym outcome ∙ ok))) in
     record {
-      lines = applies_more line n old.lines mid.lines last.lines before.lines
-          (subst (λ (l : LineAccounts). Applies line 1 l last.lines) (ap (λ (d : Desked). d.lines) desk) lines);
-      asked = subst (λ (l : List Request). ServesAll l old s last new) (replicate_more n q) (serves_lines _ old s now new last all rest);
-      served = subst (λ (l : List Request). NoneRefused (answers_to old.machine l)) (replicate_more n q)
-          (subst (λ (l : List Said). NoneRefused l) (sym (answers_append old.machine (replicate n q) (q ∷ []))) served);
+      lines = applies_more line n old.lines mid.lines now.lines before.lines lines;
+      asked = subst (λ (l : List Pulse). ServesAll l old s now new) (replicate_more n p) all;
+      served = subst (λ (l : List Pulse). NoneRefused (told_by old.machine l)) (replicate_more n p)
+          (subst (λ (l : List Said). NoneRefused l) (sym (told_by_append old.machine (replicate n p) (p ∷ []))) served);
     }
+
+-- the next pulse of the line asks for the same, and is owed
+pub still_asked : (line : Line) (q : Request) (n : ℕ) (old : Desked) (s : Holder) (mid : Desked) (t : Holder)
+    → pulse_request old.machine.plan line ≡ Some q → Applied line q n old s mid t → pulse_request mid.machine.plan line ≡ Some q
+still_asked line q n old s mid t is before =
+    ap (λ (p : Planned). pulse_request p line) (ap (λ (d : Desked). d.machine.plan) before.asked.desk ∙ same_plan old.machine _) ∙ is
+
+pub still_owed : (line : Line) (q : Request) (n : ℕ) (old : Desked) (s : Holder) (mid : Desked) (t : Holder)
+    → n < on line old.lines.owed → Applied line q n old s mid t → 1 ≤ on line mid.lines.owed
+still_owed line q n old s mid t more before = omega (arith, before.lines.owed, more)
+
+-- a pulse of the line, by what it asks for
+pulse_is : (plan : Planned) (line : Line) (q : Request) → pulse_request plan line ≡ Some q → pulse_of plan line ≡ Some (pulse_on line q)
+pulse_is plan line q is = ap (option_map (λ (asked : Request). pulse_on line asked)) is
 
 -- all that were owed were applied
 pub line_done : (plan : Planned) (line : Line) (q : Request) (n : ℕ) (old : Desked) (s : Holder) (mid : Desked) (t : Holder)
@@ -224,16 +265,16 @@ pub line_done : (plan : Planned) (line : Line) (q : Request) (n : ℕ) (old : De
     → DrainsLine None plan line old s n None mid t
 line_done plan line q n old s mid t is before all =
     let none : on line mid.lines.owed ≡ 0 = omega (arith, before.lines.owed, all) in
-    let next : next_request plan line mid.lines.owed ≡ None = next_none plan line mid.lines.owed none in
-    let requests : replicate n q ≡ repeated (pulse_request plan line) n = ap (λ (o : Option Request). repeated o n) (sym is) in
+    let next : next_pulse plan line mid.lines.owed ≡ None = next_none plan line mid.lines.owed none in
+    let requests : replicate n (pulse_on line q) ≡ repeated (pulse_of plan line) n = ap (λ (o : Option Pulse). repeated o n) (sym (pulse_is plan line q is)) in
     record {
       lines = before.lines;
-      asked = subst (λ (l : List Request). ServesAll l old s mid t)
-          (sym (append-nil (replicate n q)) ∙ (ap (λ (l : List Request). l ++ []) requests ∙ ap (λ (o : Option Request). repeated (pulse_request plan line) n ++ option_to_list o) (sym next)))
+      asked = subst (λ (l : List Pulse). ServesAll l old s mid t)
+          (sym (append-nil (replicate n (pulse_on line q))) ∙ (ap (λ (l : List Pulse). l ++ []) requests ∙ ap (λ (o : Option Pulse). repeated (pulse_of plan line) n ++ option_to_list o) (sym next)))
           before.asked;
-      machine = ap (λ (d : Desked). d.machine) before.asked.desk ∙ ap (after_all old.machine) requests;
-      served = subst (λ (l : List Request). NoneRefused (answers_to old.machine l)) requests before.served;
-      refusal = ap (λ (o : Option Request). option_and_then (refusal_of mid.machine) o) (sym next);
+      machine = ap (λ (d : Desked). d.machine) before.asked.desk ∙ ap (after_by old.machine) requests;
+      served = subst (λ (l : List Pulse). NoneRefused (told_by old.machine l)) requests before.served;
+      refusal = ap (λ (o : Option Pulse). option_and_then (pulse_refusal mid.machine) o) (sym next);
       stopped = λ r e. cc;
       none_left = λ e. (λ x. none, λ x. refl);
     }
@@ -242,32 +283,34 @@ line_done plan line q n old s mid t is before all =
 pub line_refused : (plan : Planned) (line : Line) (q : Request) (n : ℕ) (old : Desked) (s : Holder) (mid : Desked) (t : Holder) (said : Said) (now : Desked) (new : Holder) (refusal : Refusal)
     → pulse_request plan line ≡ Some q → Applied line q n old s mid t → n < on line old.lines.owed
     → said.request ≡ q → said.outcome ≡ answer_of mid.machine q
-    → now ≡ record mid { machine = after mid.machine q; history = mid.history ++ record { by = t.number; answer = said } ∷ []; booked = add mid.booked (told said.outcome) }
+    → now ≡ with_lines now.lines (record mid { machine = after mid.machine q; history = mid.history ++ record { by = t.number; answer = said; pulse = Some line } ∷ []; booked = add mid.booked (told said.outcome) })
     → new ≡ record t { heard = t.heard ++ said ∷ [] } → said.outcome ≡ Err refusal
+    → Marks (Some line) said.outcome mid.lines now.lines
     → DrainsLine None plan line old s n (Some refusal) now new
-line_refused plan line q n old s mid t said now new refusal is before more request outcome desk heard err =
-    let same_lines : now.lines ≡ mid.lines = ap (λ (d : Desked). d.lines) desk in
+line_refused plan line q n old s mid t said now new refusal is before more request outcome desk heard err marks =
+    let p : Pulse = pulse_on line q in
+    let same_lines : now.lines ≡ mid.lines = subst (λ (o : Result Reply Refusal). Marks (Some line) o mid.lines now.lines) err marks in
     let some : 0 < on line now.lines.owed = omega (arith, before.lines.owed, more, ap (λ (l : LineAccounts). on line l.owed) same_lines) in
-    let next : next_request plan line now.lines.owed ≡ Some q = next_is plan line now.lines.owed some ∙ is in
-    let requests : replicate n q ≡ repeated (pulse_request plan line) n = ap (λ (o : Option Request). repeated o n) (sym is) in
+    let next : next_pulse plan line now.lines.owed ≡ Some p = next_is plan line now.lines.owed some ∙ pulse_is plan line q is in
+    let requests : replicate n (pulse_on line q) ≡ repeated (pulse_of plan line) n = ap (λ (o : Option Pulse). repeated o n) (sym (pulse_is plan line q is)) in
     let refused : answer_of mid.machine q ≡ Err refusal = sym outcome ∙ err in
     let machine : now.machine ≡ after mid.machine q = ap (λ (d : Desked). d.machine) desk in
-    let all = serves_append (replicate n q) (q ∷ []) old s mid t now new before.asked (serves_one q mid t said now new request outcome desk heard) in
+    let all = serves_append (replicate n p) (p ∷ []) old s mid t now new before.asked (serves_one p mid t said now new request outcome desk heard) in
     record {
       lines = subst (λ (l : LineAccounts). Applies line n old.lines l) (sym same_lines) before.lines;
-      asked = subst (λ (l : List Request). ServesAll l old s now new)
-          (ap (λ (l : List Request). l ++ q ∷ []) requests ∙ ap (λ (o : Option Request). repeated (pulse_request plan line) n ++ option_to_list o) (sym next))
+      asked = subst (λ (l : List Pulse). ServesAll l old s now new)
+          (ap (λ (l : List Pulse). l ++ p ∷ []) requests ∙ ap (λ (o : Option Pulse). repeated (pulse_of plan line) n ++ option_to_list o) (sym next))
           all;
-      machine = machine ∙ (same_after mid.machine q refusal refused ∙ (ap (λ (d : Desked). d.machine) before.asked.desk ∙ ap (after_all old.machine) requests));
-      served = subst (λ (l : List Request). NoneRefused (answers_to old.machine l)) requests before.served;
-      refusal = sym (ap (λ (o : Option Request). option_and_then (refusal_of now.machine) o) next
+      machine = machine ∙ (same_after mid.machine q refusal refused ∙ (ap (λ (d : Desked). d.machine) before.asked.desk ∙ ap (after_by old.machine) requests));
+      served = subst (λ (l : List Pulse). NoneRefused (told_by old.machine l)) requests before.served;
+      refusal = sym (ap (λ (o : Option Pulse). option_and_then (pulse_refusal now.machine) o) next
           ∙ (ap (λ (m : Machined). refusal_of m q) machine ∙ still_refused mid.machine q refusal refused));
       stopped = λ r e. cc;
       none_left = λ e. (λ x. absurd (true≢false x), λ (x : on line now.lines.owed ≡ 0). absurd (omega (arith, x, some)));
     }
 
 -- no request
-pub repeated_none : (o : Option Request) → repeated o 0 ≡ []
+pub repeated_none : (o : Option Pulse) → repeated o 0 ≡ []
 repeated_none None = refl
 repeated_none (Some q) = refl
 
@@ -277,12 +320,12 @@ pub line_stopped : (before : Option Refusal) (plan : Planned) (line : Line) (d :
 unfolding answers_to after_all
 line_stopped None plan line d s is = absurd (true≢false (sym is))
 line_stopped (Some r) plan line d s is =
-    let none : [] ≡ repeated (pulse_request plan line) 0 = sym (repeated_none (pulse_request plan line)) in
+    let none : [] ≡ repeated (pulse_of plan line) 0 = sym (repeated_none (pulse_of plan line)) in
     record {
       lines = applies_none line d.lines;
-      asked = subst (λ (l : List Request). ServesAll l d s d s) (ap (λ (l : List Request). l ++ []) none) (serves_none d s);
-      machine = ap (after_all d.machine) none;
-      served = subst (λ (l : List Request). NoneRefused (answers_to d.machine l)) none (All-nil (λ (x : Said). IsOk x.outcome));
+      asked = subst (λ (l : List Pulse). ServesAll l d s d s) (ap (λ (l : List Pulse). l ++ []) none) (serves_none d s);
+      machine = ap (after_by d.machine) none;
+      served = subst (λ (l : List Pulse). NoneRefused (told_by d.machine l)) none (All-nil (λ (x : Said). IsOk x.outcome));
       refusal = refl;
       stopped = λ q e. refl;
       none_left = λ e. cc;
@@ -297,16 +340,17 @@ unfolding answers_to after_all
 line_idle (Some r) plan line old s n now unstopped is lines desk all = absurd (true≢false unstopped)
 line_idle None plan line old s n now unstopped is lines desk all =
     let none : on line now.lines.owed ≡ 0 = omega (arith, lines.owed, all) in
-    let next : next_request plan line now.lines.owed ≡ None = next_none plan line now.lines.owed none in
-    let requests : [] ≡ repeated (pulse_request plan line) n = ap (λ (o : Option Request). repeated o n) (sym is) in
+    let next : next_pulse plan line now.lines.owed ≡ None = next_none plan line now.lines.owed none in
+    let idle : pulse_of plan line ≡ None = ap (option_map (λ (asked : Request). pulse_on line asked)) is in
+    let requests : [] ≡ repeated (pulse_of plan line) n = ap (λ (o : Option Pulse). repeated o n) (sym idle) in
     record {
       lines = lines;
-      asked = subst (λ (l : List Request). ServesAll l old s now s)
-          (ap (λ (l : List Request). l ++ []) requests ∙ ap (λ (o : Option Request). repeated (pulse_request plan line) n ++ option_to_list o) (sym next))
+      asked = subst (λ (l : List Pulse). ServesAll l old s now s)
+          (ap (λ (l : List Pulse). l ++ []) requests ∙ ap (λ (o : Option Pulse). repeated (pulse_of plan line) n ++ option_to_list o) (sym next))
           (serves_lines [] old s old s now (serves_none old s) desk);
-      machine = ap (λ (d : Desked). d.machine) desk ∙ ap (after_all old.machine) requests;
-      served = subst (λ (l : List Request). NoneRefused (answers_to old.machine l)) requests (All-nil (λ (x : Said). IsOk x.outcome));
-      refusal = ap (λ (o : Option Request). option_and_then (refusal_of now.machine) o) (sym next);
+      machine = ap (λ (d : Desked). d.machine) desk ∙ ap (after_by old.machine) requests;
+      served = subst (λ (l : List Pulse). NoneRefused (told_by old.machine l)) requests (All-nil (λ (x : Said). IsOk x.outcome));
+      refusal = ap (λ (o : Option Pulse). option_and_then (pulse_refusal now.machine) o) (sym next);
       stopped = λ r e. cc;
       none_left = λ e. (λ x. none, λ x. refl);
     }

@@ -1,5 +1,5 @@
 -- Each step of the table keeps its rule.
-use Rattle.std.proofs.Common.{◌≡◌, ◌≢◌, ◌⊎◌, ℕ, zero, suc, ◌+◌, ◌<◌, ◌==◌, List, [], ◌∷◌, ◌++◌, length, map, set, Bool, true, false, cond, true≢false, refl, sym, ap, ◌∙◌, subst, ⊎_elim, inl, inr, arith, nat_eq}
+use Rattle.std.proofs.Common.{◌≡◌, ◌≢◌, ◌⊎◌, ℕ, zero, suc, ◌+◌, ◌<◌, ◌==◌, List, [], ◌∷◌, ◌++◌, length, map, set, Bool, true, false, cond, true≢false, refl, sym, ap, ◌∙◌, subst, ⊎_elim, inl, inr, arith, nat_eq, Option}
 use Rattle.std.specs.List.{All, filter}
 use Rattle.std.proofs.lemmas.List.{append-nil, map-append}
 use Rattle.std.proofs.lemmas.Bool.Decides.{nat_tests}
@@ -9,6 +9,7 @@ use mathlib.Core.Option.{some, none, some-ne-none, some-injective}
 use lib.ListN.{get_elem?}
 use Rattle.atomic_table.specs.Table.{State, Splits, Joins, Allows, keeps, step}
 use Rattle.atomic_table.proofs.Lists.{at_set, set_again}
+use Rattle.agc_latch.specs.declared.line.Line.{Line}
 use Rattle.agc_machine.specs.Said.{Said}
 use Rattle.agc_desk.specs.declared.book.Call.{Call}
 use Rattle.agc_desk.specs.declared.book.View.{View}
@@ -196,12 +197,12 @@ deals i v is_keeper s h at =
           (record { knows = λ c. absurd (off c); own = λ _. (turned_here h.seat_of v.given (new + 1), omega (arith, k.2), none_by v.given h.given k.2 h.calls h.below) });
     }
 
-pub notes : (i : ℕ) (v : View) (said : Said) → v.keeps ≡ true → v.owns ≡ true
-    → Splits Holds i v (knower (v.calls ++ record { by = v.number; answer = said } ∷ []) v.given v.settled) (owner v.number (v.heard ++ said ∷ []))
-notes i v said is_keeper owns s h at =
+pub notes : (i : ℕ) (v : View) (said : Said) (pulse : Option Line) → v.keeps ≡ true → v.owns ≡ true
+    → Splits Holds i v (knower (v.calls ++ record { by = v.number; answer = said; pulse = pulse } ∷ []) v.given v.settled) (owner v.number (v.heard ++ said ∷ []))
+notes i v said pulse is_keeper owns s h at =
     let k = (h.fits i v at).knows is_keeper in
     let own = (h.fits i v at).own owns in
-    let e : Call = record { by = v.number; answer = said } in
+    let e : Call = record { by = v.number; answer = said; pulse = pulse } in
     let left = knower (v.calls ++ e ∷ []) v.given v.settled in
     let new = length (set s.views i left) in
     let now = turned h.seat_of v.number (new + 1) in

@@ -7,27 +7,16 @@ use Rattle.agc_latch.specs.declared.line.Line.{Line}
 use Rattle.agc_latch.specs.declared.line.Line.TheVariants.{Timer, Key, Radar}
 use Rattle.agc_latch.specs.Lines.{on, word_of}
 use Rattle.agc_latch.specs.Accounts.{Applies, Collects, LineAccounts, given_of, latch_of, taken_on}
-use Rattle.agc_plan.specs.declared.request.Request.{Request}
 use Rattle.agc_plan.specs.Plans.{Planned}
 use Rattle.agc_machine.specs.declared.answer.Refusal.{Refusal}
-use Rattle.agc_machine.specs.Machines.{Machined, after, after_all, after_unless, refusal_of}
+use Rattle.agc_machine.specs.Machines.{Machined, after_all}
 use Rattle.agc_machine.specs.Said.{Said}
 use Rattle.agc_desk.specs.Desks.{Desked, with_lines}
-use Rattle.agc_desk.specs.Draining.{Drains, Moves, NoneRefused, ServesAll, answers_to, with_asked}
+use Rattle.agc_desk.specs.Draining.{Drains, Moves, NoneRefused, ServesAll, pulse_refusal, requests_by, with_asked}
 use Rattle.agc_desk.specs.History.{Holder}
-use Rattle.agc_desk.specs.Pulses.{first_line, first_request, line_if_any, pulse_request, pulse_requests, repeated}
-use Rattle.agc_desk.specs.Stages.{DrainsLine, next_request}
-use Rattle.agc_desk.proofs.Emptying.{answers_append, next_none, repeated_none, serves_append}
-
--- no request changes a machine's plan
-same_plan_unless : (o : Option Refusal) (m : Machined) (q : Request) → (after_unless o m q).plan ≡ m.plan
-same_plan_unless None m q = refl
-same_plan_unless (Some r) m q = refl
-
-pub same_plan : (m : Machined) (asked : List Request) → (after_all m asked).plan ≡ m.plan
-unfolding after_all
-same_plan m [] = refl
-same_plan m (q ∷ qs) = same_plan (after m q) qs ∙ same_plan_unless (refusal_of m q) m q
+use Rattle.agc_desk.specs.Pulses.{Pulse, first_line, first_pulse, line_if_any, pulse_of, pulses_of, repeated}
+use Rattle.agc_desk.specs.Stages.{DrainsLine, next_pulse}
+use Rattle.agc_desk.proofs.Emptying.{after_by, next_none, repeated_none, same_plan, serves_append, told_by, told_by_append}
 
 timer_key : Timer ≢ Key
 timer_key e = omega (arith, ap word_of e)
@@ -108,35 +97,35 @@ first_radar owed none no_key =
     ∙ ap (λ o. option_or o (line_if_any Radar owed)) (if_none Key owed no_key)
 
 -- requests of three lines with one that is tried
-last_tried : (a b c t : List Request) → (a ++ []) ++ ((b ++ []) ++ (c ++ t)) ≡ (a ++ (b ++ c)) ++ t
+last_tried : (a b c t : List Pulse) → (a ++ []) ++ ((b ++ []) ++ (c ++ t)) ≡ (a ++ (b ++ c)) ++ t
 last_tried a b c t =
     ap (λ l. l ++ ((b ++ []) ++ (c ++ t))) (append-nil a)
     ∙ (ap (λ l. a ++ (l ++ (c ++ t))) (append-nil b)
     ∙ sym (append_assoc a (b ++ c) t ∙ ap (λ l. a ++ l) (append_assoc b c t)))
 
 -- the requests of the desk before what was posted was taken
-serves_from : (asked : List Request) (d d0 : Desked) (s : Holder) (now : Desked) (new : Holder) → d0 ≡ with_lines d0.lines d
+serves_from : (asked : List Pulse) (d d0 : Desked) (s : Holder) (now : Desked) (new : Holder) → d0 ≡ with_lines d0.lines d
     → ServesAll asked d0 s now new → ServesAll asked d s now new
 serves_from asked d d0 s now new is all = record {
   desk = all.desk ∙ ap (λ (x : Desked). with_lines now.lines (with_asked s.number asked x)) is;
-  heard = all.heard ∙ ap (λ (x : Desked). record s { heard = s.heard ++ answers_to x.machine asked }) is;
+  heard = all.heard ∙ ap (λ (x : Desked). record s { heard = s.heard ++ told_by x.machine asked }) is;
 }
 
-key_tried : (a b c t : List Request) → c ≡ [] → (a ++ []) ++ ((b ++ t) ++ (c ++ [])) ≡ (a ++ (b ++ c)) ++ t
+key_tried : (a b c t : List Pulse) → c ≡ [] → (a ++ []) ++ ((b ++ t) ++ (c ++ [])) ≡ (a ++ (b ++ c)) ++ t
 key_tried a b c t none =
     let empty : (a ++ []) ++ ((b ++ t) ++ ([] ++ [])) ≡ (a ++ (b ++ [])) ++ t =
     ap (λ l. l ++ ((b ++ t) ++ [])) (append-nil a)
     ∙ (ap (λ l. a ++ l) (append-nil (b ++ t)) ∙ sym (ap (λ l. (a ++ l) ++ t) (append-nil b) ∙ append_assoc a b t)) in
-    subst (λ (l : List Request). (a ++ []) ++ ((b ++ t) ++ (l ++ [])) ≡ (a ++ (b ++ l)) ++ t) (sym none) empty
+    subst (λ (l : List Pulse). (a ++ []) ++ ((b ++ t) ++ (l ++ [])) ≡ (a ++ (b ++ l)) ++ t) (sym none) empty
 
-timer_tried : (a b c t : List Request) → b ≡ [] → c ≡ [] → (a ++ t) ++ ((b ++ []) ++ (c ++ [])) ≡ (a ++ (b ++ c)) ++ t
+timer_tried : (a b c t : List Pulse) → b ≡ [] → c ≡ [] → (a ++ t) ++ ((b ++ []) ++ (c ++ [])) ≡ (a ++ (b ++ c)) ++ t
 timer_tried a b c t empty_b empty_c =
     let both : (a ++ t) ++ [] ≡ (a ++ []) ++ t = append-nil (a ++ t) ∙ ap (λ l. l ++ t) (sym (append-nil a)) in
-    subst (λ (l : List Request). (a ++ t) ++ ((b ++ []) ++ (l ++ [])) ≡ (a ++ (b ++ l)) ++ t) (sym empty_c)
-    (subst (λ (l : List Request). (a ++ t) ++ ((l ++ []) ++ ([] ++ [])) ≡ (a ++ (l ++ [])) ++ t) (sym empty_b) both)
+    subst (λ (l : List Pulse). (a ++ t) ++ ((b ++ []) ++ (l ++ [])) ≡ (a ++ (b ++ l)) ++ t) (sym empty_c)
+    (subst (λ (l : List Pulse). (a ++ t) ++ ((l ++ []) ++ ([] ++ [])) ≡ (a ++ (l ++ [])) ++ t) (sym empty_b) both)
 
-next_same : (plan : Planned) (line : Line) (a b : List ℕ) → on line a ≡ on line b → next_request plan line a ≡ next_request plan line b
-next_same plan line a b same = ap (λ (n : ℕ). option_and_then (pulse_request plan) (if n == 0 then None else Some line)) same
+next_same : (plan : Planned) (line : Line) (a b : List ℕ) → on line a ≡ on line b → next_pulse plan line a ≡ next_pulse plan line b
+next_same plan line a b same = ap (λ (n : ℕ). option_and_then (pulse_of plan) (if n == 0 then None else Some line)) same
 
 some_left : (n : ℕ) (r : Refusal) → (IsNone (Some r) ↔ n ≡ 0) → 0 < n
 some_left n r left = by_test n refl
@@ -146,48 +135,48 @@ some_left n r left = by_test n refl
     by_test (suc m) is = omega (arith, is)
 
 -- what the pulses of three lines ask for is served
-served_thrice : (a b c : List Request) (m m1 m2 : Machined) → m1 ≡ after_all m a → m2 ≡ after_all m1 b
-    → NoneRefused (answers_to m a) → NoneRefused (answers_to m1 b) → NoneRefused (answers_to m2 c)
-    → NoneRefused (answers_to m (a ++ (b ++ c)))
+served_thrice : (a b c : List Pulse) (m m1 m2 : Machined) → m1 ≡ after_by m a → m2 ≡ after_by m1 b
+    → NoneRefused (told_by m a) → NoneRefused (told_by m1 b) → NoneRefused (told_by m2 c)
+    → NoneRefused (told_by m (a ++ (b ++ c)))
 served_thrice a b c m m1 m2 first second one two three =
-    let later : NoneRefused (answers_to m1 (b ++ c)) =
-    subst NoneRefused (sym (answers_append m1 b c))
-    (All-append (λ (x : Said). IsOk x.outcome) _ _ two (subst (λ (x : Machined). NoneRefused (answers_to x c)) second three)) in
-    subst NoneRefused (sym (answers_append m a (b ++ c)))
-    (All-append (λ (x : Said). IsOk x.outcome) _ _ one (subst (λ (x : Machined). NoneRefused (answers_to x (b ++ c))) first later))
+    let later : NoneRefused (told_by m1 (b ++ c)) =
+    subst NoneRefused (sym (told_by_append m1 b c))
+    (All-append (λ (x : Said). IsOk x.outcome) _ _ two (subst (λ (x : Machined). NoneRefused (told_by x c)) second three)) in
+    subst NoneRefused (sym (told_by_append m a (b ++ c)))
+    (All-append (λ (x : Said). IsOk x.outcome) _ _ one (subst (λ (x : Machined). NoneRefused (told_by x (b ++ c))) first later))
 
 -- what is left to say once the line is known on which the drain ended
-finish : (last : Line) (asked : List Request) (found done : List ℕ) (r : Option Refusal) (d d0 d3 : Desked) (s s3 : Holder)
+finish : (last : Line) (asked : List Pulse) (found done : List ℕ) (r : Option Refusal) (d d0 d3 : Desked) (s s3 : Holder)
     → d0 ≡ with_lines d0.lines d → Moves found done d.lines d3.lines → ServesAll asked d0 s d3 s3
     → first_line d3.lines.owed ≡ line_if_any last d3.lines.owed
-    → asked ≡ pulse_requests d.machine.plan done ++ option_to_list (next_request d.machine.plan last d3.lines.owed)
-    → NoneRefused (answers_to d0.machine (pulse_requests d.machine.plan done))
-    → r ≡ option_and_then (refusal_of d3.machine) (next_request d.machine.plan last d3.lines.owed)
+    → asked ≡ pulses_of d.machine.plan done ++ option_to_list (next_pulse d.machine.plan last d3.lines.owed)
+    → NoneRefused (told_by d0.machine (pulses_of d.machine.plan done))
+    → r ≡ option_and_then (pulse_refusal d3.machine) (next_pulse d.machine.plan last d3.lines.owed)
     → (IsNone r ↔ ((line : Line) → on line d3.lines.owed ≡ 0))
     → Drains d s (record { taken = found; applied = done; refused = r }) d3 s3
 finish last asked found done r d d0 d3 s s3 start lines serves first is served refusal left =
-    let request : next_request d.machine.plan last d3.lines.owed ≡ first_request d.machine.plan d3.lines.owed =
-    ap (λ o. option_and_then (pulse_request d.machine.plan) o) (sym first) in
+    let request : next_pulse d.machine.plan last d3.lines.owed ≡ first_pulse d.machine.plan d3.lines.owed =
+    ap (λ o. option_and_then (pulse_of d.machine.plan) o) (sym first) in
     record {
       lines = lines;
-      asked = subst (λ (l : List Request). ServesAll l d s d3 s3)
-          (is ∙ ap (λ (o : Option Request). pulse_requests d.machine.plan done ++ option_to_list o) request)
+      asked = subst (λ (l : List Pulse). ServesAll l d s d3 s3)
+          (is ∙ ap (λ (o : Option Pulse). pulses_of d.machine.plan done ++ option_to_list o) request)
           (serves_from asked d d0 s d3 s3 start serves);
-      served = subst (λ (x : Desked). NoneRefused (answers_to x.machine (pulse_requests d.machine.plan done))) start served;
-      refused = refusal ∙ ap (λ (o : Option Request). option_and_then (refusal_of d3.machine) o) request;
+      served = subst (λ (x : Desked). NoneRefused (told_by x.machine (pulses_of d.machine.plan done))) start served;
+      refused = refusal ∙ ap (λ (o : Option Pulse). option_and_then (pulse_refusal d3.machine) o) request;
       none_left = left;
     }
 
 -- no pulse, and no request
-no_requests : (plan : Planned) (line : Line) (n : ℕ) → n ≡ 0 → repeated (pulse_request plan line) n ≡ []
-no_requests plan line n is = ap (repeated (pulse_request plan line)) is ∙ repeated_none (pulse_request plan line)
+no_requests : (plan : Planned) (line : Line) (n : ℕ) → n ≡ 0 → repeated (pulse_of plan line) n ≡ []
+no_requests plan line n is = ap (repeated (pulse_of plan line)) is ∙ repeated_none (pulse_of plan line)
 
-nothing_tried : (plan : Planned) (line : Line) (owed : List ℕ) → on line owed ≡ 0 → option_to_list (next_request plan line owed) ≡ []
+nothing_tried : (plan : Planned) (line : Line) (owed : List ℕ) → on line owed ≡ 0 → option_to_list (next_pulse plan line owed) ≡ []
 nothing_tried plan line owed is = ap option_to_list (next_none plan line owed is)
 
-same_machine : (m n : Machined) (asked : List Request) → n ≡ after_all m asked → asked ≡ [] → n ≡ m
+same_machine : (m n : Machined) (asked : List Pulse) → n ≡ after_by m asked → asked ≡ [] → n ≡ m
 unfolding after_all
-same_machine m n asked is empty = is ∙ ap (after_all m) empty
+same_machine m n asked is empty = is ∙ ap (after_by m) empty
 
 -- three lines, by the requests of one plan
 of_plan : (r1 r2 r3 : Option Refusal) (found : List ℕ) (n1 n2 n3 : ℕ) (d d0 d1 d2 d3 : Desked) (s s1 s2 s3 : Holder)
@@ -202,13 +191,13 @@ of_plan None None r3 found n1 n2 n3 d d0 d1 d2 d3 s s1 s2 s3 start collects a b 
     let timer_last : on Timer d3.lines.owed ≡ 0 = c.lines.other_owed Timer timer_radar ∙ (b.lines.other_owed Timer timer_key ∙ timer) in
     let key_last : on Key d3.lines.owed ≡ 0 = c.lines.other_owed Key key_radar ∙ key in
     let all = serves_append _ _ d0 s d1 s1 d3 s3 a.asked (serves_append _ _ d1 s1 d2 s2 d3 s3 b.asked c.asked) in
-    let one = repeated (pulse_request plan Timer) n1 in
-    let two = repeated (pulse_request plan Key) n2 in
-    let three = repeated (pulse_request plan Radar) n3 in
-    let last = option_to_list (next_request plan Radar d3.lines.owed) in
-    let asked : (one ++ option_to_list (next_request plan Timer d1.lines.owed)) ++ ((two ++ option_to_list (next_request plan Key d2.lines.owed)) ++ (three ++ last)) ≡ (one ++ (two ++ three)) ++ last =
-    ap (λ (l : List Request). (one ++ l) ++ ((two ++ option_to_list (next_request plan Key d2.lines.owed)) ++ (three ++ last))) (nothing_tried plan Timer d1.lines.owed timer)
-    ∙ (ap (λ (l : List Request). (one ++ []) ++ ((two ++ l) ++ (three ++ last))) (nothing_tried plan Key d2.lines.owed key)
+    let one = repeated (pulse_of plan Timer) n1 in
+    let two = repeated (pulse_of plan Key) n2 in
+    let three = repeated (pulse_of plan Radar) n3 in
+    let last = option_to_list (next_pulse plan Radar d3.lines.owed) in
+    let asked : (one ++ option_to_list (next_pulse plan Timer d1.lines.owed)) ++ ((two ++ option_to_list (next_pulse plan Key d2.lines.owed)) ++ (three ++ last)) ≡ (one ++ (two ++ three)) ++ last =
+    ap (λ (l : List Pulse). (one ++ l) ++ ((two ++ option_to_list (next_pulse plan Key d2.lines.owed)) ++ (three ++ last))) (nothing_tried plan Timer d1.lines.owed timer)
+    ∙ (ap (λ (l : List Pulse). (one ++ []) ++ ((two ++ l) ++ (three ++ last))) (nothing_tried plan Key d2.lines.owed key)
     ∙ last_tried one two three last) in
     finish Radar _ found (n1 ∷ n2 ∷ n3 ∷ []) r3 d d0 d3 s s3 start
     (moves found n1 n2 n3 d.lines d0.lines d1.lines d2.lines d3.lines collects a.lines b.lines c.lines
@@ -231,23 +220,23 @@ of_plan None (Some r) r3 found n1 n2 n3 d d0 d1 d2 d3 s s1 s2 s3 start collects 
     let same_key : on Key d3.lines.owed ≡ on Key d2.lines.owed = c.lines.other_owed Key key_radar in
     let key_last : 0 < on Key d3.lines.owed = omega (arith, key, same_key) in
     let all = serves_append _ _ d0 s d1 s1 d3 s3 a.asked (serves_append _ _ d1 s1 d2 s2 d3 s3 b.asked c.asked) in
-    let one = repeated (pulse_request plan Timer) n1 in
-    let two = repeated (pulse_request plan Key) n2 in
-    let three = repeated (pulse_request plan Radar) n3 in
+    let one = repeated (pulse_of plan Timer) n1 in
+    let two = repeated (pulse_of plan Key) n2 in
+    let three = repeated (pulse_of plan Radar) n3 in
     let empty : three ≡ [] = no_requests plan Radar n3 radar in
-    let next : next_request plan Key d2.lines.owed ≡ next_request plan Key d3.lines.owed = next_same plan Key d2.lines.owed d3.lines.owed (sym same_key) in
-    let asked : (one ++ option_to_list (next_request plan Timer d1.lines.owed)) ++ ((two ++ option_to_list (next_request plan Key d2.lines.owed)) ++ (three ++ [])) ≡ (one ++ (two ++ three)) ++ option_to_list (next_request plan Key d3.lines.owed) =
-    ap (λ (l : List Request). (one ++ l) ++ ((two ++ option_to_list (next_request plan Key d2.lines.owed)) ++ (three ++ []))) (nothing_tried plan Timer d1.lines.owed timer)
-    ∙ (ap (λ (o : Option Request). (one ++ []) ++ ((two ++ option_to_list o) ++ (three ++ []))) next
-    ∙ key_tried one two three (option_to_list (next_request plan Key d3.lines.owed)) empty) in
+    let next : next_pulse plan Key d2.lines.owed ≡ next_pulse plan Key d3.lines.owed = next_same plan Key d2.lines.owed d3.lines.owed (sym same_key) in
+    let asked : (one ++ option_to_list (next_pulse plan Timer d1.lines.owed)) ++ ((two ++ option_to_list (next_pulse plan Key d2.lines.owed)) ++ (three ++ [])) ≡ (one ++ (two ++ three)) ++ option_to_list (next_pulse plan Key d3.lines.owed) =
+    ap (λ (l : List Pulse). (one ++ l) ++ ((two ++ option_to_list (next_pulse plan Key d2.lines.owed)) ++ (three ++ []))) (nothing_tried plan Timer d1.lines.owed timer)
+    ∙ (ap (λ (o : Option Pulse). (one ++ []) ++ ((two ++ option_to_list o) ++ (three ++ []))) next
+    ∙ key_tried one two three (option_to_list (next_pulse plan Key d3.lines.owed)) empty) in
     let machine : d3.machine ≡ d2.machine = same_machine d2.machine d3.machine three c.machine empty in
     finish Key _ found (n1 ∷ n2 ∷ n3 ∷ []) r3 d d0 d3 s s3 start
     (moves found n1 n2 n3 d.lines d0.lines d1.lines d2.lines d3.lines collects a.lines b.lines c.lines
     (λ left. absurd (omega (arith, left, timer))) (λ left. radar) (λ left. radar))
     all (first_key d3.lines.owed timer_last key_last) asked
     (served_thrice _ _ _ d0.machine d1.machine d2.machine a.machine b.machine a.served b.served c.served)
-    (c.refusal ∙ (b.refusal ∙ (ap (λ (o : Option Request). option_and_then (refusal_of d2.machine) o) next
-    ∙ ap (λ (m : Machined). option_and_then (refusal_of m) (next_request plan Key d3.lines.owed)) (sym machine))))
+    (c.refusal ∙ (b.refusal ∙ (ap (λ (o : Option Pulse). option_and_then (pulse_refusal d2.machine) o) next
+    ∙ ap (λ (m : Machined). option_and_then (pulse_refusal m) (next_pulse plan Key d3.lines.owed)) (sym machine))))
     (λ is. absurd (true≢false (sym (ap is_some c.refusal) ∙ is)), λ each. absurd (omega (arith, each Key, key_last)))
 of_plan (Some r) None r3 found n1 n2 n3 d d0 d1 d2 d3 s s1 s2 s3 start collects a b c = absurd (true≢false (sym (ap is_some b.refusal)))
 of_plan (Some r) (Some q) r3 found n1 n2 n3 d d0 d1 d2 d3 s s1 s2 s3 start collects a b c =
@@ -258,23 +247,23 @@ of_plan (Some r) (Some q) r3 found n1 n2 n3 d d0 d1 d2 d3 s s1 s2 s3 start colle
     let same_timer : on Timer d3.lines.owed ≡ on Timer d1.lines.owed = c.lines.other_owed Timer timer_radar ∙ b.lines.other_owed Timer timer_key in
     let timer_last : 0 < on Timer d3.lines.owed = omega (arith, timer, same_timer) in
     let all = serves_append _ _ d0 s d1 s1 d3 s3 a.asked (serves_append _ _ d1 s1 d2 s2 d3 s3 b.asked c.asked) in
-    let one = repeated (pulse_request plan Timer) n1 in
-    let two = repeated (pulse_request plan Key) n2 in
-    let three = repeated (pulse_request plan Radar) n3 in
+    let one = repeated (pulse_of plan Timer) n1 in
+    let two = repeated (pulse_of plan Key) n2 in
+    let three = repeated (pulse_of plan Radar) n3 in
     let empty_two : two ≡ [] = no_requests plan Key n2 no_key in
     let empty_three : three ≡ [] = no_requests plan Radar n3 no_radar in
-    let next : next_request plan Timer d1.lines.owed ≡ next_request plan Timer d3.lines.owed = next_same plan Timer d1.lines.owed d3.lines.owed (sym same_timer) in
-    let asked : (one ++ option_to_list (next_request plan Timer d1.lines.owed)) ++ ((two ++ []) ++ (three ++ [])) ≡ (one ++ (two ++ three)) ++ option_to_list (next_request plan Timer d3.lines.owed) =
-    ap (λ (o : Option Request). (one ++ option_to_list o) ++ ((two ++ []) ++ (three ++ []))) next
-    ∙ timer_tried one two three (option_to_list (next_request plan Timer d3.lines.owed)) empty_two empty_three in
+    let next : next_pulse plan Timer d1.lines.owed ≡ next_pulse plan Timer d3.lines.owed = next_same plan Timer d1.lines.owed d3.lines.owed (sym same_timer) in
+    let asked : (one ++ option_to_list (next_pulse plan Timer d1.lines.owed)) ++ ((two ++ []) ++ (three ++ [])) ≡ (one ++ (two ++ three)) ++ option_to_list (next_pulse plan Timer d3.lines.owed) =
+    ap (λ (o : Option Pulse). (one ++ option_to_list o) ++ ((two ++ []) ++ (three ++ []))) next
+    ∙ timer_tried one two three (option_to_list (next_pulse plan Timer d3.lines.owed)) empty_two empty_three in
     let machine : d3.machine ≡ d1.machine = same_machine d2.machine d3.machine three c.machine empty_three ∙ same_machine d1.machine d2.machine two b.machine empty_two in
     finish Timer _ found (n1 ∷ n2 ∷ n3 ∷ []) r3 d d0 d3 s s3 start
     (moves found n1 n2 n3 d.lines d0.lines d1.lines d2.lines d3.lines collects a.lines b.lines c.lines
     (λ left. no_key) (λ left. no_radar) (λ left. no_radar))
     all (first_timer d3.lines.owed timer_last) asked
     (served_thrice _ _ _ d0.machine d1.machine d2.machine a.machine b.machine a.served b.served c.served)
-    (c.refusal ∙ (b.refusal ∙ (a.refusal ∙ (ap (λ (o : Option Request). option_and_then (refusal_of d1.machine) o) next
-    ∙ ap (λ (m : Machined). option_and_then (refusal_of m) (next_request plan Timer d3.lines.owed)) (sym machine)))))
+    (c.refusal ∙ (b.refusal ∙ (a.refusal ∙ (ap (λ (o : Option Pulse). option_and_then (pulse_refusal d1.machine) o) next
+    ∙ ap (λ (m : Machined). option_and_then (pulse_refusal m) (next_pulse plan Timer d3.lines.owed)) (sym machine)))))
     (λ is. absurd (true≢false (sym (ap is_some c.refusal) ∙ is)), λ each. absurd (omega (arith, each Timer, timer_last)))
 
 -- the three lines of a desk from which what was posted was taken

@@ -1,6 +1,8 @@
 -- The history of one machine: who asked what, and what was answered.
-use Rattle.std.specs.Prelude.{◌≡◌, ℕ, ◌==◌, List, [], ◌∷◌, map}
-use Rattle.std.specs.List.{All, Contains, filter}
+use Rattle.std.specs.Prelude.{◌≡◌, ℕ, ◌==◌, ◌&&◌, Bool, false, is_ok, List, [], ◌∷◌, map, Option, Some, None}
+use Rattle.std.specs.List.{All, Contains, count_by, filter}
+use Rattle.agc_latch.specs.declared.line.Line.{Line}
+use Rattle.agc_latch.specs.Lines.{word_of}
 use Rattle.agc_machine.specs.Said.{Said}
 use Rattle.agc_machine.specs.Machines.{Machined, after, answer_of}
 use Rattle.agc_desk.specs.declared.book.Call.{Call}
@@ -15,6 +17,15 @@ Leads first (call ∷ more) last =
 -- what was asked with the share of this number, and answered, in order
 abbrev pub calls_by : ℕ → List Call → List Said
 calls_by number calls = map (λ call. call.answer) (filter (λ call. call.by == number) calls)
+
+-- whether these are pulses of the line
+abbrev pub is_of : Line → Option Line → Bool
+is_of line None = false
+is_of line (Some other) = word_of other == word_of line
+
+-- how many pulses of a line these calls applied: those of its pulses that were not refused
+abbrev pub applied_in : Line → List Call → ℕ
+applied_in line calls = count_by (λ call. is_ok call.answer.outcome && is_of line call.pulse) calls
 
 -- a share: its number, and what its holder asked and was answered, in order
 pub record Holder : Type 0 where

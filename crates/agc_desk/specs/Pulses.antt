@@ -1,6 +1,6 @@
 -- What pulses ask for.
 use Rattle.std.specs.Prelude.{ℕ, ◌==◌, if◌then◌else◌, List, [], ◌++◌, Option, Some, None, replicate}
-use Rattle.std.specs.Option.{option_and_then, option_or}
+use Rattle.std.specs.Option.{option_and_then, option_map, option_or}
 use Rattle.agc_latch.specs.declared.line.Line.{Line}
 use Rattle.agc_latch.specs.declared.line.Line.TheVariants.{Timer, Key, Radar}
 use Rattle.agc_latch.specs.Lines.{on}
@@ -24,18 +24,28 @@ pulse_request plan Timer = Some request.Tick
 pulse_request plan Key = action_request plan.key
 pulse_request plan Radar = action_request plan.radar
 
--- the same request so many times, if there is one
-abbrev pub repeated : Option Request → ℕ → List Request
+-- a pulse that asks for something: its line, and what it asks for
+pub record Pulse : Type 0 where
+  pub line : Line
+  pub request : Request
+
+-- a pulse of a line, if it asks for anything
+abbrev pub pulse_of : Planned → Line → Option Pulse
+pulse_of plan line =
+    option_map (λ asked. record { line = line; request = asked }) (pulse_request plan line)
+
+-- the same so many times, if there is one
+abbrev pub repeated : {A : Type 0} → Option A → ℕ → List A
 repeated None times = []
 repeated (Some asked) times = replicate times asked
 
--- what so many pulses of each line ask for, in the order in which pulses are applied: the timer's
--- all come first, then the keyboard's, then the radar's
-abbrev pub pulse_requests : Planned → List ℕ → List Request
-pulse_requests plan pulses =
-    repeated (pulse_request plan Timer) (on Timer pulses)
-    ++ (repeated (pulse_request plan Key) (on Key pulses)
-    ++ repeated (pulse_request plan Radar) (on Radar pulses))
+-- of so many pulses of each line those that ask for something, in the order in which they are
+-- applied: the timer's all come first, then the keyboard's, then the radar's
+abbrev pub pulses_of : Planned → List ℕ → List Pulse
+pulses_of plan pulses =
+    repeated (pulse_of plan Timer) (on Timer pulses)
+    ++ (repeated (pulse_of plan Key) (on Key pulses)
+    ++ repeated (pulse_of plan Radar) (on Radar pulses))
 
 -- the line, if there are any of these pulses on it
 abbrev pub line_if_any : Line → List ℕ → Option Line
@@ -47,6 +57,6 @@ first_line pulses =
     option_or (line_if_any Timer pulses)
     (option_or (line_if_any Key pulses) (line_if_any Radar pulses))
 
--- and what that pulse asks for, if anything
-abbrev pub first_request : Planned → List ℕ → Option Request
-first_request plan pulses = option_and_then (pulse_request plan) (first_line pulses)
+-- and that pulse, if it asks for anything
+abbrev pub first_pulse : Planned → List ℕ → Option Pulse
+first_pulse plan pulses = option_and_then (pulse_of plan) (first_line pulses)

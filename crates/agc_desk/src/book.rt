@@ -7,6 +7,7 @@ ghost use Rattle.agc_desk.specs.History.{calls_by};
 ghost use Rattle.agc_desk.specs.Views.{joined, nobody, owner};
 ghost use Rattle.agc_desk.specs.Knowing.{knower};
 
+use agc_latch::Line;
 use agc_machine::{Answer, NoMemory};
 use atomic_table::{Join, Play, Seat, Split, Table, TableRule};
 use std::alloc::Global;
@@ -20,6 +21,8 @@ pub struct Call {
     pub by: u64,
     /// The request and its answer. Source: profile.
     pub answer: Answer,
+    /// Of which line's pulse it is, if it is a pulse's. Source: profile.
+    pub pulse: Option<Line>,
 }
 
 /// What a seat knows. No value of it is made.
@@ -33,17 +36,24 @@ pub struct View {
     pub heard: LinkedList<Answer>,
 }
 
-/// Which answer is noted. A call with `Brand` picks it.
+/// Which answer is noted, and of which line's pulse. A call with `Brand` picks both.
 trait Noting {
+    ghost use Rattle.std.specs.Prelude.{Option};
+    ghost use Rattle.agc_latch.specs.declared.line.Line.{Line};
     ghost use Rattle.agc_machine.specs.Said.{Said};
 
     ghost answer: { Said };
+
+    ghost pulse: { Option Line };
 }
 
 impl Noting for Brand {
+    ghost use Rattle.std.specs.Prelude.{None};
     ghost use Rattle.agc_desk.specs.Unpicked.{no_answer};
 
     ghost answer = { no_answer };
+
+    ghost pulse = { None };
 }
 
 /// The rule of the table.
@@ -108,7 +118,7 @@ impl<J: Noting> Split<View> for Adding<J> {
     ghost use Rattle.agc_desk.specs.Views.{owner};
     ghost use Rattle.agc_desk.specs.Knowing.{knower};
 
-    ghost left = { λ v. knower (v.calls ++ record { by = v.number; answer = J.answer } ∷ []) v.given v.settled };
+    ghost left = { λ v. knower (v.calls ++ record { by = v.number; answer = J.answer; pulse = J.pulse } ∷ []) v.given v.settled };
 
     ghost right = { λ v. owner v.number (v.heard ++ J.answer ∷ []) };
 }
@@ -149,30 +159,44 @@ pub(crate) fn deal(book: &Book, keeper: &mut Pass) -> Pass
 }
 
 /// Adds a call under the pass's number to the history, and its answer to what the pass knows.
-fn noted<J: Noting>(book: &Book, keeper: &mut Pass, pass: Pass, answer: &Answer) -> Pass
+fn noted<J: Noting>(
+    book: &Book,
+    keeper: &mut Pass,
+    pass: Pass,
+    answer: &Answer,
+    pulse: Option<Line>,
+) -> Pass
     requires answer { answer.now ≡ J.answer }
+    requires pulse { pulse ≡ J.pulse }
     requires table { (keeper.old.table_id ≡ book.now.shared.table_id) × (pass.table_id ≡ book.now.shared.table_id) × (0 < book.now.shared.table_id.words) }
     requires keeps { keeper.old.me.0.keeps ≡ true }
     requires owns { (pass.me.0.owns ≡ true) × (pass.me.1 ≡ []) }
-    ensures keeper { (keeper.new.table_id ≡ keeper.old.table_id) × (keeper.new.me ≡ (knower (keeper.old.me.0.calls ++ record { by = pass.me.0.number; answer = answer.now } ∷ []) keeper.old.me.0.given keeper.old.me.0.settled, keeper.old.me.1)) }
+    ensures keeper { (keeper.new.table_id ≡ keeper.old.table_id) × (keeper.new.me ≡ (knower (keeper.old.me.0.calls ++ record { by = pass.me.0.number; answer = answer.now; pulse = pulse } ∷ []) keeper.old.me.0.given keeper.old.me.0.settled, keeper.old.me.1)) }
     ensures pass { (result.table_id ≡ pass.table_id) × (result.me ≡ (owner pass.me.0.number (pass.me.0.heard ++ answer.now ∷ []), [])) }
 {
     let _ = answer;
+    let _ = pulse;
     book.shared.join_seat::<Taking>(keeper, pass);
     book.shared.split_seat::<Adding<J>>(keeper)
 }
 
 /// Adds a call under the pass's number to the history, and its answer to what the pass knows.
-pub(crate) fn note(book: &Book, keeper: &mut Pass, pass: &mut Pass, answer: &Answer)
+pub(crate) fn note(
+    book: &Book,
+    keeper: &mut Pass,
+    pass: &mut Pass,
+    answer: &Answer,
+    pulse: Option<Line>,
+)
     requires table { (keeper.old.table_id ≡ book.now.shared.table_id) × (pass.old.table_id ≡ book.now.shared.table_id) × (0 < book.now.shared.table_id.words) }
     requires keeps { keeper.old.me.0.keeps ≡ true }
     requires owns { (pass.old.me.0.owns ≡ true) × (pass.old.me.1 ≡ []) }
-    ensures keeper { (keeper.new.table_id ≡ keeper.old.table_id) × (keeper.new.me ≡ (knower (keeper.old.me.0.calls ++ record { by = pass.old.me.0.number; answer = answer.now } ∷ []) keeper.old.me.0.given keeper.old.me.0.settled, keeper.old.me.1)) }
+    ensures keeper { (keeper.new.table_id ≡ keeper.old.table_id) × (keeper.new.me ≡ (knower (keeper.old.me.0.calls ++ record { by = pass.old.me.0.number; answer = answer.now; pulse = pulse } ∷ []) keeper.old.me.0.given keeper.old.me.0.settled, keeper.old.me.1)) }
     ensures pass { (pass.new.table_id ≡ pass.old.table_id) × (pass.new.me ≡ (owner pass.old.me.0.number (pass.old.me.0.heard ++ answer.now ∷ []), [])) }
 {
     let spare = book.shared.split_seat::<Spare>(keeper);
     let own = std::mem::replace(pass, spare);
-    *pass = noted::<Brand>(book, keeper, own, answer);
+    *pass = noted::<Brand>(book, keeper, own, answer, pulse);
 }
 
 /// Settles the pass's number: what the pass knows is what the history has of it, and no other pass

@@ -58,8 +58,10 @@ pub fn attend<N: Sharing, W: Wait>(
     ensures { Attends N.first N.latch share.old result share.new }
 {
     let mut held = shared.lock(rt);
-    let _ = held.desk.machine();
-    held.desk.drain(latch, share)
+    held.desk.tell_law();
+    let drained = held.desk.drain(latch, share);
+    held.desk.tell_law();
+    drained
 }
 
 /// A shared desk with the share of one who asks: a [`Console`]. Source: profile.

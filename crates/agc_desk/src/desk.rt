@@ -1,17 +1,19 @@
-ghost use Rattle.std.specs.Prelude.{◌≡◌, ◌+◌, ◌++◌, ◌∷◌, ◌↔◌, ◌≤◌, ◌⊎◌, [], None};
+ghost use Rattle.std.specs.Prelude.{◌≡◌, ◌+◌, ◌++◌, ◌∷◌, ◌↔◌, ◌≤◌, ◌⊎◌, [], None, Some};
 ghost use Rattle.std.specs.Prelude.{All, IsOk, IsNone, IfOk, IfErr, IfSome, IfNone, OnErr, OnOk};
 ghost use Rattle.std.specs.Prelude.{vec_len};
 ghost use Rattle.agc_latch.specs.Accounts.{Applies, AreAll, Collects, Gives, Settles};
-ghost use Rattle.agc_latch.specs.Accounts.{IsBalanced, IsOf, with_taker};
+ghost use Rattle.agc_latch.specs.Accounts.{IsKept, IsOf, with_taker};
 ghost use Rattle.agc_latch.specs.Ends.{new_device};
 ghost use Rattle.agc_latch.specs.Lines.{on};
 ghost use Rattle.agc_machine.specs.Machines.{IsLawful, after, answer_of};
 ghost use Rattle.agc_machine.specs.Told.{add, told};
 ghost use Rattle.agc_desk.specs.Accounts.{told_in, told_to};
-ghost use Rattle.agc_desk.specs.Desks.{new_desk, with_lines};
+ghost use Rattle.agc_desk.specs.Desks.{ArePulses, new_desk, with_lines};
 ghost use Rattle.agc_desk.specs.History.{IsHistory, Leads};
 ghost use Rattle.agc_desk.specs.Opening.{names_of};
+ghost use Rattle.agc_desk.specs.Pulses.{pulse_request};
 ghost use Rattle.agc_desk.specs.Runs.{IsGiven};
+ghost use Rattle.agc_desk.specs.Stages.{Marks};
 
 use crate::history::{History, Own};
 use crate::ledgers::{Amounts, Ledgers, growth};
@@ -30,8 +32,9 @@ const SHARES: u64 = 64;
 ///
 /// Of every desk it holds that the history leads to its machine from the one with which it was
 /// made, that each book is the machine's total less that one's, and that on each line what is
-/// applied and what is owed are the pulses of settled latches and those that its taker took. The
-/// history has no bytes. Source: profile.
+/// applied and what is owed are the pulses of settled latches and those that its taker took. On a
+/// line whose pulses ask for something, the applied ones are those of its history that were not
+/// refused. The history has no bytes. Source: profile.
 #[derive(Drop)]
 pub struct Desk<N: Names> {
     machine: Machine,
@@ -54,7 +57,7 @@ impl<N: Names> Model for Desk<N> {
       lines = d.lines;
     } };
 
-    ghost invariant = { λ d. IsBooked N.first d.machine d.history d.since d.ledgers };
+    ghost invariant = { λ d. IsBooked N.first d.machine d.history d.since d.ledgers d.lines.applied };
 }
 
 /// What its holder asked of one desk, and was answered. Contracts see it as its number and these
@@ -116,6 +119,19 @@ impl<N: Names> Desk<N> {
         &self.machine
     }
 
+    /// What holds of every desk, told to who has it under a lock, where the type alone says it: its
+    /// history leads to its machine, which is lawful, its accounts of lines are kept, and they tell
+    /// of the pulses of its history.
+    pub(crate) fn tell_law(&self)
+        ensures leads { Leads N.first self.now.history self.now.machine }
+        ensures lawful { IsLawful self.now.machine }
+        ensures kept { IsKept self.now.lines }
+        ensures pulses { ArePulses N.first.plan self.now.history self.now.lines.applied }
+    {
+        let _ = self.machine.totals();
+        let _ = self.lines.owed();
+    }
+
     /// A share with which nothing was asked, of the least number that was not given out; none where
     /// 64 were. Source: profile.
     pub fn share(&mut self) -> Option<Share<N>>
@@ -134,22 +150,60 @@ impl<N: Names> Desk<N> {
     }
 
     /// Asks the machine, and books what its answer tells in the share and in the desk's books. The
-    /// request and its answer come into the history, and to what the share's holder was answered. A
-    /// refusal is the answer's result, and books nothing. Source: profile.
+    /// request and its answer come into the history, as of no line's pulse, and to what the share's
+    /// holder was answered. A refusal is the answer's result, and books nothing. Source: profile.
     pub fn serve(&mut self, share: &mut Share<N>, request: Request) -> Answer
         ensures request { result.request ≡ request }
         ensures outcome { result.outcome ≡ answer_of self.old.machine request }
         ensures lawful { IsLawful self.old.machine }
         ensures given { IsGiven N.first result }
         ensures heard { share.new ≡ record share.old { heard = share.old.heard ++ result ∷ [] } }
-        ensures desk { self.new ≡ record self.old { machine = after self.old.machine request; history = self.old.history ++ record { by = share.old.number; answer = result } ∷ []; booked = add self.old.booked (told result.outcome) } }
+        ensures desk { self.new ≡ record self.old { machine = after self.old.machine request; history = self.old.history ++ record { by = share.old.number; answer = result; pulse = None } ∷ []; booked = add self.old.booked (told result.outcome) } }
+    {
+        self.ask_for(share, request, None)
+    }
+
+    /// Serves a request of a caller, or the one that a pulse of this line asks for, as [`Desk::serve`]
+    /// does; the pulse, which is owed, is applied where it isn't refused.
+    pub(crate) fn ask_for(
+        &mut self,
+        share: &mut Share<N>,
+        request: Request,
+        pulse: Option<Line>,
+    ) -> Answer
+        requires asks { IfSome pulse (λ line.
+            pulse_request self.old.machine.plan line ≡ Some request) }
+        requires owed { IfSome pulse (λ line. 1 ≤ on line self.old.lines.owed) }
+        ensures request { result.request ≡ request }
+        ensures outcome { result.outcome ≡ answer_of self.old.machine request }
+        ensures lawful { IsLawful self.old.machine }
+        ensures given { IsGiven N.first result }
+        ensures heard { share.new ≡ record share.old { heard = share.old.heard ++ result ∷ [] } }
+        ensures desk { self.new ≡ with_lines self.new.lines (record self.old { machine = after self.old.machine request; history = self.old.history ++ record { by = share.old.number; answer = result; pulse = pulse } ∷ []; booked = add self.old.booked (told result.outcome) }) }
+        ensures lines { Marks pulse result.outcome self.old.lines self.new.lines }
     {
         let before = self.machine.totals();
         let answer = self.machine.apply(request);
         let told = growth(before, self.machine.totals());
         self.ledgers.add(&mut share.amounts, told);
-        self.history.note(&mut share.own, &answer);
+        self.history.note(&mut share.own, &answer, pulse);
+        mark_served(&mut self.lines, pulse, &answer);
         answer
+    }
+}
+
+// One pulse of the line is applied, if there is one, and its answer is no refusal.
+fn mark_served(lines: &mut Accounts, pulse: Option<Line>, answer: &Answer)
+    requires { IfSome pulse (λ line. 1 ≤ on line lines.old.owed) }
+    ensures { Marks pulse answer.now.outcome lines.old lines.new }
+{
+    match pulse {
+        Some(line) => {
+            if !answer.is_refused() {
+                lines.apply(line, 1);
+            }
+        }
+        None => {}
     }
 }
 
@@ -183,7 +237,8 @@ impl<N: Names> Desk<N> {
     /// profile.
     pub fn applied(&self) -> [u64; 3]
         ensures applied { result ≡ self.now.lines.applied }
-        ensures balanced { IsBalanced self.now.lines }
+        ensures kept { IsKept self.now.lines }
+        ensures pulses { ArePulses N.first.plan self.now.history self.now.lines.applied }
     {
         self.lines.applied()
     }
@@ -191,7 +246,7 @@ impl<N: Names> Desk<N> {
     /// How many pulses were taken and not yet applied, per line. Source: profile.
     pub fn owed(&self) -> [u64; 3]
         ensures owed { result ≡ self.now.lines.owed }
-        ensures balanced { IsBalanced self.now.lines }
+        ensures kept { IsKept self.now.lines }
     {
         self.lines.owed()
     }
@@ -212,9 +267,10 @@ impl<N: Names> Desk<N> {
         self.lines.owed_on(line)
     }
 
-    /// So many pulses of a line that were owed are applied from now on.
+    /// So many pulses of a line that were owed are applied from now on: they ask for nothing.
     pub(crate) fn mark_applied(&mut self, line: Line, pulses: u64)
-        requires { pulses ≤ on line self.old.lines.owed }
+        requires idle { pulse_request self.old.machine.plan line ≡ None }
+        requires owed { pulses ≤ on line self.old.lines.owed }
         ensures lines { Applies line pulses self.old.lines self.new.lines }
         ensures desk { self.new ≡ with_lines self.new.lines self.old }
     {
@@ -271,6 +327,7 @@ pub fn gather<N: Names>(
     ensures history { IfOk result (λ r. IsHistory N.first shares.items desk.history r.0) }
     ensures told { IfOk result (λ r. r.1 ≡ told_to shares.items) }
     ensures booked { IfOk result (λ r. r.1 ≡ desk.booked) }
+    ensures pulses { IfOk result (λ _. ArePulses N.first.plan desk.history desk.lines.applied) }
     ensures grown { IfOk result (λ r. add r.1 N.first.totals ≡ r.0.totals) }
     ensures back { IfErr result (λ u. (u.desk ≡ desk) × (u.shares ≡ shares)) }
 {

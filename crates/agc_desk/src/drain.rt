@@ -38,9 +38,9 @@ impl<N: Names> Desk<N> {
     {
         let owed = self.owed_on(line);
         for applied in 0..owed {
-            let answer = self.serve(share, *request);
+            let answer = self.ask_for(share, *request, Some(line));
             match answer.result() {
-                Ok(_reply) => self.mark_applied(line, 1),
+                Ok(_reply) => {}
                 Err(refusal) => return (applied, Some(refusal)),
             }
         }

@@ -6,6 +6,7 @@ ghost use Rattle.agc_desk.specs.Knowing.{knower};
 
 use crate::book::{Book, Pass, check, deal, note, open_book, settle};
 use crate::names::Names;
+use agc_latch::Line;
 use agc_machine::{Answer, NoMemory};
 use std::alloc::Global;
 use std::marker::{Model, PhantomData};
@@ -112,12 +113,12 @@ impl<N: Names> History<N> {
         }
     }
 
-    /// The holder of this number was answered so.
-    pub(crate) fn note(&mut self, own: &mut Own<N>, answer: &Answer)
+    /// The holder of this number was answered so, as it asked for a pulse of this line, or for none.
+    pub(crate) fn note(&mut self, own: &mut Own<N>, answer: &Answer, pulse: Option<Line>)
         ensures own { own.new ≡ record own.old { heard = own.old.heard ++ answer.now ∷ [] } }
-        ensures calls { self.new ≡ record self.old { calls = self.old.calls ++ record { by = own.old.number; answer = answer.now } ∷ [] } }
+        ensures calls { self.new ≡ record self.old { calls = self.old.calls ++ record { by = own.old.number; answer = answer.now; pulse = pulse } ∷ [] } }
     {
-        note(&self.book, &mut self.keeper, &mut own.pass, answer);
+        note(&self.book, &mut self.keeper, &mut own.pass, answer, pulse);
     }
 
     /// What the holder of this number heard is what the history has of it; and it was given out,

@@ -1,7 +1,7 @@
 ghost use Rattle.std.specs.Prelude.{◌≡◌, ◌+◌, ◌<◌, ◌≤◌, ◌^◌, ◌↔◌, ◌⊎◌, All, None, IfErr, IfNone};
 ghost use Rattle.std.specs.Prelude.{IfOk, IfSome, IsNone, IsOk, OnErr, OnOk};
 ghost use Rattle.agc_latch.specs.Accounts.{AreAll, Applies, Collects, Gives, Settles};
-ghost use Rattle.agc_latch.specs.Accounts.{IsBalanced, IsOf, given_of, no_accounts, with_taker};
+ghost use Rattle.agc_latch.specs.Accounts.{IsKept, IsOf, given_of, no_accounts, with_taker};
 ghost use Rattle.agc_latch.specs.Ends.{new_device};
 ghost use Rattle.agc_latch.specs.Lines.{on};
 ghost use Rattle.agc_latch.specs.declared.line.Line.{Line};
@@ -148,7 +148,7 @@ impl Accounts {
     /// profile.
     pub fn applied(&self) -> [u64; 3]
         ensures applied { result ≡ self.now.applied }
-        ensures balanced { IsBalanced self.now }
+        ensures kept { IsKept self.now }
     {
         self.applied
     }
@@ -156,7 +156,7 @@ impl Accounts {
     /// The pulses that were taken and not yet applied, per line. Source: profile.
     pub fn owed(&self) -> [u64; 3]
         ensures owed { result ≡ self.now.owed }
-        ensures balanced { IsBalanced self.now }
+        ensures kept { IsKept self.now }
     {
         self.owed
     }

@@ -10,4 +10,4 @@ pub split_seat-requires : goal.split_seat-requires
 split_seat-requires g c =
     let j = c.join_seat.ensures in
     let v : c.join_seat.new.seat.me.0 ≡ joined c.args.keeper.now.me.0 c.args.pass.me.0 = ap (λ m. m.0) j.2 in
-    (j.0 ∙ c.requires.table.0, c.requires.table.2, notes _ _ _ (ap (λ u. u.keeps) v ∙ c.requires.keeps) (ap (λ u. u.owns) v ∙ c.requires.owns.0))
+    (j.0 ∙ c.requires.table.0, c.requires.table.2, notes _ _ _ _ (ap (λ u. u.keeps) v ∙ c.requires.keeps) (ap (λ u. u.owns) v ∙ c.requires.owns.0))

@@ -1,50 +1,13 @@
-use Rattle.std.proofs.Common.{rules, ◌≡◌, ap, sym, subst, ◌∙◌, ◌∷◌, [], ◌++◌}
-use Rattle.agc_machine.specs.Machines.{after, answer_of}
+use Rattle.std.proofs.Common.{◌∙◌, ◌∷◌, [], ◌++◌, None, ap}
+use Rattle.agc_latch.specs.Accounts.{LineAccounts}
+use Rattle.agc_machine.specs.Machines.{after}
 use Rattle.agc_machine.specs.Told.{add, told}
-use Rattle.agc_desk.specs.declared.book.Call.{Call}
-use Rattle.agc_desk.specs.Accounts.{told_in}
-use Rattle.agc_desk.specs.History.{Leads}
-use Rattle.agc_desk.proofs.Calls.{leads_on, same_growth, same_setting, told_after, told_push}
+use Rattle.agc_desk.specs.Desks.{with_lines}
 use Rattle.agc_desk.proofs.desk.Desk.serve.Goals as goal
 
-pub invariant_of-self : goal.invariant_of-self
-invariant_of-self g c =
-    let call : Call = record { by = c.share.inside.own.number; answer = c.apply-answer.result } in
-    let asked = c.apply-answer.ensures.request in
-    let calls = c.self.inside.history.calls in
-    let machine = c.self.inside.machine in
-    let led = leads_on g.N.Names.first calls machine call c.self.invariant.leads (c.apply-answer.ensures.outcome ∙ ap (λ q. answer_of machine q) (sym asked)) in
-    let there = ap (λ q. after machine q) asked ∙ sym c.apply-answer.ensures.after in
-    record {
-      leads = subst (λ l. Leads g.N.Names.first l c.apply-answer.new.self) (sym (ap (λ k. k.calls) c.note.ensures.calls)) (subst (λ m. Leads g.N.Names.first (calls ++ call ∷ []) m) there led);
-      none_settled = ap (λ k. k.settled) c.note.ensures.calls ∙ c.self.invariant.none_settled;
-      since_is = c.self.invariant.since_is;
-      grown = search rules;
-      parts = search rules;
-      one = search rules;
-      none_back = search rules;
-    }
-
-pub invariant_of-share : goal.invariant_of-share
-invariant_of-share g c =
-    let heard = c.share.inside.own.heard in
-    let same : c.growth-told.result ≡ told c.apply-answer.result.outcome =
-    same_growth c.totals-before.result c.growth-told.result (told c.apply-answer.result.outcome)
-    (c.growth-told.ensures ∙ (c.totals.ensures.totals ∙ (ap (λ m. m.totals) c.apply-answer.ensures.after ∙ (told_after c.self.inside.machine c.args.request
-    ∙ (ap (λ t. add t (told (answer_of c.self.inside.machine c.args.request))) (sym c.totals-before.ensures.totals) ∙ ap (λ o. add c.totals-before.result (told o)) (sym c.apply-answer.ensures.outcome)))))) in
-    let grew : c.add.new.amounts ≡ add (told_in heard) (told c.apply-answer.result.outcome) =
-    c.add.ensures.told ∙ (ap (λ t. add t c.growth-told.result) c.share.invariant ∙ ap (λ t. add (told_in heard) t) same) in
-    grew ∙ (sym (told_push heard c.apply-answer.result) ∙ sym (ap (λ o. told_in o.heard) c.note.ensures.own))
-
-pub returns-clause-given : goal.returns-clause-given
-returns-clause-given g c =
-    let machine = c.self.inside.machine in
-    let same = same_setting g.N.Names.first c.self.inside.history.calls machine c.self.invariant.leads in
-    record {
-      machine = machine;
-      lawful = c.apply-answer.ensures.lawful;
-      plan = same.plan;
-      limit = same.limit;
-      allowance = same.allowance;
-      answer = c.apply-answer.ensures.outcome ∙ ap (λ q. answer_of machine q) (sym c.apply-answer.ensures.request);
-    }
+pub returns-clause-desk : goal.returns-clause-desk
+returns-clause-desk g c =
+    let old = c.args.self.now in
+    c.ask_for.ensures.desk
+    ∙ ap (λ (l : LineAccounts). with_lines l (record old { machine = after old.machine c.args.request; history = old.history ++ record { by = c.args.share.now.number; answer = c.ask_for.result; pulse = None } ∷ []; booked = add old.booked (told c.ask_for.result.outcome) }))
+    c.ask_for.ensures.lines

@@ -1,0 +1,26 @@
+use Rattle.std.proofs.Common.{◌≡◌, ◌∙◌, None, ap, sym}
+use Rattle.agc_plan.specs.Plans.{Planned}
+use Rattle.agc_desk.specs.Desks.{Desked}
+use Rattle.agc_desk.specs.Pulses.{pulse_request}
+use Rattle.agc_desk.proofs.Calls.{same_setting}
+use Rattle.agc_desk.proofs.Marking.{unasked}
+use Rattle.agc_desk.proofs.desk.Desk.mark_applied.Goals as goal
+
+pub invariant_of-self : goal.invariant_of-self
+invariant_of-self g c =
+    let first = g.N.Names.first in
+    let i = c.self.invariant in
+    let setting = same_setting first c.self.inside.history.calls c.self.inside.machine i.leads in
+    let idle : pulse_request first.plan c.args.line ≡ None =
+    ap (λ (p : Planned). pulse_request p c.args.line) (sym setting.plan)
+    ∙ (ap (λ (d : Desked). pulse_request d.machine.plan c.args.line) c.self.view_is ∙ c.requires.idle) in
+    record {
+      leads = i.leads;
+      none_settled = i.none_settled;
+      since_is = i.since_is;
+      grown = i.grown;
+      parts = i.parts;
+      one = i.one;
+      none_back = i.none_back;
+      pulses = unasked first.plan c.self.inside.history.calls c.args.line c.args.pulses c.self.inside.lines c.apply.new.self i.pulses idle c.apply.ensures;
+    }
