@@ -1,8 +1,9 @@
 #!/bin/sh
 # Runs the program on standard input, as ./agc script < FILE. The proved program crates/agc/out/agc,
-# which tools/prove makes, takes this shell's place where it is as new as all sources.
+# which tools/prove makes, takes this shell's place where it was built from the sources that stand
+# here, and also where the kit's command rt is missing, which could run these.
 #
-# Where it is missing or older, today's sources are run unproved by rt try, which takes about a
+# Where it is missing or of other sources, today's are run unproved by rt try, which takes about a
 # minute. Standard output and the exit status are what the proved program would give; two lines on
 # standard error say how it was run, and a fault's line follows. Standard input is read first, into
 # a file that is removed at the end. Input of more requests than rt try can answer is refused before
@@ -23,14 +24,37 @@ most_bytes=1048576
 say() {
     echo "agc: $*" >&2
 }
-newer() {
-    find "$here/crates.txt" "$here"/crates/*/src "$here"/crates/*/specs "$here"/crates/*/proofs -type f -newer "$program" 2> /dev/null
+sources_that_are() {
+    find "$here/crates.txt" "$here"/crates/*/src "$here"/crates/*/specs "$here"/crates/*/proofs -type f "$1" "$program" 2> /dev/null
 }
 
-if [ -x "$program" ] && [ -z "$(newer)" ]; then
+# Where no source came here or changed since the program was built, that is told at once. Else the
+# checksums are compared, the program's and its sources', that tools/prove keeps beside the program:
+# so a copy is known whatever the times of its files are. A program without them has to be as new as
+# all sources.
+is_of_sources() {
+    [ -n "$(sources_that_are -cnewer)" ] || return 0
+    built=
+    [ ! -r "$program.sums" ] || { read -r built; read -r kept; } < "$program.sums"
+    if [ "$built" = "$(cksum < "$program")" ]; then
+        [ "$kept" = "$("$here/tools/sources")" ]
+    else
+        [ -z "$(sources_that_are -newer)" ]
+    fi
+}
+
+case $#:$1 in
+    1:script | 1:serial | 1:threads) ;;
+    *) say 'README.md shows how to call it; docs/FORMATS.md says what script, serial and threads read and write' ;;
+esac
+if [ -x "$program" ] && is_of_sources; then
     exec "$program" "$@"
 fi
 if ! command -v rt > /dev/null; then
+    if [ -x "$program" ]; then
+        say 'the program may have been built from other sources than stand here; the Rattle kit'\''s command rt, which could run these, is not on the path'
+        exec "$program" "$@"
+    fi
     say 'no proved program stands here, and the Rattle kit'\''s command rt, which makes it, is not on the path'
     exit 70
 fi

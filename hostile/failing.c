@@ -1,4 +1,4 @@
-/* What `hostile/run` puts under the program (LD_PRELOAD): the C library's malloc, realloc, read and write, of which
+/* What `hostile/run` puts under a program (LD_PRELOAD): the C library's malloc, realloc, read and write, of which
  * the one that the environment names fails, or which move less than was asked. Its file COUNTS gets, as the program
  * ends, how often each was called: growths, those of them before the first read of standard input, its reads, and the
  * writes to standard output. */
@@ -31,8 +31,7 @@ __attribute__((constructor)) static void begin(void)
     atomic_store(&growths, 0);
 }
 
-/* The program ends by this call and no other. */
-_Noreturn void _exit(int status)
+static void tell(void)
 {
     char text[100];
     const char *name = getenv("COUNTS");
@@ -40,8 +39,20 @@ _Noreturn void _exit(int status)
     int length = snprintf(text, sizeof text, "%ld %ld %ld %ld\n", growths, growths_before_input, reads, writes);
     if (file >= 0 && syscall(SYS_write, file, text, length) == length)
         close(file);
+}
+
+/* agc ends by this call and no other. */
+_Noreturn void _exit(int status)
+{
+    tell();
     syscall(SYS_exit_group, status);
     __builtin_unreachable();
+}
+
+/* agc_watch, which has no threads, ends as main returns. */
+__attribute__((destructor)) static void end(void)
+{
+    tell();
 }
 
 static int is_refused(void)

@@ -19,6 +19,18 @@ fn main() {
         }
     }
 
+    let job = JobStart::Findvac { priority: 0o25, at: 0o6000, bank: 7 };
+    let task = Listing { delay: 10, at: 0o6100, bank: 7 };
+    let plan = [PhaseEntry { group: 4, phase: 5, job: Some(job), task: Some(task) }];
+    agc_set_phase(&mut words, 7, 4, 5);
+    let mut reply = agc_findvac(&mut words, 7, 0o30, 0o2100, 5);
+    while reply.reply != ALARMED {
+        reply = agc_findvac(&mut words, 7, 0o30, 0o2100, 5);
+    }
+    agc_begin(&mut words, 7, reply.number, &plan);
+    let runs = agc_running(&words, 7).number;
+    println!("alarm {:o}, then job {runs}, at {:05o}", reply.number, words[8]);
+
     let reply = agc_novac(&mut words, 7, 32, 0o2000, 5);
     println!("priority 32: code {}", reply.code);
 }

@@ -20,6 +20,7 @@
  *
  * CODES. Each call answers a code. AGC_OK: it was served. Any other: what the call lacks, in the
  * order of the codes, and then the array is as it was and the rest of the answer is 0.
+ * agc_code_text says a code in words, agc_reply_text a kind of reply.
  *
  * TRUSTED. agc_NAME looks at the whole image before it does anything, which takes longer than the
  * call itself. agc_NAME_trusted doesn't. Its condition: the array is as an earlier call with this
@@ -35,13 +36,14 @@
 #include <stdbool.h>
 #include <stddef.h>
 #include <stdint.h>
+#include <string.h>
 
 #ifdef __cplusplus
 extern "C" {
 #endif
 
-/* How many numbers an array has, and how many agc_recover wants. */
-enum { AGC_WORDS = 144, AGC_PHASE_WORDS = 12 };
+/* How many numbers an array has, how many agc_recover wants, and the place of -PHASE1, their first. */
+enum { AGC_WORDS = 144, AGC_PHASE_WORDS = 12, AGC_PHASE_PLACE = 117 };
 
 /* The codes. A call answers the first that applies. */
 enum {
@@ -77,6 +79,22 @@ enum {
     AGC_ALARM_1203 = 01203  /* nine tasks wait */
 };
 
+/* How the job of a plan's entry is established; 0 where the entry has no job. */
+enum { AGC_NOVAC = 1, AGC_FINDVAC = 2 };
+
+/* A function of this header itself, and a type that has a bool. C90 has neither `inline` nor
+   `bool`, and GNU's compilers have words by which they take both there. */
+#if defined __cplusplus || (defined __STDC_VERSION__ && __STDC_VERSION__ >= 199901L)
+#define AGC_INLINE static inline
+#define AGC_TYPE typedef
+#elif defined __GNUC__
+#define AGC_INLINE static __inline__
+#define AGC_TYPE __extension__ typedef
+#else
+#define AGC_INLINE static
+#define AGC_TYPE typedef
+#endif
+
 /* What a request is answered: the kind of the reply, and its number, or 0. */
 typedef struct { uint32_t code, reply, number; } AgcReply;
 
@@ -84,7 +102,7 @@ typedef struct { uint32_t code, reply, number; } AgcReply;
 typedef struct { uint32_t code, number; } AgcNumber;
 
 /* Yes or no. */
-typedef struct { uint32_t code; bool truth; } AgcTruth;
+AGC_TYPE struct { uint32_t code; bool truth; } AgcTruth;
 
 /* A task of the Waitlist: its address, and the word for its bank. */
 typedef struct { uint32_t code, at, bank; } AgcTask;
@@ -93,13 +111,54 @@ typedef struct { uint32_t code, at, bank; } AgcTask;
 typedef struct { uint32_t code; uint8_t phases[6]; } AgcPhases;
 
 /* A sum of two words, and whether it overflows. */
-typedef struct { uint32_t code, bits; bool overflow; } AgcSum;
+AGC_TYPE struct { uint32_t code, bits; bool overflow; } AgcSum;
 
 /* The value of a word, -16383 to 16383. */
 typedef struct { uint32_t code; int32_t value; } AgcValue;
 
+/* An entry of a plan: what begins again while a restart group, 1 to 6, stands in a phase, 1 to 127.
+   A job, where `job` isn't 0, and a task, where `delay` isn't 0; their numbers are those of the
+   calls agc_novac, agc_findvac and agc_list. */
+typedef struct {
+    uint32_t group, phase;
+    uint32_t job, priority, job_at, job_bank;
+    uint32_t delay, task_at, task_bank;
+} AgcPhaseEntry;
+
+/* What a code says: a constant text, never null, whatever the number. */
+AGC_INLINE const char *agc_code_text(uint32_t code) {
+    switch (code) {
+    case AGC_OK: return "the call was served";
+    case AGC_NO_SUCH_SETS: return "the number of core sets is neither 7 nor 8";
+    case AGC_NOT_WORDS: return "a number of the image is above 077777";
+    case AGC_UNLAWFUL: return "the image isn't lawful, or the phase words don't agree";
+    case AGC_OUT_OF_RANGE: return "a number of the call is out of its range";
+    case AGC_NOT_A_WORD: return "a word of the call is above 077777";
+    case AGC_NOT_NOW: return "a task is due, or none is where one has to be";
+    case AGC_NULL: return "the pointer is null or not aligned";
+    default: return "no call answers this code";
+    }
+}
+
+/* What a kind of reply says: the same. */
+AGC_INLINE const char *agc_reply_text(uint32_t reply) {
+    switch (reply) {
+    case AGC_ESTABLISHED: return "a job was established";
+    case AGC_LEFT: return "the running job ended or sleeps, and another runs";
+    case AGC_IDLE: return "the running job ended or sleeps, and nobody runs";
+    case AGC_ROUSED: return "a sleeper was awakened";
+    case AGC_NO_SLEEPER: return "no job sleeps at that address";
+    case AGC_NO_JOB: return "nobody runs, so there is no job to act on";
+    case AGC_RUNS: return "a job runs";
+    case AGC_STORED: return "a work word was set";
+    case AGC_LISTED: return "a task was listed";
+    case AGC_ALARMED: return "a table is full, and nothing changed";
+    default: return "no reply is of this kind";
+    }
+}
+
 /* Whether a pointer may be passed: AGC_OK, or AGC_NULL where it is null or not aligned. */
-static inline uint32_t agc_pointer(const uint16_t *words) {
+AGC_INLINE uint32_t agc_pointer(const uint16_t *words) {
     return words == NULL || (uintptr_t)words % sizeof *words != 0 ? (uint32_t)AGC_NULL : (uint32_t)AGC_OK;
 }
 
@@ -185,6 +244,52 @@ AgcPhases agc_recover(const uint16_t words[AGC_PHASE_WORDS]);
 AgcSum agc_add(uint32_t a, uint32_t b);
 AgcNumber agc_negative(uint32_t word);
 AgcValue agc_value(uint32_t word);
+
+/* What an entry has begins: its job, then its task. For agc_begin. */
+AGC_INLINE uint32_t agc_begin_entry(uint16_t words[AGC_WORDS], uint32_t sets, const AgcPhaseEntry *entry) {
+    AgcReply reply = {AGC_OK, 0, 0};
+    switch (entry->job) {
+    case 0: break;
+    case AGC_NOVAC: reply = agc_novac_trusted(words, sets, entry->priority, entry->job_at, entry->job_bank); break;
+    case AGC_FINDVAC: reply = agc_findvac_trusted(words, sets, entry->priority, entry->job_at, entry->job_bank); break;
+    default: return AGC_OUT_OF_RANGE;
+    }
+    if (reply.reply == AGC_ALARMED) return AGC_OUT_OF_RANGE;
+    if (reply.code == AGC_OK && entry->delay != 0)
+        reply = agc_list_trusted(words, sets, entry->delay, entry->task_at, entry->task_bank);
+    return reply.code;
+}
+
+/* An era begins, as after an alarm: its code is recorded, all jobs and tasks are gone, and then for
+   groups 1 to 6 in order the plan's entry for the group's phase begins, its job and then its task.
+   `alarm` is one of the four, or 0 where none is recorded, as at a restart by request. A group of
+   phase 0, or of one that has no entry, begins nothing; of two entries for a phase the first counts.
+   AGC_OUT_OF_RANGE and AGC_NOT_A_WORD are those of the alarm and of the entries that begin, in this
+   order; AGC_OUT_OF_RANGE also where all six groups begin a job by AGC_FINDVAC, since there are five
+   VAC areas. It looks at the whole image, and has no trusted form. */
+AGC_INLINE uint32_t agc_begin(uint16_t words[AGC_WORDS], uint32_t sets, uint32_t alarm, const AgcPhaseEntry *plan,
+                              size_t entries) {
+    uint16_t era[AGC_WORDS] = {0};
+    const size_t size = (sets == 8 ? 144 : 132) * sizeof *words;
+    AgcPhases now;
+    uint32_t code, group, phase;
+    size_t k;
+    if (sets != 7 && sets != 8) return AGC_NO_SUCH_SETS;
+    memcpy(era, words, size);
+    code = agc_restart(era, sets);
+    if (code == AGC_OK && alarm != 0) code = agc_record_alarm_trusted(era, sets, alarm);
+    now = agc_recover(era + AGC_PHASE_PLACE);
+    for (group = 1; code == AGC_OK && group <= 6; group++) {
+        phase = now.phases[group - 1];
+        for (k = 0; k < entries && (plan[k].group != group || plan[k].phase != phase); k++) {}
+        if (phase != 0 && k < entries) code = agc_begin_entry(era, sets, plan + k);
+    }
+    if (code == AGC_OK) memcpy(words, era, size);
+    return code;
+}
+
+#undef AGC_INLINE
+#undef AGC_TYPE
 
 #ifdef __cplusplus
 }

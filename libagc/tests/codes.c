@@ -124,12 +124,51 @@ static void numbers(void) {
     BOTH("agc_record_alarm", 0, agc_record_alarm, w, s, AGC_ALARM_1203);
 }
 
+static void eras(void) {
+    AgcPhaseEntry job = {6, 127, AGC_NOVAC, 31, 16383, 32767, 0, 0, 0}, task = {6, 127, 0, 0, 0, 0, 16250, 16383, 32767};
+    AgcPhaseEntry six[6], of_phase_0 = {1, 0, 3, 0, 0, 0, 0, 0, 0};
+    BROKEN("agc_begin", agc_begin(w, s, 0, NULL, 0));
+    IS("agc_begin", 1, agc_begin(w, 4294967295u, 0, NULL, 0));
+    IS("agc_begin", 4, agc_begin(w, s, 1201, NULL, 0));
+    IS("agc_begin", 0, agc_begin(w, s, AGC_ALARM_1107, NULL, 0));
+    IS("agc_begin of phase 0", 0, agc_begin(w, s, 0, &of_phase_0, 1));
+#define ONE(ENTRY, CHANGE, CODE)                                                             \
+    do {                                                                                     \
+        AgcPhaseEntry e = ENTRY;                                                                  \
+        e.CHANGE;                                                                            \
+        IS("agc_begin, " #ENTRY " " #CHANGE, CODE,                                           \
+           (agc_set_phase(w, s, 6, 127), memcpy(was, w, sizeof w), agc_begin(w, s, AGC_ALARM_1202, &e, 1))); \
+    } while (0)
+    ONE(job, job = 3, 4);
+    ONE(job, priority = 0, 4);
+    ONE(job, priority = 32, 4);
+    ONE(job, job_at = 0, 4);
+    ONE(job, job_at = 16384, 4);
+    ONE(job, job_bank = 32768, 5);
+    ONE(job, delay = 1, 4);
+    ONE(job, delay = 0, 0);
+    ONE(task, delay = 16251, 4);
+    ONE(task, task_at = 0, 4);
+    ONE(task, task_bank = 32768, 5);
+    ONE(task, group = 5, 0);
+    ONE(task, phase = 0, 0);
+    for (uint32_t k = 0; k < 6; k++) {
+        AgcPhaseEntry it = {k + 1, 1, AGC_FINDVAC, 1, 1, 0, 0, 0, 0};
+        six[k] = it;
+        agc_set_phase(image, 7, k + 1, 1);
+    }
+    IS("agc_begin, six areas", 4, agc_begin(w, s, AGC_ALARM_1201, six, 6));
+    IS("agc_begin, five areas", 0, agc_begin(w, s, AGC_ALARM_1201, six + 1, 5));
+    agc_clear(image, 7);
+}
+
 static void ticks(void) {
     agc_list(image, 7, 1, 1, 0);
     agc_count_time3(image, 7);
     BOTH_OF("agc_count_time3", 6, agc_count_time3, w, s);
     BOTH_OF("agc_dispatch", 0, agc_dispatch, w, s);
     IS("agc_migrate", 6, agc_migrate(w));
+    IS("agc_begin in a tick", 0, agc_begin(w, s, AGC_ALARM_1202, NULL, 0));
     IS("agc_check", 0, agc_check(w, s).code);
     check(!agc_check(image, 7).truth && agc_due(image, 7).truth, "agc_check in a tick", 7, 0);
 }
@@ -152,11 +191,21 @@ static void words(void) {
     check(agc_pointer(NULL) == AGC_NULL && agc_pointer(image) == AGC_OK, "agc_pointer", 7, 7);
 }
 
+static void texts(void) {
+    check(!strcmp(agc_code_text(AGC_OK), "the call was served"), "agc_code_text", 7, 0);
+    check(!strcmp(agc_code_text(4), "a number of the call is out of its range"), "agc_code_text", 7, 4);
+    check(!strcmp(agc_code_text(8), "no call answers this code"), "agc_code_text", 7, 8);
+    check(!strcmp(agc_reply_text(AGC_NO_SLEEPER), "no job sleeps at that address"), "agc_reply_text", 7, 0);
+    check(!strcmp(agc_reply_text(0), "no reply is of this kind"), "agc_reply_text", 7, 0);
+}
+
 int main(void) {
     agc_clear(image, 7);
     images();
     numbers();
+    eras();
     ticks();
     words();
+    texts();
     return failed;
 }

@@ -1,4 +1,5 @@
 /* Reads script lines, as `agc script` does, asks the library for each, and writes its reply lines and its report.
+   Other lines are those that eras.py writes: the plan, and where the next bench begins.
    script SETS checked|trusted */
 #include "agc.h"
 
@@ -11,6 +12,12 @@ static uint32_t sets;
 static bool trusted;
 static unsigned served, alarms[3], restarts;
 
+/* The plan: what begins again, and the actions of tasks, each a script line. */
+enum { MOST = 32 };
+static AgcPhaseEntry entries[MOST];
+static struct { unsigned at, bank; char action[64]; } rows[MOST];
+static size_t entry_count, row_count;
+
 #define ASK(NAME, ...) (trusted ? NAME##_trusted(__VA_ARGS__) : NAME(__VA_ARGS__))
 
 static void want(uint32_t code) {
@@ -20,11 +27,10 @@ static void want(uint32_t code) {
     }
 }
 
-/* The software restart after an alarm: its code, and then no jobs and no tasks. */
-static void begin_after(uint32_t alarm) {
-    want(ASK(agc_record_alarm, words, sets, alarm));
-    want(agc_restart(words, sets));
-    alarms[alarm - AGC_ALARM_1201]++;
+/* An era begins by a restart, or where an alarm isn't 0 after that. */
+static void begin(uint32_t alarm) {
+    want(agc_begin(words, sets, alarm, entries, entry_count));
+    if (alarm != 0) alarms[alarm - AGC_ALARM_1201]++;
     restarts++;
 }
 
@@ -40,42 +46,66 @@ static void say(AgcReply r) {
     case AGC_RUNS: printf("runs %u\n", r.number); break;
     case AGC_STORED: puts("stored"); break;
     case AGC_LISTED: puts("listed"); break;
-    case AGC_ALARMED: printf("alarm %o\n", r.number); begin_after(r.number); break;
+    case AGC_ALARMED: printf("alarm %o\n", r.number); begin(r.number); break;
     default: want(99);
     }
 }
 
+/* What a line asks for that is answered by a reply: code 98 for any other line. */
+static AgcReply ask(const char *line) {
+    unsigned a, b, c;
+    AgcReply none = {98, 0, 0};
+    if (sscanf(line, "novac %o %o %o", &a, &b, &c) == 3) return ASK(agc_novac, words, sets, a, b, c);
+    if (sscanf(line, "findvac %o %o %o", &a, &b, &c) == 3) return ASK(agc_findvac, words, sets, a, b, c);
+    if (!strcmp(line, "end")) return ASK(agc_end_of_job, words, sets);
+    if (sscanf(line, "sleep %o", &a) == 1) return ASK(agc_job_sleep, words, sets, a);
+    if (sscanf(line, "rouse %o", &a) == 1) return ASK(agc_job_wake, words, sets, a);
+    if (sscanf(line, "prio %o", &a) == 1) return ASK(agc_prio_change, words, sets, a);
+    if (!strcmp(line, "change")) return ASK(agc_change_job, words, sets);
+    if (sscanf(line, "store %u %o", &a, &b) == 2) return ASK(agc_store, words, sets, a, b);
+    if (sscanf(line, "list %u %o %o", &a, &b, &c) == 3) return ASK(agc_list, words, sets, a, b, c);
+    return none;
+}
+
+/* A task's action. Returns the alarm that it raised, or 0. */
+static uint32_t perform(AgcTask task) {
+    for (size_t k = 0; k < row_count; k++) {
+        if (rows[k].at != task.at || rows[k].bank != task.bank) continue;
+        AgcReply r = ask(rows[k].action);
+        want(r.code);
+        return r.reply == AGC_ALARMED ? r.number : 0;
+    }
+    return 0;
+}
+
 static void tick(void) {
+    uint32_t alarm = 0;
     want(ASK(agc_count_time3, words, sets).code);
     fputs("tick", stdout);
-    for (;;) {
+    while (alarm == 0) {
         AgcTruth due = ASK(agc_due, words, sets);
         want(due.code);
         if (!due.truth) break;
         AgcTask task = ASK(agc_dispatch, words, sets);
         want(task.code);
         printf(" %05o/%05o", task.at, task.bank);
+        alarm = perform(task);
+    }
+    if (alarm != 0) {
+        printf(" alarm %o", alarm);
+        begin(alarm);
     }
     putchar('\n');
 }
 
 static void serve(const char *line) {
-    unsigned a, b, c;
+    unsigned a, b;
     served++;
-    if (sscanf(line, "novac %o %o %o", &a, &b, &c) == 3) say(ASK(agc_novac, words, sets, a, b, c));
-    else if (sscanf(line, "findvac %o %o %o", &a, &b, &c) == 3) say(ASK(agc_findvac, words, sets, a, b, c));
-    else if (!strcmp(line, "end")) say(ASK(agc_end_of_job, words, sets));
-    else if (sscanf(line, "sleep %o", &a) == 1) say(ASK(agc_job_sleep, words, sets, a));
-    else if (sscanf(line, "rouse %o", &a) == 1) say(ASK(agc_job_wake, words, sets, a));
-    else if (sscanf(line, "prio %o", &a) == 1) say(ASK(agc_prio_change, words, sets, a));
-    else if (!strcmp(line, "change")) say(ASK(agc_change_job, words, sets));
-    else if (sscanf(line, "store %u %o", &a, &b) == 2) say(ASK(agc_store, words, sets, a, b));
-    else if (sscanf(line, "list %u %o %o", &a, &b, &c) == 3) say(ASK(agc_list, words, sets, a, b, c));
-    else if (!strcmp(line, "tick")) tick();
+    if (!strcmp(line, "tick")) tick();
     else if (sscanf(line, "phase %u %u", &a, &b) == 2) { want(ASK(agc_set_phase, words, sets, a, b)); puts("phased"); }
-    else if (!strcmp(line, "restart")) { want(agc_restart(words, sets)); restarts++; puts("restarted"); }
+    else if (!strcmp(line, "restart")) { begin(0); puts("restarted"); }
     else if (!strcmp(line, "fresh")) { want(agc_clear(words, sets)); restarts++; puts("restarted"); }
-    else want(98);
+    else say(ask(line));
 }
 
 static void put(const char *name, int from, int to) {
@@ -85,6 +115,7 @@ static void put(const char *name, int from, int to) {
 }
 
 static void report(void) {
+    if (sets == 8) puts("SETS 8");
     for (uint32_t k = 0; k < sets; k++) {
         int first = k < 7 ? 12 * (int)k : 132;
         char name[16];
@@ -102,18 +133,58 @@ static void report(void) {
     printf("SERVED %u\nALARMS %u %u %u\nRESTARTS %u\n", served, alarms[0], alarms[1], alarms[2], restarts);
 }
 
-int main(int argc, char **argv) {
-    char line[64];
-    if (argc != 3) return 2;
-    sets = (uint32_t)atoi(argv[1]);
-    trusted = !strcmp(argv[2], "trusted");
+/* Power comes back, and these twelve phase words are found. */
+static void power_up(const char *texts) {
+    uint16_t found[AGC_PHASE_WORDS];
+    char *rest;
+    for (int k = 0; k < AGC_PHASE_WORDS; k++, texts = rest) found[k] = (uint16_t)strtoul(texts, &rest, 8);
+    AgcPhases then = agc_recover(found);
+    for (uint32_t k = 0; k < 6; k++) want(ASK(agc_set_phase, words, sets, k + 1, then.phases[k]));
+    want(agc_begin(words, sets, then.code == AGC_OK ? 0 : AGC_ALARM_1107, entries, entry_count));
+}
+
+static void start(uint32_t wanted) {
+    sets = wanted;
+    served = restarts = alarms[0] = alarms[1] = alarms[2] = 0;
+    entry_count = row_count = 0;
     memset(words, 0xff, sizeof words);
     want(agc_clear(words, sets));
-    while (fgets(line, sizeof line, stdin)) {
-        line[strcspn(line, "\n")] = 0;
+}
+
+static void end(void) {
+    if (!agc_check(words, sets).truth) want(97);
+    for (int place = 132; sets == 7 && place < AGC_WORDS; place++) want(words[place] == 0xffff ? AGC_OK : 96);
+    report();
+}
+
+static void take(const char *line) {
+    unsigned wanted;
+    AgcPhaseEntry *e = &entries[entry_count];
+    want(entry_count + 1 < MOST && row_count + 1 < MOST ? AGC_OK : 95);
+    if (sscanf(line, "next %u", &wanted) == 1) {
+        end();
+        start(wanted);
+    } else if (sscanf(line, "row %o %o %63[^\n]", &rows[row_count].at, &rows[row_count].bank, rows[row_count].action) == 3) {
+        row_count++;
+    } else if (sscanf(line, "entry %u %u %u %o %o %o %u %o %o", &e->group, &e->phase, &e->job, &e->priority, &e->job_at,
+                      &e->job_bank, &e->delay, &e->task_at, &e->task_bank) == 9) {
+        entry_count++;
+    } else if (!strncmp(line, "power ", 6)) {
+        power_up(line + 6);
+    } else {
         serve(line);
     }
-    if (!agc_check(words, sets).truth) want(97);
-    report();
+}
+
+int main(int argc, char **argv) {
+    char line[128];
+    if (argc != 3) return 2;
+    trusted = !strcmp(argv[2], "trusted");
+    start((uint32_t)atoi(argv[1]));
+    while (fgets(line, sizeof line, stdin)) {
+        line[strcspn(line, "\n")] = 0;
+        take(line);
+    }
+    end();
     return 0;
 }

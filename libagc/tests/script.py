@@ -1,11 +1,12 @@
 """Reads script lines, as `agc script` does, asks the library for each, and writes its reply lines and its report.
+Other lines are those that eras.py writes: the plan, and where the next bench begins.
 
     script.py SETS
 """
 
 import sys
 
-from agc import Code, Image, Kind, Lacking
+from agc import Code, Image, JobStart, Kind, Lacking, Listing, PhaseEntry, recover
 
 LINES = {
     Kind.ESTABLISHED: "job {}",
@@ -29,55 +30,82 @@ CALLS = {
     "store": (Image.store, (10, 8)),
     "list": (Image.list, (10, 8, 8)),
 }
-TABLES = [("VAC", 84, 89), ("NEWJOB", 89, 90), ("TIME3", 90, 91), ("LST1", 91, 99), ("LST2", 99, 117)]
-TABLES += [("PHASE", 117, 129), ("FAILREG", 129, 132)]
 
 
-def tick(image):
-    image.count_time3()
-    text = "tick"
-    while image.due():
-        text += " {:05o}/{:05o}".format(*image.dispatch())
-    return text
+class Run:
+    """A bench: an image, the plan, and the totals. Actions of tasks are script lines."""
 
+    def __init__(self, sets):
+        self.image, self.entries, self.rows = Image(sets), [], {}
+        self.served, self.restarts, self.alarms = 0, 0, {0o1201: 0, 0o1202: 0, 0o1203: 0}
 
-def serve(image, line, totals):
-    name, *texts = line.split(" ")
-    if name == "tick":
-        return tick(image)
-    if name == "phase":
-        image.set_phase(*map(int, texts))
-        return "phased"
-    if name in ("restart", "fresh"):
-        (image.restart if name == "restart" else image.clear)()
-        totals["restarts"] += 1
-        return "restarted"
-    call, bases = CALLS[name]
-    reply = call(image, *(int(text, base) for text, base in zip(texts, bases)))
-    if reply.kind != Kind.ALARMED:
-        return LINES[reply.kind].format(reply.number)
-    image.record_alarm(reply.number)
-    image.restart()
-    totals["restarts"] += 1
-    totals[reply.number] += 1
-    return f"alarm {reply.number:o}"
+    def begin(self, alarm=0):
+        self.image.begin(self.entries, alarm)
+        self.restarts += 1
+        if alarm:
+            self.alarms[alarm] += 1
 
+    def ask(self, line):
+        name, *texts = line.split(" ")
+        call, bases = CALLS[name]
+        return call(self.image, *(int(text, base) for text, base in zip(texts, bases)))
 
-def spelled(words):
-    return " ".join(f"{word:05o}" for word in words)
+    def tick(self):
+        self.image.count_time3()
+        text = "tick"
+        while self.image.due():
+            task = self.image.dispatch()
+            text += " {:05o}/{:05o}".format(*task)
+            action = self.rows.get(task, "nothing")
+            reply = None if action == "nothing" else self.ask(action)
+            if reply and reply.kind == Kind.ALARMED:
+                self.begin(reply.number)
+                return f"{text} alarm {reply.number:o}"
+        return text
 
+    def serve(self, line):
+        name, *texts = line.split(" ")
+        self.served += 1
+        if name == "tick":
+            return self.tick()
+        if name == "phase":
+            self.image.set_phase(*map(int, texts))
+            return "phased"
+        if name == "restart":
+            self.begin()
+            return "restarted"
+        if name == "fresh":
+            self.image.clear()
+            self.restarts += 1
+            return "restarted"
+        reply = self.ask(line)
+        if reply.kind != Kind.ALARMED:
+            return LINES[reply.kind].format(reply.number)
+        self.begin(reply.number)
+        return f"alarm {reply.number:o}"
 
-def report(image, served, totals):
-    words = image.words
-    for k in range(image.sets):
-        first = 12 * k if k < 7 else 132
-        own = words[first : first + 12]
-        print(f"SET {k}", "FREE" if own[11] == 0o77777 else spelled(own))
-    for name, start, end in TABLES:
-        print(name, spelled(words[start:end]))
-    print("SERVED", served)
-    print("ALARMS", totals[0o1201], totals[0o1202], totals[0o1203])
-    print("RESTARTS", totals["restarts"])
+    def entry(self, texts):
+        bases = (10, 10, 10, 8, 8, 8, 10, 8, 8)
+        group, phase, kind, *rest = (int(text, base) for text, base in zip(texts, bases))
+        job = JobStart(*rest[:3], area=kind == 2) if kind else None
+        task = Listing(*rest[3:]) if rest[3] else None
+        self.entries.append(PhaseEntry(group, phase, job, task))
+
+    def power_up(self, texts):
+        """Power comes back, and these twelve phase words are found."""
+        try:
+            phases, alarm = recover([int(it, 8) for it in texts]), 0
+        except Lacking:
+            phases, alarm = [], 0o1107
+        for group, phase in enumerate(phases, 1):
+            self.image.set_phase(group, phase)
+        self.image.begin(self.entries, alarm)
+
+    def report(self):
+        print(self.image)
+        print("SERVED", self.served)
+        print("ALARMS", *self.alarms.values())
+        print("RESTARTS", self.restarts)
 
 
 def refuses():
@@ -107,13 +135,22 @@ def refuses():
 
 def main():
     refuses()
-    image = Image(int(sys.argv[1]))
-    totals = {"restarts": 0, 0o1201: 0, 0o1202: 0, 0o1203: 0}
-    served = 0
+    run = Run(int(sys.argv[1]))
     for line in sys.stdin:
-        print(serve(image, line.rstrip("\n"), totals))
-        served += 1
-    report(image, served, totals)
+        name, *texts = line.split()
+        if name == "next":
+            run.report()
+            run = Run(int(texts[0]))
+        elif name == "row":
+            at, bank, *action = texts
+            run.rows[int(at, 8), int(bank, 8)] = " ".join(action)
+        elif name == "entry":
+            run.entry(texts)
+        elif name == "power":
+            run.power_up(texts)
+        else:
+            print(run.serve(line.rstrip("\n")))
+    run.report()
 
 
 main()

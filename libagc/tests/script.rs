@@ -1,4 +1,5 @@
 //! Reads script lines, as `agc script` does, asks the library for each, and writes its reply lines and its report.
+//! Other lines are those that eras.py writes: the plan, and where the next bench begins.
 //!
 //!     script SETS
 
@@ -15,6 +16,8 @@ struct Run {
     served: u32,
     alarms: [u32; 3],
     restarts: u32,
+    entries: Vec<PhaseEntry>,
+    rows: Vec<(u32, u32, String)>,
     out: String,
 }
 
@@ -27,9 +30,19 @@ fn want(code: u32) {
 }
 
 impl Run {
-    fn restart(&mut self) -> u32 {
+    fn new(sets: u32, out: String) -> Run {
+        let mut words = [7; WORDS];
+        want(agc_clear(&mut words, sets));
+        Run { words, sets, served: 0, alarms: [0; 3], restarts: 0, entries: vec![], rows: vec![], out }
+    }
+
+    /// An era begins by a restart, or where an alarm isn't 0 after that.
+    fn begin(&mut self, alarm: u32) {
+        want(agc_begin(&mut self.words, self.sets, alarm, &self.entries));
+        if alarm != 0 {
+            self.alarms[(alarm - 0o1201) as usize] += 1;
+        }
         self.restarts += 1;
-        agc_restart(&mut self.words, self.sets)
     }
 
     fn say(&mut self, r: AgcReply) {
@@ -46,9 +59,7 @@ impl Run {
             STORED => "stored".to_string(),
             LISTED => "listed".to_string(),
             ALARMED => {
-                want(agc_record_alarm(&mut self.words, self.sets, n));
-                want(self.restart());
-                self.alarms[(n - 0o1201) as usize] += 1;
+                self.begin(n);
                 format!("alarm {n:o}")
             }
             kind => panic!("kind {kind}"),
@@ -63,30 +74,84 @@ impl Run {
             let task = agc_dispatch(&mut self.words, self.sets);
             want(task.code);
             write!(self.out, " {:05o}/{:05o}", task.at, task.bank).unwrap();
+            let named = self.rows.iter().find(|row| row.0 == task.at && row.1 == task.bank);
+            let Some(reply) = named.map(|row| row.2.clone()).and_then(|it| self.ask(&it)) else { continue };
+            want(reply.code);
+            if reply.reply == ALARMED {
+                write!(self.out, " alarm {:o}", reply.number).unwrap();
+                return self.begin(reply.number);
+            }
         }
+    }
+
+    /// What a line asks for that is answered by a reply; none for any other line.
+    fn ask(&mut self, line: &str) -> Option<AgcReply> {
+        let (w, s) = (&mut self.words, self.sets);
+        let parts: Vec<&str> = line.split(' ').collect();
+        Some(match parts[..] {
+            ["novac", p, a, b] => agc_novac(w, s, number(p, 8), number(a, 8), number(b, 8)),
+            ["findvac", p, a, b] => agc_findvac(w, s, number(p, 8), number(a, 8), number(b, 8)),
+            ["end"] => agc_end_of_job(w, s),
+            ["sleep", a] => agc_job_sleep(w, s, number(a, 8)),
+            ["rouse", a] => agc_job_wake(w, s, number(a, 8)),
+            ["prio", p] => agc_prio_change(w, s, number(p, 8)),
+            ["change"] => agc_change_job(w, s),
+            ["store", k, b] => agc_store(w, s, number(k, 10), number(b, 8)),
+            ["list", d, a, b] => agc_list(w, s, number(d, 10), number(a, 8), number(b, 8)),
+            _ => return None,
+        })
     }
 
     fn serve(&mut self, line: &str) {
         let (w, s) = (&mut self.words, self.sets);
         let parts: Vec<&str> = line.split(' ').collect();
         match parts[..] {
-            ["novac", p, a, b] => { let r = agc_novac(w, s, number(p, 8), number(a, 8), number(b, 8)); self.say(r) }
-            ["findvac", p, a, b] => { let r = agc_findvac(w, s, number(p, 8), number(a, 8), number(b, 8)); self.say(r) }
-            ["end"] => { let r = agc_end_of_job(w, s); self.say(r) }
-            ["sleep", a] => { let r = agc_job_sleep(w, s, number(a, 8)); self.say(r) }
-            ["rouse", a] => { let r = agc_job_wake(w, s, number(a, 8)); self.say(r) }
-            ["prio", p] => { let r = agc_prio_change(w, s, number(p, 8)); self.say(r) }
-            ["change"] => { let r = agc_change_job(w, s); self.say(r) }
-            ["store", k, b] => { let r = agc_store(w, s, number(k, 10), number(b, 8)); self.say(r) }
-            ["list", d, a, b] => { let r = agc_list(w, s, number(d, 10), number(a, 8), number(b, 8)); self.say(r) }
             ["tick"] => self.tick(),
             ["phase", g, n] => { want(agc_set_phase(w, s, number(g, 10), number(n, 10))); self.out.push_str("phased") }
-            ["restart"] => { want(self.restart()); self.out.push_str("restarted") }
+            ["restart"] => { self.begin(0); self.out.push_str("restarted") }
             ["fresh"] => { want(agc_clear(w, s)); self.restarts += 1; self.out.push_str("restarted") }
-            _ => panic!("line {line}"),
+            _ => { let r = self.ask(line).unwrap(); self.say(r) }
         }
         self.out.push('\n');
         self.served += 1;
+    }
+
+    fn entry(&mut self, texts: &[&str]) {
+        let ten = |k: usize| number(texts[k], 10);
+        let eight = |k: usize| number(texts[k], 8);
+        let (priority, at, bank) = (eight(3), eight(4), eight(5));
+        let job = match ten(2) {
+            0 => None,
+            1 => Some(JobStart::Novac { priority, at, bank }),
+            _ => Some(JobStart::Findvac { priority, at, bank }),
+        };
+        let task = Some(Listing { delay: ten(6), at: eight(7), bank: eight(8) }).filter(|it| it.delay != 0);
+        self.entries.push(PhaseEntry { group: ten(0), phase: ten(1), job, task });
+    }
+
+    /// Power comes back, and these twelve phase words are found.
+    fn power_up(&mut self, texts: &[&str]) {
+        let found: PhaseWords = std::array::from_fn(|k| number(texts[k], 8) as u16);
+        let then = agc_recover(&found);
+        for (group, phase) in (1..).zip(then.phases) {
+            want(agc_set_phase(&mut self.words, self.sets, group, phase.into()));
+        }
+        let alarm = if then.code == OK { 0 } else { 0o1107 };
+        want(agc_begin(&mut self.words, self.sets, alarm, &self.entries));
+    }
+
+    fn take(&mut self, line: &str) {
+        let parts: Vec<&str> = line.split(' ').collect();
+        match parts[..] {
+            ["next", sets] => {
+                self.report();
+                *self = Run::new(number(sets, 10), std::mem::take(&mut self.out));
+            }
+            ["row", at, bank, ..] => self.rows.push((number(at, 8), number(bank, 8), parts[3..].join(" "))),
+            ["entry", ..] => self.entry(&parts[1..]),
+            ["power", ..] => self.power_up(&parts[1..]),
+            _ => self.serve(line),
+        }
     }
 
     fn put(&mut self, name: &str, from: usize, to: usize) {
@@ -98,6 +163,9 @@ impl Run {
     }
 
     fn report(&mut self) {
+        if self.sets == 8 {
+            self.out.push_str("SETS 8\n");
+        }
         for k in 0..self.sets as usize {
             let first = if k < 7 { 12 * k } else { 132 };
             if self.words[first + 11] == 0o77777 {
@@ -137,17 +205,32 @@ fn refuses() {
     assert_eq!(agc_value(0o77776), AgcValue { code: OK, value: -1 });
     assert_eq!(agc_add(0o37777, 1), AgcSum { code: OK, bits: 0, overflow: true });
     assert_eq!(agc_recover(&[0; 12]).code, UNLAWFUL);
+    assert_eq!(agc_code_text(NOT_A_WORD), "a word of the call is above 077777");
+    assert_eq!(agc_reply_text(STORED), "a work word was set");
+    let job = |bank| PhaseEntry { group: 6, phase: 1, job: Some(JobStart::Novac { priority: 1, at: 1, bank }), task: None };
+    want(agc_set_phase(&mut words, 8, 6, 1));
+    let was = words;
+    assert_eq!(agc_begin(&mut words, 9, 0, &[]), NO_SUCH_SETS);
+    assert_eq!(agc_begin(&mut words, 8, 1201, &[]), OUT_OF_RANGE);
+    assert_eq!(agc_begin(&mut words, 8, 0o1201, &[job(32768)]), NOT_A_WORD);
+    let six: Vec<PhaseEntry> = (1..=6)
+        .map(|group| PhaseEntry { group, phase: 1, job: Some(JobStart::Findvac { priority: 1, at: 1, bank: 1 }), task: None })
+        .collect();
+    assert_eq!(words, was);
+    (1..=5).for_each(|group| want(agc_set_phase(&mut words, 8, group, 1)));
+    assert_eq!(agc_begin(&mut words, 8, 0, &six), OUT_OF_RANGE);
+    want(agc_begin(&mut words, 8, 0, &six[1..]));
+    assert_eq!((agc_running(&words, 8).number, words[84]), (1, 0));
 }
 
 fn main() {
     refuses();
     let sets = number(&std::env::args().nth(1).unwrap(), 10);
-    let mut run = Run { words: [7; WORDS], sets, served: 0, alarms: [0; 3], restarts: 0, out: String::new() };
-    want(agc_clear(&mut run.words, sets));
+    let mut run = Run::new(sets, String::new());
     let mut script = String::new();
     std::io::stdin().read_to_string(&mut script).unwrap();
     for line in script.lines() {
-        run.serve(line);
+        run.take(line);
     }
     run.report();
     print!("{}", run.out);

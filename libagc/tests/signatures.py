@@ -1,5 +1,5 @@
 """Compares the exports as crates/libagc has them with agc.h, agc.py and agc.rs: each call's name, what it takes and
-answers, each struct's fields, and each code. Prints what differs, and fails then.
+answers, each struct's fields, each code, and the texts of codes and replies. Prints what differs, and fails then.
 """
 
 import ctypes
@@ -48,7 +48,7 @@ def of_c(text):
             shown.append(f"{by}[u16; {size}]" if array else NUMBERS[it.split()[0]])
         calls[name] = (shown, NUMBERS.get(answers, answers))
     structs = {}
-    for body, name in re.findall(r"typedef struct \{ (.*?) \} (Agc\w+);", text):
+    for body, name in re.findall(r"(?:typedef|AGC_TYPE) struct \{ (.*?) \} (Agc\w+);", text):
         structs[name] = []
         for part in body.strip(" ;").split("; "):
             kind, names = part.split(" ", 1)
@@ -76,10 +76,31 @@ def without_arrays(calls):
     return {name: (["array" if "[" in it else it for it in takes], answers) for name, (takes, answers) in calls.items()}
 
 
+def texts_of(text, row):
+    """Returns what the two functions of texts say of each constant, by the names of both."""
+    found = {}
+    for name, body in re.findall(r"\b(agc_(?:code|reply)_text)\([^)]*\).*? \{\n(.*?)\n\}", text, re.S):
+        found.update({f"{name} of {constant}": said for constant, said in re.findall(row, body)})
+    return found
+
+
+def compared_texts(header, module):
+    """Texts of agc.h beside those of the modules, which have no pointers and so no code NULL."""
+    wanted = texts_of(header.replace("default: return", "case AGC__: return"), r'case AGC_(\w+): return "(.*)";')
+    wanted.pop("agc_code_text of NULL", None)
+    python = {f"agc_code_text of {it.name}": agc.code_text(it) for it in agc.Code}
+    python |= {f"agc_reply_text of {it.name}": agc.reply_text(it) for it in agc.Kind}
+    python |= {"agc_code_text of _": agc.code_text(-1), "agc_reply_text of _": agc.reply_text(0)}
+    yield from compared("agc.rs", wanted, texts_of(module, r'(\w+) => "(.*)",'))
+    yield from compared("agc.py", wanted, python)
+    if len(wanted) != 19:
+        yield f"signatures: agc.h has {len(wanted)} texts"
+
+
 def compared(name, wanted, found):
     for key in sorted(set(wanted) | set(found)):
         if wanted.get(key) != found.get(key):
-            yield f"signatures: {key} of {name} is {found.get(key)}, of the crate {wanted.get(key)}"
+            yield f"signatures: {key} of {name} is {found.get(key)}, and not {wanted.get(key)}"
 
 
 def main():
@@ -87,11 +108,14 @@ def main():
     calls, structs = of_rust(source, r'no_mangle\)\]\npub extern "C" ')
     header, module = text_of(f"{HERE}/../include/agc.h"), text_of(f"{HERE}/../rust/agc.rs")
     faults = []
-    for name, found in [("agc.h", of_c(header)), ("agc.rs", of_rust(module, r"pub (?:safe )?"))]:
+    # agc_begin stands before the block of declarations
+    rust = of_rust(module[module.index('extern "C"') :], r"pub (?:safe )?")[0], of_rust(module, "")[1]
+    for name, found in [("agc.h", of_c(header)), ("agc.rs", rust)]:
         faults += compared(name, calls, found[0])
         faults += compared(name, structs, found[1])
     faults += compared("agc.py", without_arrays(calls), of_python()[0])
     faults += compared("agc.py", structs, of_python()[1])
+    faults += compared_texts(header, module)
     constants = {name: int(n, 8 if n[0] == "0" else 10) for name, n in re.findall(r"AGC_(\w+) = (\d+)", header)}
     for name, number in re.findall(r"pub const (\w+): u32 = (\d+);", module):
         if constants.get(name) != int(number):

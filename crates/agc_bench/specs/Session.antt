@@ -8,7 +8,7 @@ use Rattle.agc_bench.specs.declared.run_fault.RunFault.{RunFault}
 use Rattle.agc_bench.specs.declared.run_fault.RunFault.TheVariants.{NoMemory, Output, NoThread, Lost}
 use Rattle.agc_text.specs.Report.{report_text}
 use Rattle.agc_text.specs.Session.{answer_lines}
-use Rattle.agc_text.specs.Writing.{AppendsFront, Writes}
+use Rattle.agc_text.specs.Writing.{AppendsFront}
 
 -- the text of a session: a line for each answer, then the report of totals and words of the machine that was reached
 pub record IsSession (machine : Machined) (requests : List Request) (text : List ℕ) : Type 0 where

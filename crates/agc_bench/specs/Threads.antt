@@ -7,7 +7,6 @@ use Rattle.agc_plan.specs.Plans.{Planned}
 use Rattle.agc_latch.specs.declared.accounts.Settled.{Settled}
 use Rattle.agc_latch.specs.declared.line.Line.{Line}
 use Rattle.agc_latch.specs.Lines.{on, raised, word_of, zeros}
-use Rattle.agc_machine.specs.declared.totals.Totals.{Totals}
 use Rattle.agc_machine.specs.Image.{HandsOut}
 use Rattle.agc_machine.specs.Machines.{Machined, after_all}
 use Rattle.agc_desk.specs.declared.book.Call.{Call}
@@ -21,7 +20,7 @@ use Rattle.agc_document.specs.Benches.{Benched}
 use Rattle.agc_bench.specs.Runs.{bench_machine, bench_plan}
 use Rattle.agc_text.specs.Pulses.{pulses_text}
 use Rattle.agc_text.specs.Report.{report_text}
-use Rattle.agc_text.specs.Writing.{AppendsFront, Writes}
+use Rattle.agc_text.specs.Writing.{AppendsFront}
 
 -- who asks with a share: a worker with its number and its requests, or one who attends to pulses
 pub data Asker : Type 0 where

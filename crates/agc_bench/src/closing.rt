@@ -43,6 +43,16 @@ fn settle_all<N: Names>(
     }
 }
 
+/// All shares, the caller's first.
+fn with_first<N: Names>(first: Share<N>, shares: Vec<Share<N>>) -> Result<Vec<Share<N>>, RunFault>
+    ensures all { IfOk result (λ v. v.items ≡ first ∷ shares.items) }
+    ensures early { IfErr result (λ fault. fault ≡ RunFault.NoMemory) }
+{
+    let mut all = shares;
+    all.insert(0, first)?;
+    Ok(all)
+}
+
 /// Gathers all shares of a desk, the caller's first.
 fn gather_all<N: Names>(
     desk: Desk<N>,
@@ -55,8 +65,7 @@ fn gather_all<N: Names>(
     ensures pulses { IfOk result (λ _. ArePulses N.first.plan desk.history desk.lines.applied) }
     ensures early { IfErr result (λ fault. fault ≡ RunFault.NoMemory) }
 {
-    let mut all = shares;
-    all.insert(0, first)?;
+    let all = with_first(first, shares)?;
     match gather(desk, all) {
         Ok(gathered) => Ok(gathered),
         Err(_left) => Err(RunFault::Lost),

@@ -1,11 +1,14 @@
-ghost use Rattle.std.specs.Prelude.{◌≡◌, ◌+◌, ◌≤◌, ℕ, [], IfOk, IfErr, OnOk, Some, length, nat_eq, vec_len};
+ghost use Rattle.std.specs.Prelude.{◌≡◌, ◌+◌, ◌≤◌, ℕ, [], IfOk, IfErr, OnOk, Some};
+ghost use Rattle.std.specs.Prelude.{length, map, nat_eq, vec_len};
 ghost use Rattle.agc_latch.specs.Accounts.{no_accounts, with_taker};
+ghost use Rattle.agc_latch.specs.Ends.{new_device};
 ghost use Rattle.agc_latch.specs.Lines.{zeros};
 ghost use Rattle.agc_desk.specs.Desks.{new_desk};
 ghost use Rattle.agc_desk.specs.Draining.{answers_to};
+ghost use Rattle.agc_desk.specs.Keeping.{lent_of};
 ghost use Rattle.agc_desk.specs.Opening.{names_of};
 ghost use Rattle.agc_bench.specs.Sharing.{AreFresh, AreReady, first_calls};
-ghost use Rattle.agc_bench.specs.Threads.{askers_of};
+ghost use Rattle.agc_bench.specs.Threads.{askers_of, threads_of};
 ghost use Rattle.agc_bench.specs.Steps.{IsEarly};
 
 use crate::asker::{ask_script, count_threads};
@@ -68,6 +71,33 @@ fn shares_of<N: Names>(
     Ok(shares)
 }
 
+/// New shares for the threads of a bench, and its devices.
+fn threads_and_devices<N: Names>(
+    alloc: Global,
+    desk: &mut Desk<N>,
+    latch: &Latch,
+    bench: &Bench,
+) -> Result<(Vec<Share<N>>, Vec<Device>), RunFault>
+    requires given { desk.old.given ≡ 1 }
+    requires lines { desk.old.lines ≡ with_taker latch.now no_accounts }
+    ensures fresh { IfOk result (λ r. AreFresh 1 r.0.items) }
+    ensures for_each { IfOk result (λ r. vec_len r.0 ≡ length (threads_of bench.now)) }
+    ensures devices { IfOk result (λ r. r.1.items ≡ map
+        (λ d. new_device latch.now d.1) bench.now.devices) }
+    ensures desk { OnOk result (desk.new ≡ record desk.old
+        { given = length (askers_of bench.now); lines = desk.new.lines }) }
+    ensures lent { OnOk result (lent_of desk.new.lines ≡ record {
+      latch = Some latch.now;
+      given = length bench.now.devices;
+      settled = zeros;
+    }) }
+    ensures early { IfErr result (λ fault. fault ≡ RunFault.NoMemory) }
+{
+    let shares = shares_of(alloc, desk, count_threads(bench))?;
+    let devices = devices_of(alloc, desk, latch, bench)?;
+    Ok((shares, devices))
+}
+
 /// Gets all ready that takes part in a run: the desk gives out the shares and the devices, and is
 /// asked the script with the caller's share.
 pub(crate) fn open<N: Sharing>(
@@ -95,8 +125,7 @@ pub(crate) fn open<N: Sharing>(
     ensures early { IfErr result (λ fault. IsEarly fault) }
 {
     let (mut desk, mut first) = desk_of::<N>(machine, blanks, taker);
-    let shares = shares_of(alloc, &mut desk, count_threads(bench))?;
-    let devices = devices_of(alloc, &mut desk, latch, bench)?;
+    let (shares, devices) = threads_and_devices(alloc, &mut desk, latch, bench)?;
     ask_script(&mut desk, &mut first, bench.script());
     Ok(RunParts {
         held: Held { desk },

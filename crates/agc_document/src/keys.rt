@@ -114,10 +114,7 @@ fn phase_at(table: &Table) -> Option<u8>
 fn text_at<'a>(table: &'a Table, key: &str) -> Option<&'a str>
     ensures { option_map (λ s. s.now) result ≡ text_at key.now (table_view table.now) }
 {
-    match value_at(table, key) {
-        Some(value) => value.as_str(),
-        None => None,
-    }
+    value_at(table, key)?.as_str()
 }
 
 /// A text, or `missing` where the key is missing.

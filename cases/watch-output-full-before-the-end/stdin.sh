@@ -1,0 +1,3 @@
+printf 'limit = 20000\nscript = [\n'
+yes '"tick",' | head -n 20000
+printf ']\n'

@@ -1,0 +1,243 @@
+"""Parts of hostile/run: the commands tools/many and ./agc, where much goes wrong around them."""
+import os
+import shutil
+import subprocess
+import sys
+import tempfile
+import time
+
+TOP = os.path.join(os.path.dirname(os.path.realpath(__file__)), "..")
+SECONDS = 60
+
+HEAD = "bench,status,served,a1201,a1202,a1203,restarts,refused,last_alarm,fault\n"
+
+# Seven core sets are taken, the eighth job raises alarm 1202 and two ticks are served; the allowance
+# is spent, and two more are refused.
+EIGHT_JOBS = """allowance = 10
+script = [%s "tick", "tick", "tick", "tick"]
+""" % ('"novac 20 02000 00005", ' * 8)
+
+# A kit that proves nothing: it builds a program that ends with status 7, and tries by saying so.
+KIT = """#!/bin/sh
+case "$1 $2" in
+    'all check') printf '== agc\\n== summary\\n' ;;
+    'run --') mkdir -p out && cp ../../program out/agc && echo 'rt: running out/agc; ' ;;
+    'try --') echo tried; printf 'checked: ended status=0\\nrun=ended status=0 \\n' >&2 ;;
+esac
+"""
+PROGRAM = "#!/bin/sh\necho ran $*\necho own line >&2\nexit 7\n"
+NEEDED = "sh dirname find sort xargs cksum cp mkdir mktemp head cat tr awk sed rm".split()
+
+# A program that does what its bench says, as a script of the shell.
+OBEYING = "#!/bin/sh\nexec sh\n"
+REPORT = "printf 'SERVED 3\\nALARMS 0 0 0\\nRESTARTS 0\\n'"
+
+
+def write(path, text, mode=0o644):
+    os.makedirs(os.path.dirname(path), exist_ok=True)
+    with open(path, "w", encoding="ascii") as file:
+        file.write(text)
+    os.chmod(path, mode)
+
+
+def read(path):
+    with open(path, encoding="utf-8", errors="surrogateescape") as file:
+        return file.read()
+
+
+def ended(words, **settings):
+    """The status, standard output and standard error of a command."""
+    settings.setdefault("stdout", subprocess.PIPE)
+    ran = subprocess.run(words, stderr=subprocess.PIPE, stdin=subprocess.DEVNULL, timeout=SECONDS,
+                         check=False, **settings)
+    text = (ran.stdout or b"").decode("utf-8", "surrogateescape")
+    return ran.returncode, text, ran.stderr.decode("utf-8", "surrogateescape")
+
+
+def run_many(hostile, *words, **settings):
+    hostile.runs += 1
+    return ended([sys.executable, f"{TOP}/tools/many", *words], **settings)
+
+
+def many(hostile):
+    """What one bench, one run or the output does wrong costs tools/many that row or ends it with a status."""
+    with tempfile.TemporaryDirectory() as room:
+        for it in (rows_of_faults, rows_of_runs, tables_left, tables_that_are_none, outputs):
+            it(hostile, os.path.join(room, it.__name__))
+
+
+def rows_of_faults(hostile, room):
+    """A folder, a link to nothing and a file that can't be read are faults of their rows alone."""
+    os.makedirs(f"{room}/a-folder.toml")
+    os.symlink("nowhere", f"{room}/b-link.toml")
+    write(f"{room}/c-jobs.toml", EIGHT_JOBS)
+    write(f"{room}/d-key.toml", "no = 1\n")
+    write(f"{room}/e-closed.toml", "no = 1\n", 0)
+    write(os.fsdecode(room.encode() + b"/f-\xff.toml"), "")
+    is_open = os.access(f"{room}/e-closed.toml", os.R_OK)
+    closed = "1,,,,,,,,agc: key" if is_open else ",,,,,,,,not read: Permission denied"
+    wanted = (HEAD + "a-folder,,,,,,,,,not read: it is no file\n"
+              "b-link,,,,,,,,,not read: No such file or directory\n"
+              "c-jobs,0,10,0,1,0,1,2,8,\nd-key,1,,,,,,,,agc: key\n"
+              f"e-closed,{closed}\nf-\udcff,0,0,0,0,0,0,0,,\n")
+    status, text, _ = run_many(hostile, room)
+    hostile.expect(f"many, of faults: status {status}, {text}", (status, text) == (1, wanted))
+    status, text, _ = run_many(hostile, room, "--mode", "threads", "--part", "3/6")
+    wanted = HEAD + "c-jobs,0,10,0,1,0,1,,,\n"
+    hostile.expect(f"many, of threads: status {status}, {text}", (status, text) == (0, wanted))
+
+
+def rows_of_runs(hostile, room):
+    """A run that goes on, one that is killed, and one that writes no report are told of in their rows."""
+    write(f"{room}/obeying", OBEYING, 0o755)
+    write(f"{room}/a-long.toml", "exec sleep 20")
+    write(f"{room}/b-apart.toml", "sleep 20; echo")
+    write(f"{room}/c-killed.toml", "kill -SEGV $$")
+    write(f"{room}/d-silent.toml", "exit 7")
+    write(f"{room}/e-other.toml", "echo SET")
+    began = time.monotonic()
+    words = (room, "--program", f"{room}/obeying", "--seconds", "2", "--keep", f"{room}/kept")
+    status, text, _ = run_many(hostile, *words)
+    wanted = (HEAD + "a-long,,,,,,,,,too long\nb-apart,,,,,,,,,too long\n"
+              "c-killed,,,,,,,,,killed by SIGSEGV\nd-silent,7,,,,,,,,it says nothing\n"
+              "e-other,0,,,,,,,,it wrote no report\n")
+    hostile.expect(f"many, of runs: status {status}, {text}", (status, text) == (1, wanted))
+    hostile.expect("many ends what is too long", time.monotonic() - began < 15)
+    hostile.expect("many keeps what was written", read(f"{room}/kept/e-other.out") == "SET\n")
+
+
+def tables_left(hostile, room):
+    """The rows of a run that is killed are there; --resume adds the others, and runs none again."""
+    write(f"{room}/obeying", OBEYING, 0o755)
+    write(f"{room}/a.toml", f"echo SET; {REPORT}")
+    write(f"{room}/b.toml", "exec sleep 20")
+    write(f"{room}/c.toml", f"echo no job; echo SET; {REPORT}")
+    words = [room, "--program", f"{room}/obeying"]
+    table = f"{room}/table"
+    hostile.runs += 1
+    with open(table, "wb") as file:
+        run = subprocess.Popen([sys.executable, f"{TOP}/tools/many", *words], stdout=file,
+                               stderr=subprocess.DEVNULL)
+    until = time.monotonic() + 8
+    while read(table).count("\n") < 2 and time.monotonic() < until:
+        time.sleep(0.02)
+    run.kill()
+    run.wait()
+    first = HEAD + "a,0,3,0,0,0,0,0,,\n"
+    hostile.expect(f"many, killed: {read(table)}", read(table) == first)
+    write(f"{room}/a.toml", "exit 7")
+    write(f"{room}/b.toml", f"echo alarm 1201; echo refused spent; echo SET; {REPORT}")
+    whole = first + "b,0,3,0,0,0,0,1,1,\nc,0,3,0,0,0,0,0,,\n"
+    for cut in (len(first), len(first) + 1, len(first) + 18, len(whole)):
+        write(table, whole[:cut])
+        status, text, said = run_many(hostile, *words, "--resume", table)
+        is_right = (status, text, read(table)) == (0, "", whole)
+        hostile.expect(f"many, resumed at {cut}: status {status}, {said}, {read(table)}", is_right)
+
+
+def tables_that_are_none(hostile, room):
+    """A file that isn't such a table, or in which a row before the last is cut, stays as it is."""
+    write(f"{room}/a.toml", "")
+    for text in ("bench,status\n", HEAD + "b,0,3\nc,0,3,0,0,0,0,0,,\n", "\0\n"):
+        write(f"{room}/table", text)
+        status, _, said = run_many(hostile, room, "--resume", f"{room}/table")
+        is_right = status == 2 and "is no table of" in said and read(f"{room}/table") == text
+        hostile.expect(f"many, resumed with no table: status {status}, {said}", is_right)
+    status, _, said = run_many(hostile, room, "--resume", "/dev/full")
+    hostile.expect(f"many, resumed with a device: status {status}, {said}", status == 2)
+
+
+def outputs(hostile, room):
+    """An output that is full, broken or closed ends tools/many with status 4 and one line."""
+    for k in range(40):
+        write(f"{room}/{k}.toml", "")
+    reading, broken = os.pipe()
+    os.close(reading)
+    with open("/dev/full", "wb") as full:
+        ways = {"No space left on device": {"stdout": full}, "Broken pipe": {"stdout": broken},
+                "Bad file descriptor": {"preexec_fn": lambda: os.close(1)}}
+        for fault, settings in ways.items():
+            status, _, said = run_many(hostile, room, **settings)
+            is_right = (status, said) == (4, f"many: output: {fault}\n")
+            hostile.expect(f"many, output {fault}: status {status}, {said}", is_right)
+    os.close(broken)
+
+
+class Clone:
+    """A clone of one crate, with ./agc, tools/prove and a kit."""
+
+    def __init__(self, hostile, room):
+        self.hostile, self.room = hostile, room
+
+    def fill(self):
+        for name in ("agc", "tools/prove", "tools/sources"):
+            os.makedirs(os.path.dirname(f"{self.room}/{name}"), exist_ok=True)
+            shutil.copy(f"{TOP}/{name}", f"{self.room}/{name}")
+        write(f"{self.room}/crates.txt", "agc:\n")
+        for name, text in (("src/main.rt", "fn main() {}\n"), ("args", "script\n"), ("stdin", "")):
+            write(f"{self.room}/crates/agc/{name}", text)
+        write(f"{self.room}/program", PROGRAM, 0o755)
+        write(f"{self.room}/kit/rt", KIT, 0o755)
+        os.mkdir(f"{self.room}/tools-of-system")
+        for name in NEEDED:
+            os.symlink(shutil.which(name), f"{self.room}/tools-of-system/{name}")
+
+    def copy(self, name):
+        """A copy whose files are all new, the sources newest."""
+        shutil.copytree(self.room, name, symlinks=True, copy_function=shutil.copy)
+        clone = Clone(self.hostile, name)
+        clone.date(60)
+        return clone
+
+    def date(self, seconds):
+        """Dates the source so many seconds from now."""
+        when = time.time() + seconds
+        os.utime(f"{self.room}/crates/agc/src/main.rt", (when, when))
+
+    def run(self, command, *words, kit=True):
+        self.hostile.runs += 1
+        path = f"{self.room}/tools-of-system" + (f":{self.room}/kit" if kit else "")
+        return ended([*command, *words], env={"PATH": path})
+
+    def expect(self, what, wanted, *words, kit=True):
+        """What ./agc writes and how it ends: with the first line on standard error, where there is one, by its end."""
+        status, text, said = self.run([f"{self.room}/agc"], *words, kit=kit)
+        lines = said.splitlines()
+        first = lines[0] if len(lines) > 1 else ""
+        is_right = (status, text) == wanted[:2] and first.endswith(wanted[2]) and bool(first) == bool(wanted[2])
+        self.hostile.expect(f"./agc, {what}: status {status}, {text}, {said}", is_right)
+
+
+def starter(hostile):
+    """./agc runs the program that was built from the sources that stand there, and what is there without the kit."""
+    ran, tried = (7, "ran script\n", ""), (0, "tried\n", "takes about a minute")
+    with tempfile.TemporaryDirectory() as room:
+        clone = Clone(hostile, f"{room}/clone")
+        clone.fill()
+        status, _, said = clone.run([f"{room}/clone/agc"], "script", kit=False)
+        hostile.expect(f"./agc with nothing: status {status}, {said}", status == 70)
+        clone.expect("before it is built", tried, "script")
+        status, text, _ = clone.run([sys.executable, f"{room}/clone/tools/prove"])
+        hostile.expect(f"tools/prove with a kit that proves nothing: status {status}, {text}", status == 0)
+        clone.expect("when it is built", ran, "script")
+        copy = clone.copy(f"{room}/copy")
+        copy.expect("copied", ran, "script")
+        copy.expect("copied, without the kit", ran, "script", kit=False)
+        linked = Clone(hostile, f"{room}/linked")
+        os.mkdir(linked.room)
+        for name in os.listdir(copy.room):
+            os.symlink(f"{copy.room}/{name}", f"{linked.room}/{name}")
+        linked.expect("called in a folder of links", ran, "script")
+        write(f"{room}/copy/crates/agc/src/main.rt", "fn main() { }\n")
+        copy.expect("changed", tried, "script")
+        copy.date(-9999)
+        copy.expect("changed, and dated back", tried, "script")
+        copy.expect("changed, without the kit", (*ran[:2], "is not on the path"), "script", kit=False)
+        write(f"{room}/copy/crates/agc/out/agc", f"{PROGRAM}#\n", 0o755)
+        copy.expect("built by others", ran, "script")
+        copy.date(60)
+        copy.expect("built by others, and older", tried, "script")
+        explained = "docs/FORMATS.md says what script, serial and threads read and write"
+        for words in ([], ["--help"], ["help"], ["script", "serial"]):
+            wanted = (7, f"ran {' '.join(words)}".strip() + "\n", explained)
+            clone.expect(f"asked for {words}", wanted, *words)
