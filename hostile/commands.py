@@ -11,8 +11,8 @@ SECONDS = 60
 
 HEAD = "bench,status,served,a1201,a1202,a1203,restarts,refused,last_alarm,fault\n"
 
-# Seven core sets are taken, the eighth job raises alarm 1202 and two ticks are served; the allowance
-# is spent, and two more are refused.
+# Seven core sets are taken, the eighth job raises alarm 1202 and two ticks are served; the
+# allowance is spent, and two more are refused.
 EIGHT_JOBS = """allowance = 10
 script = [%s "tick", "tick", "tick", "tick"]
 """ % ('"novac 20 02000 00005", ' * 8)
@@ -60,7 +60,7 @@ def run_many(hostile, *words, **settings):
 
 
 def many(hostile):
-    """What one bench, one run or the output does wrong costs tools/many that row or ends it with a status."""
+    """What one bench or run does wrong costs tools/many that row; an output's fault ends it."""
     with tempfile.TemporaryDirectory() as room:
         for it in (rows_of_faults, rows_of_runs, tables_left, tables_that_are_none, outputs):
             it(hostile, os.path.join(room, it.__name__))
@@ -88,7 +88,7 @@ def rows_of_faults(hostile, room):
 
 
 def rows_of_runs(hostile, room):
-    """A run that goes on, one that is killed, and one that writes no report are told of in their rows."""
+    """A run that goes on, one that is killed and one without a report: told in their rows."""
     write(f"{room}/obeying", OBEYING, 0o755)
     write(f"{room}/a-long.toml", "exec sleep 20")
     write(f"{room}/b-apart.toml", "sleep 20; echo")
@@ -200,7 +200,7 @@ class Clone:
         return ended([*command, *words], env={"PATH": path})
 
     def expect(self, what, wanted, *words, kit=True):
-        """What ./agc writes and how it ends: with the first line on standard error, where there is one, by its end."""
+        """What ./agc writes, its status, and the end of the first line on standard error, if any."""
         status, text, said = self.run([f"{self.room}/agc"], *words, kit=kit)
         lines = said.splitlines()
         first = lines[0] if len(lines) > 1 else ""
@@ -209,7 +209,7 @@ class Clone:
 
 
 def starter(hostile):
-    """./agc runs the program that was built from the sources that stand there, and what is there without the kit."""
+    """./agc runs what was built from the sources that stand there; without the kit, what is there."""
     ran, tried = (7, "ran script\n", ""), (0, "tried\n", "takes about a minute")
     with tempfile.TemporaryDirectory() as room:
         clone = Clone(hostile, f"{room}/clone")

@@ -263,9 +263,9 @@ AGC_INLINE uint32_t agc_begin_entry(uint16_t words[AGC_WORDS], uint32_t sets, co
 /* An era begins, as after an alarm: its code is recorded, all jobs and tasks are gone, and then for
    groups 1 to 6 in order the plan's entry for the group's phase begins, its job and then its task.
    `alarm` is one of the four, or 0 where none is recorded, as at a restart by request. A group of
-   phase 0, or of one that has no entry, begins nothing; of two entries for a phase the first counts.
+   phase 0, or of one that has no entry, begins nothing; of two for a phase the first counts.
    AGC_OUT_OF_RANGE and AGC_NOT_A_WORD are those of the alarm and of the entries that begin, in this
-   order; AGC_OUT_OF_RANGE also where all six groups begin a job by AGC_FINDVAC, since there are five
+   order; AGC_OUT_OF_RANGE also where all six groups begin a job by AGC_FINDVAC: there are five
    VAC areas. It looks at the whole image, and has no trusted form. */
 AGC_INLINE uint32_t agc_begin(uint16_t words[AGC_WORDS], uint32_t sets, uint32_t alarm, const AgcPhaseEntry *plan,
                               size_t entries) {

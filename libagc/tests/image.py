@@ -1,4 +1,4 @@
-"""What an `Image` of agc.py does besides its calls, and the faults of the module. Prints what doesn't hold."""
+"""What an `Image` of agc.py does besides its calls, and its faults. Prints what doesn't hold."""
 
 import ast
 import copy
@@ -16,7 +16,7 @@ COPIES = [copy.copy, copy.deepcopy, lambda it: pickle.loads(pickle.dumps(it))]
 
 
 def busy():
-    """The image of README's first run: job 2 runs with an area, job 1 waits, and a task is due in a centisecond."""
+    """README's first run: job 2 runs with an area, job 1 waits, a task is due in a centisecond."""
     image = Image(7)
     image.novac(0o20, 0o2000, 5)
     image.findvac(0o30, 0o2100, 5)
@@ -98,7 +98,7 @@ def words_are_a_tuple():
 
 
 def an_era_begins():
-    """Group 4 stands in phase 5: after the alarm there are its job, with the first area, and its task."""
+    """Group 4 in phase 5: after the alarm there are its job, with the first area, and its task."""
     others = [PhaseEntry(4, 5), PhaseEntry(4, 6, JobStart(1, 1, 1)), PhaseEntry(3, 0, JobStart(1, 1, 1))]
     plan = [PhaseEntry(4, 5, JobStart(0o25, 0o6000, 9, area=True), Listing(10, 0o6100, 9)), *others]
     for image in (busy(), Image(8)):
