@@ -1,3 +1,2 @@
-pub mod Statuses
-pub mod Messages
 pub mod Program
+pub mod Modes

@@ -1,26 +1,21 @@
 -- What the program makes of its input, in each mode.
-use Rattle.std.specs.Prelude.{◌≡◌, ℕ, ◌⊎◌, List, map, Option, Result, Ok, Err}
+use Rattle.std.specs.Prelude.{◌≡◌, ℕ, true, List, map, Option, Result, Ok, Err}
 use Rattle.toml.specs.Parse.{parse_document}
 use Rattle.agc_plan.specs.declared.request.Request.{Request}
-use Rattle.agc_text.specs.declared.fault.ReadFault.{ReadFault}
-use Rattle.agc_text.specs.Faults.{RefusesInput, RefusesScript}
-use Rattle.agc_text.specs.Input.{ReadsAll}
+use Rattle.agc_text.specs.Faults.{RefusesScript}
 use Rattle.agc_text.specs.Lines.{line_of}
 use Rattle.agc_text.specs.Script.{lines_of}
-use Rattle.agc_document.specs.Benches.{Benched, IsBench, bench_texts}
-use Rattle.agc_document.specs.Faults.{HasTexts, RefusesBench}
-use Rattle.agc_bench.specs.declared.run_fault.RunFault.{RunFault}
-use Rattle.agc_bench.specs.Runs.{bench_machine, bench_requests, script_machine}
-use Rattle.agc_bench.specs.Session.{WritesSession}
+use Rattle.agc_document.specs.Benches.{Benched}
+use Rattle.agc_document.specs.Faults.{RefusesBench}
+use Rattle.agc_session.specs.declared.run_fault.RunFault.{RunFault}
+use Rattle.agc_session.specs.Runs.{bench_machine, bench_requests, script_machine}
+use Rattle.agc_session.specs.Session.{WritesSession}
 use Rattle.agc_bench.specs.Threads.{WritesRun}
-use Rattle.agc.specs.declared.fault.Fault.{Fault}
-use Rattle.agc.specs.declared.fault.Fault.TheVariants as fault
+use Rattle.agc_program.specs.declared.fault.Fault.{Fault}
+use Rattle.agc_program.specs.declared.fault.Fault.TheVariants as fault
+use Rattle.agc_program.specs.Inputs.{IsDocument}
 use Rattle.agc.specs.declared.mode.Mode.{Mode}
 use Rattle.agc.specs.declared.mode.Mode.TheVariants as mode
-
--- the text is the document of a bench
-abbrev pub IsDocument : List ℕ → Benched → Type 0
-IsDocument text bench = IsBench bench × HasTexts (parse_document text) (bench_texts bench)
 
 -- what a run of this text wrote: a script's, or a bench's by one caller or by threads, of which no
 -- gate stops any
@@ -31,7 +26,7 @@ WritesOf mode.Script text old new outcome = (requests : List Request)
 WritesOf mode.Serial text old new outcome = (bench : Benched) × IsDocument text bench
     × WritesSession old new (bench_machine bench) (bench_requests bench) outcome
 WritesOf mode.Threads text old new outcome = (bench : Benched) × IsDocument text bench
-    × WritesRun (λ _ _. ⊥) bench old new outcome
+    × WritesRun (λ _ _ answer. answer ≡ true) bench old new outcome
 
 -- why this text is not run: it is no script, or no bench
 abbrev pub Refuses : Mode → List ℕ → Fault → Type 0
@@ -41,19 +36,8 @@ Refuses mode.Threads text (fault.Bench why) = RefusesBench (parse_document text)
 Refuses _ text _ = ⊥
 
 -- what comes of this text: it is refused, and nothing was written; or it is run
-abbrev pub RunsText : Mode → List ℕ → Option (List ℕ) → Option (List ℕ) → Result Unit Fault → Type 0
+abbrev pub RunsText : Mode → List ℕ → Option (List ℕ) → Option (List ℕ)
+    → Result Unit Fault → Type 0
 RunsText mode text old new (Ok done) = WritesOf mode text old new (Ok done)
 RunsText mode text old new (Err (fault.Run why)) = WritesOf mode text old new (Err why)
 RunsText mode text old new (Err why) = Refuses mode text why × (new ≡ old)
-
--- why input can't be read, so that nothing was written
-abbrev pub IsUnread : Option (List ℕ) → Option (List ℕ) → Result Unit Fault → Type 0
-IsUnread unread rest outcome =
-    (why : ReadFault) × (outcome ≡ Err (fault.Read why)) × RefusesInput unread rest why
-
--- what comes of input: it can't be read, or all of it was read, and this comes of its text
-abbrev pub EndsBy : Mode → Option (List ℕ) → Option (List ℕ) → Option (List ℕ) → Option (List ℕ)
-    → Result Unit Fault → Type 0
-EndsBy mode unread rest old new outcome =
-    (IsUnread unread rest outcome × (new ≡ old))
-    ⊎ ((text : List ℕ) × ReadsAll unread rest text × RunsText mode text old new outcome)

@@ -1,7 +1,10 @@
 //! The subcommand.
-use crate::fault::Fault;
+ghost use Rattle.std.specs.Prelude.{◌≡◌, IfOk, IfSome, IsNone, length};
+ghost use Rattle.agc.specs.declared.mode.Mode.{Mode};
+ghost use Rattle.agc.specs.Modes.{mode_name};
+
+use agc_program::{Fault, only_word};
 use clap::Command;
-use clap::error::ErrorKind;
 use std::alloc::Global;
 
 /// What the program is asked to run.
@@ -15,7 +18,11 @@ pub enum Mode {
     Threads,
 }
 
-fn mode_named(name: &str) -> Option<Mode> {
+/// The mode that a subcommand asks for.
+fn mode_named(name: &str) -> Option<Mode>
+    ensures named { IfSome result (λ mode. name.now ≡ mode_name mode) }
+    ensures none { IsNone result → (mode : Mode) → ¬ (name.now ≡ mode_name mode) }
+{
     match name {
         "script" => Some(Mode::Script),
         "serial" => Some(Mode::Serial),
@@ -24,32 +31,19 @@ fn mode_named(name: &str) -> Option<Mode> {
     }
 }
 
-/// The mode that the words of a command line name: the program's own name and one subcommand, and no more.
+/// The mode that the words of a command line name: the program's own name and one subcommand, and
+/// no more.
 ///
 /// # Errors
 ///
 /// `Words` for any other words, and `NoMemory`.
-pub fn mode_of(alloc: Global, words: &[String]) -> Result<Mode, Fault> {
+pub fn mode_of(alloc: Global, words: &[String]) -> Result<Mode, Fault>
+    ensures { IfOk result (λ _. length words.now ≡ 2) }
+{
     let command = Command::new(alloc, "agc")
         .subcommand(Command::new(alloc, "script"))?
         .subcommand(Command::new(alloc, "serial"))?
         .subcommand(Command::new(alloc, "threads"))?;
-    match command.try_get_matches_from(words) {
-        Ok(matches) => {
-            if words.len() != 2 {
-                return Err(Fault::Words);
-            }
-            matches
-                .subcommand_name()
-                .and_then(|name| mode_named(name))
-                .ok_or(Fault::Words)
-        }
-        Err(error) => {
-            if error.kind() == ErrorKind::OutOfMemory {
-                Err(Fault::NoMemory)
-            } else {
-                Err(Fault::Words)
-            }
-        }
-    }
+    let matches = command.try_get_matches_from(words)?;
+    mode_named(only_word(&matches, words)?).ok_or(Fault::Words)
 }

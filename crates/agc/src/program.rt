@@ -1,32 +1,20 @@
 //! What the program does: the words, the reading, the script or bench, the run, in this order.
 ghost use Rattle.agc.specs.declared.mode.Mode.TheVariants.{Script, Serial, Threads};
-ghost use Rattle.agc.specs.Program.{EndsBy, RunsText};
+ghost use Rattle.agc_program.specs.Inputs.{EndsBy};
+ghost use Rattle.agc.specs.Program.{RunsText};
 
-use crate::fault::Fault;
 use crate::mode::{Mode, mode_of};
-use agc_bench::{read_all, read_script, run_script, serial, threads};
+use agc_bench::threads;
 use agc_desk::OpenGate;
 use agc_document::read_bench;
+use agc_program::{Fault, buffered, flushed, given_words};
+use agc_session::{run_script, serial};
+use agc_text::{read_all, read_script};
 use std::alloc::Global;
-use std::io::{BufWriter, ErrorKind, Read, Write};
+use std::io::{Read, Write};
 use std::rt::Env;
 use std::sync::Wait;
 use std::thread::Threads;
-use std::{env, io};
-
-/// The words of the command line. One that isn't text is a wrong word.
-fn words<R: Env + AllocGlobal>(rt: &R) -> Result<Vec<String>, Fault> {
-    match env::args(rt) {
-        Ok(args) => Ok(args.collect(rt.alloc())?),
-        Err(error) => {
-            if error.kind() == ErrorKind::OutOfMemory {
-                Err(Fault::NoMemory)
-            } else {
-                Err(Fault::Words)
-            }
-        }
-    }
-}
 
 /// Runs a text as a script.
 fn run_as_script<W: Write>(alloc: Global, text: &str, writer: &mut W) -> Result<(), Fault>
@@ -68,7 +56,7 @@ fn run_input<T: Threads + Wait + Sync, R: Read, W: Write>(
     reader: &mut R,
     writer: &mut W,
 ) -> Result<(), Fault>
-    ensures { EndsBy mode (R.remaining reader.old) (R.remaining reader.new)
+    ensures { EndsBy (RunsText mode) (R.remaining reader.old) (R.remaining reader.new)
         (W.contents writer.old) (W.contents writer.new) result }
 {
     let text = read_all(alloc, reader)?;
@@ -83,13 +71,9 @@ fn run_input<T: Threads + Wait + Sync, R: Read, W: Write>(
 pub fn run(
     rt: &(impl Env + AllocGlobal + Input + Print + Threads + Wait + Sync),
 ) -> Result<(), Fault> {
-    let given = words(rt)?;
+    let given = given_words(rt)?;
     let mode = mode_of(rt.alloc(), given.as_slice())?;
-    let mut output = io::writer(rt);
-    let mut buffer = match BufWriter::new(rt.alloc(), &mut output) {
-        Ok(buffer) => buffer,
-        Err(_error) => return Err(Fault::NoMemory),
-    };
-    run_input(rt, rt.alloc(), mode, &mut rt.reader(), &mut buffer)?;
-    buffer.flush().map_err(|_| Fault::Output)
+    let mut output = buffered(rt)?;
+    run_input(rt, rt.alloc(), mode, &mut rt.reader(), &mut output)?;
+    flushed(&mut output)
 }

@@ -4,7 +4,7 @@ use Rattle.std.proofs.lemmas.List.{get_or_append_left, get_or-append_right, get_
 use Rattle.std.proofs.lemmas.List.FromFn.{get_or-enumerate_from, length-enumerate_from}
 use Rattle.agc_plan.specs.declared.request.Request.{Request}
 use Rattle.agc_document.specs.Benches.{Benched}
-use Rattle.agc_bench.specs.Threads.{Worker, Attends, workers_of, threads_of}
+use Rattle.agc_bench.specs.Threads.{Asker, Worker, Attends, workers_of, threads_of}
 use Rattle.agc_bench.specs.Steps.{thread_at}
 
 -- how many workers there are
@@ -16,25 +16,25 @@ workers_of_length bench =
 pub worker_at : (bench : Benched) (k : ℕ) (r : List Request) → k < length bench.workers → thread_at bench k ≡ Worker k (get_or bench.workers k r)
 worker_at bench k r below =
     let numbered = enumerate_from 0 bench.workers in
-    get_or_append_left (workers_of bench) (Attends ∷ []) Attends k (omega (arith, workers_of_length bench, below))
-    ∙ (get_or-map (λ w. Worker w.0 w.1) numbered k (0, r) Attends (omega (arith, length-enumerate_from 0 bench.workers, below))
+    get_or_append_left (workers_of bench) (Attends bench.attends ∷ []) (Attends bench.attends) k (omega (arith, workers_of_length bench, below))
+    ∙ (get_or-map (λ w. Worker w.0 w.1) numbered k (0, r) (Attends bench.attends) (omega (arith, length-enumerate_from 0 bench.workers, below))
     ∙ (ap (λ w. Worker w.0 w.1) (get_or-enumerate_from 0 bench.workers k (0, r) below)
     ∙ ap (λ j. Worker j (get_or bench.workers k r)) (omega arith)))
 
 -- one who attends is the same as nobody
-last_attends : (k : ℕ) → get_or (Attends ∷ []) k Attends ≡ Attends
-last_attends zero = refl
-last_attends (suc k) = refl
+last_attends : (asker : Asker) (k : ℕ) → get_or (asker ∷ []) k asker ≡ asker
+last_attends asker zero = refl
+last_attends asker (suc k) = refl
 
 -- one who attends, past the workers
-pub attends_at : (bench : Benched) (k : ℕ) → length bench.workers ≤ k → thread_at bench k ≡ Attends
+pub attends_at : (bench : Benched) (k : ℕ) → length bench.workers ≤ k → thread_at bench k ≡ Attends bench.attends
 attends_at bench k past =
-    get_or-append_right (workers_of bench) (Attends ∷ []) (length bench.workers) k Attends (workers_of_length bench) past
-    ∙ last_attends (k - length bench.workers)
+    get_or-append_right (workers_of bench) (Attends bench.attends ∷ []) (length bench.workers) k (Attends bench.attends) (workers_of_length bench) past
+    ∙ last_attends (Attends bench.attends) (k - length bench.workers)
 
 -- how many threads ask
 pub threads_length : (bench : Benched) → length (threads_of bench) ≡ length bench.workers + 1
-threads_length bench = length-append (workers_of bench) (Attends ∷ []) ∙ ap (λ n. n + 1) (workers_of_length bench)
+threads_length bench = length-append (workers_of bench) (Attends bench.attends ∷ []) ∙ ap (λ n. n + 1) (workers_of_length bench)
 
 -- as many, as the code holds them
 workers_length : {W : Type 0} (bench : Benched) (ws : List W) (items : W → List Request) → map items ws ≡ bench.workers → length bench.workers ≡ length ws
@@ -49,7 +49,7 @@ worker_held bench ws items k w asked same below is all =
 
 -- one who attends, from what the code holds
 pub attends_held : {W : Type 0} (bench : Benched) (ws : List W) (items : W → List Request) (k : ℕ)
-    → map items ws ≡ bench.workers → length ws ≤ k → thread_at bench k ≡ Attends
+    → map items ws ≡ bench.workers → length ws ≤ k → thread_at bench k ≡ Attends bench.attends
 attends_held bench ws items k same past = attends_at bench k (omega (arith, workers_length bench ws items same, past))
 
 -- how many threads ask, from what the code holds

@@ -1,5 +1,5 @@
 -- The history of a run: the script's calls, and those of the threads.
-use Rattle.std.proofs.Common.{rules, ◌≡◌, ℕ, zero, suc, ◌+◌, ◌<◌, ◌≤◌, ◌==◌, true, false, ◌&&◌, Bool, cond, is_ok, nat_eq, List, [], ◌∷◌, ◌++◌, length, get_or, take, drop, None, arith, refl, sym, ap, subst, ◌∙◌, append_assoc}
+use Rattle.std.proofs.Common.{rules, ◌≡◌, ℕ, zero, suc, ◌+◌, ◌<◌, ◌≤◌, ◌==◌, true, false, ◌&&◌, Bool, cond, is_ok, nat_eq, List, [], ◌∷◌, ◌++◌, length, get_or, take, drop, arith, refl, sym, ap, subst, ◌∙◌, append_assoc}
 use Rattle.std.specs.List.{Contains, filter}
 use Rattle.std.proofs.lemmas.Bool.Decides.{nat_tests}
 use Rattle.std.proofs.lemmas.List.{append-nil, append_cancel_left, get_or-map, length-map, take-append-drop}
@@ -16,12 +16,11 @@ use Rattle.agc_machine.specs.Machines.{Machined, after, after_all, answer_of}
 use Rattle.agc_machine.specs.Said.{Said}
 use Rattle.agc_desk.specs.declared.book.Call.{Call}
 use Rattle.agc_desk.specs.Desks.{ArePulses}
-use Rattle.agc_desk.specs.History.{Holder, IsHistory, Leads, applied_in, calls_by, is_of, numbers_of}
-use Rattle.agc_desk.specs.Runs.{requests_of}
+use Rattle.agc_desk.specs.History.{Holder, IsHistory, Leads, applied_in, calls_by, is_of, new_holder, numbers_of, own_call, with_heard}
 use Rattle.agc_desk.proofs.Calls.{calls_by_append}
 use Rattle.agc_text.proofs.Sessions.{rest_is, nothing_left}
 use Rattle.agc_document.specs.Benches.{Benched}
-use Rattle.agc_bench.specs.Runs.{bench_machine, bench_plan}
+use Rattle.agc_session.specs.Runs.{bench_machine, bench_plan}
 use Rattle.agc_desk.specs.Draining.{answers_to}
 use Rattle.agc_bench.specs.Sharing.{AreFresh, AsksOwn, AsksPulses, EachAsks, Finishes, HaveMade, HaveRun, first_calls}
 use Rattle.agc_bench.specs.Threads.{AskedOwn, IsRun, asker_at, askers_of}
@@ -34,24 +33,15 @@ unfolding answers_to
 answers_at m rs i r said below is asked answered =
     ap (answers_to m) (rest_is rs i r below is) ∙ (λ k. record { request = sym asked k; outcome = sym answered k } ∷ answers_to (after m r) (drop (i + 1) rs))
 
-pub answers_next : (goal so_far : List Said) (m : Machined) (rs : List Request) (i : ℕ) (r : Request) (said : Said) → i < length rs → r ≡ get_or rs i r
-    → said.request ≡ r → said.outcome ≡ answer_of m r → goal ≡ so_far ++ answers_to m (drop i rs) → goal ≡ (so_far ++ said ∷ []) ++ answers_to (after m r) (drop (i + 1) rs)
-answers_next goal so_far m rs i r said below is asked answered whole =
-    whole ∙ (ap (λ l. so_far ++ l) (answers_at m rs i r said below is asked answered) ∙ sym (append_assoc so_far (said ∷ []) (answers_to (after m r) (drop (i + 1) rs))))
-
 pub calls_next : (goal so_far : List Call) (m : Machined) (rs : List Request) (i : ℕ) (r : Request) (n : ℕ) (said : Said) → i < length rs → r ≡ get_or rs i r → n ≡ 0
     → said.request ≡ r → said.outcome ≡ answer_of m r → goal ≡ so_far ++ first_calls (answers_to m (drop i rs))
-    → goal ≡ (so_far ++ record { by = n; answer = said; pulse = None } ∷ []) ++ first_calls (answers_to (after m r) (drop (i + 1) rs))
+    → goal ≡ (so_far ++ own_call n said ∷ []) ++ first_calls (answers_to (after m r) (drop (i + 1) rs))
 calls_next goal so_far m rs i r n said below is first asked answered whole =
     whole ∙ (ap (λ l. so_far ++ first_calls l) (answers_at m rs i r said below is asked answered)
-    ∙ (ap (λ k. so_far ++ record { by = k; answer = said; pulse = None } ∷ first_calls (answers_to (after m r) (drop (i + 1) rs))) (sym first)
-    ∙ sym (append_assoc so_far (record { by = n; answer = said; pulse = None } ∷ []) (first_calls (answers_to (after m r) (drop (i + 1) rs))))))
+    ∙ (ap (λ k. so_far ++ own_call k said ∷ first_calls (answers_to (after m r) (drop (i + 1) rs))) (sym first)
+    ∙ sym (append_assoc so_far (own_call n said ∷ []) (first_calls (answers_to (after m r) (drop (i + 1) rs))))))
 
 -- and after the last
-pub answers_last : (goal so_far : List Said) (m : Machined) (rs : List Request) (i : ℕ) → length rs ≤ i → goal ≡ so_far ++ answers_to m (drop i rs) → so_far ≡ goal
-unfolding answers_to
-answers_last goal so_far m rs i past whole = sym (whole ∙ (ap (λ l. so_far ++ answers_to m l) (nothing_left rs i past) ∙ append-nil so_far))
-
 pub calls_last : (goal so_far : List Call) (m : Machined) (rs : List Request) (i : ℕ) → length rs ≤ i → goal ≡ so_far ++ first_calls (answers_to m (drop i rs)) → so_far ≡ goal
 unfolding answers_to
 calls_last goal so_far m rs i past whole = sym (whole ∙ (ap (λ l. so_far ++ first_calls (answers_to m l)) (nothing_left rs i past) ∙ append-nil so_far))
@@ -63,9 +53,9 @@ leads_past m [] rest last leads = leads
 leads_past m (r ∷ more) rest last leads = leads_past (after m r) more rest last leads.1
 
 -- of the first calls all are of number 0
-pub calls_by_first : (told : List Said) → calls_by 0 (first_calls told) ≡ told
+pub calls_by_first : (told : List Said) → calls_by 0 (first_calls told) ≡ first_calls told
 calls_by_first [] = refl
-calls_by_first (said ∷ more) = ap (λ l. said ∷ l) (calls_by_first more)
+calls_by_first (said ∷ more) = ap (λ l. own_call 0 said ∷ l) (calls_by_first more)
 
 pub calls_by_others : (number : ℕ) (told : List Said) → calls_by (suc number) (first_calls told) ≡ []
 calls_by_others number [] = refl
@@ -74,24 +64,24 @@ calls_by_others number (said ∷ more) =
     rw apart (calls_by_others number more)
 
 -- a share with which the first calls were made, and the others
-pub made : (calls : List Call) (first : Holder) (others : List Holder) → first ≡ record { number = 0; heard = calls_by 0 calls } → ((n : ℕ) → calls_by (suc n) calls ≡ []) → AreFresh 1 others
+pub made : (calls : List Call) (first : Holder) (others : List Holder) → first ≡ with_heard (calls_by 0 calls) (new_holder 0) → ((n : ℕ) → calls_by (suc n) calls ≡ []) → AreFresh 1 others
     → HaveMade calls (first ∷ others)
 made calls first others is none fresh zero d below = is
 made calls first others is none fresh (suc i) d below =
     let number : 1 + i ≡ suc i = omega arith in
-    fresh i d (omega arith) ∙ (λ k. record { number = number k; heard = sym (none i) k })
+    fresh i d (omega arith) ∙ (λ k. record { number = number k; heard = sym (none i) k; drains = 0 })
 
 -- each share stands at its number
-number_at : (calls : List Call) (may_stop : ℕ → ℕ → Type 0) (bench : Benched) (starts back : List Holder) → HaveMade calls starts → EachAsks may_stop (bench_plan bench) (asker_at bench) starts back → length back ≡ length starts
+number_at : (calls : List Call) (may_answer : ℕ → ℕ → Bool → Type 0) (bench : Benched) (starts back : List Holder) → HaveMade calls starts → EachAsks may_answer (asker_at bench) starts back → length back ≡ length starts
     → (i : ℕ) (d : Holder) → i < length back → (get_or back i d).number ≡ i
-number_at calls may_stop bench starts back begun asked many i d below =
-    (asked i d d below).all.number ∙ ap (λ h. h.number) (begun i d (omega (arith, many, below)))
+number_at calls may_answer bench starts back begun asked many i d below =
+    (asked i d d below).with_it.number ∙ ap (λ h. h.number) (begun i d (omega (arith, many, below)))
 
 -- a call of no pulse is not counted
 none_counted : (line : Line) (number : ℕ) (said : Said) (calls : List Call)
-    → applied_in line (record { by = number; answer = said; pulse = None } ∷ calls) ≡ applied_in line calls
+    → applied_in line (own_call number said ∷ calls) ≡ applied_in line calls
 none_counted line number said calls =
-    let call : Call = record { by = number; answer = said; pulse = None } in
+    let call : Call = own_call number said in
     sym (length-filter (λ (c : Call). is_ok c.answer.outcome && is_of line c.pulse) (call ∷ calls))
     ∙ (ap (λ (b : Bool). length (cond b (call ∷ filter (λ (c : Call). is_ok c.answer.outcome && is_of line c.pulse) calls) (filter (λ (c : Call). is_ok c.answer.outcome && is_of line c.pulse) calls))) (and_off (is_ok said.outcome))
     ∙ length-filter (λ (c : Call). is_ok c.answer.outcome && is_of line c.pulse) calls)
@@ -110,12 +100,12 @@ pulses_past plan (said ∷ more) rest applied pulses =
     })
 
 -- where a history begins with the script's calls, and each share's holder asked then what is its own, it is a run
-pub run_of : (may_stop : ℕ → ℕ → Type 0) (bench : Benched) (first : Machined) (history : List Call) (last : Machined) (starts back : List Holder) (applied : List ℕ)
+pub run_of : (may_answer : ℕ → ℕ → Bool → Type 0) (bench : Benched) (first : Machined) (history : List Call) (last : Machined) (starts back : List Holder) (applied : List ℕ)
     → first ≡ bench_machine bench → IsHistory first back history last → ArePulses (bench_plan bench) history applied
     → take (length (first_calls (answers_to first bench.script))) history ≡ first_calls (answers_to first bench.script)
-    → HaveMade (first_calls (answers_to first bench.script)) starts → EachAsks may_stop (bench_plan bench) (asker_at bench) starts back
-    → length back ≡ length starts → length starts ≡ length (askers_of bench) → IsRun may_stop bench last applied
-run_of may_stop bench first history last starts back applied is whole pulses begins begun asked many for_each =
+    → HaveMade (first_calls (answers_to first bench.script)) starts → EachAsks may_answer (asker_at bench) starts back
+    → length back ≡ length starts → length starts ≡ length (askers_of bench) → IsRun may_answer bench last applied
+run_of may_answer bench first history last starts back applied is whole pulses begins begun asked many for_each =
     let begin : List Call = first_calls (answers_to first bench.script) in
     let rest : List Call = drop (length begin) history in
     let parts : history ≡ begin ++ rest = sym (take-append-drop (length begin) history) ∙ ap (λ l. l ++ rest) begins in
@@ -123,23 +113,23 @@ run_of may_stop bench first history last starts back applied is whole pulses beg
       calls = rest;
       leads = subst (λ m. Leads (after_all m bench.script) rest last) is (leads_past first bench.script rest last (subst (λ l. Leads first l last) parts whole.leads));
       each = λ i below.
-          let d : Holder = record { number = i; heard = [] } in
-          let a : AsksOwn may_stop (bench_plan bench) (asker_at bench i) (get_or starts i d) (get_or back i d) = asked i d d (omega (arith, many, for_each, below)) in
+          let d : Holder = new_holder i in
+          let a : AsksOwn may_answer (asker_at bench i) (get_or starts i d) (get_or back i d) = asked i d d (omega (arith, many, for_each, below)) in
           let start = begun i d (omega (arith, for_each, below)) in
-          let number : (get_or back i d).number ≡ i = number_at begin may_stop bench starts back begun asked many i d (omega (arith, many, for_each, below)) in
-          let heard : calls_by i begin ++ calls_by i rest ≡ calls_by i begin ++ a.all.told =
+          let number : (get_or back i d).number ≡ i = number_at begin may_answer bench starts back begun asked many i d (omega (arith, many, for_each, below)) in
+          let heard : calls_by i begin ++ calls_by i rest ≡ calls_by i begin ++ a.calls =
           sym (calls_by_append i begin rest)
           ∙ (ap (calls_by i) (sym parts)
           ∙ (ap (λ n. calls_by n history) (sym number)
           ∙ (whole.each i d (omega (arith, many, for_each, below))
-          ∙ (a.all.heard ∙ ap (λ h. h.heard ++ a.all.told) start)))) in
-          subst (λ l. AskedOwn may_stop (bench_plan bench) (asker_at bench i) l) (sym a.all.asked ∙ ap requests_of (sym (append_cancel_left (calls_by i begin) _ _ heard))) a.own;
+          ∙ (a.with_it.heard ∙ ap (λ h. h.heard ++ a.calls) start)))) in
+          subst (λ l. AskedOwn may_answer (asker_at bench i) l) (sym (append_cancel_left (calls_by i begin) _ _ heard)) a.own;
       no_other = λ k d below.
           let among = All-drop (λ (call : Call). Contains (numbers_of back) call.by) (length begin) history whole.no_other k d below in
           let far : among.0 < length back = omega (arith, among.1, length-map back (λ (h : Holder). h.number)) in
-          let d0 : Holder = record { number = 0; heard = [] } in
+          let d0 : Holder = new_holder 0 in
           let place = get_or-map (λ (h : Holder). h.number) back among.0 d0 (get_or rest k d).by far in
-          let number = number_at begin may_stop bench starts back begun asked many among.0 d0 far in
+          let number = number_at begin may_answer bench starts back begun asked many among.0 d0 far in
           omega (arith, far, among.2, place, number, many, for_each);
       pulses = pulses_past (bench_plan bench) (answers_to first bench.script) rest applied (subst (λ l. ArePulses (bench_plan bench) l applied) parts pulses);
     }
@@ -160,11 +150,11 @@ pub begins_with : (l history : List Call) → history ≡ l → take (length l) 
 begins_with l history is = ap (take (length l)) is ∙ take_own l
 
 -- the caller attended, and each thread asked what is its own
-pub each_all : (may_stop : ℕ → ℕ → Type 0) (bench : Benched) (first mid : Holder) (others back : List Holder) → AsksPulses (bench_plan bench) first mid
-    → EachAsks may_stop (bench_plan bench) (thread_at bench) others back → EachAsks may_stop (bench_plan bench) (asker_at bench) (first ∷ others) (mid ∷ back)
-each_all may_stop bench first mid others back attended asked zero s t below =
-    record { asked = attended.asked; own = attended.own; all = attended.all }
-each_all may_stop bench first mid others back attended asked (suc i) s t below = asked i s t (omega arith)
+pub each_all : (may_answer : ℕ → ℕ → Bool → Type 0) (bench : Benched) (first mid : Holder) (others back : List Holder) → AsksPulses 1 first mid
+    → EachAsks may_answer (thread_at bench) others back → EachAsks may_answer (asker_at bench) (first ∷ others) (mid ∷ back)
+each_all may_answer bench first mid others back attended asked zero s t below =
+    record { calls = attended.calls; own = attended.own; with_it = attended.with_it }
+each_all may_answer bench first mid others back attended asked (suc i) s t below = asked i s t (omega arith)
 
 -- a history that begins with these calls begins with them as it goes on
 pub begins_on : (l history more : List Call) → take (length l) history ≡ l → take (length l) (history ++ more) ≡ l
@@ -189,18 +179,17 @@ unfolding bench_machine
 none_before bench first told total is grown = sym (with_nothing told) ∙ (sym (ap (λ (m : Machined). add told m.totals) is) ∙ grown)
 
 -- when the threads have ended, and then the caller attended, it is a run
-pub run_finished : (may_stop : ℕ → ℕ → Type 0) (bench : Benched) (first : Machined) (latch : TableId) (calls : List Call) (caller : Holder) (shares : List Holder) (devices : List Posting) (last : Machined) (applied : List ℕ)
+pub run_finished : (may_answer : ℕ → ℕ → Bool → Type 0) (bench : Benched) (first : Machined) (latch : TableId) (calls : List Call) (caller : Holder) (shares : List Holder) (devices : List Posting) (last : Machined) (applied : List ℕ)
     → first ≡ bench_machine bench
     → take (length (first_calls (answers_to first bench.script))) calls ≡ first_calls (answers_to first bench.script)
-    → HaveRun may_stop first bench latch caller shares devices → Finishes first calls caller shares last applied → IsRun may_stop bench last applied
-run_finished may_stop bench first latch calls caller shares devices last applied is begins ran ends =
+    → HaveRun may_answer first bench latch caller shares devices → Finishes first calls caller shares last applied → IsRun may_answer bench last applied
+run_finished may_answer bench first latch calls caller shares devices last applied is begins ran ends =
     let answers : List Said = answers_to first bench.script in
     let starts : List Holder = caller ∷ ran.starts in
-    let caller_is : caller ≡ record { number = 0; heard = calls_by 0 (first_calls answers) } =
-    ran.ready.caller_is ∙ ap (λ l. record { number = 0; heard = l }) (sym (calls_by_first answers)) in
+    let caller_is : caller ≡ with_heard (calls_by 0 (first_calls answers)) (new_holder 0) =
+    ran.ready.caller_is ∙ ap (λ l. with_heard l (new_holder 0)) (sym (calls_by_first answers)) in
     let begun : HaveMade (first_calls answers) starts = made (first_calls answers) caller ran.starts caller_is (λ n. calls_by_others n answers) ran.ready.fresh in
-    let attended : AsksPulses (bench_plan bench) caller ends.now = subst (λ p. AsksPulses p caller ends.now) (plan_is bench first is) ends.attended in
-    let asked : EachAsks may_stop (bench_plan bench) (asker_at bench) starts (ends.now ∷ shares) = each_all may_stop bench caller ends.now ran.starts shares attended ran.each in
-    run_of may_stop bench first (calls ++ ends.more) last starts (ends.now ∷ shares) applied is ends.whole
+    let asked : EachAsks may_answer (asker_at bench) starts (ends.now ∷ shares) = each_all may_answer bench caller ends.now ran.starts shares ends.attended ran.each in
+    run_of may_answer bench first (calls ++ ends.more) last starts (ends.now ∷ shares) applied is ends.whole
     (subst (λ p. ArePulses p (calls ++ ends.more) applied) (plan_is bench first is) ends.pulses)
     (begins_on (first_calls answers) calls ends.more begins) begun asked (omega (arith, ran.for_each)) (omega (arith, ran.ready.for_each))

@@ -1,5 +1,3 @@
-pub mod Sessions
-pub mod Pairs
 pub mod Askers
 pub mod Histories
 pub mod Pledges

@@ -1,9 +1,7 @@
 -- Of proofs alone: what the threads of a run know of their shares and devices.
-use Rattle.std.specs.Prelude.{◌≡◌, ℕ, ◌+◌, ◌<◌, List, [], ◌∷◌, ◌++◌, length, map, slice_index_or, None}
+use Rattle.std.specs.Prelude.{◌≡◌, ℕ, ◌+◌, ◌<◌, List, [], ◌∷◌, ◌++◌, length, map, slice_index_or, Bool, IsSome}
 use Rattle.std.specs.List.{All}
 use Rattle.atomic_table.specs.Seated.{TableId}
-use Rattle.agc_plan.specs.declared.request.Request.{Request}
-use Rattle.agc_plan.specs.Plans.{Planned}
 use Rattle.agc_latch.specs.declared.accounts.Settled.{Settled}
 use Rattle.agc_latch.specs.declared.line.Line.{Line}
 use Rattle.agc_latch.specs.Accounts.{posted_by}
@@ -15,44 +13,54 @@ use Rattle.agc_desk.specs.declared.book.Call.{Call}
 use Rattle.agc_desk.specs.Desks.{ArePulses}
 use Rattle.agc_desk.specs.Draining.{answers_to}
 use Rattle.agc_desk.specs.History.{Holder, IsHistory, calls_by}
-use Rattle.agc_desk.specs.Runs.{AsksAll}
+use Rattle.agc_desk.specs.History.{new_holder, own_call, with_heard}
 use Rattle.agc_document.specs.Benches.{Benched}
-use Rattle.agc_bench.specs.Runs.{bench_plan}
-use Rattle.agc_bench.specs.Threads.{Asker, AskedOwn, IsPulse, posts_of, threads_of}
+use Rattle.agc_bench.specs.Threads.{Asker, Worker, Attends, AskedOwn, posts_of, threads_of}
 use Rattle.agc_bench.specs.Steps.{thread_at}
 
 -- the calls of the share of number 0, with these answers, of no line's pulse
 abbrev pub first_calls : List Said → List Call
-first_calls told = map (λ said. record { by = 0; answer = said; pulse = None }) told
+first_calls told = map (own_call 0) told
 
 -- shares with which nothing was asked, numbered from this one on
 abbrev pub AreFresh : ℕ → List Holder → Type 0
 AreFresh from shares = (i : ℕ) (d : Holder) → i < length shares
-    → slice_index_or shares i d ≡ record { number = from + i; heard = [] }
+    → slice_index_or shares i d ≡ new_holder (from + i)
 
 -- shares numbered from 0, with which just these calls were made
 abbrev pub HaveMade : List Call → List Holder → Type 0
 HaveMade calls shares = (i : ℕ) (d : Holder) → i < length shares
-    → slice_index_or shares i d ≡ record { number = i; heard = calls_by i calls }
+    → slice_index_or shares i d ≡ with_heard (calls_by i calls) (new_holder i)
 
--- with a share that was what is old, its holder asked what is its own, and it is now new
-pub record AsksOwn (may_stop : ℕ → ℕ → Type 0) (plan : Planned) (asker : Asker)
+-- how often one who asks drains
+abbrev pub drains_of : Asker → ℕ
+drains_of (Worker worker requests) = 0
+drains_of (Attends times) = times
+
+-- with a share that was what is old, these calls were made and so many drains, and it is now new
+pub record GoesOnWith (calls : List Call) (drains : ℕ) (old new : Holder) : Type 0 where
+  pub number : new.number ≡ old.number
+  pub heard : new.heard ≡ old.heard ++ calls
+  pub drains_are : new.drains ≡ old.drains + drains
+
+-- with a share its holder did what is its own
+pub record AsksOwn (may_answer : ℕ → ℕ → Bool → Type 0) (asker : Asker)
     (old new : Holder) : Type 0 where
-  pub asked : List Request
-  pub own : AskedOwn may_stop plan asker asked
-  pub all : AsksAll old asked new
+  pub calls : List Call
+  pub own : AskedOwn may_answer asker calls
+  pub with_it : GoesOnWith calls (drains_of asker) old new
 
--- with a share its holder asked what pulses ask for
-pub record AsksPulses (plan : Planned) (old new : Holder) : Type 0 where
-  pub asked : List Request
-  pub own : All (IsPulse plan) asked
-  pub all : AsksAll old asked new
+-- with a share its holder drained so many times, and all its calls were pulses
+pub record AsksPulses (times : ℕ) (old new : Holder) : Type 0 where
+  pub calls : List Call
+  pub own : All (λ call. IsSome call.pulse) calls
+  pub with_it : GoesOnWith calls times old new
 
 -- with each share what is its own was asked; s and t stand in where a list has no such place
-abbrev pub EachAsks : (ℕ → ℕ → Type 0) → Planned → (ℕ → Asker) → List Holder → List Holder → Type 0
-EachAsks may_stop plan who old new =
+abbrev pub EachAsks : (ℕ → ℕ → Bool → Type 0) → (ℕ → Asker) → List Holder → List Holder → Type 0
+EachAsks may_answer who old new =
     (i : ℕ) (s t : Holder) → i < length new
-    → AsksOwn may_stop plan (who i) (slice_index_or old i s) (slice_index_or new i t)
+    → AsksOwn may_answer (who i) (slice_index_or old i s) (slice_index_or new i t)
 
 -- a device of this latch that posted all its pulses
 abbrev pub spent_device : TableId → Line × ℕ → Posting
@@ -62,21 +70,21 @@ spent_device latch device = record { latch = latch; posts = device.1; posted = p
 -- thread that asks has a share, with which nothing was asked; and each device may post its pulses
 pub record AreReady (first : Machined) (bench : Benched) (latch : TableId)
     (caller : Holder) (shares : List Holder) (devices : List Posting) : Type 0 where
-  pub caller_is : caller ≡ record { number = 0; heard = answers_to first bench.script }
+  pub caller_is : caller ≡ with_heard (first_calls (answers_to first bench.script)) (new_holder 0)
   pub fresh : AreFresh 1 shares
   pub for_each : length shares ≡ length (threads_of bench)
   pub devices_are : devices ≡ map (λ d. new_device latch d.1) bench.devices
 
 -- what takes part in a run when its threads have ended: each asked what is its own with the share
 -- that it had, and each device posted its pulses
-pub record HaveRun (may_stop : ℕ → ℕ → Type 0) (first : Machined) (bench : Benched)
+pub record HaveRun (may_answer : ℕ → ℕ → Bool → Type 0) (first : Machined) (bench : Benched)
     (latch : TableId) (caller : Holder) (shares : List Holder)
     (devices : List Posting) : Type 0 where
   pub starts : List Holder
   pub ready : AreReady first bench latch caller starts
       (map (λ d. new_device latch d.1) bench.devices)
   pub for_each : length shares ≡ length starts
-  pub each : EachAsks may_stop (bench_plan bench) (thread_at bench) starts shares
+  pub each : EachAsks may_answer (thread_at bench) starts shares
   pub devices_are : devices ≡ map (spent_device latch) bench.devices
 
 -- calls come after those that were made before
@@ -89,13 +97,13 @@ pub record HaveSettled (devices : List Posting) (settled : Settled) : Type 0 whe
   pub whole : (line : Line)
       → on line settled.posted ≡ on line settled.applied + on line settled.owed
 
--- after these calls the caller attends with its share, and then the calls that were made with that
+-- after these calls the caller attends once with its share, and then the calls that were made with that
 -- share and with these are one history, which leads to the machine, and of whose pulses so many are
 -- told to be applied
 pub record Finishes (first : Machined) (calls : List Call) (caller : Holder) (shares : List Holder)
     (machine : Machined) (applied : List ℕ) : Type 0 where
   pub more : List Call
   pub now : Holder
-  pub attended : AsksPulses first.plan caller now
+  pub attended : AsksPulses 1 caller now
   pub whole : IsHistory first (now ∷ shares) (calls ++ more) machine
   pub pulses : ArePulses first.plan (calls ++ more) applied

@@ -4,8 +4,8 @@ use Rattle.agc_latch.specs.declared.accounts.Settled.{Settled}
 use Rattle.agc_machine.specs.declared.totals.Totals.{Totals}
 use Rattle.agc_machine.specs.Image.{HandsOut}
 use Rattle.agc_machine.specs.Machines.{Machined}
-use Rattle.agc_bench.specs.declared.run_fault.RunFault.{RunFault}
-use Rattle.agc_bench.specs.declared.run_fault.RunFault.TheVariants.{NoMemory, Output, NoThread, Lost}
+use Rattle.agc_session.specs.declared.run_fault.RunFault.{RunFault}
+use Rattle.agc_session.specs.declared.run_fault.RunFault.TheVariants.{NoMemory, Output, NoThread, Lost}
 use Rattle.agc_document.specs.Benches.{Benched}
 use Rattle.agc_bench.specs.Threads.{Asker, Attends, threads_of}
 use Rattle.agc_text.specs.Pulses.{pulses_text}
@@ -14,12 +14,7 @@ use Rattle.agc_text.specs.Writing.{Writes}
 
 -- who asks in the thread of this number
 abbrev pub thread_at : Benched → ℕ → Asker
-thread_at bench thread = slice_index_or (threads_of bench) thread Attends
-
--- the report of a machine's totals, and of words that are the machine's, was written and nothing else; where a write
--- failed, a front of it
-abbrev pub WritesReport : {T E : Type 0} → Option (List ℕ) → Option (List ℕ) → Machined → Result T E → Type 0
-WritesReport old new machine result = (words : List ℕ) × HandsOut machine words × Writes old new (report_text machine.plan.sets words machine.totals) result
+thread_at bench thread = slice_index_or (threads_of bench) thread (Attends bench.attends)
 
 -- of a machine's words, of these totals and of what became of pulses the lines were written and
 -- nothing else; where a write failed, a front of them

@@ -1,9 +1,8 @@
 -- What the threads of a bench ask and post, and what a run of them writes.
-use Rattle.std.specs.Prelude.{◌≡◌, ℕ, ◌+◌, ◌<◌, List, [], ◌∷◌, ◌++◌, map, length, sum_by, slice_index_or, Option, Some, Result, Ok, Err}
+use Rattle.std.specs.Prelude.{◌≡◌, ℕ, ◌+◌, ◌<◌, List, [], ◌∷◌, ◌++◌, map, length, sum_by, slice_index_or, Bool, Option, IsNone, IsSome, Result, Ok, Err}
 use Rattle.std.specs.List.{All, enumerate_from}
 use Rattle.std.specs.Io.KnownBytes.{Appends}
 use Rattle.agc_plan.specs.declared.request.Request.{Request}
-use Rattle.agc_plan.specs.Plans.{Planned}
 use Rattle.agc_latch.specs.declared.accounts.Settled.{Settled}
 use Rattle.agc_latch.specs.declared.line.Line.{Line}
 use Rattle.agc_latch.specs.Lines.{on, raised, word_of, zeros}
@@ -12,59 +11,55 @@ use Rattle.agc_machine.specs.Machines.{Machined, after_all}
 use Rattle.agc_desk.specs.declared.book.Call.{Call}
 use Rattle.agc_desk.specs.Desks.{ArePulses}
 use Rattle.agc_desk.specs.History.{Leads, calls_by}
-use Rattle.agc_desk.specs.Pulses.{pulse_request}
 use Rattle.agc_desk.specs.Runs.{IsFront, requests_of}
-use Rattle.agc_bench.specs.declared.run_fault.RunFault.{RunFault}
-use Rattle.agc_bench.specs.declared.run_fault.RunFault.TheVariants.{NoMemory, Output, NoThread, Lost}
+use Rattle.agc_session.specs.declared.run_fault.RunFault.{RunFault}
+use Rattle.agc_session.specs.declared.run_fault.RunFault.TheVariants.{NoMemory, Output, NoThread, Lost}
 use Rattle.agc_document.specs.Benches.{Benched}
-use Rattle.agc_bench.specs.Runs.{bench_machine, bench_plan}
+use Rattle.agc_session.specs.Runs.{bench_machine, bench_plan}
 use Rattle.agc_text.specs.Pulses.{pulses_text}
 use Rattle.agc_text.specs.Report.{report_text}
 use Rattle.agc_text.specs.Writing.{AppendsFront}
 
--- who asks with a share: a worker with its number and its requests, or one who attends to pulses
+-- who asks with a share: a worker with its number and its requests, or one who attends to pulses so
+-- many times
 pub data Asker : Type 0 where
   Worker : ℕ → List Request → Asker
-  Attends : Asker
+  Attends : ℕ → Asker
 
 -- the workers of a bench, numbered from 0
 abbrev pub workers_of : Benched → List Asker
 workers_of bench = map (λ w. Worker w.0 w.1) (enumerate_from 0 bench.workers)
 
--- who asks in a thread: the workers, and then one who attends
+-- who asks in a thread: the workers, and then one who attends as often as the bench says
 abbrev pub threads_of : Benched → List Asker
-threads_of bench = workers_of bench ++ Attends ∷ []
+threads_of bench = workers_of bench ++ Attends bench.attends ∷ []
 
--- who asks: the caller of the run, which attends when all threads have ended, and these threads
+-- who asks: the caller of the run, which attends once when all threads have ended, and these threads
 abbrev pub askers_of : Benched → List Asker
-askers_of bench = Attends ∷ threads_of bench
+askers_of bench = Attends 1 ∷ threads_of bench
 
 -- who asks with the share of this number
 abbrev pub asker_at : Benched → ℕ → Asker
-asker_at bench number = slice_index_or (askers_of bench) number Attends
+asker_at bench number = slice_index_or (askers_of bench) number (Attends bench.attends)
 
--- a pulse of some line asks for this
-abbrev pub IsPulse : Planned → Request → Type 0
-IsPulse plan asked = (line : Line) × (pulse_request plan line ≡ Some asked)
-
--- one who asks asked just these requests: a worker those that are its own as far as its gate lets
--- it, one who attends what pulses ask for
-abbrev pub AskedOwn : (ℕ → ℕ → Type 0) → Planned → Asker → List Request → Type 0
-AskedOwn may_stop plan (Worker worker requests) asked = IsFront (may_stop worker) requests asked
-AskedOwn may_stop plan Attends asked = All (IsPulse plan) asked
+-- one who asks made just these calls: a worker asked, as far as its gate lets it, the requests that
+-- are its own, and for no pulse; one who attends asked for pulses
+abbrev pub AskedOwn : (ℕ → ℕ → Bool → Type 0) → Asker → List Call → Type 0
+AskedOwn may_answer (Worker worker requests) calls =
+    IsFront (may_answer worker) requests (requests_of calls) × All (λ call. IsNone call.pulse) calls
+AskedOwn may_answer (Attends times) calls = All (λ call. IsSome call.pulse) calls
 
 -- The machine that a run leaves: the script was asked of the bench's machine, and then, in some
--- order, each worker asked what is its own, in its own order; all else that was asked are pulses'
--- requests, by the thread that attends and by the caller. An entry that is a line's pulse has the
--- request of its pulses; and on a line whose pulses ask for something, so many are told to be
--- applied as there are entries that are its pulses and were not refused.
-pub record IsRun (may_stop : ℕ → ℕ → Type 0) (bench : Benched)
+-- order, each worker asked what is its own, in its own order; all other calls are pulses, by the
+-- thread that attends and by the caller. A call that is a line's pulse has the request of its
+-- pulses; and on a line whose pulses ask for something, so many are told to be applied as there are
+-- calls that are its pulses and were not refused.
+pub record IsRun (may_answer : ℕ → ℕ → Bool → Type 0) (bench : Benched)
     (machine : Machined) (applied : List ℕ) : Type 0 where
   pub calls : List Call
   pub leads : Leads (after_all (bench_machine bench) bench.script) calls machine
   pub each : (number : ℕ) → number < length (askers_of bench)
-      → AskedOwn may_stop (bench_plan bench) (asker_at bench number)
-      (requests_of (calls_by number calls))
+      → AskedOwn may_answer (asker_at bench number) (calls_by number calls)
   pub no_other : All (λ call. call.by < length (askers_of bench)) calls
   pub pulses : ArePulses (bench_plan bench) calls applied
 
@@ -83,10 +78,10 @@ pub record AreSettled (bench : Benched) (settled : Settled) : Type 0 where
       → on line settled.posted ≡ on line settled.applied + on line settled.owed
 
 -- the report of the machine that a run leaves, and the lines of what became of the pulses
-pub record IsRunReport (may_stop : ℕ → ℕ → Type 0) (bench : Benched) (text : List ℕ) : Type 0 where
+pub record IsRunReport (may_answer : ℕ → ℕ → Bool → Type 0) (bench : Benched) (text : List ℕ) : Type 0 where
   pub machine : Machined
   pub settled : Settled
-  pub run : IsRun may_stop bench machine settled.applied
+  pub run : IsRun may_answer bench machine settled.applied
   pub words : List ℕ
   pub words_are : HandsOut machine words
   pub pulses : AreSettled bench settled
@@ -95,12 +90,12 @@ pub record IsRunReport (may_stop : ℕ → ℕ → Type 0) (bench : Benched) (te
 
 -- what a run of threads wrote: the report and nothing else; a front of it where a write failed;
 -- nothing where there was no memory or no thread; Lost is never answered
-abbrev pub WritesRun : {T : Type 0} → (ℕ → ℕ → Type 0) → Benched
+abbrev pub WritesRun : {T : Type 0} → (ℕ → ℕ → Bool → Type 0) → Benched
     → Option (List ℕ) → Option (List ℕ) → Result T RunFault → Type 0
-WritesRun may_stop bench old new (Ok _) =
-    (text : List ℕ) × IsRunReport may_stop bench text × Appends old new text
-WritesRun may_stop bench old new (Err Output) =
-    (text : List ℕ) × IsRunReport may_stop bench text × AppendsFront old new text
-WritesRun may_stop bench old new (Err NoMemory) = new ≡ old
-WritesRun may_stop bench old new (Err NoThread) = new ≡ old
-WritesRun may_stop bench old new (Err Lost) = ⊥
+WritesRun may_answer bench old new (Ok _) =
+    (text : List ℕ) × IsRunReport may_answer bench text × Appends old new text
+WritesRun may_answer bench old new (Err Output) =
+    (text : List ℕ) × IsRunReport may_answer bench text × AppendsFront old new text
+WritesRun may_answer bench old new (Err NoMemory) = new ≡ old
+WritesRun may_answer bench old new (Err NoThread) = new ≡ old
+WritesRun may_answer bench old new (Err Lost) = ⊥

@@ -1,7 +1,7 @@
 ghost use Rattle.std.specs.Prelude.{◌≡◌, ◌++◌, ◌+◌, ◌≤◌, length};
 ghost use Rattle.agc_machine.specs.Machines.{after_all};
 ghost use Rattle.agc_desk.specs.Draining.{answers_to};
-ghost use Rattle.agc_bench.specs.Runs.{bench_machine, bench_plan};
+ghost use Rattle.agc_desk.specs.History.{with_heard};
 ghost use Rattle.agc_bench.specs.Sharing.{AsksOwn, AsksPulses, first_calls};
 ghost use Rattle.agc_bench.specs.Threads.{threads_of};
 ghost use Rattle.agc_bench.specs.Steps.{thread_at};
@@ -20,7 +20,7 @@ fn attend_times<N: Sharing, W: Wait>(
     times: u32,
 ) -> Share<N>
     requires { latch.now ≡ N.latch }
-    ensures { AsksPulses N.first.plan share result }
+    ensures { AsksPulses times share result }
 {
     let mut share = share;
     for _time in 0..times {
@@ -35,8 +35,8 @@ pub(crate) fn ask_script<N: Names>(desk: &mut Desk<N>, share: &mut Share<N>, scr
     ensures machine { desk.new.machine ≡ after_all desk.old.machine script.now }
     ensures history { desk.new.history ≡ desk.old.history ++ first_calls
         (answers_to desk.old.machine script.now) }
-    ensures heard { share.new ≡ record share.old
-        { heard = share.old.heard ++ answers_to desk.old.machine script.now } }
+    ensures heard { share.new ≡ with_heard
+        (first_calls (answers_to desk.old.machine script.now)) share.old }
     ensures given { desk.new.given ≡ desk.old.given }
     ensures lines { desk.new.lines ≡ desk.old.lines }
 {
@@ -64,9 +64,8 @@ pub(crate) fn ask_own<N: Sharing, G: Gate, W: Wait>(
     thread: usize,
     gate: &G,
 ) -> Share<N>
-    requires latch { latch.now ≡ N.latch }
-    requires bench { N.first ≡ bench_machine bench.now }
-    ensures { AsksOwn (λ n call. G.may_stop gate.now n call) (bench_plan bench.now)
+    requires { latch.now ≡ N.latch }
+    ensures { AsksOwn (λ n call answer. G.may_answer gate.now n call answer)
         (thread_at bench.now thread) share result }
 {
     match bench.workers().get(thread) {

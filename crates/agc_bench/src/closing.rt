@@ -7,19 +7,18 @@ ghost use Rattle.agc_desk.specs.History.{IsHistory};
 ghost use Rattle.agc_desk.specs.Keeping.{lent_of};
 ghost use Rattle.agc_bench.specs.Sharing.{AsksPulses, Finishes, GoesOn, HaveSettled};
 
-use crate::run_fault::RunFault;
 use agc_desk::{Desk, Device, Latch, Names, Settled, Share, gather, settle};
 use agc_machine::{Machine, Totals};
+use agc_session::RunFault;
 
 /// Drains a desk that is under no lock.
 fn attend_last<N: Names>(desk: &mut Desk<N>, latch: &Latch, share: &mut Share<N>)
     requires { IsOf latch.now desk.old.lines.taker }
-    ensures asks { AsksPulses N.first.plan share.old share.new }
+    ensures asks { AsksPulses 1 share.old share.new }
     ensures given { desk.new.given ≡ desk.old.given }
     ensures history { GoesOn desk.old.history desk.new.history }
     ensures lent { lent_of desk.new.lines ≡ lent_of desk.old.lines }
 {
-    let _ = desk.machine();
     desk.drain(latch, share);
 }
 

@@ -5,6 +5,7 @@ ghost use Rattle.agc_latch.specs.Ends.{new_device};
 ghost use Rattle.agc_latch.specs.Lines.{zeros};
 ghost use Rattle.agc_desk.specs.Desks.{new_desk};
 ghost use Rattle.agc_desk.specs.Draining.{answers_to};
+ghost use Rattle.agc_desk.specs.History.{new_holder};
 ghost use Rattle.agc_desk.specs.Keeping.{lent_of};
 ghost use Rattle.agc_desk.specs.Opening.{names_of};
 ghost use Rattle.agc_bench.specs.Sharing.{AreFresh, AreReady, first_calls};
@@ -13,10 +14,10 @@ ghost use Rattle.agc_bench.specs.Steps.{IsEarly};
 
 use crate::asker::{ask_script, count_threads};
 use crate::poster::devices_of;
-use crate::run_fault::RunFault;
 use agc_desk::{Blanks, Desk, Device, Held, Latch, Names, Share, Sharing, Taker};
 use agc_document::Bench;
 use agc_machine::Machine;
+use agc_session::RunFault;
 use std::alloc::Global;
 
 /// What takes part in a run of threads: the desk, as it is under the lock; the share of the caller;
@@ -39,7 +40,7 @@ pub(crate) fn desk_of<N: Names>(
     requires first { machine ≡ N.first }
     ensures desk { result.0 ≡ record (new_desk machine)
         { given = 1; lines = with_taker taker no_accounts } }
-    ensures first { result.1 ≡ record { number = 0; heard = [] } }
+    ensures first { result.1 ≡ new_holder 0 }
 {
     let mut desk = Desk::new(machine, blanks);
     let _none = desk.attach(taker);

@@ -3,12 +3,12 @@ ghost use Rattle.agc_latch.specs.Accounts.{given_of, latch_of};
 ghost use Rattle.agc_latch.specs.Ends.{new_device};
 ghost use Rattle.agc_desk.specs.Desks.{with_lines};
 ghost use Rattle.agc_desk.specs.Keeping.{lent_of};
-ghost use Rattle.agc_bench.specs.declared.run_fault.RunFault.TheVariants as fault;
+ghost use Rattle.agc_session.specs.declared.run_fault.RunFault.TheVariants as fault;
 ghost use Rattle.agc_bench.specs.Sharing.{spent_device};
 
-use crate::run_fault::RunFault;
 use agc_desk::{Desk, Device, Latch, Line, Names};
 use agc_document::Bench;
+use agc_session::RunFault;
 use std::alloc::Global;
 
 /// The devices of a bench, each of which may post as many pulses as it has. `Lost` comes only where

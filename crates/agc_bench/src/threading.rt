@@ -3,7 +3,7 @@ ghost use Rattle.agc_latch.specs.Ends.{new_device};
 ghost use Rattle.agc_latch.specs.Lines.{zeros};
 ghost use Rattle.agc_desk.specs.Draining.{answers_to};
 ghost use Rattle.agc_desk.specs.Opening.{names_of};
-ghost use Rattle.agc_bench.specs.Runs.{bench_machine, bench_plan};
+ghost use Rattle.agc_session.specs.Runs.{bench_machine};
 ghost use Rattle.agc_bench.specs.Sharing.{AreReady, AsksOwn, EachAsks, HaveRun, first_calls, spent_device};
 ghost use Rattle.agc_bench.specs.Threads.{AreSettled, IsRun, WritesRun, askers_of};
 ghost use Rattle.agc_bench.specs.Steps.{IsEarly, WritesSettled, thread_at};
@@ -12,13 +12,12 @@ use crate::asker::ask_own;
 use crate::closing::finish;
 use crate::opening::{RunParts, open};
 use crate::poster::post_all;
-use crate::run::machine_of;
-use crate::run_fault::RunFault;
 use agc_desk::{
     Blanks, Device, Gate, Held, Latch, Line, Names, Settled, Share, Shared, Sharing, Taker,
 };
 use agc_document::Bench;
 use agc_machine::{Machine, Totals};
+use agc_session::{RunFault, machine_of};
 use agc_text::{Output, report, report_pulses};
 use std::alloc::Global;
 use std::io::Write;
@@ -38,7 +37,7 @@ struct Pledge<'b, 'g, N: Names, G: Gate> {
 }
 
 impl<'b, 'g, N: Names, G: Gate> Promise<Share<N>> for Pledge<'b, 'g, N, G> {
-    ghost kept_by = { λ pledge told. AsksOwn (λ n call. G.may_stop pledge.gate.now n call) (bench_plan pledge.bench.now) (thread_at pledge.bench.now pledge.thread) pledge.start.value told };
+    ghost kept_by = { λ pledge told. AsksOwn (λ n call answer. G.may_answer pledge.gate.now n call answer) (thread_at pledge.bench.now pledge.thread) pledge.start.value told };
 }
 
 /// What a device's thread promises of its device: that it posts all its pulses, on its line.
@@ -64,10 +63,9 @@ fn ask_at_once<N: Sharing + Send + Sync, G: Gate + Sync, W: Threads + Wait + Syn
     gate: &G,
 ) -> Result<Vec<Share<N>>, RunFault>
     requires latch { latch.now ≡ N.latch }
-    requires bench { N.first ≡ bench_machine bench.now }
     ensures len { IfOk result (λ v. vec_len v ≡ vec_len shares) }
-    ensures each { IfOk result (λ v. EachAsks (λ n call. G.may_stop gate.now n call)
-        (bench_plan bench.now) (thread_at bench.now) shares.items v.items) }
+    ensures each { IfOk result (λ v. EachAsks (λ n call answer. G.may_answer gate.now n call answer)
+        (thread_at bench.now) shares.items v.items) }
     ensures early { IfErr result (λ fault. IsEarly fault) }
 {
     thread::scope(
@@ -75,10 +73,10 @@ fn ask_at_once<N: Sharing + Send + Sync, G: Gate + Sync, W: Threads + Wait + Syn
         rt,
         move |scope| -> Result<Vec<Share<N>>, RunFault>
             requires latch { latch.now ≡ N.latch }
-            requires bench { N.first ≡ bench_machine bench.now }
             ensures len { IfOk result (λ v. vec_len v ≡ vec_len shares) }
-            ensures each { IfOk result (λ v. EachAsks (λ n call. G.may_stop gate.entry.now n call)
-                (bench_plan bench.entry.now) (thread_at bench.entry.now) shares.items v.items) }
+            ensures each { IfOk result (λ v. EachAsks
+                (λ n call answer. G.may_answer gate.entry.now n call answer)
+                (thread_at bench.entry.now) shares.items v.items) }
             ensures early { IfErr result (λ fault. IsEarly fault) }
         {
             let mut running = Vec::new(alloc);
@@ -91,10 +89,8 @@ fn ask_at_once<N: Sharing + Send + Sync, G: Gate + Sync, W: Threads + Wait + Syn
                     gate,
                 };
                 let own = move || -> Share<N>
-                    requires latch { latch.now ≡ N.latch }
-                    requires bench { N.first ≡ bench_machine bench.now }
-                    ensures { AsksOwn (λ n call. G.may_stop gate.entry.now n call)
-                        (bench_plan bench.entry.now)
+                    requires { latch.now ≡ N.latch }
+                    ensures { AsksOwn (λ n call answer. G.may_answer gate.entry.now n call answer)
                         (thread_at bench.entry.now thread) share result }
                 { ask_own(rt, shared, latch, share, bench, thread, gate) };
                 match scope.spawn_with(pledge, own) {
@@ -123,11 +119,10 @@ fn run_at_once<N: Sharing + Send + Sync, G: Gate + Sync, W: Threads + Wait + Syn
     gate: &G,
 ) -> Result<(Vec<Share<N>>, Vec<Device>), RunFault>
     requires latch { latch.now ≡ N.latch }
-    requires bench { N.first ≡ bench_machine bench.now }
     requires devices { devices.items ≡ map (λ d. new_device latch.now d.1) bench.now.devices }
     ensures len { IfOk result (λ r. vec_len r.0 ≡ vec_len shares) }
-    ensures each { IfOk result (λ r. EachAsks (λ n call. G.may_stop gate.now n call)
-        (bench_plan bench.now) (thread_at bench.now) shares.items r.0.items) }
+    ensures each { IfOk result (λ r. EachAsks (λ n call answer. G.may_answer gate.now n call answer)
+        (thread_at bench.now) shares.items r.0.items) }
     ensures devices { IfOk result (λ r. r.1.items ≡ map
         (spent_device latch.now) bench.now.devices) }
     ensures early { IfErr result (λ fault. IsEarly fault) }
@@ -137,12 +132,12 @@ fn run_at_once<N: Sharing + Send + Sync, G: Gate + Sync, W: Threads + Wait + Syn
         rt,
         move |scope| -> Result<(Vec<Share<N>>, Vec<Device>), RunFault>
             requires latch { latch.now ≡ N.latch }
-            requires bench { N.first ≡ bench_machine bench.now }
             requires devices { devices.items ≡ map
                 (λ d. new_device latch.now d.1) bench.now.devices }
             ensures len { IfOk result (λ r. vec_len r.0 ≡ vec_len shares) }
-            ensures each { IfOk result (λ r. EachAsks (λ n call. G.may_stop gate.entry.now n call)
-                (bench_plan bench.entry.now) (thread_at bench.entry.now) shares.items r.0.items) }
+            ensures each { IfOk result (λ r. EachAsks
+                (λ n call answer. G.may_answer gate.entry.now n call answer)
+                (thread_at bench.entry.now) shares.items r.0.items) }
             ensures devices { IfOk result (λ r. r.1.items ≡ map
                 (spent_device latch.entry.now) bench.entry.now.devices) }
             ensures early { IfErr result (λ fault. IsEarly fault) }
@@ -179,11 +174,10 @@ fn run_locked<N: Sharing + Send + Sync, G: Gate + Sync, W: Threads + Wait + Sync
     gate: &G,
 ) -> Result<RunParts<N>, RunFault>
     requires latch { latch.now ≡ N.latch }
-    requires bench { N.first ≡ bench_machine bench.now }
     requires ready { AreReady N.first bench.now latch.now parts.first parts.shares.items
         parts.devices.items }
-    ensures run { IfOk result (λ p. HaveRun (λ n call. G.may_stop gate.now n call) N.first bench.now
-        latch.now p.first p.shares.items p.devices.items) }
+    ensures run { IfOk result (λ p. HaveRun (λ n call answer. G.may_answer gate.now n call answer) N.first
+        bench.now latch.now p.first p.shares.items p.devices.items) }
     ensures early { IfErr result (λ fault. IsEarly fault) }
 {
     let RunParts {
@@ -227,8 +221,8 @@ fn gathered<N: Sharing + Send + Sync, G: Gate + Sync, W: Threads + Wait + Sync>(
       given = length bench.now.devices;
       settled = zeros;
     } }
-    ensures run { IfOk result (λ r. IsRun (λ n call. G.may_stop gate.now n call) bench.now r.0
-        r.2.applied) }
+    ensures run { IfOk result (λ r. IsRun (λ n call answer. G.may_answer gate.now n call answer)
+        bench.now r.0 r.2.applied) }
     ensures totals { IfOk result (λ r. r.1 ≡ r.0.totals) }
     ensures pulses { IfOk result (λ r. AreSettled bench.now r.2) }
     ensures early { IfErr result (λ fault. IsEarly fault) }
@@ -281,8 +275,8 @@ pub fn threads<R: Threads + Wait + Sync, W: Write, G: Gate + Sync>(
     writer: &mut W,
     gate: &G,
 ) -> Result<(), RunFault>
-    ensures { WritesRun (λ n call. G.may_stop gate.now n call) bench.now (W.contents writer.old)
-        (W.contents writer.new) result }
+    ensures { WritesRun (λ n call answer. G.may_answer gate.now n call answer) bench.now
+        (W.contents writer.old) (W.contents writer.new) result }
 {
     let machine = machine_of(alloc, bench)?;
     let blanks = Blanks::new(alloc)?;

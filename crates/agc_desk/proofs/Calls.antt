@@ -1,9 +1,9 @@
 -- Histories that go on, and those that are whole.
-use Rattle.std.proofs.Common.{◌≡◌, ℕ, ◌+◌, ◌<◌, ◌⊎◌, ◌||◌, ◌==◌, List, [], ◌∷◌, ◌++◌, length, map, Bool, true, false, Option, Some, None, refl, sym, ap, ◌∙◌, subst, arith, rules, nat_eq, ⊎_elim, inl, inr, slice_index_or}
-use Rattle.std.specs.List.{All, Contains, IsDistinct, filter, list_any}
+use Rattle.std.proofs.Common.{◌≡◌, ℕ, ◌+◌, ◌<◌, ◌⊎◌, ◌||◌, ◌==◌, List, [], ◌∷◌, ◌++◌, length, Bool, true, false, Option, Some, None, refl, sym, ap, ◌∙◌, subst, arith, rules, nat_eq, ⊎_elim, inl, inr, slice_index_or}
+use Rattle.std.specs.List.{All, Contains, IsDistinct, list_any}
 use Rattle.std.proofs.lemmas.Bool.Decides.{nat_tests}
 use Rattle.std.proofs.lemmas.Cmp.{nat_eq_equiv}
-use Rattle.std.proofs.lemmas.List.{length_push, length-map, map-append}
+use Rattle.std.proofs.lemmas.List.{length_push, length-map}
 use Rattle.std.proofs.lemmas.List.Elements.{filter-append}
 use Rattle.std.proofs.lemmas.List.Sums.{fold_push, sum_by-append}
 use Rattle.std.proofs.lemmas.List.Folds.{Any-from_list_any, list_any-append}
@@ -13,7 +13,6 @@ use Rattle.agc_plan.specs.declared.request.Request.{Request}
 use Rattle.agc_machine.specs.declared.answer.Refusal.{Refusal}
 use Rattle.agc_machine.specs.declared.totals.Totals.{Totals}
 use Rattle.agc_machine.specs.Machines.{Machined, after, after_unless, answer_of, refusal_of, result_of, stepped}
-use Rattle.agc_machine.specs.Said.{Said}
 use Rattle.agc_machine.specs.Told.{add, nothing, told}
 use Rattle.agc_desk.specs.declared.book.Call.{Call}
 use Rattle.agc_desk.specs.Accounts.{told_in, told_to}
@@ -27,9 +26,7 @@ leads_on first (x ∷ xs) m call leads answer = (leads.0, leads_on (after first 
 
 -- the calls of a number among both
 pub calls_by_append : (number : ℕ) (a b : List Call) → calls_by number (a ++ b) ≡ calls_by number a ++ calls_by number b
-calls_by_append number a b =
-    ap (map (λ (c : Call). c.answer)) (filter-append (λ (c : Call). c.by == number) a b)
-    ∙ map-append (λ (c : Call). c.answer) (filter (λ (c : Call). c.by == number) a) (filter (λ (c : Call). c.by == number) b)
+calls_by_append number a b = filter-append (λ (c : Call). c.by == number) a b
 
 -- nothing was answered
 pub told_none : nothing ≡ told_in []
@@ -57,9 +54,9 @@ same_setting first (call ∷ more) last leads =
     record { plan = then.plan ∙ once.plan; limit = then.limit ∙ once.limit; allowance = then.allowance ∙ once.allowance }
 
 -- one answer more
-pub told_push : (heard : List Said) (said : Said) → told_in (heard ++ said ∷ []) ≡ add (told_in heard) (told said.outcome)
+pub told_push : (heard : List Call) (call : Call) → told_in (heard ++ call ∷ []) ≡ add (told_in heard) (told call.answer.outcome)
 unfolding told_in
-told_push heard said = fold_push (λ total s. add total (told s.outcome)) _ heard said
+told_push heard call = fold_push (λ total c. add total (told c.answer.outcome)) _ heard call
 
 -- the holder of one share more
 pub told_to_push : (shares : List Holder) (s : Holder) → told_to (shares ++ s ∷ []) ≡ add (told_to shares) (told_in s.heard)
@@ -132,6 +129,7 @@ pub whole_history : (first : Machined) (shares : List Holder) (calls : List Call
     → ((k : ℕ) → list_any (nat_eq k) (numbers_of shares) ≡ true → k < given) → length shares ≡ given → All (λ call. call.by < given) calls → IsHistory first shares calls last
 whole_history first shares calls last given leads each apart below many all = record {
   leads = leads;
+  apart = apart;
   each = each;
   no_other = λ k d lt. all_numbers (numbers_of shares) given _ apart below (length-map shares (λ (s : Holder). s.number) ∙ many) (all k d lt);
 }

@@ -3,7 +3,7 @@ use Rattle.std.proofs.Common.{◌≡◌, ℕ, ◌+◌, ◌<◌, ◌≤◌, ◌==
 use Rattle.std.specs.List.{fold}
 use Rattle.std.specs.Option.{option_and_then, option_map, option_to_list}
 use Rattle.std.proofs.lemmas.Bool.Decides.{nat_tests}
-use Rattle.std.proofs.lemmas.List.{map-append, replicate_more}
+use Rattle.std.proofs.lemmas.List.{replicate_more}
 use Rattle.std.proofs.lemmas.List.Elements.{All-append, All-nil, All-push}
 use Rattle.std.proofs.lemmas.List.Sums.{fold-append}
 use Rattle.agc_latch.specs.declared.line.Line.{Line}
@@ -20,8 +20,8 @@ use Rattle.agc_machine.specs.Told.{add, nothing, told}
 use Rattle.agc_desk.specs.declared.book.Call.{Call}
 use Rattle.agc_desk.specs.Accounts.{told_in}
 use Rattle.agc_desk.specs.Desks.{Desked, with_lines}
-use Rattle.agc_desk.specs.Draining.{NoneRefused, ServesAll, answers_to, calls_of, pulse_refusal, requests_by, with_asked, with_heard}
-use Rattle.agc_desk.specs.History.{Holder}
+use Rattle.agc_desk.specs.Draining.{NoneRefused, ServesAll, answers_to, calls_of, pulse_refusal, requests_by, with_asked}
+use Rattle.agc_desk.specs.History.{Holder, with_heard}
 use Rattle.agc_desk.specs.Pulses.{Pulse, pulse_of, pulse_request, repeated}
 use Rattle.agc_desk.specs.Stages.{DrainsLine, Marks, next_pulse, pulse_on}
 use Rattle.agc_desk.proofs.Calls.{with_nothing}
@@ -80,21 +80,21 @@ nothing_and t =
     let restarts : (add nothing t).restarts ≡ t.restarts = omega arith in
     λ i. record { served = served i; a1201 = a1201 i; a1202 = a1202 i; a1203 = a1203 i; restarts = restarts i }
 
-told_from : (t : Totals) (heard : List Said) → fold (λ total said. add total (told said.outcome)) t heard ≡ add t (told_in heard)
+told_from : (t : Totals) (heard : List Call) → fold (λ total call. add total (told call.answer.outcome)) t heard ≡ add t (told_in heard)
 unfolding told_in
 told_from t [] = with_nothing t
 told_from t (x ∷ xs) =
-    told_from (add t (told x.outcome)) xs
-    ∙ (add_assoc t (told x.outcome) (told_in xs)
-    ∙ ap (λ u. add t u) (sym (told_from (add nothing (told x.outcome)) xs ∙ ap (λ u. add u (told_in xs)) (nothing_and (told x.outcome)))))
+    told_from (add t (told x.answer.outcome)) xs
+    ∙ (add_assoc t (told x.answer.outcome) (told_in xs)
+    ∙ ap (λ u. add t u) (sym (told_from (add nothing (told x.answer.outcome)) xs ∙ ap (λ u. add u (told_in xs)) (nothing_and (told x.answer.outcome)))))
 
--- what the answers to one list after another tell
-told_append : (a b : List Said) → told_in (a ++ b) ≡ add (told_in a) (told_in b)
+-- what the calls of one list after another tell
+told_append : (a b : List Call) → told_in (a ++ b) ≡ add (told_in a) (told_in b)
 unfolding told_in
-told_append a b = fold-append (λ total said. add total (told said.outcome)) nothing a b ∙ told_from (told_in a) b
+told_append a b = fold-append (λ total call. add total (told call.answer.outcome)) nothing a b ∙ told_from (told_in a) b
 
 asked_none : (number : ℕ) (d : Desked) → d ≡ with_asked number [] d
-unfolding answers_to after_all told_in calls_of
+unfolding after_all told_in calls_of
 asked_none number d =
     λ i. record d { history = sym (append-nil d.history) i; booked = with_nothing d.booked i }
 
@@ -103,13 +103,13 @@ asked_append : (number : ℕ) (a b : List Pulse) (d : Desked)
 asked_append number a b d =
     let history : (d.history ++ calls_of number d.machine a) ++ calls_of number (after_by d.machine a) b ≡ d.history ++ calls_of number d.machine (a ++ b) =
     append_assoc d.history _ _ ∙ ap (λ (l : List Call). d.history ++ l) (sym (calls_append number d.machine a b)) in
-    let booked : add (add d.booked (told_in (told_by d.machine a))) (told_in (told_by (after_by d.machine a) b)) ≡ add d.booked (told_in (told_by d.machine (a ++ b))) =
-    add_assoc d.booked _ _ ∙ ap (λ t. add d.booked t) (sym (told_append _ _) ∙ ap told_in (sym (told_by_append d.machine a b))) in
+    let booked : add (add d.booked (told_in (calls_of number d.machine a))) (told_in (calls_of number (after_by d.machine a) b)) ≡ add d.booked (told_in (calls_of number d.machine (a ++ b))) =
+    add_assoc d.booked _ _ ∙ ap (λ t. add d.booked t) (sym (told_append _ _) ∙ ap told_in (sym (calls_append number d.machine a b))) in
     λ i. record d { machine = sym (after_by_append d.machine a b) i; history = history i; booked = booked i }
 
 -- nothing was asked
 pub serves_none : (d : Desked) (s : Holder) → ServesAll [] d s d s
-unfolding answers_to
+unfolding calls_of
 serves_none d s = record {
   desk = ap (with_lines d.lines) (asked_none s.number d);
   heard = ap (λ l. record s { heard = l }) (sym (append-nil s.heard));
@@ -127,9 +127,10 @@ serves_append a b old s mid t now new first next =
           ∙ (ap (λ (d : Desked). with_lines now.lines (with_asked s.number b d)) first.desk
           ∙ ap (with_lines now.lines) (asked_append s.number a b old)));
       heard = next.heard
-          ∙ (ap (λ (h : Holder). with_heard (told_by mid.machine b) h) first.heard
-          ∙ (ap (λ (m : Machined). with_heard (told_by m b) (with_heard (told_by old.machine a) s)) machine
-          ∙ ap (λ l. record s { heard = l }) (append_assoc s.heard _ _ ∙ ap (λ l. s.heard ++ l) (sym (told_by_append old.machine a b)))));
+          ∙ (ap (λ (n : ℕ). with_heard (calls_of n mid.machine b) t) number
+          ∙ (ap (λ (h : Holder). with_heard (calls_of s.number mid.machine b) h) first.heard
+          ∙ (ap (λ (m : Machined). with_heard (calls_of s.number m b) (with_heard (calls_of s.number old.machine a) s)) machine
+          ∙ ap (λ l. record s { heard = l }) (append_assoc s.heard _ _ ∙ ap (λ l. s.heard ++ l) (sym (calls_append s.number old.machine a b))))));
     }
 
 -- what changes the accounts of lines alone, after these were asked
@@ -142,13 +143,13 @@ serves_lines a old s mid t now before next =
 pub serves_one : (p : Pulse) (old : Desked) (s : Holder) (said : Said) (now : Desked) (new : Holder)
     → said.request ≡ p.request → said.outcome ≡ answer_of old.machine p.request
     → now ≡ with_lines now.lines (record old { machine = after old.machine p.request; history = old.history ++ record { by = s.number; answer = said; pulse = Some p.line } ∷ []; booked = add old.booked (told said.outcome) })
-    → new ≡ record s { heard = s.heard ++ said ∷ [] } → ServesAll (p ∷ []) old s now new
-unfolding answers_to after_all told_in calls_of
+    → new ≡ with_heard (record { by = s.number; answer = said; pulse = Some p.line } ∷ []) s → ServesAll (p ∷ []) old s now new
+unfolding after_all told_in calls_of
 serves_one p old s said now new request outcome desk heard =
     let it : said ≡ record { request = p.request; outcome = answer_of old.machine p.request } = λ i. record { request = request i; outcome = outcome i } in
     record {
       desk = desk ∙ (λ i. with_lines now.lines (record old { machine = after old.machine p.request; history = old.history ++ record { by = s.number; answer = it i; pulse = Some p.line } ∷ []; booked = add old.booked (sym (nothing_and (told (it i).outcome)) i) }));
-      heard = heard ∙ ap (λ (x : Said). record s { heard = s.heard ++ x ∷ [] }) it;
+      heard = heard ∙ ap (λ (x : Said). with_heard (record { by = s.number; answer = x; pulse = Some p.line } ∷ []) s) it;
     }
 
 -- a refused request changes nothing, and is refused again
@@ -227,7 +228,7 @@ served_one m p reply e = All-push (λ (x : Said). IsOk x.outcome) [] (record { r
 pub applied_more : (line : Line) (q : Request) (n : ℕ) (old : Desked) (s : Holder) (mid : Desked) (t : Holder) (said : Said) (now : Desked) (new : Holder) (reply : Reply)
     → Applied line q n old s mid t → said.request ≡ q → said.outcome ≡ answer_of mid.machine q
     → now ≡ with_lines now.lines (record mid { machine = after mid.machine q; history = mid.history ++ record { by = t.number; answer = said; pulse = Some line } ∷ []; booked = add mid.booked (told said.outcome) })
-    → new ≡ record t { heard = t.heard ++ said ∷ [] } → said.outcome ≡ Ok reply
+    → new ≡ with_heard (record { by = t.number; answer = said; pulse = Some line } ∷ []) t → said.outcome ≡ Ok reply
     → Marks (Some line) said.outcome mid.lines now.lines
     → Applied line q (n + 1) old s now new
 applied_more line q n old s mid t said now new reply before request outcome desk heard ok marks =
@@ -284,7 +285,7 @@ pub line_refused : (plan : Planned) (line : Line) (q : Request) (n : ℕ) (old :
     → pulse_request plan line ≡ Some q → Applied line q n old s mid t → n < on line old.lines.owed
     → said.request ≡ q → said.outcome ≡ answer_of mid.machine q
     → now ≡ with_lines now.lines (record mid { machine = after mid.machine q; history = mid.history ++ record { by = t.number; answer = said; pulse = Some line } ∷ []; booked = add mid.booked (told said.outcome) })
-    → new ≡ record t { heard = t.heard ++ said ∷ [] } → said.outcome ≡ Err refusal
+    → new ≡ with_heard (record { by = t.number; answer = said; pulse = Some line } ∷ []) t → said.outcome ≡ Err refusal
     → Marks (Some line) said.outcome mid.lines now.lines
     → DrainsLine None plan line old s n (Some refusal) now new
 line_refused plan line q n old s mid t said now new refusal is before more request outcome desk heard err marks =

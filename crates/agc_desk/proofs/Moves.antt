@@ -1,7 +1,7 @@
 -- Each step of the table keeps its rule.
-use Rattle.std.proofs.Common.{◌≡◌, ◌≢◌, ◌⊎◌, ℕ, zero, suc, ◌+◌, ◌<◌, ◌==◌, List, [], ◌∷◌, ◌++◌, length, map, set, Bool, true, false, cond, true≢false, refl, sym, ap, ◌∙◌, subst, ⊎_elim, inl, inr, arith, nat_eq, Option}
+use Rattle.std.proofs.Common.{◌≡◌, ◌≢◌, ◌⊎◌, ℕ, zero, suc, ◌+◌, ◌<◌, ◌==◌, List, [], ◌∷◌, ◌++◌, length, set, Bool, true, false, cond, true≢false, refl, sym, ap, ◌∙◌, subst, ⊎_elim, inl, inr, arith, nat_eq, Option}
 use Rattle.std.specs.List.{All, filter}
-use Rattle.std.proofs.lemmas.List.{append-nil, map-append}
+use Rattle.std.proofs.lemmas.List.{append-nil}
 use Rattle.std.proofs.lemmas.Bool.Decides.{nat_tests}
 use Rattle.std.proofs.lemmas.List.Elements.{All-append, All-push, filter-append}
 use Rattle.std.proofs.lemmas.List.Folds.{list_any_none}
@@ -13,8 +13,8 @@ use Rattle.agc_latch.specs.declared.line.Line.{Line}
 use Rattle.agc_machine.specs.Said.{Said}
 use Rattle.agc_desk.specs.declared.book.Call.{Call}
 use Rattle.agc_desk.specs.declared.book.View.{View}
-use Rattle.agc_desk.specs.History.{calls_by}
-use Rattle.agc_desk.specs.Views.{owner, nobody, joined, IsSettled, Fits, Kept, Settled, Checked}
+use Rattle.agc_desk.specs.History.{calls_by, new_holder, with_heard}
+use Rattle.agc_desk.specs.Views.{owner, nobody, joined, call_by, holder_of, IsSettled, Fits, Kept, Settled, Counted, Checked}
 use Rattle.agc_desk.specs.Knowing.{knower}
 
 abbrev pub Holds : State ℕ View → Type 0
@@ -84,16 +84,16 @@ none_by number given is (e ∷ more) below =
     let apart : (e.by == number) ≡ false = grind (arith, nat_tests) in
     rw apart (none_by number given is more (λ k d l. below (suc k) d (omega arith)))
 
-pub calls_here : (number : ℕ) (calls : List Call) (e : Call) → e.by ≡ number → calls_by number (calls ++ e ∷ []) ≡ calls_by number calls ++ e.answer ∷ []
+pub calls_here : (number : ℕ) (calls : List Call) (e : Call) → e.by ≡ number → calls_by number (calls ++ e ∷ []) ≡ calls_by number calls ++ e ∷ []
 calls_here number calls e is =
     let same : (e.by == number) ≡ true = grind (arith, nat_tests) in
-    ap (map (λ (c : Call). c.answer)) (filter-append (λ (x : Call). x.by == number) calls (e ∷ []) ∙ ap (λ t. filter (λ (x : Call). x.by == number) calls ++ cond t (e ∷ []) []) same)
-    ∙ map-append (λ (c : Call). c.answer) (filter (λ (x : Call). x.by == number) calls) (e ∷ [])
+    filter-append (λ (x : Call). x.by == number) calls (e ∷ []) ∙ ap (λ t. filter (λ (x : Call). x.by == number) calls ++ cond t (e ∷ []) []) same
 
 pub calls_else : (number : ℕ) (calls : List Call) (e : Call) → e.by ≢ number → calls_by number (calls ++ e ∷ []) ≡ calls_by number calls
 calls_else number calls e apart =
     let other : (e.by == number) ≡ false = grind (arith, nat_tests) in
-    ap (map (λ (c : Call). c.answer)) (filter-append (λ (x : Call). x.by == number) calls (e ∷ []) ∙ (ap (λ t. filter (λ (x : Call). x.by == number) calls ++ cond t (e ∷ []) []) other ∙ append-nil (filter (λ (x : Call). x.by == number) calls)))
+    filter-append (λ (x : Call). x.by == number) calls (e ∷ [])
+    ∙ (ap (λ t. filter (λ (x : Call). x.by == number) calls ++ cond t (e ∷ []) []) other ∙ append-nil (filter (λ (x : Call). x.by == number) calls))
 
 one_below : (given : ℕ) (e : Call) → e.by < given → All (λ x. x.by < given) (e ∷ [])
 one_below given e below zero d l = below
@@ -170,7 +170,7 @@ takes i v o w is_keeper s h at apart there =
               (at_set (set s.views i (joined v w)) o j nobody u e);
         }
 
-pub deals : (i : ℕ) (v : View) → v.keeps ≡ true → Splits Holds i v (knower v.calls (v.given + 1) v.settled) (owner v.given [])
+pub deals : (i : ℕ) (v : View) → v.keeps ≡ true → Splits Holds i v (knower v.calls (v.given + 1) v.settled) (owner (new_holder v.given))
 deals i v is_keeper s h at =
     let k = (h.fits i v at).knows is_keeper in
     let left = knower v.calls (v.given + 1) v.settled in
@@ -182,7 +182,7 @@ deals i v is_keeper s h at =
       seat_of = now;
       calls = h.calls;
       below = λ n d l. let b = h.below n d l in omega (arith, b);
-      fits = fits_end h.keeper (h.given + 1) now h.calls (set s.views i left) (owner v.given [])
+      fits = fits_end h.keeper (h.given + 1) now h.calls (set s.views i left) (owner (new_holder v.given))
           (fits_set h.keeper (h.given + 1) now h.calls s.views i left
           (λ j u far e.
           let f = h.fits j u e in
@@ -198,11 +198,11 @@ deals i v is_keeper s h at =
     }
 
 pub notes : (i : ℕ) (v : View) (said : Said) (pulse : Option Line) → v.keeps ≡ true → v.owns ≡ true
-    → Splits Holds i v (knower (v.calls ++ record { by = v.number; answer = said; pulse = pulse } ∷ []) v.given v.settled) (owner v.number (v.heard ++ said ∷ []))
+    → Splits Holds i v (knower (v.calls ++ call_by v said pulse ∷ []) v.given v.settled) (owner (with_heard (call_by v said pulse ∷ []) (holder_of v)))
 notes i v said pulse is_keeper owns s h at =
     let k = (h.fits i v at).knows is_keeper in
     let own = (h.fits i v at).own owns in
-    let e : Call = record { by = v.number; answer = said; pulse = pulse } in
+    let e : Call = call_by v said pulse in
     let left = knower (v.calls ++ e ∷ []) v.given v.settled in
     let new = length (set s.views i left) in
     let now = turned h.seat_of v.number (new + 1) in
@@ -212,7 +212,7 @@ notes i v said pulse is_keeper owns s h at =
       seat_of = now;
       calls = h.calls ++ e ∷ [];
       below = All-append (λ x. x.by < h.given) h.calls (e ∷ []) h.below (one_below h.given e own.1);
-      fits = fits_end h.keeper h.given now (h.calls ++ e ∷ []) (set s.views i left) (owner v.number (v.heard ++ said ∷ []))
+      fits = fits_end h.keeper h.given now (h.calls ++ e ∷ []) (set s.views i left) (owner (with_heard (e ∷ []) (holder_of v)))
           (fits_set h.keeper h.given now (h.calls ++ e ∷ []) s.views i left
           (λ j u far at'.
           let f = h.fits j u at' in
@@ -227,7 +227,7 @@ notes i v said pulse is_keeper owns s h at =
             knows = λ _. (k.0, ap (λ l. l ++ e ∷ []) k.1, k.2, λ n d l. (let z = k.3 n d l in record { given_out = z.given_out; nobody_has = turned_else h.seat_of v.number (new + 1) _ (λ same. omega (arith, z.nobody_has, own.0, ap h.seat_of same)) ∙ z.nobody_has }));
             own = λ c. absurd (off c);
           }))
-          (record { knows = λ c. absurd (off c); own = λ _. (turned_here h.seat_of v.number (new + 1), own.1, calls_here v.number h.calls e refl ∙ ap (λ l. l ++ said ∷ []) own.2) });
+          (record { knows = λ c. absurd (off c); own = λ _. (turned_here h.seat_of v.number (new + 1), own.1, calls_here v.number h.calls e refl ∙ ap (λ l. l ++ e ∷ []) own.2) });
     }
 
 pub settles_as : (slots i : ℕ) (me : View × List (ℕ × ℕ)) → me.0.keeps ≡ true → me.0.owns ≡ true
@@ -278,6 +278,22 @@ settles_as slots i me is_keeper owns s h len at word =
   where
     other : (a b : ℕ) → b ≢ a → nat_eq a b ≡ false
     other a b apart = grind (arith, nat_tests)
+
+pub counts_as : (slots i : ℕ) (me : View × List (ℕ × ℕ))
+    → Allows Holds slots i me 0 (λ n. n) (Counted (step slots 0 0 0 none) me)
+counts_as slots i me s h len at word =
+    let v = me.0 in
+    let w = record v { drains = v.drains + 1 } in
+    let f = h.fits i v at in
+    let new : Kept (set s.views i w) = record {
+      keeper = h.keeper;
+      given = h.given;
+      seat_of = h.seat_of;
+      calls = h.calls;
+      below = h.below;
+      fits = fits_set h.keeper h.given h.seat_of h.calls s.views i w (λ j u far e. h.fits j u e)
+          (record { knows = f.knows; own = f.own });
+    } in (w, keeps, tt, new, (refl, refl))
 
 pub checks_as : (slots i : ℕ) (me : View × List (ℕ × ℕ)) → me.0.keeps ≡ true
     → Allows Holds slots i me 0 (λ n. n) (Checked (step slots 0 0 0 none) me)

@@ -1,10 +1,14 @@
-use Rattle.std.proofs.Common.{◌≡◌, ℕ, ◌+◌, ◌<◌, List, [], ◌∷◌, ◌++◌, length, take, refl, sym, subst, ap, get_or, ◌∙◌, append_assoc}
+use mathlib.Core.Logic.{dite}
+use native.Mathlib.Decide.{ℕ_discrete}
+use Rattle.std.proofs.Common.{◌≡◌, ◌≢◌, ℕ, ◌+◌, ◌<◌, IsNone, arith, List, [], ◌∷◌, ◌++◌, length, take, refl, sym, subst, ap, get_or, ◌∙◌, append_assoc}
 use Rattle.std.proofs.lemmas.List.{append-nil, map-append, take_more}
+use Rattle.std.proofs.lemmas.List.Elements.{All-nil, All-push}
 use Rattle.agc_plan.specs.declared.request.Request.{Request}
 use Rattle.agc_machine.specs.Machines.{Machined}
 use Rattle.agc_machine.specs.Said.{Said}
-use Rattle.agc_desk.specs.History.{Holder}
-use Rattle.agc_desk.specs.Runs.{Asks, AsksAll, Reached}
+use Rattle.agc_desk.specs.declared.book.Call.{Call}
+use Rattle.agc_desk.specs.History.{Holder, own_call, with_heard}
+use Rattle.agc_desk.specs.Runs.{Asks, AsksAll, IsGiven, Reached}
 
 -- one request more
 pub reached_more : {S : Type 0} (R : S → Request → Said → S → Type 0) (s : S) (qs : List Request) (t : S) (q : Request) (a : Said) (u : S)
@@ -22,24 +26,43 @@ reached_next {S} R s qs i q t a u below is before now =
     rw (take_more qs i q below) (subst P is (reached_more R s (take i qs) t q a u before now))
 
 -- the holder of a share asked nothing
-pub asks_none : (old : Holder) → AsksAll old [] old
-asks_none old = record { told = []; number = refl; heard = sym (append-nil old.heard); asked = refl }
+pub asks_none : (first : Machined) (old : Holder) → AsksAll first old [] old
+asks_none first old = record {
+  calls = [];
+  heard = ap (λ l. record old { heard = l }) (sym (append-nil old.heard));
+  asked = refl;
+  own = All-nil (λ (call : Call). IsNone call.pulse);
+  given = All-nil (λ (call : Call). IsGiven first call.answer);
+}
 
 -- and one request more
 pub asks_more : (first : Machined) (old : Holder) (rs : List Request) (mid : Holder) (r : Request) (said : Said) (new : Holder)
-    → AsksAll old rs mid → Asks first mid r said new → AsksAll old (rs ++ r ∷ []) new
-asks_more first old rs mid r said new before now = record {
-  told = before.told ++ said ∷ [];
-  number = ap (λ h. h.number) now.2 ∙ before.number;
-  heard = ap (λ h. h.heard) now.2 ∙ (ap (λ l. l ++ said ∷ []) before.heard ∙ append_assoc old.heard before.told (said ∷ []));
-  asked = map-append (λ (s : Said). s.request) before.told (said ∷ []) ∙ (ap (λ l. l ++ said.request ∷ []) before.asked ∙ ap (λ q. rs ++ q ∷ []) now.0);
-}
+    → AsksAll first old rs mid → Asks first mid r said new → AsksAll first old (rs ++ r ∷ []) new
+asks_more first old rs mid r said new before now =
+    let call : Call = own_call old.number said in
+    let number : mid.number ≡ old.number = ap (λ (h : Holder). h.number) before.heard in
+    record {
+      calls = before.calls ++ call ∷ [];
+      heard = now.2
+          ∙ (ap (λ (n : ℕ). with_heard (own_call n said ∷ []) mid) number
+          ∙ (ap (with_heard (call ∷ [])) before.heard
+          ∙ ap (λ l. record old { heard = l }) (append_assoc old.heard before.calls (call ∷ []))));
+      asked = map-append (λ (c : Call). c.answer.request) before.calls (call ∷ [])
+          ∙ (ap (λ l. l ++ said.request ∷ []) before.asked ∙ ap (λ q. rs ++ q ∷ []) now.0);
+      own = All-push (λ (c : Call). IsNone c.pulse) before.calls call before.own refl;
+      given = All-push (λ (c : Call). IsGiven first c.answer) before.calls call before.given now.1;
+    }
 
 -- whoever is seen as the holder of a share, and is asked as it asks, asked these requests with it
 pub asks_all : {S : Type 0} (first : Machined) (share_of : S → Holder) (old : Holder) (done more : List Request) (mid new : S)
-    → AsksAll old done (share_of mid) → Reached (λ s q a t. Asks first (share_of s) q a (share_of t)) mid more new → AsksAll old (done ++ more) (share_of new)
+    → AsksAll first old done (share_of mid) → Reached (λ s q a t. Asks first (share_of s) q a (share_of t)) mid more new → AsksAll first old (done ++ more) (share_of new)
 asks_all first share_of old done [] mid new before last =
-    subst (λ rs. AsksAll old rs (share_of new)) (sym (append-nil done)) (subst (λ s. AsksAll old done (share_of s)) last before)
+    subst (λ rs. AsksAll first old rs (share_of new)) (sym (append-nil done)) (subst (λ s. AsksAll first old done (share_of s)) last before)
 asks_all first share_of old done (r ∷ more) mid new before next =
-    subst (λ rs. AsksAll old rs (share_of new)) (append_assoc done (r ∷ []) more)
+    subst (λ rs. AsksAll first old rs (share_of new)) (append_assoc done (r ∷ []) more)
     (asks_all first share_of old (done ++ r ∷ []) more next.0 new (asks_more first old done (share_of mid) r next.1.0.0 (share_of next.0) before next.1.0.1) next.1.1)
+
+-- what holds of each number below n, and of n, holds of each below n + 1
+pub below_next : (P : ℕ → Type 0) (n : ℕ) → ((k : ℕ) → k < n → P k) → P n → (k : ℕ) → k < n + 1 → P k
+below_next P n all here k below =
+    dite (ℕ_discrete k n) (λ (same : k ≡ n). subst P (sym same) here) (λ (other : k ≢ n). all k (omega (arith, below, other)))

@@ -6,14 +6,15 @@ use Rattle.std.proofs.lemmas.List.Elements.{All-append}
 use Rattle.agc_latch.specs.declared.line.Line.{Line}
 use Rattle.agc_latch.specs.declared.line.Line.TheVariants.{Timer, Key, Radar}
 use Rattle.agc_latch.specs.Lines.{on, word_of}
-use Rattle.agc_latch.specs.Accounts.{Applies, Collects, LineAccounts, given_of, latch_of, taken_on}
+use Rattle.agc_latch.specs.Accounts.{Applies, Collects, IsTakenOnce, LineAccounts, given_of, latch_of, taken_on}
+use Rattle.agc_latch.specs.Ends.{Taking}
 use Rattle.agc_plan.specs.Plans.{Planned}
 use Rattle.agc_machine.specs.declared.answer.Refusal.{Refusal}
 use Rattle.agc_machine.specs.Machines.{Machined, after_all}
 use Rattle.agc_machine.specs.Said.{Said}
 use Rattle.agc_desk.specs.Desks.{Desked, with_lines}
-use Rattle.agc_desk.specs.Draining.{Drains, Moves, NoneRefused, ServesAll, pulse_refusal, requests_by, with_asked}
-use Rattle.agc_desk.specs.History.{Holder}
+use Rattle.agc_desk.specs.Draining.{Drains, Moves, NoneRefused, ServesAll, calls_of, pulse_refusal, with_asked}
+use Rattle.agc_desk.specs.History.{Holder, with_drain, with_heard}
 use Rattle.agc_desk.specs.Pulses.{Pulse, first_line, first_pulse, line_if_any, pulse_of, pulses_of, repeated}
 use Rattle.agc_desk.specs.Stages.{DrainsLine, next_pulse}
 use Rattle.agc_desk.proofs.Emptying.{after_by, next_none, repeated_none, same_plan, serves_append, told_by, told_by_append}
@@ -37,6 +38,7 @@ moves found n1 n2 n3 l l0 l1 l2 l3 c a b d tk tr kr =
     let timer_left : on Timer l3.owed ≡ on Timer l1.owed = d.other_owed Timer timer_radar ∙ timer_key_left in
     let key_left : on Key l3.owed ≡ on Key l2.owed = d.other_owed Key key_radar in
     record {
+      once = subst (λ (t : Option Taking). IsTakenOnce l.taker t) (sym (d.taker ∙ (b.taker ∙ a.taker))) c.once;
       owed = owed;
       applied = applied;
       in_order = in_order timer_left key_left;
@@ -108,7 +110,7 @@ serves_from : (asked : List Pulse) (d d0 : Desked) (s : Holder) (now : Desked) (
     → ServesAll asked d0 s now new → ServesAll asked d s now new
 serves_from asked d d0 s now new is all = record {
   desk = all.desk ∙ ap (λ (x : Desked). with_lines now.lines (with_asked s.number asked x)) is;
-  heard = all.heard ∙ ap (λ (x : Desked). record s { heard = s.heard ++ told_by x.machine asked }) is;
+  heard = all.heard ∙ ap (λ (x : Desked). with_heard (calls_of s.number x.machine asked) s) is;
 }
 
 key_tried : (a b c t : List Pulse) → c ≡ [] → (a ++ []) ++ ((b ++ t) ++ (c ++ [])) ≡ (a ++ (b ++ c)) ++ t
@@ -147,7 +149,7 @@ served_thrice a b c m m1 m2 first second one two three =
 
 -- what is left to say once the line is known on which the drain ended
 finish : (last : Line) (asked : List Pulse) (found done : List ℕ) (r : Option Refusal) (d d0 d3 : Desked) (s s3 : Holder)
-    → d0 ≡ with_lines d0.lines d → Moves found done d.lines d3.lines → ServesAll asked d0 s d3 s3
+    → d0 ≡ with_lines d0.lines d → Moves found done d.lines d3.lines → ServesAll asked d0 (with_drain s) d3 s3
     → first_line d3.lines.owed ≡ line_if_any last d3.lines.owed
     → asked ≡ pulses_of d.machine.plan done ++ option_to_list (next_pulse d.machine.plan last d3.lines.owed)
     → NoneRefused (told_by d0.machine (pulses_of d.machine.plan done))
@@ -159,9 +161,9 @@ finish last asked found done r d d0 d3 s s3 start lines serves first is served r
     ap (λ o. option_and_then (pulse_of d.machine.plan) o) (sym first) in
     record {
       lines = lines;
-      asked = subst (λ (l : List Pulse). ServesAll l d s d3 s3)
+      asked = subst (λ (l : List Pulse). ServesAll l d (with_drain s) d3 s3)
           (is ∙ ap (λ (o : Option Pulse). pulses_of d.machine.plan done ++ option_to_list o) request)
-          (serves_from asked d d0 s d3 s3 start serves);
+          (serves_from asked d d0 (with_drain s) d3 s3 start serves);
       served = subst (λ (x : Desked). NoneRefused (told_by x.machine (pulses_of d.machine.plan done))) start served;
       refused = refusal ∙ ap (λ (o : Option Pulse). option_and_then (pulse_refusal d3.machine) o) request;
       none_left = left;
@@ -181,7 +183,7 @@ same_machine m n asked is empty = is ∙ ap (after_by m) empty
 -- three lines, by the requests of one plan
 of_plan : (r1 r2 r3 : Option Refusal) (found : List ℕ) (n1 n2 n3 : ℕ) (d d0 d1 d2 d3 : Desked) (s s1 s2 s3 : Holder)
     → d0 ≡ with_lines d0.lines d → Collects found d.lines d0.lines
-    → DrainsLine None d.machine.plan Timer d0 s n1 r1 d1 s1 → DrainsLine r1 d.machine.plan Key d1 s1 n2 r2 d2 s2
+    → DrainsLine None d.machine.plan Timer d0 (with_drain s) n1 r1 d1 s1 → DrainsLine r1 d.machine.plan Key d1 s1 n2 r2 d2 s2
     → DrainsLine r2 d.machine.plan Radar d2 s2 n3 r3 d3 s3
     → Drains d s (record { taken = found; applied = n1 ∷ n2 ∷ n3 ∷ []; refused = r3 }) d3 s3
 of_plan None None r3 found n1 n2 n3 d d0 d1 d2 d3 s s1 s2 s3 start collects a b c =
@@ -190,7 +192,7 @@ of_plan None None r3 found n1 n2 n3 d d0 d1 d2 d3 s s1 s2 s3 start collects a b 
     let key : on Key d2.lines.owed ≡ 0 = (b.none_left refl).0 refl in
     let timer_last : on Timer d3.lines.owed ≡ 0 = c.lines.other_owed Timer timer_radar ∙ (b.lines.other_owed Timer timer_key ∙ timer) in
     let key_last : on Key d3.lines.owed ≡ 0 = c.lines.other_owed Key key_radar ∙ key in
-    let all = serves_append _ _ d0 s d1 s1 d3 s3 a.asked (serves_append _ _ d1 s1 d2 s2 d3 s3 b.asked c.asked) in
+    let all = serves_append _ _ d0 (with_drain s) d1 s1 d3 s3 a.asked (serves_append _ _ d1 s1 d2 s2 d3 s3 b.asked c.asked) in
     let one = repeated (pulse_of plan Timer) n1 in
     let two = repeated (pulse_of plan Key) n2 in
     let three = repeated (pulse_of plan Radar) n3 in
@@ -219,7 +221,7 @@ of_plan None (Some r) r3 found n1 n2 n3 d d0 d1 d2 d3 s s1 s2 s3 start collects 
     let timer_last : on Timer d3.lines.owed ≡ 0 = c.lines.other_owed Timer timer_radar ∙ (b.lines.other_owed Timer timer_key ∙ timer) in
     let same_key : on Key d3.lines.owed ≡ on Key d2.lines.owed = c.lines.other_owed Key key_radar in
     let key_last : 0 < on Key d3.lines.owed = omega (arith, key, same_key) in
-    let all = serves_append _ _ d0 s d1 s1 d3 s3 a.asked (serves_append _ _ d1 s1 d2 s2 d3 s3 b.asked c.asked) in
+    let all = serves_append _ _ d0 (with_drain s) d1 s1 d3 s3 a.asked (serves_append _ _ d1 s1 d2 s2 d3 s3 b.asked c.asked) in
     let one = repeated (pulse_of plan Timer) n1 in
     let two = repeated (pulse_of plan Key) n2 in
     let three = repeated (pulse_of plan Radar) n3 in
@@ -246,7 +248,7 @@ of_plan (Some r) (Some q) r3 found n1 n2 n3 d d0 d1 d2 d3 s s1 s2 s3 start colle
     let no_radar : n3 ≡ 0 = c.stopped q refl in
     let same_timer : on Timer d3.lines.owed ≡ on Timer d1.lines.owed = c.lines.other_owed Timer timer_radar ∙ b.lines.other_owed Timer timer_key in
     let timer_last : 0 < on Timer d3.lines.owed = omega (arith, timer, same_timer) in
-    let all = serves_append _ _ d0 s d1 s1 d3 s3 a.asked (serves_append _ _ d1 s1 d2 s2 d3 s3 b.asked c.asked) in
+    let all = serves_append _ _ d0 (with_drain s) d1 s1 d3 s3 a.asked (serves_append _ _ d1 s1 d2 s2 d3 s3 b.asked c.asked) in
     let one = repeated (pulse_of plan Timer) n1 in
     let two = repeated (pulse_of plan Key) n2 in
     let three = repeated (pulse_of plan Radar) n3 in
@@ -269,7 +271,7 @@ of_plan (Some r) (Some q) r3 found n1 n2 n3 d d0 d1 d2 d3 s s1 s2 s3 start colle
 -- the three lines of a desk from which what was posted was taken
 pub drains : (r1 r2 r3 : Option Refusal) (found : List ℕ) (n1 n2 n3 : ℕ) (d d0 d1 d2 d3 : Desked) (s s1 s2 s3 : Holder)
     → d0 ≡ with_lines d0.lines d → Collects found d.lines d0.lines
-    → DrainsLine None d0.machine.plan Timer d0 s n1 r1 d1 s1 → DrainsLine r1 d1.machine.plan Key d1 s1 n2 r2 d2 s2
+    → DrainsLine None d0.machine.plan Timer d0 (with_drain s) n1 r1 d1 s1 → DrainsLine r1 d1.machine.plan Key d1 s1 n2 r2 d2 s2
     → DrainsLine r2 d2.machine.plan Radar d2 s2 n3 r3 d3 s3
     → Drains d s (record { taken = found; applied = n1 ∷ n2 ∷ n3 ∷ []; refused = r3 }) d3 s3
 drains r1 r2 r3 found n1 n2 n3 d d0 d1 d2 d3 s s1 s2 s3 start collects a b c =
@@ -277,6 +279,6 @@ drains r1 r2 r3 found n1 n2 n3 d d0 d1 d2 d3 s s1 s2 s3 start collects a b c =
     let second : d1.machine.plan ≡ d.machine.plan = ap (λ (m : Machined). m.plan) a.machine ∙ (same_plan d0.machine _ ∙ first) in
     let third : d2.machine.plan ≡ d.machine.plan = ap (λ (m : Machined). m.plan) b.machine ∙ (same_plan d1.machine _ ∙ second) in
     of_plan r1 r2 r3 found n1 n2 n3 d d0 d1 d2 d3 s s1 s2 s3 start collects
-    (subst (λ (p : Planned). DrainsLine None p Timer d0 s n1 r1 d1 s1) first a)
+    (subst (λ (p : Planned). DrainsLine None p Timer d0 (with_drain s) n1 r1 d1 s1) first a)
     (subst (λ (p : Planned). DrainsLine r1 p Key d1 s1 n2 r2 d2 s2) second b)
     (subst (λ (p : Planned). DrainsLine r2 p Radar d2 s2 n3 r3 d3 s3) third c)

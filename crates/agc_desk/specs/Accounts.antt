@@ -2,8 +2,8 @@
 use Rattle.std.specs.Prelude.{ℕ, List, sum_by}
 use Rattle.std.specs.List.{fold}
 use Rattle.agc_machine.specs.declared.totals.Totals.{Totals}
-use Rattle.agc_machine.specs.Said.{Said}
 use Rattle.agc_machine.specs.Told.{add, nothing, told}
+use Rattle.agc_desk.specs.declared.book.Call.{Call}
 use Rattle.agc_desk.specs.History.{Holder}
 
 -- five ledgers, one for each number of the totals, with as many parts left of each
@@ -12,9 +12,9 @@ pub record Accounts : Type 0 where
   pub left : ℕ
   pub back : Totals
 
--- what these answers tell together
-unfoldable pub told_in : List Said → Totals
-told_in heard = fold (λ total said. add total (told said.outcome)) nothing heard
+-- what the answers to these calls tell together
+unfoldable pub told_in : List Call → Totals
+told_in heard = fold (λ total call. add total (told call.answer.outcome)) nothing heard
 
 -- what the holders of all these shares were told together
 abbrev pub told_to : List Holder → Totals

@@ -5,7 +5,8 @@ use Rattle.std.specs.Option.{option_and_then, option_to_list}
 use Rattle.atomic_table.specs.Seated.{TableId}
 use Rattle.agc_latch.specs.declared.line.Line.{Line}
 use Rattle.agc_latch.specs.Lines.{on, word_of}
-use Rattle.agc_latch.specs.Accounts.{IsKept, IsOf, LineAccounts, given_of, latch_of, taken_on}
+use Rattle.agc_latch.specs.Accounts.{IsKept, IsOf, IsTakenOnce, LineAccounts}
+use Rattle.agc_latch.specs.Accounts.{given_of, latch_of, taken_on}
 use Rattle.agc_plan.specs.declared.request.Request.{Request}
 use Rattle.agc_machine.specs.declared.answer.Refusal.{Refusal}
 use Rattle.agc_machine.specs.Machines.{IsLawful, Machined, after, after_all, answer_of, refusal_of}
@@ -15,7 +16,7 @@ use Rattle.agc_desk.specs.declared.book.Call.{Call}
 use Rattle.agc_desk.specs.declared.drain.Drained.{Drained}
 use Rattle.agc_desk.specs.Accounts.{told_in}
 use Rattle.agc_desk.specs.Desks.{ArePulses, Desked, with_lines}
-use Rattle.agc_desk.specs.History.{Holder, Leads}
+use Rattle.agc_desk.specs.History.{Holder, Leads, with_drain, with_heard}
 use Rattle.agc_desk.specs.Pulses.{Pulse, first_pulse, pulses_of}
 
 -- what a machine answers these requests, in order, each as its step answers it there
@@ -42,27 +43,25 @@ abbrev pub with_asked : ℕ → List Pulse → Desked → Desked
 with_asked number asked d = record d {
   machine = after_all d.machine (requests_by asked);
   history = d.history ++ calls_of number d.machine asked;
-  booked = add d.booked (told_in (answers_to d.machine (requests_by asked)));
+  booked = add d.booked (told_in (calls_of number d.machine asked));
 }
-
--- the holder of a share after it was told these answers
-abbrev pub with_heard : List Said → Holder → Holder
-with_heard told holder = record holder { heard = holder.heard ++ told }
 
 -- the desk was asked for these pulses, in order, with the share; but for that, its accounts of
 -- lines alone changed
 pub record ServesAll (asked : List Pulse)
     (old : Desked) (share : Holder) (now : Desked) (new : Holder) : Type 0 where
   pub desk : now ≡ with_lines now.lines (with_asked share.number asked old)
-  pub heard : new ≡ with_heard (answers_to old.machine (requests_by asked)) share
+  pub heard : new ≡ with_heard (calls_of share.number old.machine asked) share
 
 -- none of these was refused
 abbrev pub NoneRefused : List Said → Type 0
 NoneRefused told = All (λ said. IsOk said.outcome) told
 
--- pulses were taken, so many per line, and so many applied of those that are owed; where a pulse of
--- a line is left, none of a later line was applied; and nothing else of the accounts changed
+-- each line was taken once, where there is a taker, so many pulses were found, and so many applied
+-- of those that are owed; where a pulse of a line is left, none of a later line was applied; and
+-- nothing else of the accounts changed
 pub record Moves (found done : List ℕ) (old now : LineAccounts) : Type 0 where
+  pub once : IsTakenOnce old.taker now.taker
   pub owed : (line : Line) → on line now.owed + on line done ≡ on line old.owed + on line found
   pub applied : (line : Line) → on line now.applied ≡ on line old.applied + on line done
   pub in_order : (line later : Line) → word_of line < word_of later → 0 < on line now.owed
@@ -86,11 +85,12 @@ pulse_refusal m pulse = refusal_of m pulse.request
 -- The desk is drained with a share: it takes pulses, and applies what is owed, line by line, up to
 -- the first pulse that is refused, which stays owed with all that come after it. Its requests, the
 -- refused one too, come with their answers into the history, as those of pulses of their lines, to
--- the share's holder and into the books, and nothing else of the desk changes.
+-- the share's holder and into the books, and nothing else of the desk changes; and the holder counts
+-- one drain more.
 pub record Drains (old : Desked) (share : Holder)
     (result : Drained) (now : Desked) (new : Holder) : Type 0 where
   pub lines : Moves result.taken result.applied old.lines now.lines
-  pub asked : ServesAll (drained_by old result.applied now.lines) old share now new
+  pub asked : ServesAll (drained_by old result.applied now.lines) old (with_drain share) now new
   pub served : NoneRefused (answers_to old.machine
       (requests_by (pulses_of old.machine.plan result.applied)))
   pub refused : result.refused ≡ option_and_then (pulse_refusal now.machine)

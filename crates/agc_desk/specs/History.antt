@@ -1,6 +1,6 @@
 -- The history of one machine: who asked what, and what was answered.
-use Rattle.std.specs.Prelude.{◌≡◌, ℕ, ◌==◌, ◌&&◌, Bool, false, is_ok, List, [], ◌∷◌, map, Option, Some, None}
-use Rattle.std.specs.List.{All, Contains, count_by, filter}
+use Rattle.std.specs.Prelude.{◌≡◌, ℕ, ◌+◌, ◌++◌, ◌==◌, ◌&&◌, Bool, false, is_ok, List, [], ◌∷◌, map, nat_eq, Option, Some, None}
+use Rattle.std.specs.List.{All, Contains, IsDistinct, count_by, filter}
 use Rattle.agc_latch.specs.declared.line.Line.{Line}
 use Rattle.agc_latch.specs.Lines.{word_of}
 use Rattle.agc_machine.specs.Said.{Said}
@@ -15,8 +15,8 @@ Leads first (call ∷ more) last =
     (call.answer.outcome ≡ answer_of first call.answer.request) × Leads (after first call.answer.request) more last
 
 -- what was asked with the share of this number, and answered, in order
-abbrev pub calls_by : ℕ → List Call → List Said
-calls_by number calls = map (λ call. call.answer) (filter (λ call. call.by == number) calls)
+abbrev pub calls_by : ℕ → List Call → List Call
+calls_by number calls = filter (λ call. call.by == number) calls
 
 -- whether these are pulses of the line
 abbrev pub is_of : Line → Option Line → Bool
@@ -27,10 +27,29 @@ is_of line (Some other) = word_of other == word_of line
 abbrev pub applied_in : Line → List Call → ℕ
 applied_in line calls = count_by (λ call. is_ok call.answer.outcome && is_of line call.pulse) calls
 
--- a share: its number, and what its holder asked and was answered, in order
+-- a request that its holder asks with the share of this number, of its own accord and not for a
+-- pulse, and the answer
+abbrev pub own_call : ℕ → Said → Call
+own_call number said = record { by = number; answer = said; pulse = None }
+
+-- a share: its number; what its holder asked, for pulses or not, and was answered, in order; and
+-- how often the desk was drained with it
 pub record Holder : Type 0 where
   pub number : ℕ
-  pub heard : List Said
+  pub heard : List Call
+  pub drains : ℕ
+
+-- the holder of a share with which nothing was done
+abbrev pub new_holder : ℕ → Holder
+new_holder number = record { number = number; heard = []; drains = 0 }
+
+-- the holder of a share after these calls
+abbrev pub with_heard : List Call → Holder → Holder
+with_heard calls holder = record holder { heard = holder.heard ++ calls }
+
+-- and as it drains once more
+abbrev pub with_drain : Holder → Holder
+with_drain holder = record holder { drains = holder.drains + 1 }
 
 -- what a desk knows of its history: the calls, how many shares were given out, and the numbers of
 -- those that were settled
@@ -43,8 +62,9 @@ pub record Known : Type 0 where
 abbrev pub numbers_of : List Holder → List ℕ
 numbers_of shares = map (λ share. share.number) shares
 
--- the history of a machine that was asked with just these shares
+-- the history of a machine that was asked with just these shares, no two of the same number
 pub record IsHistory (first : Machined) (shares : List Holder) (calls : List Call) (last : Machined) : Type 0 where
   pub leads : Leads first calls last
+  pub apart : IsDistinct nat_eq (numbers_of shares)
   pub each : All (λ share. calls_by share.number calls ≡ share.heard) shares
   pub no_other : All (λ call. Contains (numbers_of shares) call.by) calls

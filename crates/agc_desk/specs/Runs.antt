@@ -1,43 +1,50 @@
 -- What callers ask, and what they are told.
-use Rattle.std.specs.Prelude.{◌≡◌, ℕ, ◌≤◌, ◌⊎◌, List, [], ◌∷◌, ◌++◌, length, map, take}
+use Rattle.std.specs.Prelude.{◌≡◌, ℕ, ◌<◌, ◌≤◌, ◌⊎◌, Bool, true, false, List, [], ◌∷◌, length, map, take, IsNone}
+use Rattle.std.specs.List.{All}
 use Rattle.agc_plan.specs.declared.request.Request.{Request}
 use Rattle.agc_machine.specs.Machines.{Machined, IsLawful, answer_of}
 use Rattle.agc_machine.specs.Said.{Said}
-use Rattle.agc_desk.specs.History.{Holder}
+use Rattle.agc_desk.specs.declared.book.Call.{Call}
+use Rattle.agc_desk.specs.History.{Holder, Leads, own_call, with_heard}
 
--- the answer is the one that the machine's step gives to its request on some lawful machine, of the
--- same plan, limit and allowance as the first
+-- the answer is the one that the machine's step gives to its request on a lawful machine to which
+-- some calls lead from the first
 pub record IsGiven (first : Machined) (said : Said) : Type 0 where
+  pub calls : List Call
   pub machine : Machined
+  pub leads : Leads first calls machine
   pub lawful : IsLawful machine
-  pub plan : machine.plan ≡ first.plan
-  pub limit : machine.limit ≡ first.limit
-  pub allowance : machine.allowance ≡ first.allowance
   pub answer : said.outcome ≡ answer_of machine said.request
 
--- the holder of a share asks this, gets this answer, and has heard one answer more
+-- the holder of a share asks this, gets this answer, and has heard one call of its own more
 abbrev pub Asks : Machined → Holder → Request → Said → Holder → Type 0
 Asks first old asked said new =
-    (said.request ≡ asked) × IsGiven first said × (new ≡ record old { heard = old.heard ++ said ∷ [] })
+    (said.request ≡ asked)
+    × IsGiven first said
+    × (new ≡ with_heard (own_call old.number said ∷ []) old)
 
--- the requests that were answered, in order
-abbrev pub requests_of : List Said → List Request
-requests_of told = map (λ said. said.request) told
+-- the requests of calls, in order
+abbrev pub requests_of : List Call → List Request
+requests_of calls = map (λ call. call.answer.request) calls
 
--- the holder of a share asked just these requests, in order, and got an answer to each
-pub record AsksAll (old : Holder) (requests : List Request) (new : Holder) : Type 0 where
-  pub told : List Said
-  pub number : new.number ≡ old.number
-  pub heard : new.heard ≡ old.heard ++ told
-  pub asked : requests_of told ≡ requests
+-- the holder of a share asked just these requests, in order, of its own accord, and got an answer
+-- to each
+pub record AsksAll (first : Machined) (old : Holder) (requests : List Request)
+    (new : Holder) : Type 0 where
+  pub calls : List Call
+  pub heard : new ≡ with_heard calls old
+  pub asked : requests_of calls ≡ requests
+  pub own : All (λ call. IsNone call.pulse) calls
+  pub given : All (λ call. IsGiven first call.answer) calls
 
--- these were asked of the requests: the first so many, which are all or end at a call before which
--- the gate may stop
-pub record IsFront (may_stop : ℕ → Type 0) (requests asked : List Request) : Type 0 where
+-- these were asked of the requests: the first so many, before each of which the gate may answer
+-- true, and which are all or end before one at which it may answer false
+pub record IsFront (may_answer : ℕ → Bool → Type 0) (requests asked : List Request) : Type 0 where
   pub count : ℕ
   pub few : count ≤ length requests
   pub front : asked ≡ take count requests
-  pub whole : (count ≡ length requests) ⊎ may_stop count
+  pub passed : (call : ℕ) → call < count → may_answer call true
+  pub whole : (count ≡ length requests) ⊎ may_answer count false
 
 -- these requests, each answered as the relation says, lead in this order from the first state to
 -- the last

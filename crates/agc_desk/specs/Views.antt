@@ -1,27 +1,55 @@
 -- Of proofs alone: the rule of the table that ties what a desk and the holders of its shares know
 -- of one history.
-use Rattle.std.specs.Prelude.{◌≡◌, ℕ, ◌+◌, ◌<◌, List, [], ◌∷◌, ◌++◌, nat_eq, true, false}
+use Rattle.std.specs.Prelude.{◌≡◌, ℕ, ◌+◌, ◌<◌, List, [], ◌∷◌, ◌++◌, nat_eq, true, false, Option}
 use Rattle.std.specs.List.{All}
 use mathlib.Core.Option.{some}
 use lib.ListN.{get_elem?}
 use Rattle.std.specs.List.{list_any}
 use Rattle.atomic_table.specs.Table.{Me, Step}
+use Rattle.agc_latch.specs.declared.line.Line.{Line}
 use Rattle.agc_machine.specs.Said.{Said}
 use Rattle.agc_desk.specs.declared.book.Call.{Call}
 use Rattle.agc_desk.specs.declared.book.View.{View}
-use Rattle.agc_desk.specs.History.{calls_by}
+use Rattle.agc_desk.specs.History.{Holder, calls_by}
 use Rattle.agc_desk.specs.Knowing.{knower}
 
--- a share's: it has a number, and knows what was asked with it
-abbrev pub owner : ℕ → List Said → View
-owner number heard = record { keeps = false; calls = []; given = 0; settled = []; owns = true; number = number; heard = heard }
+-- a share's: it has a number, and knows what was asked with it, and how often it drained
+abbrev pub owner : Holder → View
+owner h = record {
+  keeps = false;
+  calls = [];
+  given = 0;
+  settled = [];
+  owns = true;
+  number = h.number;
+  heard = h.heard;
+  drains = h.drains;
+}
 
+-- what a share's view knows
+abbrev pub holder_of : View → Holder
+holder_of v = record { number = v.number; heard = v.heard; drains = v.drains }
+
+-- a call with the share of this view
+abbrev pub call_by : View → Said → Option Line → Call
+call_by v said pulse = record { by = v.number; answer = said; pulse = pulse }
+
+-- who knows nothing
 abbrev pub nobody : View
-nobody = record { keeps = false; calls = []; given = 0; settled = []; owns = false; number = 0; heard = [] }
+nobody = record {
+  keeps = false;
+  calls = [];
+  given = 0;
+  settled = [];
+  owns = false;
+  number = 0;
+  heard = [];
+  drains = 0;
+}
 
 -- the desk's, with what a share knows
 abbrev pub joined : View → View → View
-joined v w = record v { owns = w.owns; number = w.number; heard = w.heard }
+joined v w = record v { owns = w.owns; number = w.number; heard = w.heard; drains = w.drains }
 
 -- a number that was given out and settled, so that no seat has it
 pub record IsSettled (given : ℕ) (seat_of : ℕ → ℕ) (number : ℕ) : Type 0 where
@@ -54,6 +82,10 @@ pub record Settles (v w : View) : Type 0 where
 
 abbrev pub Settled : {S : Type 0} → Step S → Me S View → ℕ → Me S View → Type 0
 Settled s v found w = Settles v.0 w.0 × (w.1 ≡ v.1)
+
+-- the desk is drained once more with the share
+abbrev pub Counted : {S : Type 0} → Step S → Me S View → ℕ → Me S View → Type 0
+Counted s v found w = (w.0 ≡ record v.0 { drains = v.0.drains + 1 }) × (w.1 ≡ v.1)
 
 -- nothing changes, and all calls are of numbers that were given out
 abbrev pub Checked : {S : Type 0} → Step S → Me S View → ℕ → Me S View → Type 0

@@ -3,8 +3,8 @@
 // bytes.
 ghost use Rattle.std.specs.Prelude.{◌≡◌, ◌<◌, ◌+◌, ◌++◌, ◌∷◌, [], ℕ, true, All, nat_eq, false};
 ghost use Rattle.std.specs.List.{list_any};
-ghost use Rattle.agc_desk.specs.History.{calls_by};
-ghost use Rattle.agc_desk.specs.Views.{joined, nobody, owner};
+ghost use Rattle.agc_desk.specs.History.{calls_by, new_holder, with_heard};
+ghost use Rattle.agc_desk.specs.Views.{call_by, holder_of, joined, nobody, owner};
 ghost use Rattle.agc_desk.specs.Knowing.{knower};
 
 use agc_latch::Line;
@@ -33,7 +33,8 @@ pub struct View {
     pub settled: LinkedList<u64>,
     pub owns: bool,
     pub number: u64,
-    pub heard: LinkedList<Answer>,
+    pub heard: LinkedList<Call>,
+    pub drains: u64,
 }
 
 /// Which answer is noted, and of which line's pulse. A call with `Brand` picks both.
@@ -79,11 +80,12 @@ struct Dealing;
 impl Split<View> for Dealing {
     ghost use Rattle.std.specs.Prelude.{[], ◌+◌};
     ghost use Rattle.agc_desk.specs.Views.{owner};
+    ghost use Rattle.agc_desk.specs.History.{new_holder};
     ghost use Rattle.agc_desk.specs.Knowing.{knower};
 
     ghost left = { λ v. knower v.calls (v.given + 1) v.settled };
 
-    ghost right = { λ v. owner v.given [] };
+    ghost right = { λ v. owner (new_holder v.given) };
 }
 
 /// Gives a seat that knows nothing.
@@ -115,12 +117,13 @@ struct Adding<J: Noting> {
 
 impl<J: Noting> Split<View> for Adding<J> {
     ghost use Rattle.std.specs.Prelude.{[], ◌∷◌, ◌++◌};
-    ghost use Rattle.agc_desk.specs.Views.{owner};
+    ghost use Rattle.agc_desk.specs.History.{with_heard};
+    ghost use Rattle.agc_desk.specs.Views.{call_by, holder_of, owner};
     ghost use Rattle.agc_desk.specs.Knowing.{knower};
 
-    ghost left = { λ v. knower (v.calls ++ record { by = v.number; answer = J.answer; pulse = J.pulse } ∷ []) v.given v.settled };
+    ghost left = { λ v. knower (v.calls ++ call_by v J.answer J.pulse ∷ []) v.given v.settled };
 
-    ghost right = { λ v. owner v.number (v.heard ++ J.answer ∷ []) };
+    ghost right = { λ v. owner (with_heard (call_by v J.answer J.pulse ∷ []) (holder_of v)) };
 }
 
 /// Settles the number of the share that was taken in.
@@ -130,6 +133,15 @@ impl Play<u64, View> for Settling {
     ghost use Rattle.agc_desk.specs.Views.{Settled};
 
     ghost then = { Settled };
+}
+
+/// Counts one drain more.
+struct Counting;
+
+impl Play<u64, View> for Counting {
+    ghost use Rattle.agc_desk.specs.Views.{Counted};
+
+    ghost then = { Counted };
 }
 
 /// Tells what the desk knows.
@@ -153,7 +165,7 @@ pub(crate) fn deal(book: &Book, keeper: &mut Pass) -> Pass
     requires table { (keeper.old.table_id ≡ book.now.shared.table_id) × (0 < book.now.shared.table_id.words) }
     requires keeps { keeper.old.me.0.keeps ≡ true }
     ensures keeper { (keeper.new.table_id ≡ keeper.old.table_id) × (keeper.new.me ≡ (knower keeper.old.me.0.calls (keeper.old.me.0.given + 1) keeper.old.me.0.settled, keeper.old.me.1)) }
-    ensures pass { (result.table_id ≡ keeper.old.table_id) × (result.me ≡ (owner keeper.old.me.0.given [], [])) }
+    ensures pass { (result.table_id ≡ keeper.old.table_id) × (result.me ≡ (owner (new_holder keeper.old.me.0.given), [])) }
 {
     book.shared.split_seat::<Dealing>(keeper)
 }
@@ -171,8 +183,8 @@ fn noted<J: Noting>(
     requires table { (keeper.old.table_id ≡ book.now.shared.table_id) × (pass.table_id ≡ book.now.shared.table_id) × (0 < book.now.shared.table_id.words) }
     requires keeps { keeper.old.me.0.keeps ≡ true }
     requires owns { (pass.me.0.owns ≡ true) × (pass.me.1 ≡ []) }
-    ensures keeper { (keeper.new.table_id ≡ keeper.old.table_id) × (keeper.new.me ≡ (knower (keeper.old.me.0.calls ++ record { by = pass.me.0.number; answer = answer.now; pulse = pulse } ∷ []) keeper.old.me.0.given keeper.old.me.0.settled, keeper.old.me.1)) }
-    ensures pass { (result.table_id ≡ pass.table_id) × (result.me ≡ (owner pass.me.0.number (pass.me.0.heard ++ answer.now ∷ []), [])) }
+    ensures keeper { (keeper.new.table_id ≡ keeper.old.table_id) × (keeper.new.me ≡ (knower (keeper.old.me.0.calls ++ call_by pass.me.0 answer.now pulse ∷ []) keeper.old.me.0.given keeper.old.me.0.settled, keeper.old.me.1)) }
+    ensures pass { (result.table_id ≡ pass.table_id) × (result.me ≡ (owner (with_heard (call_by pass.me.0 answer.now pulse ∷ []) (holder_of pass.me.0)), [])) }
 {
     let _ = answer;
     let _ = pulse;
@@ -191,12 +203,22 @@ pub(crate) fn note(
     requires table { (keeper.old.table_id ≡ book.now.shared.table_id) × (pass.old.table_id ≡ book.now.shared.table_id) × (0 < book.now.shared.table_id.words) }
     requires keeps { keeper.old.me.0.keeps ≡ true }
     requires owns { (pass.old.me.0.owns ≡ true) × (pass.old.me.1 ≡ []) }
-    ensures keeper { (keeper.new.table_id ≡ keeper.old.table_id) × (keeper.new.me ≡ (knower (keeper.old.me.0.calls ++ record { by = pass.old.me.0.number; answer = answer.now; pulse = pulse } ∷ []) keeper.old.me.0.given keeper.old.me.0.settled, keeper.old.me.1)) }
-    ensures pass { (pass.new.table_id ≡ pass.old.table_id) × (pass.new.me ≡ (owner pass.old.me.0.number (pass.old.me.0.heard ++ answer.now ∷ []), [])) }
+    ensures keeper { (keeper.new.table_id ≡ keeper.old.table_id) × (keeper.new.me ≡ (knower (keeper.old.me.0.calls ++ call_by pass.old.me.0 answer.now pulse ∷ []) keeper.old.me.0.given keeper.old.me.0.settled, keeper.old.me.1)) }
+    ensures pass { (pass.new.table_id ≡ pass.old.table_id) × (pass.new.me ≡ (owner (with_heard (call_by pass.old.me.0 answer.now pulse ∷ []) (holder_of pass.old.me.0)), [])) }
 {
     let spare = book.shared.split_seat::<Spare>(keeper);
     let own = std::mem::replace(pass, spare);
     *pass = noted::<Brand>(book, keeper, own, answer, pulse);
+}
+
+/// Counts one drain more with the pass.
+pub(crate) fn count(book: &Book, pass: &mut Pass)
+    requires { (pass.old.table_id ≡ book.now.shared.table_id) × (0 < book.now.shared.table_id.words) }
+    ensures table { pass.new.table_id ≡ pass.old.table_id }
+    ensures pass { pass.new.me ≡
+        (record pass.old.me.0 { drains = pass.old.me.0.drains + 1 }, pass.old.me.1) }
+{
+    book.shared.load::<Counting>(pass, 0);
 }
 
 /// Settles the pass's number: what the pass knows is what the history has of it, and no other pass

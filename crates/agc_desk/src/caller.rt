@@ -92,7 +92,9 @@ pub fn work<N: Sharing, G: Gate, W: Wait>(
     requests: &[Request],
     gate: &G,
 ) -> Share<N>
-    ensures { (asked : List Request) × IsFront (λ call. G.may_stop gate.now worker call) requests.now asked × AsksAll share asked result }
+    ensures { (asked : List Request)
+        × IsFront (λ call answer. G.may_answer gate.now worker call answer) requests.now asked
+        × AsksAll N.first share asked result }
 {
     let mut caller = Caller { shared, share };
     drive(rt, &mut caller, worker, requests, gate);

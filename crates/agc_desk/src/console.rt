@@ -1,4 +1,4 @@
-ghost use Rattle.std.specs.Prelude.{◌≡◌, ℕ, ◌≤◌, ◌⊎◌, false, true, length, take};
+ghost use Rattle.std.specs.Prelude.{◌≡◌, ℕ, ◌<◌, ◌≤◌, ◌⊎◌, Bool, false, is_some, true, length, take};
 ghost use Rattle.agc_plan.specs.declared.request.Request.{Request};
 ghost use Rattle.agc_machine.specs.Said.{Said};
 ghost use Rattle.agc_desk.specs.Runs.{Reached};
@@ -17,17 +17,23 @@ pub trait Console {
         ensures { leads self.old request result self.new };
 }
 
-/// Who is asked before and after each call of a worker, both numbered from 0. Source: profile.
+/// Who is asked before each call of a worker, and told after it, both numbered from 0. Source:
+/// profile.
 pub trait Gate {
-    /// The calls before which it may answer false, by worker and call. Source: profile.
-    ghost may_stop: { Self → ℕ → ℕ → Type 0 };
+    /// Whether it may let the worker go on with a call, or may not, by worker and call. Source:
+    /// profile.
+    ghost may_answer: { Self → ℕ → ℕ → Bool → Type 0 };
 
-    /// Whether the worker may go on with this call; false ends it there. Source: profile.
-    fn before(&self, worker: usize, call: usize) -> bool
-        ensures { result ≡ false → may_stop self.now worker call };
+    /// With what a worker goes on. It need not be a type that may be dropped, so that whoever has
+    /// one hands it to `after`. Source: profile.
+    type Pass;
+
+    /// With what the worker goes on with this call; none ends it there. Source: profile.
+    fn before(&self, worker: usize, call: usize) -> Option<Self::Pass>
+        ensures { may_answer self.now worker call (is_some result) };
 
     /// The call was answered. Source: profile.
-    fn after(&self, worker: usize, call: usize);
+    fn after(&self, worker: usize, call: usize, pass: Self::Pass);
 }
 
 /// The gate that stops no call. Source: profile.
@@ -35,20 +41,29 @@ pub trait Gate {
 pub struct OpenGate;
 
 impl Gate for OpenGate {
-    ghost may_stop = { λ _ _ _. ⊥ };
+    ghost may_answer = { λ _ _ _ goes. goes ≡ true };
 
-    fn before(&self, _worker: usize, _call: usize) -> bool
-        ensures { result ≡ true }
+    type Pass = ();
+
+    fn before(&self, _worker: usize, _call: usize) -> Option<()>
+        ensures { is_some result ≡ true }
     {
-        true
+        Some(())
     }
 
-    fn after(&self, _worker: usize, _call: usize) {}
+    fn after(&self, _worker: usize, _call: usize, _pass: ()) {}
 }
 
-/// Asks the requests in order, and answers how many it asked: all of them, or those before a call
-/// at which the gate may stop. The gate is told `worker` as the worker's number. It waits as its
-/// console and its gate do. Source: profile.
+/// With what the gate lets a worker go on with a call.
+fn pass_of<G: Gate>(gate: &G, worker: usize, call: usize) -> Option<G::Pass>
+    ensures { G.may_answer gate.now worker call (is_some result) }
+{
+    gate.before(worker, call)
+}
+
+/// Asks the requests in order, and answers how many it asked: all of them, or those before the
+/// first call with which the gate let it go on no more. The gate is told `worker` as the worker's
+/// number. It waits as its console and its gate do. Source: profile.
 pub fn drive<C: Console, G: Gate, W: Wait>(
     rt: &W,
     console: &mut C,
@@ -58,14 +73,15 @@ pub fn drive<C: Console, G: Gate, W: Wait>(
 ) -> usize
     ensures count { result ≤ length requests.now }
     ensures reached { Reached C.leads console.old (take result requests.now) console.new }
-    ensures whole { (result ≡ length requests.now) ⊎ G.may_stop gate.now worker result }
+    ensures passed { (call : ℕ) → call < result → G.may_answer gate.now worker call true }
+    ensures whole { (result ≡ length requests.now) ⊎ G.may_answer gate.now worker result false }
 {
     for (call, request) in requests.iter().enumerate() {
-        if !gate.before(worker, call) {
+        let Some(pass) = pass_of(gate, worker, call) else {
             return call;
-        }
+        };
         console.ask(rt, *request);
-        gate.after(worker, call);
+        gate.after(worker, call, pass);
     }
     requests.len()
 }

@@ -9,7 +9,8 @@ ghost use Rattle.agc_machine.specs.Machines.{IsLawful, after, answer_of};
 ghost use Rattle.agc_machine.specs.Told.{add, told};
 ghost use Rattle.agc_desk.specs.Accounts.{told_in, told_to};
 ghost use Rattle.agc_desk.specs.Desks.{ArePulses, new_desk, with_lines};
-ghost use Rattle.agc_desk.specs.History.{IsHistory, Leads};
+ghost use Rattle.agc_desk.specs.History.{IsHistory, Leads, new_holder, own_call};
+ghost use Rattle.agc_desk.specs.History.{with_drain, with_heard};
 ghost use Rattle.agc_desk.specs.Opening.{names_of};
 ghost use Rattle.agc_desk.specs.Pulses.{pulse_request};
 ghost use Rattle.agc_desk.specs.Runs.{IsGiven};
@@ -136,7 +137,7 @@ impl<N: Names> Desk<N> {
     /// 64 were. Source: profile.
     pub fn share(&mut self) -> Option<Share<N>>
         ensures none { IsNone result ↔ (self.old.given ≡ 64) }
-        ensures share { IfSome result (λ s. s ≡ record { number = self.old.given; heard = [] }) }
+        ensures share { IfSome result (λ s. s ≡ new_holder self.old.given) }
         ensures given { IfSome result (λ s. self.new ≡ record self.old { given = self.old.given + 1 }) }
         ensures same { IfNone result (self.new ≡ self.old) }
     {
@@ -157,8 +158,12 @@ impl<N: Names> Desk<N> {
         ensures outcome { result.outcome ≡ answer_of self.old.machine request }
         ensures lawful { IsLawful self.old.machine }
         ensures given { IsGiven N.first result }
-        ensures heard { share.new ≡ record share.old { heard = share.old.heard ++ result ∷ [] } }
-        ensures desk { self.new ≡ record self.old { machine = after self.old.machine request; history = self.old.history ++ record { by = share.old.number; answer = result; pulse = None } ∷ []; booked = add self.old.booked (told result.outcome) } }
+        ensures heard { share.new ≡ with_heard (own_call share.old.number result ∷ []) share.old }
+        ensures desk { self.new ≡ record self.old {
+          machine = after self.old.machine request;
+          history = self.old.history ++ own_call share.old.number result ∷ [];
+          booked = add self.old.booked (told result.outcome);
+        } }
     {
         self.ask_for(share, request, None)
     }
@@ -178,7 +183,8 @@ impl<N: Names> Desk<N> {
         ensures outcome { result.outcome ≡ answer_of self.old.machine request }
         ensures lawful { IsLawful self.old.machine }
         ensures given { IsGiven N.first result }
-        ensures heard { share.new ≡ record share.old { heard = share.old.heard ++ result ∷ [] } }
+        ensures heard { share.new ≡ with_heard (record
+            { by = share.old.number; answer = result; pulse = pulse } ∷ []) share.old }
         ensures desk { self.new ≡ with_lines self.new.lines (record self.old { machine = after self.old.machine request; history = self.old.history ++ record { by = share.old.number; answer = result; pulse = pulse } ∷ []; booked = add self.old.booked (told result.outcome) }) }
         ensures lines { Marks pulse result.outcome self.old.lines self.new.lines }
     {
@@ -251,7 +257,14 @@ impl<N: Names> Desk<N> {
         self.lines.owed()
     }
 
-    /// Takes what was posted, and answers how many pulses per line.
+    /// The share's holder drains once more.
+    pub(crate) fn count_drain(&self, share: &mut Share<N>)
+        ensures { share.new ≡ with_drain share.old }
+    {
+        self.history.count(&mut share.own);
+    }
+
+    /// Takes each line once, and answers how many pulses it found there.
     pub(crate) fn collect(&mut self, latch: &Latch) -> [u64; 3]
         requires { IsOf latch.now self.old.lines.taker }
         ensures lines { Collects result self.old.lines self.new.lines }

@@ -82,6 +82,7 @@ impl<N: Names> Desk<N> {
         ensures { Drains self.old share.old result self.new share.new }
     {
         let taken = self.collect(latch);
+        self.count_drain(share);
         let (timer, refused) = self.drain_line(Line::Timer, None, share);
         let (key, refused) = self.drain_line(Line::Key, refused, share);
         let (radar, refused) = self.drain_line(Line::Radar, refused, share);

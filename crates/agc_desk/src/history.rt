@@ -1,10 +1,9 @@
 ghost use Rattle.std.specs.Prelude.{◌≡◌, ◌<◌, ◌+◌, ◌++◌, ◌∷◌, [], All, false, IfOk, nat_eq};
 ghost use Rattle.std.specs.List.{list_any};
-ghost use Rattle.agc_desk.specs.History.{calls_by};
-ghost use Rattle.agc_desk.specs.Runs.{Asks};
+ghost use Rattle.agc_desk.specs.History.{calls_by, new_holder, with_drain, with_heard};
 ghost use Rattle.agc_desk.specs.Knowing.{knower};
 
-use crate::book::{Book, Pass, check, deal, note, open_book, settle};
+use crate::book::{Book, Pass, check, count, deal, note, open_book, settle};
 use crate::names::Names;
 use agc_latch::Line;
 use agc_machine::{Answer, NoMemory};
@@ -70,10 +69,11 @@ pub(crate) struct Own<N: Names> {
 impl<N: Names> Model for Own<N> {
     ghost use Rattle.std.specs.Prelude.{◌≡◌, [], true};
     ghost use Rattle.agc_desk.specs.History.{Holder};
+    ghost use Rattle.agc_desk.specs.Views.{holder_of};
 
     ghost Value = { Holder };
 
-    ghost view = { λ o. record { number = o.pass.me.0.number; heard = o.pass.me.0.heard } };
+    ghost view = { λ o. holder_of o.pass.me.0 };
 
     ghost invariant = { λ o. (o.pass.table_id ≡ N.names.history) × (o.pass.me.0.owns ≡ true) × (o.pass.me.1 ≡ []) };
 }
@@ -103,7 +103,7 @@ impl<N: Names> History<N> {
     /// A new number, with which nothing was asked.
     pub(crate) fn part(&mut self) -> Own<N>
         requires { self.old.given < 64 }
-        ensures own { result ≡ record { number = self.old.given; heard = [] } }
+        ensures own { result ≡ new_holder self.old.given }
         ensures given { self.new ≡ record self.old { given = self.old.given + 1 } }
     {
         self.given += 1;
@@ -115,10 +115,18 @@ impl<N: Names> History<N> {
 
     /// The holder of this number was answered so, as it asked for a pulse of this line, or for none.
     pub(crate) fn note(&mut self, own: &mut Own<N>, answer: &Answer, pulse: Option<Line>)
-        ensures own { own.new ≡ record own.old { heard = own.old.heard ++ answer.now ∷ [] } }
+        ensures own { own.new ≡ with_heard (record
+            { by = own.old.number; answer = answer.now; pulse = pulse } ∷ []) own.old }
         ensures calls { self.new ≡ record self.old { calls = self.old.calls ++ record { by = own.old.number; answer = answer.now; pulse = pulse } ∷ [] } }
     {
         note(&self.book, &mut self.keeper, &mut own.pass, answer, pulse);
+    }
+
+    /// The holder of this number drains once more.
+    pub(crate) fn count(&self, own: &mut Own<N>)
+        ensures { own.new ≡ with_drain own.old }
+    {
+        count(&self.book, &mut own.pass);
     }
 
     /// What the holder of this number heard is what the history has of it; and it was given out,

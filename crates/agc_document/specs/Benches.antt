@@ -5,7 +5,8 @@ use Rattle.std.specs.List.{AllByRecursion}
 use Rattle.agc_plan.specs.declared.request.Task.{Task}
 use Rattle.agc_plan.specs.declared.request.Action.{Action}
 use Rattle.agc_plan.specs.declared.request.JobStart.{JobStart}
-use Rattle.agc_plan.specs.declared.request.JobStart.TheVariants.{Novac as WithoutArea, Findvac as WithArea}
+use Rattle.agc_plan.specs.declared.request.JobStart.TheVariants.{Novac as WithoutArea}
+use Rattle.agc_plan.specs.declared.request.JobStart.TheVariants.{Findvac as WithArea}
 use Rattle.agc_plan.specs.declared.request.Request.{Request}
 use Rattle.agc_plan.specs.declared.request.Request.TheVariants.{Novac, Findvac, List as ListTask}
 use Rattle.agc_plan.specs.Begins.{Begins}
@@ -53,7 +54,13 @@ row_texts r = record { at = octal 5 r.0.at; bank = octal 5 r.0.bank; action = ac
 
 -- the numbers and texts of a phase entry
 abbrev pub entry_texts : Begins → EntryTexts
-entry_texts b = record { group = b.group; phase = b.phase; job = option_map (λ j. line_of (job_request j)) b.job; task = option_map (λ t. line_of (timed_request t)) b.task }
+entry_texts b =
+    record {
+      group = b.group;
+      phase = b.phase;
+      job = option_map (λ j. line_of (job_request j)) b.job;
+      task = option_map (λ t. line_of (timed_request t)) b.task;
+    }
 
 -- the text and number of a device
 abbrev pub device_texts : Line × ℕ → DeviceTexts
@@ -65,11 +72,27 @@ power_texts power = option_map (map (octal 5)) power
 
 -- the numbers and texts of what a bench has once
 abbrev pub settings_texts : Benched → Settings
-settings_texts b = record { sets = b.sets; limit = b.limit; allowance = b.allowance; attends = b.attends; key = action_line_of b.key; radar = action_line_of b.radar; power = power_texts b.power }
+settings_texts b =
+    record {
+      sets = b.sets;
+      limit = b.limit;
+      allowance = b.allowance;
+      attends = b.attends;
+      key = action_line_of b.key;
+      radar = action_line_of b.radar;
+      power = power_texts b.power;
+    }
 
 -- the texts of what a bench has many of
 abbrev pub lists_texts : Benched → Lists
-lists_texts b = record { script = map line_of b.script; rows = map row_texts b.rows; entries = map entry_texts b.entries; workers = map (map line_of) b.workers; devices = map device_texts b.devices }
+lists_texts b =
+    record {
+      script = map line_of b.script;
+      rows = map row_texts b.rows;
+      entries = map entry_texts b.entries;
+      workers = map (map line_of) b.workers;
+      devices = map device_texts b.devices;
+    }
 
 -- the numbers and texts of a bench
 abbrev pub bench_texts : Benched → Texts

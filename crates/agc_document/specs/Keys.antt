@@ -1,7 +1,9 @@
 -- A document's numbers and texts by key, before any text is read. None stands for a fault Key.
-use Rattle.std.specs.Prelude.{ℕ, ℤ, pos, negsuc, List, [], ◌∷◌, codes, length, Option, Some, None, Bool, true, false, nat_lt, ◌==◌, ◌&&◌, ◌||◌, if◌then◌else◌}
+use Rattle.std.specs.Prelude.{ℕ, ℤ, pos, negsuc, List, [], ◌∷◌, codes, length, Option, Some, None}
+use Rattle.std.specs.Prelude.{Bool, true, false, nat_lt, ◌==◌, ◌&&◌, ◌||◌, if◌then◌else◌}
 use Rattle.std.specs.Str.{bytes_eq}
-use Rattle.toml.specs.Data.{Data, Items, no_items, item, Members, no_members, member, get_member, as_str, as_integer, as_array, as_table}
+use Rattle.toml.specs.Data.{Data, Items, no_items, item, Members, no_members, member, get_member}
+use Rattle.toml.specs.Data.{as_str, as_integer, as_array, as_table}
 use Rattle.agc_text.specs.Chain.{◌>>=◌}
 use Rattle.agc_document.specs.Texts.{RowTexts, EntryTexts, DeviceTexts, Settings, Lists, Texts}
 
@@ -81,7 +83,9 @@ row_keys = codes "at" ∷ codes "bank" ∷ codes "action" ∷ []
 -- the texts of a row
 unfoldable pub row_in : Members → Option RowTexts
 row_in ms = if has_only row_keys ms then
-    (text_at (codes "at") ms >>= λ at. text_at (codes "bank") ms >>= λ bank. text_at (codes "action") ms >>= λ action. Some (record { at = at; bank = bank; action = action }))
+    (text_at (codes "at") ms >>= λ at. text_at (codes "bank") ms >>= λ bank.
+    text_at (codes "action") ms >>= λ action.
+    Some (record { at = at; bank = bank; action = action }))
     else None
 
 -- a value that is a row
@@ -104,7 +108,10 @@ entry_keys = codes "group" ∷ codes "phase" ∷ codes "job" ∷ codes "task" �
 -- the numbers and texts of a phase entry
 unfoldable pub entry_in : Members → Option EntryTexts
 entry_in ms = if has_only entry_keys ms then
-    (number_at (codes "group") 1 6 ms >>= λ group. number_at (codes "phase") 1 127 ms >>= λ phase. optional_text (get_member (codes "job") ms) >>= λ job. optional_text (get_member (codes "task") ms) >>= λ task. Some (record { group = group; phase = phase; job = job; task = task }))
+    (number_at (codes "group") 1 6 ms >>= λ group. number_at (codes "phase") 1 127 ms >>= λ phase.
+    optional_text (get_member (codes "job") ms) >>= λ job.
+    optional_text (get_member (codes "task") ms) >>= λ task.
+    Some (record { group = group; phase = phase; job = job; task = task }))
     else None
 
 -- a value that is a phase entry
@@ -130,7 +137,8 @@ worker_keys = codes "script" ∷ []
 
 -- the script of a worker
 unfoldable pub worker_in : Members → Option (List (List ℕ))
-worker_in ms = if has_only worker_keys ms then (get_member (codes "script") ms >>= texts_data) else None
+worker_in ms = if has_only worker_keys ms then (get_member (codes "script") ms >>= texts_data)
+    else None
 
 -- a value that is a worker
 unfoldable pub worker_data : Data → Option (List (List ℕ))
@@ -152,7 +160,8 @@ device_keys = codes "line" ∷ codes "pulses" ∷ []
 -- the text and number of a device
 unfoldable pub device_in : Members → Option DeviceTexts
 device_in ms = if has_only device_keys ms then
-    (text_at (codes "line") ms >>= λ line. number_at (codes "pulses") 0 1000000 ms >>= λ pulses. Some (record { line = line; pulses = pulses }))
+    (text_at (codes "line") ms >>= λ line. number_at (codes "pulses") 0 1000000 ms >>= λ pulses.
+    Some (record { line = line; pulses = pulses }))
     else None
 
 -- a value that is a device
@@ -170,7 +179,10 @@ devices_or_none (Some d) = as_array d >>= λ ds. devices_of ds >>= few
 
 -- the keys of a bench
 abbrev pub bench_keys : List (List ℕ)
-bench_keys = codes "sets" ∷ codes "limit" ∷ codes "allowance" ∷ codes "attends" ∷ codes "key" ∷ codes "radar" ∷ codes "power" ∷ codes "script" ∷ codes "task" ∷ codes "phase" ∷ codes "worker" ∷ codes "device" ∷ []
+bench_keys =
+    codes "sets" ∷ codes "limit" ∷ codes "allowance" ∷ codes "attends" ∷ codes "key" ∷ codes "radar"
+    ∷ codes "power" ∷ codes "script" ∷ codes "task" ∷ codes "phase" ∷ codes "worker"
+    ∷ codes "device" ∷ []
 
 -- what a bench has once
 unfoldable pub settings_in : Members → Option Settings
@@ -182,7 +194,15 @@ settings_in ms = do
   key ← text_or (codes "nothing") (get_member (codes "key") ms)
   radar ← text_or (codes "nothing") (get_member (codes "radar") ms)
   power ← power_or_none (get_member (codes "power") ms)
-  Some (record { sets = sets; limit = limit; allowance = allowance; attends = attends; key = key; radar = radar; power = power })
+  Some (record {
+    sets = sets;
+    limit = limit;
+    allowance = allowance;
+    attends = attends;
+    key = key;
+    radar = radar;
+    power = power;
+  })
 
 -- what a bench has many of
 unfoldable pub lists_in : Members → Option Lists
@@ -192,10 +212,17 @@ lists_in ms = do
   entries ← entries_or_none (get_member (codes "phase") ms)
   workers ← workers_or_none (get_member (codes "worker") ms)
   devices ← devices_or_none (get_member (codes "device") ms)
-  Some (record { script = script; rows = rows; entries = entries; workers = workers; devices = devices })
+  Some (record {
+    script = script;
+    rows = rows;
+    entries = entries;
+    workers = workers;
+    devices = devices;
+  })
 
 -- the numbers and texts of a bench
 unfoldable pub texts_in : Members → Option Texts
 texts_in ms = if has_only bench_keys ms then
-    (settings_in ms >>= λ settings. lists_in ms >>= λ lists. Some (record { settings = settings; lists = lists }))
+    (settings_in ms >>= λ settings. lists_in ms >>= λ lists.
+    Some (record { settings = settings; lists = lists }))
     else None

@@ -4,7 +4,8 @@ use Rattle.agc_plan.specs.declared.request.Task.{Task}
 use Rattle.agc_plan.specs.declared.request.Request.{Request}
 use Rattle.agc_plan.specs.declared.request.Request.TheVariants.{Novac, Findvac, List as ListTask}
 use Rattle.agc_plan.specs.declared.request.JobStart.{JobStart}
-use Rattle.agc_plan.specs.declared.request.JobStart.TheVariants.{Novac as WithoutArea, Findvac as WithArea}
+use Rattle.agc_plan.specs.declared.request.JobStart.TheVariants.{Novac as WithoutArea}
+use Rattle.agc_plan.specs.declared.request.JobStart.TheVariants.{Findvac as WithArea}
 
 -- the job that a request establishes, if it does
 abbrev pub job_of : Request → Option JobStart

@@ -57,8 +57,8 @@ impl Model for Parts {
     } };
 }
 
-/// A bench: what a machine is run on. Its numbers are in their ranges, and its rows and entries make a plan. Contracts
-/// see its values. Source: profile.
+/// A bench: what a machine is run on. Its numbers are in their ranges, and its rows and entries
+/// make a plan. Contracts see its values. Source: profile.
 #[derive(Drop)]
 pub struct Bench {
     parts: Parts,
@@ -97,7 +97,8 @@ impl Bench {
         self.parts.allowance
     }
 
-    /// How often one thread attends to pulses while `threads` of `agc_bench` runs, 0 to 1000. Source: profile.
+    /// How often one thread attends to pulses while `threads` of `agc_bench` runs, 0 to 1000.
+    /// Source: profile.
     pub fn attends(&self) -> u32
         ensures value { result ≡ self.now.attends }
         ensures range { result ≤ 1000 }
@@ -119,7 +120,8 @@ impl Bench {
         self.parts.radar
     }
 
-    /// The twelve phase words of a power-up, -PHASE1 first. None for a fresh start. Source: profile.
+    /// The twelve phase words of a power-up, -PHASE1 first. None for a fresh start. Source:
+    /// profile.
     pub fn power(&self) -> Option<[Word; 12]>
         ensures { result ≡ self.now.power }
     {
@@ -133,7 +135,8 @@ impl Bench {
         self.parts.script.as_slice()
     }
 
-    /// The action of each task that has one. With `entries` these rows make a plan, want of memory aside. Source: profile.
+    /// The action of each task that has one. With `entries` these rows make a plan, want of memory
+    /// aside. Source: profile.
     pub fn rows(&self) -> &[(Task, Action)]
         ensures value { result.now ≡ self.now.rows }
         ensures planned { fault_of self.now.rows self.now.entries ≡ None }
@@ -157,7 +160,8 @@ impl Bench {
         self.parts.workers.as_slice()
     }
 
-    /// The line of each device, and how many pulses it sends, 0 to 1,000,000; at most 32 devices. Source: profile.
+    /// The line of each device, and how many pulses it sends, 0 to 1,000,000; at most 32 devices.
+    /// Source: profile.
     pub fn devices(&self) -> &[(Line, u32)]
         ensures value { result.now ≡ self.now.devices }
         ensures few { length result.now ≤ 32 }
@@ -180,7 +184,8 @@ fn or_line<T: Drop>(value: Option<T>) -> Result<T, BenchFault>
 /// The values that numbers and texts spell.
 fn parts_of(alloc: Global, texts: &Texts<'_>) -> Result<Parts, BenchFault>
     ensures found { IfOk result (λ p. IsInRange (p) × (texts.now ≡ bench_texts (p))) }
-    ensures refused { IfErr result (RefusedLine ((b : Benched) → IsInRange b → texts.now ≢ bench_texts b)) }
+    ensures refused { IfErr result (RefusedLine
+        ((b : Benched) → IsInRange b → texts.now ≢ bench_texts b)) }
 {
     let limit = or_line(Limit::new(texts.settings.limit))?;
     let key = or_line(parse_action(texts.settings.key))?;
@@ -211,7 +216,9 @@ fn parts_of(alloc: Global, texts: &Texts<'_>) -> Result<Parts, BenchFault>
 fn planned(alloc: Global, parts: Parts) -> Result<Bench, BenchFault>
     requires { IsInRange (parts) }
     ensures found { IfOk result (λ b. IsBench b × (b ≡ parts)) }
-    ensures refused { IfErr result (λ fault. (fault ≡ BenchFault.NoMemory) ⊎ ((f : PlanFault) × (fault ≡ bench_fault f) × (fault_of parts.rows parts.entries ≡ Some f))) }
+    ensures refused { IfErr result (λ fault. (fault ≡ BenchFault.NoMemory)
+        ⊎ ((f : PlanFault) × (fault ≡ bench_fault f)
+        × (fault_of parts.rows parts.entries ≡ Some f))) }
 {
     match Plan::new(
         alloc,
@@ -225,17 +232,18 @@ fn planned(alloc: Global, parts: Parts) -> Result<Bench, BenchFault>
     }
 }
 
-/// The bench that a TOML document is: its values, and for each key that is missing the value that stands for it.
-/// Source: profile.
+/// The bench that a TOML document is: its values, and for each key that is missing the value that
+/// stands for it. Source: profile.
 ///
 /// # Errors
 ///
-/// The first that applies: `NotToml`; `Key`, an unknown key at any level, a missing required key, a value of another
-/// kind, an integer out of range, `power` of another length than 12, more than 32 workers or devices; `Line`, a text
-/// that is not of its form; `TaskTwice`, `PhaseTwice` and `TooManyAreas`, rows and entries that make no plan.
-/// `NoMemory` may come in place of any.
+/// The first that applies: `NotToml`; `Key`, an unknown key at any level, a missing required key, a
+/// value of another kind, an integer out of range, `power` of another length than 12, more than 32
+/// workers or devices; `Line`, a text that is not of its form; `TaskTwice`, `PhaseTwice` and
+/// `TooManyAreas`, rows and entries that make no plan. `NoMemory` may come in place of any.
 pub fn read_bench(alloc: Global, text: &str) -> Result<Bench, BenchFault>
-    ensures found { IfOk result (λ b. IsBench b × HasTexts (parse_document text.now) (bench_texts b)) }
+    ensures found { IfOk result (λ b. IsBench b
+        × HasTexts (parse_document text.now) (bench_texts b)) }
     ensures refused { IfErr result (RefusesBench (parse_document text.now)) }
 {
     let table = match toml::table_from_str(alloc, text) {

@@ -1,18 +1,19 @@
 ghost use Rattle.std.specs.Prelude.{◌≡◌, Some};
-ghost use Rattle.agc_document.specs.declared.fault.BenchFault.TheVariants.{NoMemory as NoMemoryForBench};
+ghost use Rattle.agc_document.specs.declared.fault.BenchFault.TheVariants.{NoMemory as OutOfMemory};
 
 use agc_plan::PlanFault;
 use std::alloc::{AllocError, AllocFailed};
 use std::fmt;
 
-/// Why a bench is refused. Of several faults the first in this order is answered; want of memory may come in place of
-/// any. Source: profile.
+/// Why a bench is refused. Of several faults the first in this order is answered; want of memory
+/// may come in place of any. Source: profile.
 #[derive(Clone, Copy, PartialEq, Eq, Debug)]
 pub enum BenchFault {
     NoMemory,
     /// The text is no TOML document.
     NotToml,
-    /// A key is unknown or missing, or its value is of another kind, out of range, or of another length.
+    /// A key is unknown or missing, or its value is of another kind, out of range, or of another
+    /// length.
     Key,
     /// A text is not of its form.
     Line,
@@ -25,7 +26,7 @@ pub enum BenchFault {
 }
 
 impl From<AllocError> for BenchFault {
-    ghost from_gives = { λ _ e. e ≡ NoMemoryForBench };
+    ghost from_gives = { λ _ e. e ≡ OutOfMemory };
 
     fn from(_error: AllocError) -> BenchFault {
         BenchFault::NoMemory
@@ -33,7 +34,7 @@ impl From<AllocError> for BenchFault {
 }
 
 impl<T: Drop> From<AllocFailed<T>> for BenchFault {
-    ghost from_gives = { λ _ e. e ≡ NoMemoryForBench };
+    ghost from_gives = { λ _ e. e ≡ OutOfMemory };
 
     fn from(_error: AllocFailed<T>) -> BenchFault {
         BenchFault::NoMemory

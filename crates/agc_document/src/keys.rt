@@ -8,7 +8,14 @@ ghost use Rattle.toml.specs.View.{view, items_view, table_view};
 ghost use Rattle.agc_word.specs.Profiles.{count_of};
 ghost use Rattle.agc_plan.specs.Ranges.{IsBetween};
 ghost use Rattle.agc_document.specs.Gives.{GivesOrKey};
-ghost use Rattle.agc_document.specs.Keys.{is_among, has_only, number_in, number_at, number_or, text_at, text_or, optional_text, texts_of, texts_data, texts_or_none, power_or_none, row_in, row_data, rows_of, rows_or_none, entry_in, entry_data, entries_of, entries_or_none, worker_in, worker_data, workers_of, workers_or_none, device_in, device_data, devices_of, devices_or_none, bench_keys, settings_in, lists_in, texts_in};
+ghost use Rattle.agc_document.specs.Keys.{is_among, has_only, number_in, number_at, number_or};
+ghost use Rattle.agc_document.specs.Keys.{text_at, text_or, optional_text, texts_of, texts_data};
+ghost use Rattle.agc_document.specs.Keys.{texts_or_none, power_or_none, row_in, row_data, rows_of};
+ghost use Rattle.agc_document.specs.Keys.{rows_or_none, entry_in, entry_data, entries_of};
+ghost use Rattle.agc_document.specs.Keys.{entries_or_none, worker_in, worker_data, workers_of};
+ghost use Rattle.agc_document.specs.Keys.{workers_or_none, device_in, device_data, devices_of};
+ghost use Rattle.agc_document.specs.Keys.{devices_or_none, bench_keys, settings_in, lists_in};
+ghost use Rattle.agc_document.specs.Keys.{texts_in};
 
 use crate::fault::BenchFault;
 use crate::texts::{DeviceTexts, EntryTexts, Lists, RowTexts, Settings, Texts};
@@ -32,7 +39,8 @@ fn is_among(names: &[&str], key: &str) -> bool
 
 /// Whether every key of a table is one of these.
 fn all_among(table: &Table, names: &[&str]) -> bool
-    ensures { result ≡ list_all (λ k. is_among (map (λ n. n.now) names.now) (string_bytes k)) (keys table.now) }
+    ensures { result
+        ≡ list_all (λ k. is_among (map (λ n. n.now) names.now) (string_bytes k)) (keys table.now) }
 {
     table.keys().all(|key| is_among(names, key.as_str()))
 }
@@ -119,7 +127,8 @@ fn text_at<'a>(table: &'a Table, key: &str) -> Option<&'a str>
 
 /// A text, or `missing` where the key is missing.
 fn text_or<'a>(value: Option<&'a Value>, missing: &'a str) -> Option<&'a str>
-    ensures { option_map (λ s. s.now) result ≡ text_or missing.now (option_map (λ v. view v.now) value.entry) }
+    ensures { option_map (λ s. s.now) result
+        ≡ text_or missing.now (option_map (λ v. view v.now) value.entry) }
 {
     match value {
         None => Some(missing),
@@ -129,7 +138,8 @@ fn text_or<'a>(value: Option<&'a Value>, missing: &'a str) -> Option<&'a str>
 
 /// A text, if its key is there. None where the value is no text.
 fn optional_text(value: Option<&Value>) -> Option<Option<&str>>
-    ensures { option_map (λ o. option_map (λ s. s.now) o) result ≡ optional_text (option_map (λ v. view v.now) value.entry) }
+    ensures { option_map (λ o. option_map (λ s. s.now) o) result
+        ≡ optional_text (option_map (λ v. view v.now) value.entry) }
 {
     match value {
         None => Some(None),
@@ -164,7 +174,8 @@ fn texts_from<'a>(alloc: Global, value: &'a Value) -> Result<Vec<&'a str>, Bench
 }
 
 fn texts_at<'a>(alloc: Global, value: Option<&'a Value>) -> Result<Vec<&'a str>, BenchFault>
-    ensures { GivesOrKey (λ v. map (λ s. s.now) v.items) result (texts_or_none (option_map (λ v. view v.now) value.entry)) }
+    ensures { GivesOrKey (λ v. map (λ s. s.now) v.items) result
+        (texts_or_none (option_map (λ v. view v.now) value.entry)) }
 {
     match value {
         None => Ok(Vec::new(alloc)),
@@ -175,7 +186,8 @@ fn texts_at<'a>(alloc: Global, value: Option<&'a Value>) -> Result<Vec<&'a str>,
 /// The twelve texts of the phase words, if their key is there.
 #[tactic(auto, unfolding(crate::specs::Keys::power_or_none))]
 fn power_at<'a>(alloc: Global, value: Option<&'a Value>) -> Result<Option<Vec<&'a str>>, BenchFault>
-    ensures { GivesOrKey (λ o. option_map (λ v. map (λ s. s.now) v.items) o) result (power_or_none (option_map (λ v. view v.now) value.entry)) }
+    ensures { GivesOrKey (λ o. option_map (λ v. map (λ s. s.now) v.items) o) result
+        (power_or_none (option_map (λ v. view v.now) value.entry)) }
 {
     match value {
         None => Ok(None),
@@ -229,7 +241,8 @@ fn rows_in_order<'a>(alloc: Global, values: &'a [Value]) -> Result<Vec<RowTexts<
 }
 
 fn rows_at<'a>(alloc: Global, value: Option<&'a Value>) -> Result<Vec<RowTexts<'a>>, BenchFault>
-    ensures { GivesOrKey (λ v. v.items) result (rows_or_none (option_map (λ v. view v.now) value.entry)) }
+    ensures { GivesOrKey (λ v. v.items) result
+        (rows_or_none (option_map (λ v. view v.now) value.entry)) }
 {
     match value {
         None => Ok(Vec::new(alloc)),
@@ -290,7 +303,8 @@ fn entries_at<'a>(
     alloc: Global,
     value: Option<&'a Value>,
 ) -> Result<Vec<EntryTexts<'a>>, BenchFault>
-    ensures { GivesOrKey (λ v. v.items) result (entries_or_none (option_map (λ v. view v.now) value.entry)) }
+    ensures { GivesOrKey (λ v. v.items) result
+        (entries_or_none (option_map (λ v. view v.now) value.entry)) }
 {
     match value {
         None => Ok(Vec::new(alloc)),
@@ -326,7 +340,8 @@ fn worker_from<'a>(alloc: Global, value: &'a Value) -> Result<Vec<&'a str>, Benc
 
 #[tactic(auto, unfolding(crate::specs::Keys::workers_of))]
 fn workers_in_order<'a>(alloc: Global, values: &'a [Value]) -> Result<Vec<Vec<&'a str>>, BenchFault>
-    ensures { GivesOrKey (λ v. map (λ w. map (λ s. s.now) w.items) v.items) result (workers_of (items_view values.now)) }
+    ensures { GivesOrKey (λ v. map (λ w. map (λ s. s.now) w.items) v.items) result
+        (workers_of (items_view values.now)) }
 {
     let mut workers = Vec::new(alloc);
     for value in values {
@@ -338,7 +353,8 @@ fn workers_in_order<'a>(alloc: Global, values: &'a [Value]) -> Result<Vec<Vec<&'
 
 #[tactic(auto, unfolding(crate::specs::Keys::workers_or_none))]
 fn workers_at<'a>(alloc: Global, value: Option<&'a Value>) -> Result<Vec<Vec<&'a str>>, BenchFault>
-    ensures value { GivesOrKey (λ v. map (λ w. map (λ s. s.now) w.items) v.items) result (workers_or_none (option_map (λ v. view v.now) value.entry)) }
+    ensures value { GivesOrKey (λ v. map (λ w. map (λ s. s.now) w.items) v.items) result
+        (workers_or_none (option_map (λ v. view v.now) value.entry)) }
     ensures few { IfOk result (λ v. length v.items ≤ 32) }
 {
     match value {
@@ -400,7 +416,8 @@ fn devices_at<'a>(
     alloc: Global,
     value: Option<&'a Value>,
 ) -> Result<Vec<DeviceTexts<'a>>, BenchFault>
-    ensures value { GivesOrKey (λ v. v.items) result (devices_or_none (option_map (λ v. view v.now) value.entry)) }
+    ensures value { GivesOrKey (λ v. v.items) result
+        (devices_or_none (option_map (λ v. view v.now) value.entry)) }
     ensures few { IfOk result (λ v. length v.items ≤ 32) }
 {
     match value {
@@ -419,7 +436,8 @@ fn devices_at<'a>(
 }
 
 fn allowance_of(value: Option<&Value>) -> Option<u64>
-    ensures value { result ≡ number_or 1000000 0 9223372036854775807 (option_map (λ v. view v.now) value.entry) }
+    ensures value { result
+        ≡ number_or 1000000 0 9223372036854775807 (option_map (λ v. view v.now) value.entry) }
     ensures range { IfSome result (λ n. n ≤ 9223372036854775807) }
 {
     number_or(value, 1_000_000, 0, 9_223_372_036_854_775_807)
@@ -517,7 +535,8 @@ fn has_bench_keys(table: &Table) -> bool
     )
 }
 
-/// The numbers and texts of a document. A fault `Key` where a key or the kind, range or length of its value is wrong.
+/// The numbers and texts of a document. A fault `Key` where a key or the kind, range or length of
+/// its value is wrong.
 #[tactic(auto, unfolding(crate::specs::Keys::texts_in))]
 pub(crate) fn texts_in(alloc: Global, table: &Table) -> Result<Texts<'_>, BenchFault>
     ensures { GivesOrKey (λ t. t) result (texts_in (table_view table.now)) }

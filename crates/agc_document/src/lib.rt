@@ -1,5 +1,5 @@
-//! A bench as a document: what a TOML document says of a machine and of those who ask it, and why it is refused. Source:
-//! profile.
+//! A bench as a document: what a TOML document says of a machine and of those who ask it, and why
+//! it is refused. Source: profile.
 #![tactic(auto)]
 
 mod bench;

@@ -1,5 +1,6 @@
 //! What the texts of a bench spell.
-ghost use Rattle.std.specs.Prelude.{◌≡◌, ◌≢◌, ◌<◌, ◌≤◌, ℕ, List, length, map, Option, Some, None, IfSome, IfNone, IfOk, IfErr};
+ghost use Rattle.std.specs.Prelude.{◌≡◌, ◌≢◌, ◌<◌, ◌≤◌, ℕ, List, length, map, Option, Some, None};
+ghost use Rattle.std.specs.Prelude.{IfSome, IfNone, IfOk, IfErr};
 ghost use Rattle.std.specs.Option.{option_map};
 ghost use Rattle.std.specs.List.{AllByRecursion};
 ghost use Rattle.agc_plan.specs.declared.request.Request.{Request};
@@ -11,7 +12,9 @@ ghost use Rattle.agc_plan.specs.Ranges.{IsRequest};
 ghost use Rattle.agc_latch.specs.declared.line.Line.{Line};
 ghost use Rattle.agc_text.specs.Numbers.{octal, IsWord};
 ghost use Rattle.agc_text.specs.Lines.{line_of};
-ghost use Rattle.agc_document.specs.Benches.{job_request, timed_request, kind_text, row_texts, entry_texts, device_texts, power_texts, IsRow, IsJob, IsTimed, IsEntry, IsDevice, IsPower, AreRequests};
+ghost use Rattle.agc_document.specs.Benches.{job_request, timed_request, kind_text, row_texts};
+ghost use Rattle.agc_document.specs.Benches.{entry_texts, device_texts, power_texts, IsRow, IsJob};
+ghost use Rattle.agc_document.specs.Benches.{IsTimed, IsEntry, IsDevice, IsPower, AreRequests};
 ghost use Rattle.agc_document.specs.Kinds.{job_of, timed_of};
 ghost use Rattle.agc_document.specs.Gives.{RefusedLine};
 
@@ -25,8 +28,10 @@ use std::alloc::Global;
 
 /// The requests that texts spell, in order.
 pub(crate) fn requests_of(alloc: Global, texts: &[&str]) -> Result<Vec<Request>, BenchFault>
-    ensures found { IfOk result (λ v. AreRequests v.items × (map (λ s. s.now) texts.now ≡ map line_of v.items)) }
-    ensures refused { IfErr result (RefusedLine ((rs : List Request) → AreRequests rs → map (λ s. s.now) texts.now ≢ map line_of rs)) }
+    ensures found { IfOk result (λ v. AreRequests v.items
+        × (map (λ s. s.now) texts.now ≡ map line_of v.items)) }
+    ensures refused { IfErr result (RefusedLine
+        ((rs : List Request) → AreRequests rs → map (λ s. s.now) texts.now ≢ map line_of rs)) }
 {
     let mut requests = Vec::new(alloc);
     for text in texts {
@@ -54,8 +59,10 @@ pub(crate) fn rows_of(
     alloc: Global,
     texts: &[RowTexts<'_>],
 ) -> Result<Vec<(Task, Action)>, BenchFault>
-    ensures found { IfOk result (λ v. AllByRecursion IsRow v.items × (texts.now ≡ map row_texts v.items)) }
-    ensures refused { IfErr result (RefusedLine ((rs : List (Task × Action)) → AllByRecursion IsRow rs → texts.now ≢ map row_texts rs)) }
+    ensures found { IfOk result (λ v. AllByRecursion IsRow v.items
+        × (texts.now ≡ map row_texts v.items)) }
+    ensures refused { IfErr result (RefusedLine
+        ((rs : List (Task × Action)) → AllByRecursion IsRow rs → texts.now ≢ map row_texts rs)) }
 {
     let mut rows: Vec<(Task, Action)> = Vec::new(alloc);
     for text in texts {
@@ -90,8 +97,10 @@ fn timed_of(request: &Request) -> Option<(Delay, Task)>
 
 /// The job of a phase entry, if its text is there. None where that text spells none.
 fn parse_job(text: Option<&str>) -> Option<Option<JobStart>>
-    ensures found { IfSome result (λ j. IsJob j × (option_map (λ s. s.now) text.entry ≡ option_map (λ x. line_of (job_request x)) j)) }
-    ensures only { IfNone result ((j : Option JobStart) → IsJob j → option_map (λ s. s.now) text.entry ≢ option_map (λ x. line_of (job_request x)) j) }
+    ensures found { IfSome result (λ j. IsJob j
+        × (option_map (λ s. s.now) text.entry ≡ option_map (λ x. line_of (job_request x)) j)) }
+    ensures only { IfNone result ((j : Option JobStart) → IsJob j
+        → option_map (λ s. s.now) text.entry ≢ option_map (λ x. line_of (job_request x)) j) }
 {
     match text {
         None => Some(None),
@@ -105,8 +114,10 @@ fn parse_job(text: Option<&str>) -> Option<Option<JobStart>>
 
 /// The task of a phase entry, if its text is there. None where that text spells none.
 fn parse_timed(text: Option<&str>) -> Option<Option<(Delay, Task)>>
-    ensures found { IfSome result (λ t. IsTimed t × (option_map (λ s. s.now) text.entry ≡ option_map (λ x. line_of (timed_request x)) t)) }
-    ensures only { IfNone result ((t : Option (ℕ × Task)) → IsTimed t → option_map (λ s. s.now) text.entry ≢ option_map (λ x. line_of (timed_request x)) t) }
+    ensures found { IfSome result (λ t. IsTimed t
+        × (option_map (λ s. s.now) text.entry ≡ option_map (λ x. line_of (timed_request x)) t)) }
+    ensures only { IfNone result ((t : Option (ℕ × Task)) → IsTimed t
+        → option_map (λ s. s.now) text.entry ≢ option_map (λ x. line_of (timed_request x)) t) }
 {
     match text {
         None => Some(None),
@@ -135,8 +146,10 @@ pub(crate) fn entries_of(
     alloc: Global,
     texts: &[EntryTexts<'_>],
 ) -> Result<Vec<PhaseEntry>, BenchFault>
-    ensures found { IfOk result (λ v. AllByRecursion IsEntry v.items × (texts.now ≡ map entry_texts v.items)) }
-    ensures refused { IfErr result (RefusedLine ((bs : List Begins) → AllByRecursion IsEntry bs → texts.now ≢ map entry_texts bs)) }
+    ensures found { IfOk result (λ v. AllByRecursion IsEntry v.items
+        × (texts.now ≡ map entry_texts v.items)) }
+    ensures refused { IfErr result (RefusedLine
+        ((bs : List Begins) → AllByRecursion IsEntry bs → texts.now ≢ map entry_texts bs)) }
 {
     let mut entries: Vec<PhaseEntry> = Vec::new(alloc);
     for text in texts {
@@ -153,8 +166,12 @@ pub(crate) fn workers_of(
     alloc: Global,
     texts: &[Vec<&str>],
 ) -> Result<Vec<Vec<Request>>, BenchFault>
-    ensures found { IfOk result (λ v. AllByRecursion AreRequests (map (λ w. w.items) v.items) × (map (λ w. map (λ s. s.now) w.items) texts.now ≡ map (map line_of) (map (λ w. w.items) v.items))) }
-    ensures refused { IfErr result (RefusedLine ((ws : List (List Request)) → AllByRecursion AreRequests ws → map (λ w. map (λ s. s.now) w.items) texts.now ≢ map (map line_of) ws)) }
+    ensures found { IfOk result (λ v. AllByRecursion AreRequests (map (λ w. w.items) v.items)
+        × (map (λ w. map (λ s. s.now) w.items) texts.now
+        ≡ map (map line_of) (map (λ w. w.items) v.items))) }
+    ensures refused { IfErr result (RefusedLine
+        ((ws : List (List Request)) → AllByRecursion AreRequests ws
+        → map (λ w. map (λ s. s.now) w.items) texts.now ≢ map (map line_of) ws)) }
 {
     let mut workers: Vec<Vec<Request>> = Vec::new(alloc);
     for text in texts {
@@ -191,8 +208,10 @@ pub(crate) fn devices_of(
     alloc: Global,
     texts: &[DeviceTexts<'_>],
 ) -> Result<Vec<(Line, u32)>, BenchFault>
-    ensures found { IfOk result (λ v. AllByRecursion IsDevice v.items × (texts.now ≡ map device_texts v.items)) }
-    ensures refused { IfErr result (RefusedLine ((ds : List (Line × ℕ)) → AllByRecursion IsDevice ds → texts.now ≢ map device_texts ds)) }
+    ensures found { IfOk result (λ v. AllByRecursion IsDevice v.items
+        × (texts.now ≡ map device_texts v.items)) }
+    ensures refused { IfErr result (RefusedLine
+        ((ds : List (Line × ℕ)) → AllByRecursion IsDevice ds → texts.now ≢ map device_texts ds)) }
 {
     let mut devices: Vec<(Line, u32)> = Vec::new(alloc);
     for text in texts {
@@ -206,8 +225,10 @@ pub(crate) fn devices_of(
 
 /// The twelve words that as many texts spell.
 fn words_of(texts: &[&str]) -> Option<[Word; 12]>
-    ensures found { IfSome result (λ ws. IsPower (Some ws) × (map (λ s. s.now) texts.now ≡ map (octal 5) ws)) }
-    ensures only { IfNone result ((ws : List ℕ) → IsPower (Some ws) → map (λ s. s.now) texts.now ≢ map (octal 5) ws) }
+    ensures found { IfSome result (λ ws. IsPower (Some ws)
+        × (map (λ s. s.now) texts.now ≡ map (octal 5) ws)) }
+    ensures only { IfNone result ((ws : List ℕ) → IsPower (Some ws)
+        → map (λ s. s.now) texts.now ≢ map (octal 5) ws) }
 {
     if texts.len() != 12 {
         return None;
@@ -224,8 +245,10 @@ fn words_of(texts: &[&str]) -> Option<[Word; 12]>
 
 /// The phase words of a power-up, if their texts are there. None where one of these spells no word.
 pub(crate) fn power_of(texts: &Option<Vec<&str>>) -> Option<Option<[Word; 12]>>
-    ensures found { IfSome result (λ p. IsPower p × (option_map (λ v. map (λ s. s.now) v.items) texts.now ≡ power_texts p)) }
-    ensures only { IfNone result ((p : Option (List ℕ)) → IsPower p → option_map (λ v. map (λ s. s.now) v.items) texts.now ≢ power_texts p) }
+    ensures found { IfSome result (λ p. IsPower p
+        × (option_map (λ v. map (λ s. s.now) v.items) texts.now ≡ power_texts p)) }
+    ensures only { IfNone result ((p : Option (List ℕ)) → IsPower p
+        → option_map (λ v. map (λ s. s.now) v.items) texts.now ≢ power_texts p) }
 {
     match texts {
         None => Some(None),

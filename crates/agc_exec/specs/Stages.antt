@@ -219,6 +219,29 @@ IsApart sets k = (j : ℕ) → j < k → AreApart sets j k
 abbrev pub AllApart : List (Option Held) → Type 0
 AllApart sets = (k : ℕ) → k < length sets → IsApart sets k
 
+-- the number of the job in set k, 0 for none
+abbrev pub number_at : List (Option Held) → ℕ → ℕ
+number_at sets k = number_in (slice_index_or sets k None)
+
+-- the area of the job in set k, 0 for none
+abbrev pub area_at : List (Option Held) → ℕ → ℕ
+area_at sets k = area_held (slice_index_or sets k None)
+
+-- of n numbers those but 0 are marked, and nothing else is but perhaps 0
+pub record AreMarked (f : ℕ → ℕ) (n : ℕ) (marks : List Bool) : Type 0 where
+  pub nine : length marks ≡ 9
+  pub marked : (j : ℕ) → j < n → 0 < f j → slice_index_or marks (f j) false ≡ true
+  pub only : (number : ℕ) → 0 < number → slice_index_or marks number false ≡ true
+      → (j : ℕ) × (j < n) × (f j ≡ number)
+
+-- the first n sets are free, or their words are jobs', which share no number and no area; both are
+-- marked
+pub record AreJudged (words : List ℕ) (n : ℕ) (numbers areas : List Bool) : Type 0 where
+  pub sound : (k : ℕ) → k < n → IsSoundAt words k
+  pub apart : (k : ℕ) → k < n → IsApart (sets_of words) k
+  pub numbered : AreMarked (number_at (sets_of words)) n numbers
+  pub owned : AreMarked (area_at (sets_of words)) n areas
+
 -- no PRIORITY word is an awake job's
 abbrev pub NobodyAwake : List ℕ → Type 0
 NobodyAwake words = (k : ℕ) → k < sets_in words → sign ≤ slice_index words (set_place k + 11)

@@ -1,15 +1,14 @@
 // Whether words are lawful, for those that come from outside.
-ghost use Rattle.std.specs.Prelude.{◌≡◌, ◌<◌, ◌≤◌, ◌↔◌, true, false, IsTrue, nat_lt, if◌then◌else◌};
-ghost use Rattle.std.specs.Prelude.{None, slice_index_or};
+ghost use Rattle.std.specs.Prelude.{◌≡◌, ◌+◌, ◌<◌, ◌≤◌, ◌↔◌, true, false, IsTrue, length};
+ghost use Rattle.std.specs.Prelude.{if◌then◌else◌, replicate, slice_index_or, slice_set};
 ghost use Rattle.agc_word.specs.Layout.{IsSized, sets_in, address_of};
-ghost use Rattle.agc_word.specs.Words.{complement};
 ghost use Rattle.agc_exec.specs.Image.{sets_of, IsSet, IsLawfulWords, UsesAgree};
-ghost use Rattle.agc_exec.specs.Sets.{slots_of};
-ghost use Rattle.agc_exec.specs.Stages.{unsigned, AreSound, IsSoundAt, AreSoundSets, area_held};
-ghost use Rattle.agc_exec.specs.Stages.{Differs, AreApart, IsApart, AllApart, NobodyAwake};
+ghost use Rattle.agc_exec.specs.Sets.{slots_of, IsFronted};
+ghost use Rattle.agc_exec.specs.Stages.{unsigned, AreSound, IsSoundAt, AreSoundSets, area_at};
+ghost use Rattle.agc_exec.specs.Stages.{IsApart, AllApart, AreJudged, AreMarked, NobodyAwake};
 ghost use Rattle.agc_exec.specs.Stages.{owned_in};
 
-use crate::core_set::{LOC, MINUS_ZERO, PRIORITY, PRIORITY_UNIT, SIGN, entry, word_of};
+use crate::core_set::{LOC, MINUS_ZERO, PRIORITY, PRIORITY_UNIT, SIGN, word_of};
 use crate::newjob::newjob;
 use crate::search::somebody_runs;
 use agc_word::Erasable;
@@ -51,101 +50,56 @@ fn are_sound(sets: u16, number: u16, at: u16, urgency: u16) -> bool
     address == address_of(area)
 }
 
-/// Whether a set is free, or its words are a job's.
-fn is_sound_set(e: &Erasable, k: usize) -> bool
+/// Sets the mark of a number. Whether it wasn't set, or the number is 0, which any may have.
+fn take(marks: &mut [bool; 9], number: u16) -> bool
+    requires nine { length marks.old ≡ 9 }
+    requires within { number < 9 }
+    ensures free { (result ≡ true) ↔ (0 < number → slice_index_or marks.old number false ≡ false) }
+    ensures marks { marks.new ≡ slice_set marks.old number true }
+{
+    let taken = marks[number as usize];
+    marks[number as usize] = true;
+    number == 0 || !taken
+}
+
+/// Whether a set is free, or its words are a job's and its number and area aren't marked; marks
+/// them.
+fn is_judged(e: &Erasable, k: usize, numbers: &mut [bool; 9], areas: &mut [bool; 9]) -> bool
     requires set { k < sets_in e.now }
     requires sized { IsSized e.now }
-    ensures yes { result ≡ true → IsSoundAt e.now k }
-    ensures no { IsSoundAt e.now k → result ≡ true }
+    requires judged { AreJudged e.now k numbers.old areas.old }
+    ensures yes { result ≡ true → AreJudged e.now (k + 1) numbers.new areas.new }
+    ensures no { IsSoundAt e.now k → IsApart (sets_of e.now) k → result ≡ true }
 {
     let priority = word_of(e, k, PRIORITY);
     if priority == MINUS_ZERO {
         return true;
     }
-    let sets = e.sets().count() as u16;
-    are_sound(
-        sets,
-        word_of(e, k, 0),
-        word_of(e, k, LOC),
-        unsigned(priority),
-    )
-}
-
-/// Whether each set is free, or its words are a job's.
-fn are_sound_sets(e: &Erasable) -> bool
-    requires { IsSized e.now }
-    ensures yes { result ≡ true → AreSoundSets e.now }
-    ensures no { AreSoundSets e.now → result ≡ true }
-{
-    for k in 0..e.sets().count() {
-        if !is_sound_set(e, k) {
-            return false;
-        }
-    }
-    true
-}
-
-/// The area of a set's job, 0 for none.
-fn area_in(e: &Erasable, k: usize) -> u16
-    requires set { k < sets_in e.now }
-    requires sized { IsSized e.now }
-    ensures { result ≡ area_held (slice_index_or (sets_of e.now) k None) }
-{
-    let priority = word_of(e, k, PRIORITY);
-    if priority == MINUS_ZERO {
-        0
-    } else {
-        area_of(unsigned(priority) % PRIORITY_UNIT)
-    }
-}
-
-/// Whether a number is 0, or another than the second.
-fn differs(x: u16, y: u16) -> bool
-    ensures yes { result ≡ true → Differs x y }
-    ensures no { Differs x y → result ≡ true }
-{
-    if x == 0 {
-        return true;
-    }
-    x != y
-}
-
-/// Whether two sets share no number and no area.
-fn are_apart(e: &Erasable, j: usize, k: usize) -> bool
-    requires set { (j < sets_in e.now) × (k < sets_in e.now) }
-    requires sized { IsSized e.now }
-    ensures yes { result ≡ true → AreApart (sets_of e.now) j k }
-    ensures no { AreApart (sets_of e.now) j k → result ≡ true }
-{
-    if !differs(entry(e, j), entry(e, k)) {
+    let number = word_of(e, k, 0);
+    let urgency = unsigned(priority);
+    if !are_sound(e.sets().count() as u16, number, word_of(e, k, LOC), urgency) {
         return false;
     }
-    differs(area_in(e, j), area_in(e, k))
-}
-
-/// Whether a set shares no number and no area with those before it.
-fn is_apart(e: &Erasable, k: usize) -> bool
-    requires set { k < sets_in e.now }
-    requires sized { IsSized e.now }
-    ensures yes { result ≡ true → IsApart (sets_of e.now) k }
-    ensures no { IsApart (sets_of e.now) k → result ≡ true }
-{
-    for j in 0..k {
-        if !are_apart(e, j, k) {
-            return false;
-        }
+    let area = area_of(urgency % PRIORITY_UNIT);
+    if !take(numbers, number) {
+        return false;
     }
-    true
+    take(areas, area)
 }
 
-/// Whether no two sets share a number or an area.
-fn all_apart(e: &Erasable) -> bool
-    requires { IsSized e.now }
-    ensures yes { result ≡ true → AllApart (sets_of e.now) }
-    ensures no { AllApart (sets_of e.now) → result ≡ true }
+/// Whether each set is free, or its words are a job's, and no two share a number or an area; marks
+/// the areas that are owned.
+fn are_judged(e: &Erasable, areas: &mut [bool; 9]) -> bool
+    requires sized { IsSized e.now }
+    requires blank { areas.old ≡ replicate 9 false }
+    ensures sound { result ≡ true → AreSoundSets e.now }
+    ensures apart { result ≡ true → AllApart (sets_of e.now) }
+    ensures areas { result ≡ true → AreMarked (area_at (sets_of e.now)) (sets_in e.now) areas.new }
+    ensures no { AreSoundSets e.now → AllApart (sets_of e.now) → result ≡ true }
 {
+    let mut numbers = [false; 9];
     for k in 0..e.sets().count() {
-        if !is_apart(e, k) {
+        if !is_judged(e, k, &mut numbers, areas) {
             return false;
         }
     }
@@ -166,60 +120,55 @@ fn nobody_awake(e: &Erasable) -> bool
     true
 }
 
-/// Whether the core sets are lawful.
-fn has_lawful_sets(e: &Erasable) -> bool
+/// Whether the job in set 0 is awake, where anybody is.
+fn is_fronted(e: &Erasable) -> bool
     requires { IsSized e.now }
-    ensures yes { result ≡ true → IsSet e.now }
+    ensures yes { result ≡ true → IsFronted (sets_of e.now) }
     ensures no { IsSet e.now → result ≡ true }
 {
-    let _all = e.sets();
-    if !are_sound_sets(e) {
-        return false;
-    }
-    if !all_apart(e) {
-        return false;
-    }
     if somebody_runs(e) {
         return true;
     }
     nobody_awake(e)
 }
 
-/// Whether a set's job owns an area.
-fn is_owned(e: &Erasable, area: u16) -> bool
+/// Whether the core sets are lawful; marks the areas that are owned.
+fn has_lawful_sets(e: &Erasable, areas: &mut [bool; 9]) -> bool
     requires sized { IsSized e.now }
-    requires low { 1 ≤ area }
-    ensures { result ≡ owned_in area (sets_of e.now) }
+    requires blank { areas.old ≡ replicate 9 false }
+    ensures yes { result ≡ true → IsSet e.now }
+    ensures areas { result ≡ true → AreMarked (area_at (sets_of e.now)) (sets_in e.now) areas.new }
+    ensures no { IsSet e.now → result ≡ true }
 {
-    for k in 0..e.sets().count() {
-        if area_in(e, k) == area {
-            return true;
-        }
+    if !are_judged(e, areas) {
+        return false;
     }
-    false
+    is_fronted(e)
 }
 
 /// The use word that an area is to have.
-fn use_word(e: &Erasable, area: u16) -> u16
+fn use_word(e: &Erasable, areas: &[bool; 9], area: u16) -> u16
     requires sized { IsSized e.now }
+    requires marked { AreMarked (area_at (sets_of e.now)) (sets_in e.now) areas.now }
     requires range { (1 ≤ area) × (area ≤ 5) }
     ensures { result ≡ (if owned_in area (sets_of e.now) then 0 else address_of area) }
 {
-    if is_owned(e, area) {
+    if areas[area as usize] {
         0
     } else {
         address_of(area)
     }
 }
 
-/// Whether each use word says whether its area is owned.
-fn uses_agree(e: &Erasable) -> bool
-    requires { IsSet e.now }
+/// Whether each use word says whether its area is owned, where these are marked.
+fn uses_agree(e: &Erasable, areas: &[bool; 9]) -> bool
+    requires set { IsSet e.now }
+    requires marked { AreMarked (area_at (sets_of e.now)) (sets_in e.now) areas.now }
     ensures yes { result ≡ true → UsesAgree e.now (slots_of (sets_of e.now)) }
     ensures no { UsesAgree e.now (slots_of (sets_of e.now)) → result ≡ true }
 {
     for area in 1..6u16 {
-        if e.get(use_place(area as usize)).bits() != use_word(e, area) {
+        if e.get(use_place(area as usize)).bits() != use_word(e, areas, area) {
             return false;
         }
     }
@@ -237,10 +186,11 @@ pub fn is_lawful(e: &Erasable) -> bool
     ensures { IsTrue result ↔ IsLawfulWords e.now }
 {
     let _all = e.sets();
-    if !has_lawful_sets(e) {
+    let mut areas = [false; 9];
+    if !has_lawful_sets(e, &mut areas) {
         return false;
     }
-    if !uses_agree(e) {
+    if !uses_agree(e, &areas) {
         return false;
     }
     e.get(NEWJOB).bits() == newjob(e)

@@ -18,12 +18,12 @@ fn size_of(sets: Sets) -> usize
 pub(crate) fn are_words(array: &[u16; 144], sets: Sets) -> bool
     ensures { IsTrue result ↔ AreWords (image_of (count_of sets) array.now) }
 {
+    // The greatest is found with no branch a number, which the compiler does eight at a time.
+    let mut greatest = 0;
     for place in 0..size_of(sets) {
-        if array[place] >= 32768 {
-            return false;
-        }
+        greatest = greatest.max(array[place]);
     }
-    true
+    greatest < 32768
 }
 
 /// Reads the words of the first places, as many as these core sets have.

@@ -115,7 +115,7 @@ posts slots id i me inside is few s k homes at small =
       keeps,
       tt,
       subst (λ (z : ℕ). LineAccount (set s.words i z) (set s.views id w)) (sym fits) kept,
-      (refl, record { words = s.words; views = s.views; seat = id; before = k; found = refl; seen = at; after = kept }),
+      refl,
     )
 
 others_quiet : (v : View) → Fits v → takers v ≡ 0 → HasTakenNothing v
@@ -194,7 +194,6 @@ takes slots id i me inside is s k homes at small =
       kept,
       (
         refl,
-        record { words = s.words; views = s.views; seat = id; before = k; found = refl; seen = at; after = kept },
         omega arith,
         (λ back. let l = line_at s.words s.views k id v at is i inside back in omega arith),
       ),

@@ -37,6 +37,16 @@ abbrev pub taken_on : Line → Option Taking → ℕ
 taken_on line None = 0
 taken_on line (Some t) = on line t.taken
 
+-- how often the taker took a line: without one, never
+abbrev pub takes_on : Line → Option Taking → ℕ
+takes_on line None = 0
+takes_on line (Some t) = on line t.takes
+
+-- each line was taken once more, where there is a taker
+abbrev pub IsTakenOnce : Option Taking → Option Taking → Type 0
+IsTakenOnce old now = IfSome old
+    (λ _. (line : Line) → takes_on line now ≡ takes_on line old + 1)
+
 -- the taker, if there is one, is of this latch
 abbrev pub IsOf : TableId → Option Taking → Type 0
 IsOf latch taker = IfSome (latch_of taker) (λ l. l ≡ latch)
@@ -70,8 +80,9 @@ pub record Gives (old now : LineAccounts) : Type 0 where
   pub owed : now.owed ≡ old.owed
   pub settled : now.settled ≡ old.settled
 
--- what was found on each line was taken and is owed, and nothing else changed
+-- each line was taken once, what was found there is owed, and nothing else changed
 pub record Collects (found : List ℕ) (old now : LineAccounts) : Type 0 where
+  pub once : IsTakenOnce old.taker now.taker
   pub owed : (line : Line) → on line now.owed ≡ on line old.owed + on line found
   pub taken : (line : Line) → taken_on line now.taker ≡ taken_on line old.taker + on line found
   pub latch : latch_of now.taker ≡ latch_of old.taker

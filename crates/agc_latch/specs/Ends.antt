@@ -12,10 +12,12 @@ pub record Posting : Type 0 where
   pub posts : ℕ
   pub posted : List ℕ
 
--- a taker: its latch, what it took per line, and how many devices were given out under it
+-- a taker: its latch, what it took per line, how often it took each line, and how many devices
+-- were given out under it
 pub record Taking : Type 0 where
   pub latch : TableId
   pub taken : List ℕ
+  pub takes : List ℕ
   pub given : ℕ
 
 -- what a device holds: a device's seat, which has posted what the device counts; so much is left of
@@ -35,4 +37,4 @@ abbrev pub with_one_more : Line → Posting → Posting
 with_one_more line d = record d { posted = raised (word_of line) 1 d.posted }
 
 abbrev pub new_taker : TableId → Taking
-new_taker latch = record { latch = latch; taken = zeros; given = 0 }
+new_taker latch = record { latch = latch; taken = zeros; takes = zeros; given = 0 }

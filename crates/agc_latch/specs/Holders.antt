@@ -11,6 +11,7 @@ use Rattle.agc_latch.specs.Ends.{Taking}
 pub record Joining : Type 0 where
   pub latch : TableId
   pub taken : List ℕ
+  pub takes : List ℕ
   pub given : ℕ
   pub back : ℕ
   pub posted : List ℕ
@@ -20,10 +21,14 @@ pub record IsTaker (me : Seated) : Type 0 where
   pub role : me.0.role ≡ Takes
   pub slots : me.1 ≡ []
   pub wide : length me.0.taken ≡ 3
+  pub takes_wide : length me.0.takes ≡ 3
 
--- the taker after it took n pulses of a line
+-- the taker after it took a line once more, and found n pulses
 abbrev pub with_taken : Line → ℕ → Taking → Taking
-with_taken line n t = record t { taken = raised (word_of line) n t.taken }
+with_taken line n t = record t {
+  taken = raised (word_of line) n t.taken;
+  takes = raised (word_of line) 1 t.takes;
+}
 
 -- the taker after it gave out one more device
 abbrev pub with_one_given : Taking → Taking

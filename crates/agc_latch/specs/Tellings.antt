@@ -1,36 +1,27 @@
 -- Helpers of proofs: what each kind of step tells.
-use Rattle.std.specs.Prelude.{◌≡◌, ℕ, ◌+◌, ◌*◌, ◌≤◌, List, slice_index}
+use Rattle.std.specs.Prelude.{◌≡◌, ℕ, ◌+◌, ◌*◌, ◌≤◌, slice_index}
 use Rattle.atomic_table.specs.Table.{State, Step}
 use Rattle.agc_latch.specs.declared.views.View.{View}
 use Rattle.agc_latch.specs.declared.views.Role.TheVariants.{Takes}
-use Rattle.agc_latch.specs.declared.line.Line.{Line}
-use Rattle.agc_latch.specs.Lines.{word_of, zeros}
+use Rattle.agc_latch.specs.Lines.{zeros}
 use Rattle.agc_latch.specs.Account.{LineAccount}
-use Rattle.agc_latch.specs.Steps.{Seated, Stepped, after_post, after_take}
+use Rattle.agc_latch.specs.Steps.{Seated, after_post, after_take}
 
 abbrev pub Accounted : State (Unit {0}) View → Type 0
 Accounted s = LineAccount s.words s.views
 
 -- the taker's view when the latch is made
 abbrev pub first_view : View
-first_view = record { role = Takes; posted = zeros; taken = zeros; seats = 0; given = 0 }
+first_view = record { role = Takes; posted = zeros; taken = zeros; takes = zeros; seats = 0; given = 0 }
 
--- what a post tells: the word grew by 1, and so did the device's count of this line
+-- what a post tells: the device's count of this line grew by 1
 abbrev pub Posted : Step (Unit {0}) → Seated → ℕ → Seated → Type 0
-Posted s v n w = (w ≡ (after_post s.word v.0, v.1)) × Stepped s.word n (n + 1) v.0 w.0
+Posted s v n w = w ≡ (after_post s.word v.0, v.1)
 
--- What a take tells: what was found is taken, and the word is 0. No more is taken than the devices
--- that were given out may post; where all of them came back, all that they posted is taken
+-- What a take tells: the line was taken once more, with what was found. No more is taken than the
+-- devices that were given out may post; where all of them came back, all that they posted is taken
 abbrev pub Taken : Step (Unit {0}) → Seated → ℕ → Seated → Type 0
 Taken s v n w =
     (w ≡ (after_take s.word n v.0, v.1))
-    × Stepped s.word n 0 v.0 w.0
     × (slice_index v.0.taken s.word + n ≤ 4294967295 * v.0.given)
     × (v.0.seats ≡ v.0.given → slice_index v.0.taken s.word + n ≡ slice_index v.0.posted s.word)
-
--- the taker, which had taken so much, took the n pulses of a line, by one step
-abbrev pub IsTake : Line → List ℕ → ℕ → Type 0
-IsTake line taken n = (v : View)
-    × (v.role ≡ Takes)
-    × (v.taken ≡ taken)
-    × Stepped (word_of line) n 0 v (after_take (word_of line) n v)

@@ -1,6 +1,6 @@
 ghost use Rattle.std.specs.Prelude.{◌≡◌, ◌<◌, ◌↔◌, [], sum, IsOk, OnErr, OnOk};
 ghost use Rattle.agc_latch.specs.Ends.{new_device, with_one_more};
-ghost use Rattle.agc_latch.specs.Steps.{IsPost, device_view};
+ghost use Rattle.agc_latch.specs.Steps.{device_view};
 ghost use Rattle.agc_latch.specs.declared.views.Role.TheVariants.{Posts};
 
 use crate::latch::Latch;
@@ -83,7 +83,6 @@ impl Device {
         requires { self.old.latch ≡ latch.now }
         ensures ok { IsOk result ↔ (sum self.old.posted < self.old.posts) }
         ensures posted { OnOk result (self.new ≡ with_one_more line self.old) }
-        ensures step { OnOk result (IsPost line self.old.posted) }
         ensures same { OnErr result (self.new ≡ self.old) }
     {
         if self.left == 0 {

@@ -3,7 +3,7 @@ ghost use Rattle.agc_latch.specs.Accounts.{posted_by};
 ghost use Rattle.agc_latch.specs.Ends.{new_device, new_taker};
 ghost use Rattle.agc_latch.specs.Holders.{with_one_given, with_taken};
 ghost use Rattle.agc_latch.specs.Lines.{added, on, raised, word_of};
-ghost use Rattle.agc_latch.specs.Tellings.{IsTake, first_view};
+ghost use Rattle.agc_latch.specs.Tellings.{first_view};
 ghost use Rattle.agc_latch.specs.declared.line.Line.{Line};
 
 use crate::device::Device;
@@ -28,6 +28,7 @@ impl Model for TakerSeat {
     ghost view = { λ t. record {
       latch = t.seat.table_id;
       taken = t.seat.me.0.taken;
+      takes = t.seat.me.0.takes;
       given = t.seat.me.0.given;
       back = t.seat.me.0.seats;
       posted = t.seat.me.0.posted;
@@ -42,12 +43,12 @@ impl TakerSeat {
         requires { self.old.latch ≡ latch.now }
         ensures taken { self.new ≡ record self.old {
           taken = raised (word_of line) result self.old.taken;
+          takes = raised (word_of line) 1 self.old.takes;
         } }
         ensures bounded { on line self.old.taken + result ≤ 4294967295 * self.old.given }
         ensures whole { self.old.back ≡ self.old.given
             → on line self.old.taken + result ≡ on line self.old.posted }
-        ensures wide { length self.old.taken ≡ 3 }
-        ensures step { IsTake line self.old.taken result }
+        ensures wide { (length self.old.taken ≡ 3) × (length self.old.takes ≡ 3) }
     {
         let word = line.word();
         latch.table.shared.swap::<Take>(&mut self.seat, word, 0)
@@ -129,6 +130,7 @@ impl Model for AttachedTaker {
     ghost view = { λ t. record {
       latch = t.seat.latch;
       taken = t.seat.taken;
+      takes = t.seat.takes;
       given = t.seat.given;
     } };
 
@@ -149,7 +151,7 @@ impl AttachedTaker {
         requires { self.old.latch ≡ latch.now }
         ensures taken { self.new ≡ with_taken line result self.old }
         ensures bounded { on line self.old.taken + result ≤ 4294967295 * self.old.given }
-        ensures wide { length self.old.taken ≡ 3 }
+        ensures wide { (length self.old.taken ≡ 3) × (length self.old.takes ≡ 3) }
     {
         self.seat.take(latch, line)
     }

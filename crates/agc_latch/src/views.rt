@@ -17,6 +17,8 @@ pub struct View {
     pub posted: [u64; 3],
     /// The pulses that were taken from it, per line.
     pub taken: [u64; 3],
+    /// How often it took, per line.
+    pub takes: [u64; 3],
     /// 1 for a device, for the taker how many devices came back, 0 once spent.
     pub seats: u64,
     /// How many devices were given out from it.

@@ -5,7 +5,8 @@ use Rattle.std.specs.Io.KnownBytes.{Consumes}
 use Rattle.agc_text.specs.declared.fault.ScriptFault.{ScriptFault}
 use Rattle.agc_text.specs.declared.fault.ScriptFault.TheVariants.{NoMemory, Line}
 use Rattle.agc_text.specs.declared.fault.ReadFault.{ReadFault}
-use Rattle.agc_text.specs.declared.fault.ReadFault.TheVariants.{NoMemory as NoMemoryToRead, Input, TooLong, NotText}
+use Rattle.agc_text.specs.declared.fault.ReadFault.TheVariants.{NoMemory as NoMemoryToRead, Input}
+use Rattle.agc_text.specs.declared.fault.ReadFault.TheVariants.{TooLong, NotText}
 use Rattle.agc_text.specs.Input.{ReadsAll, most_bytes}
 use Rattle.agc_text.specs.Script.{IsFirstRefused}
 
@@ -14,9 +15,11 @@ abbrev pub RefusesScript : List (List ℕ) → ScriptFault → Type 0
 RefusesScript ls NoMemory = Unit {0}
 RefusesScript ls (Line n) = IsFirstRefused ls n
 
--- why an input could not be read: at TooLong more bytes than may be were read, at NotText all were read and are no text
+-- why an input could not be read: at TooLong more bytes than may be were read, at NotText all were
+-- read and are no text
 abbrev pub RefusesInput : Option (List ℕ) → Option (List ℕ) → ReadFault → Type 0
 RefusesInput old new NoMemoryToRead = (bytes : List ℕ) × Consumes old new bytes
 RefusesInput old new Input = (bytes : List ℕ) × Consumes old new bytes × (length bytes ≤ most_bytes)
-RefusesInput old new TooLong = (bytes : List ℕ) × Consumes old new bytes × (most_bytes < length bytes)
+RefusesInput old new TooLong = (bytes : List ℕ) × Consumes old new bytes
+    × (most_bytes < length bytes)
 RefusesInput old new NotText = (bytes : List ℕ) × ReadsAll old new bytes × (IsUtf8 bytes → ⊥)

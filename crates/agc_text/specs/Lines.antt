@@ -4,12 +4,18 @@ use Rattle.std.specs.Fmt.{decimal}
 use Rattle.agc_plan.specs.declared.request.Entry.{Entry}
 use Rattle.agc_plan.specs.declared.request.Task.{Task}
 use Rattle.agc_plan.specs.declared.request.Request.{Request}
-use Rattle.agc_plan.specs.declared.request.Request.TheVariants.{Novac, Findvac, EndOfJob, Sleep, Rouse, Prio, Change, Store, List as ListTask, Tick, SetPhase, Restart, Fresh}
+use Rattle.agc_plan.specs.declared.request.Request.TheVariants.{Novac, Findvac, EndOfJob, Sleep}
+use Rattle.agc_plan.specs.declared.request.Request.TheVariants.{Rouse, Prio, Change, Store}
+use Rattle.agc_plan.specs.declared.request.Request.TheVariants.{List as ListTask, Tick, SetPhase}
+use Rattle.agc_plan.specs.declared.request.Request.TheVariants.{Restart, Fresh}
 use Rattle.agc_plan.specs.declared.request.Action.{Action}
-use Rattle.agc_plan.specs.declared.request.Action.TheVariants.{Nothing, Novac as DoNovac, Findvac as DoFindvac, Rouse as DoRouse, List as DoList}
+use Rattle.agc_plan.specs.declared.request.Action.TheVariants.{Nothing, Novac as DoNovac}
+use Rattle.agc_plan.specs.declared.request.Action.TheVariants.{Findvac as DoFindvac}
+use Rattle.agc_plan.specs.declared.request.Action.TheVariants.{Rouse as DoRouse, List as DoList}
 use Rattle.agc_text.specs.Numbers.{octal}
 
--- a priority of two octal digits, an address and a bank word of five, each after a space but the first
+-- a priority of two octal digits, an address and a bank word of five, each after a space but the
+-- first
 abbrev pub entry_text : ℕ → Entry → List ℕ
 entry_text priority entry = octal 2 priority ++ 32 ∷ octal 5 entry.at ++ 32 ∷ octal 5 entry.bank
 

@@ -1,14 +1,20 @@
 -- For proofs: how numbers and lines are read, from their front.
-use Rattle.std.specs.Prelude.{ℕ, ◌+◌, ◌-◌, ◌*◌, ◌^◌, List, [], ◌∷◌, codes, Option, Some, None, nat_lt, ◌==◌, ◌&&◌, if◌then◌else◌}
+use Rattle.std.specs.Prelude.{ℕ, ◌+◌, ◌-◌, ◌*◌, ◌^◌, List, [], ◌∷◌, codes, Option, Some, None}
+use Rattle.std.specs.Prelude.{nat_lt, ◌==◌, ◌&&◌, if◌then◌else◌}
 use Rattle.std.specs.Fmt.{decimal}
 use Rattle.std.specs.Str.{bytes_eq}
 use Rattle.std.specs.Str.Parse.{digits_value}
 use Rattle.agc_plan.specs.declared.request.Entry.{Entry}
 use Rattle.agc_plan.specs.declared.request.Task.{Task}
 use Rattle.agc_plan.specs.declared.request.Request.{Request}
-use Rattle.agc_plan.specs.declared.request.Request.TheVariants.{Novac, Findvac, EndOfJob, Sleep, Rouse, Prio, Change, Store, List as ListTask, Tick, SetPhase, Restart, Fresh}
+use Rattle.agc_plan.specs.declared.request.Request.TheVariants.{Novac, Findvac, EndOfJob, Sleep}
+use Rattle.agc_plan.specs.declared.request.Request.TheVariants.{Rouse, Prio, Change, Store}
+use Rattle.agc_plan.specs.declared.request.Request.TheVariants.{List as ListTask, Tick, SetPhase}
+use Rattle.agc_plan.specs.declared.request.Request.TheVariants.{Restart, Fresh}
 use Rattle.agc_plan.specs.declared.request.Action.{Action}
-use Rattle.agc_plan.specs.declared.request.Action.TheVariants.{Novac as DoNovac, Findvac as DoFindvac, Rouse as DoRouse, List as DoList}
+use Rattle.agc_plan.specs.declared.request.Action.TheVariants.{Novac as DoNovac}
+use Rattle.agc_plan.specs.declared.request.Action.TheVariants.{Findvac as DoFindvac}
+use Rattle.agc_plan.specs.declared.request.Action.TheVariants.{Rouse as DoRouse, List as DoList}
 use Rattle.agc_text.specs.Chain.{◌>>=◌}
 
 -- the digit of a byte
@@ -41,7 +47,8 @@ within low high n = if nat_lt n low then None else (if nat_lt high n then None e
 
 -- the number that the text is the decimal spelling of, below 2 ^ 16
 unfoldable pub decimal_of : List ℕ → Option ℕ
-decimal_of s = if bytes_eq s (decimal (digits_value 10 s)) && nat_lt (digits_value 10 s) (2 ^ 16) then Some (digits_value 10 s) else None
+decimal_of s = if bytes_eq s (decimal (digits_value 10 s)) && nat_lt (digits_value 10 s) (2 ^ 16)
+    then Some (digits_value 10 s) else None
 
 -- the delay that a text spells
 unfoldable pub delay_of : List ℕ → Option ℕ

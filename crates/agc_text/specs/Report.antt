@@ -1,11 +1,15 @@
 -- The report of a machine's words and totals.
-use Rattle.std.specs.Prelude.{ℕ, List, [], ◌∷◌, ◌++◌, codes, if◌then◌else◌, ◌==◌, slice_index, take, drop}
+use Rattle.std.specs.Prelude.{ℕ, List, [], ◌∷◌, ◌++◌, codes, if◌then◌else◌, ◌==◌, slice_index, take}
+use Rattle.std.specs.Prelude.{drop}
 use Rattle.std.specs.List.{flat_map, range_with_len}
 use Rattle.std.specs.Fmt.{decimal}
-use Rattle.agc_word.specs.Layout.{set_place, use_words, newjob, time3, lst1, lst2, phase_words, failreg}
+use Rattle.agc_word.specs.Layout.{set_place, use_words, newjob, time3, lst1, lst2, phase_words}
+use Rattle.agc_word.specs.Layout.{failreg}
 use Rattle.agc_machine.specs.declared.totals.Totals.{Totals}
 use Rattle.agc_text.specs.declared.reporting.ReportLine.{ReportLine}
-use Rattle.agc_text.specs.declared.reporting.ReportLine.TheVariants.{Vac, Newjob, Time3, Lst1, Lst2, Phase, Failreg, Served, Alarms, Restarts}
+use Rattle.agc_text.specs.declared.reporting.ReportLine.TheVariants.{Vac, Newjob, Time3, Lst1, Lst2}
+use Rattle.agc_text.specs.declared.reporting.ReportLine.TheVariants.{Phase, Failreg, Served, Alarms}
+use Rattle.agc_text.specs.declared.reporting.ReportLine.TheVariants.{Restarts}
 use Rattle.agc_text.specs.Replies.{words_text}
 
 -- so many words, from this place on
@@ -18,7 +22,8 @@ set_text set = if slice_index set 11 == 0o77777 then codes " FREE" else words_te
 
 -- the line of core set k
 unfoldable pub set_line : List ℕ → ℕ → List ℕ
-set_line words k = codes "SET " ++ decimal k ++ set_text (words_at (set_place k) 12 words) ++ 10 ∷ []
+set_line words k =
+    codes "SET " ++ decimal k ++ set_text (words_at (set_place k) 12 words) ++ 10 ∷ []
 
 -- a count: a space, and its decimal digits
 abbrev pub count_text : ℕ → List ℕ
@@ -34,7 +39,8 @@ line_text words totals Lst2 = codes "LST2" ++ words_text (words_at lst2 18 words
 line_text words totals Phase = codes "PHASE" ++ words_text (words_at phase_words 12 words)
 line_text words totals Failreg = codes "FAILREG" ++ words_text (words_at failreg 3 words)
 line_text words totals Served = codes "SERVED" ++ count_text totals.served
-line_text words totals Alarms = codes "ALARMS" ++ count_text totals.a1201 ++ count_text totals.a1202 ++ count_text totals.a1203
+line_text words totals Alarms =
+    codes "ALARMS" ++ count_text totals.a1201 ++ count_text totals.a1202 ++ count_text totals.a1203
 line_text words totals Restarts = codes "RESTARTS" ++ count_text totals.restarts
 
 -- with its end
@@ -59,4 +65,5 @@ lines_text words totals = flat_map (full_line words totals) lines
 
 -- the whole report of so many core sets
 abbrev pub report_text : ℕ → List ℕ → Totals → List ℕ
-report_text sets words totals = profile_text sets ++ (sets_text sets words ++ lines_text words totals)
+report_text sets words totals =
+    profile_text sets ++ (sets_text sets words ++ lines_text words totals)

@@ -11,4 +11,5 @@ line_for machine request = answer_line (answer_of machine request)
 -- the lines of the answers, in order
 unfoldable pub answer_lines : Machined → List Request → List ℕ
 answer_lines machine [] = []
-answer_lines machine (request ∷ requests) = line_for machine request ++ answer_lines (after machine request) requests
+answer_lines machine (request ∷ requests) =
+    line_for machine request ++ answer_lines (after machine request) requests

@@ -13,6 +13,7 @@ abbrev pub AppendsFront : Option (List ℕ) → Option (List ℕ) → List ℕ �
 AppendsFront old new text = (rest : List ℕ) × (rest ≢ []) × AppendsUpTo old new text rest
 
 -- the text was written and nothing else; where a write failed, a front of it
-abbrev pub Writes : {T E : Type 0} → Option (List ℕ) → Option (List ℕ) → List ℕ → Result T E → Type 0
+abbrev pub Writes : {T E : Type 0} → Option (List ℕ) → Option (List ℕ) → List ℕ → Result T E
+    → Type 0
 Writes old new text (Ok _) = Appends old new text
 Writes old new text (Err _) = AppendsFront old new text

@@ -12,7 +12,8 @@ const MOST_BYTES: usize = 1_048_576;
 
 /// Bytes as a text.
 fn text_of(bytes: Vec<u8>) -> Result<String, ReadFault>
-    ensures { MatchResult result (λ s. string_bytes s ≡ bytes.items) (λ e. (e ≡ ReadFault.NotText) × (IsUtf8 bytes.items → ⊥)) }
+    ensures { MatchResult result (λ s. string_bytes s ≡ bytes.items)
+        (λ e. (e ≡ ReadFault.NotText) × (IsUtf8 bytes.items → ⊥)) }
 {
     match String::from_utf8(bytes) {
         Ok(text) => Ok(text),
@@ -20,12 +21,14 @@ fn text_of(bytes: Vec<u8>) -> Result<String, ReadFault>
     }
 }
 
-/// All bytes up to the end of the input. Each read but the last brings a byte at least, so that there is at most one
-/// read more than there may be bytes.
+/// All bytes up to the end of the input. Each read but the last brings a byte at least, so that
+/// there is at most one read more than there may be bytes.
 #[tactic(auto, using(crate::proofs::Pieces::consumes_none, crate::proofs::Pieces::consumes_both, crate::proofs::Pieces::consumes_kept))]
 fn read_bytes<R: Read>(alloc: Global, reader: &mut R) -> Result<Vec<u8>, ReadFault>
-    ensures whole { IfOk result (λ v. ReadsAll (R.remaining reader.old) (R.remaining reader.new) v.items) }
-    ensures refused { IfErr result (RefusesInput (R.remaining reader.old) (R.remaining reader.new)) }
+    ensures whole { IfOk result (λ v.
+        ReadsAll (R.remaining reader.old) (R.remaining reader.new) v.items) }
+    ensures refused { IfErr result (RefusesInput (R.remaining reader.old)
+        (R.remaining reader.new)) }
 {
     let mut bytes = Vec::new(alloc);
     let mut piece = [0u8; 4096];
@@ -48,11 +51,14 @@ fn read_bytes<R: Read>(alloc: Global, reader: &mut R) -> Result<Vec<u8>, ReadFau
 ///
 /// # Errors
 ///
-/// `Input`: a read failed, one that was interrupted among them. `TooLong`: more than 1,048,576 bytes were read.
-/// `NotText`: the whole was read and is not UTF-8. `NoMemory`. The reader stands where it stopped.
+/// `Input`: a read failed, one that was interrupted among them. `TooLong`: more than 1,048,576
+/// bytes were read. `NotText`: the whole was read and is not UTF-8. `NoMemory`. The reader stands
+/// where it stopped.
 pub fn read_all<R: Read>(alloc: Global, reader: &mut R) -> Result<String, ReadFault>
-    ensures whole { IfOk result (λ s. ReadsAll (R.remaining reader.old) (R.remaining reader.new) (string_bytes s)) }
-    ensures refused { IfErr result (RefusesInput (R.remaining reader.old) (R.remaining reader.new)) }
+    ensures whole { IfOk result (λ s.
+        ReadsAll (R.remaining reader.old) (R.remaining reader.new) (string_bytes s)) }
+    ensures refused { IfErr result (RefusesInput (R.remaining reader.old)
+        (R.remaining reader.new)) }
 {
     text_of(read_bytes(alloc, reader)?)
 }

@@ -1,5 +1,5 @@
-//! What is spelled: the lines of a script, and why a text or an input is refused; the lines that answer requests, and the
-//! report of a machine. Source: profile.
+//! What is spelled: the lines of a script, and why a text or an input is refused; the lines that
+//! answer requests, and the report of a machine. Source: profile.
 #![tactic(auto)]
 
 mod fault;

@@ -4,7 +4,9 @@ ghost use Rattle.agc_plan.specs.declared.request.Action.{Action};
 ghost use Rattle.agc_plan.specs.declared.request.Request.{Request};
 ghost use Rattle.agc_plan.specs.Ranges.{IsRequest, IsAction};
 ghost use Rattle.agc_text.specs.Lines.{line_of, action_line_of};
-ghost use Rattle.agc_text.specs.Reading.{cut, established_of, listed_of, stored_of, phased_of, novac_of, findvac_of, listing_of, parted_request, bare_request, request_of, action_of};
+ghost use Rattle.agc_text.specs.Reading.{cut, established_of, listed_of, stored_of, phased_of};
+ghost use Rattle.agc_text.specs.Reading.{novac_of, findvac_of, listing_of, parted_request};
+ghost use Rattle.agc_text.specs.Reading.{bare_request, request_of, action_of};
 
 use crate::numbers::{address, delay, group, phase, place, priority, word};
 use agc_plan::{Action, Delay, Entry, Priority, Request, Task};
@@ -124,7 +126,8 @@ fn any_line(line: &str) -> Option<Request>
     }
 }
 
-/// The request that a line spells. The line comes without its end. None for every other text. Source: profile.
+/// The request that a line spells. The line comes without its end. None for every other text.
+/// Source: profile.
 pub fn parse_line(line: &str) -> Option<Request>
     // What is read is the spelling of the request that is answered.
     ensures found { IfSome result (λ r. IsRequest r × (line.now ≡ line_of r)) }
@@ -147,8 +150,8 @@ fn action_of(request: &Request) -> Option<Action>
     }
 }
 
-/// The action that a text spells: `nothing`, or the line of a `novac`, `findvac`, `rouse` or `list`. None for every
-/// other text. Source: profile.
+/// The action that a text spells: `nothing`, or the line of a `novac`, `findvac`, `rouse` or
+/// `list`. None for every other text. Source: profile.
 pub fn parse_action(text: &str) -> Option<Action>
     // What is read is the spelling of the action that is answered.
     ensures found { IfSome result (λ a. IsAction a × (text.now ≡ action_line_of a)) }

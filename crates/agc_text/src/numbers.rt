@@ -1,7 +1,9 @@
 ghost use Rattle.std.specs.Prelude.{◌≡◌, ◌<◌, ◌↔◌, ℕ, true, IfSome, slice_index};
 ghost use Rattle.agc_text.specs.Numbers.{octal, IsWord};
 ghost use Rattle.agc_plan.specs.Ranges.{IsAddress};
-ghost use Rattle.agc_text.specs.Reading.{digit_of, octal_one_of, octal_pair_of, octal_five_of, decimal_of, priority_of, address_of, delay_of, group_of, phase_of, place_of};
+ghost use Rattle.agc_text.specs.Reading.{digit_of, octal_one_of, octal_pair_of, octal_five_of};
+ghost use Rattle.agc_text.specs.Reading.{decimal_of, priority_of, address_of, delay_of, group_of};
+ghost use Rattle.agc_text.specs.Reading.{phase_of, place_of};
 
 use agc_plan::{Address, Delay, Group, Phase, Place, Priority};
 use agc_word::Word;

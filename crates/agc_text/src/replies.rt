@@ -4,7 +4,8 @@ ghost use Rattle.std.specs.List.{flat_map};
 ghost use Rattle.agc_plan.specs.declared.reply.Reply.TheVariants.{Ticked};
 ghost use Rattle.agc_machine.specs.Briefs.{reply_of};
 ghost use Rattle.agc_text.specs.Writing.{Writes};
-ghost use Rattle.agc_text.specs.Replies.{alarm_text, fired_text, end_text, reply_text, refusal_text};
+ghost use Rattle.agc_text.specs.Replies.{alarm_text, fired_text, end_text, reply_text};
+ghost use Rattle.agc_text.specs.Replies.{refusal_text};
 
 use crate::fault::Output;
 use crate::numerals::octal_digit;
@@ -169,7 +170,8 @@ pub(crate) fn put_tick<W: Write>(
     fired: &Fired,
     alarm: Option<Alarm>,
 ) -> Result<(), Output>
-    ensures { Writes (W.contents writer.old) (W.contents writer.new) (reply_text (Ticked fired.now alarm) ++ 10 ∷ []) result }
+    ensures { Writes (W.contents writer.old) (W.contents writer.new)
+        (reply_text (Ticked fired.now alarm) ++ 10 ∷ []) result }
 {
     let mut line = ArrayVec::new();
     add(&mut line, "tick".as_bytes());
@@ -204,7 +206,8 @@ fn brief_line(reply: Brief) -> &'static str
 ///
 /// Where a write fails.
 pub(crate) fn put_reply<W: Write>(writer: &mut W, reply: Brief) -> Result<(), Output>
-    ensures { Writes (W.contents writer.old) (W.contents writer.new) (reply_text (reply_of reply) ++ 10 ∷ []) result }
+    ensures { Writes (W.contents writer.old) (W.contents writer.new)
+        (reply_text (reply_of reply) ++ 10 ∷ []) result }
 {
     put(writer, brief_line(reply).as_bytes())
 }
@@ -215,7 +218,8 @@ pub(crate) fn put_reply<W: Write>(writer: &mut W, reply: Brief) -> Result<(), Ou
 ///
 /// Where a write fails.
 pub(crate) fn put_refusal<W: Write>(writer: &mut W, refusal: Refusal) -> Result<(), Output>
-    ensures { Writes (W.contents writer.old) (W.contents writer.new) (refusal_text refusal ++ 10 ∷ []) result }
+    ensures { Writes (W.contents writer.old) (W.contents writer.new)
+        (refusal_text refusal ++ 10 ∷ []) result }
 {
     put(writer, refusal_line(refusal).as_bytes())
 }

@@ -2,7 +2,9 @@ ghost use Rattle.std.specs.Prelude.{◌≡◌, ◌+◌, ◌*◌, ◌<◌, ◌≤
 ghost use Rattle.agc_word.specs.Profiles.{count_of};
 ghost use Rattle.agc_text.specs.Writing.{Writes};
 ghost use Rattle.agc_text.specs.Replies.{words_text};
-ghost use Rattle.agc_text.specs.Report.{words_at, set_text, set_line, count_text, line_text, full_line, profile_text, sets_text, lines_text, report_text};
+ghost use Rattle.agc_text.specs.Report.{words_at, set_text, set_line, count_text, line_text};
+ghost use Rattle.agc_text.specs.Report.{full_line, profile_text, sets_text, lines_text};
+ghost use Rattle.agc_text.specs.Report.{report_text};
 
 use crate::fault::Output;
 use crate::numerals::{add_number, add_words};
@@ -81,7 +83,8 @@ fn set_line(words: &[Word], set: usize) -> ArrayString<128>
 fn put_set<W: Write>(words: &[Word], set: usize, writer: &mut W) -> Result<(), Output>
     requires all { length words.now ≡ 144 }
     requires set { set < 8 }
-    ensures { Writes (W.contents writer.old) (W.contents writer.new) (set_line words.now set) result }
+    ensures { Writes (W.contents writer.old) (W.contents writer.new) (set_line words.now set)
+        result }
 {
     put(writer, set_line(words, set).as_bytes())
 }
@@ -113,7 +116,8 @@ pub(crate) fn add_count(line: &mut ArrayString<128>, count: u64)
 fn add_table(line: &mut ArrayString<128>, name: &str, words: &[Word])
     requires { length line.old.bytes + length name.now + 6 * length words.now ≤ 128 }
     ensures text { line.new.bytes ≡ line.old.bytes ++ name.now ++ words_text words.now }
-    ensures len { length line.new.bytes ≡ length line.old.bytes + length name.now + 6 * length words.now }
+    ensures len { length line.new.bytes
+        ≡ length line.old.bytes + length name.now + 6 * length words.now }
 {
     line.push_str(name);
     add_words(line, words);
@@ -121,7 +125,8 @@ fn add_table(line: &mut ArrayString<128>, name: &str, words: &[Word])
 
 fn add_alarms(line: &mut ArrayString<128>, totals: &Totals)
     requires { length line.old.bytes + 63 ≤ 128 }
-    ensures text { line.new.bytes ≡ line.old.bytes ++ count_text totals.now.a1201 ++ count_text totals.now.a1202 ++ count_text totals.now.a1203 }
+    ensures text { line.new.bytes ≡ line.old.bytes ++ count_text totals.now.a1201
+        ++ count_text totals.now.a1202 ++ count_text totals.now.a1203 }
     ensures len { length line.new.bytes ≤ length line.old.bytes + 63 }
 {
     add_count(line, totals.a1201);
@@ -178,14 +183,16 @@ fn put_line<W: Write>(
     writer: &mut W,
 ) -> Result<(), Output>
     requires { length words.now ≡ 144 }
-    ensures { Writes (W.contents writer.old) (W.contents writer.new) (full_line words.now totals.now line) result }
+    ensures { Writes (W.contents writer.old) (W.contents writer.new)
+        (full_line words.now totals.now line) result }
 {
     put(writer, full_line(line, words, totals).as_bytes())
 }
 
 fn put_lines<W: Write>(words: &[Word], totals: &Totals, writer: &mut W) -> Result<(), Output>
     requires { length words.now ≡ 144 }
-    ensures { Writes (W.contents writer.old) (W.contents writer.new) (lines_text words.now totals.now) result }
+    ensures { Writes (W.contents writer.old) (W.contents writer.new)
+        (lines_text words.now totals.now) result }
 {
     for line in REPORT_LINES {
         put_line(line, words, totals, writer)?;

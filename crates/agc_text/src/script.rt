@@ -22,13 +22,16 @@ fn first_line(text: &str) -> (&str, &str)
     }
 }
 
-/// The requests of a script, in order: a text of lines, each ended by LF, which the last may lack. Source: profile.
+/// The requests of a script, in order: a text of lines, each ended by LF, which the last may lack.
+/// Source: profile.
 ///
 /// # Errors
 ///
-/// `Line`: the first line that is no request. An empty line is none, nor is one with a carriage return. `NoMemory`.
+/// `Line`: the first line that is no request. An empty line is none, nor is one with a carriage
+/// return. `NoMemory`.
 pub fn read_script(alloc: Global, text: &str) -> Result<Vec<Request>, ScriptFault>
-    ensures found { IfOk result (λ v. AllByRecursion IsRequest v.items × (lines_of text.now ≡ map line_of v.items)) }
+    ensures found { IfOk result (λ v. AllByRecursion IsRequest v.items
+        × (lines_of text.now ≡ map line_of v.items)) }
     ensures refused { IfErr result (RefusesScript (lines_of text.now)) }
 {
     let mut requests = Vec::new(alloc);

@@ -10,20 +10,22 @@ use agc_machine::{Machine, is_tick};
 use agc_plan::{Fired, Request};
 use std::io::Write;
 
-/// Serves a tick, and writes its line. It stands apart so that other requests don't pay for the list
-/// of tasks and the line's buffer.
+/// Serves a tick, and writes its line. It stands apart so that other requests don't pay for the
+/// list of tasks and the line's buffer.
 #[inline(never)]
 fn write_tick<W: Write>(machine: &mut Machine, writer: &mut W) -> Result<(), Output>
     requires { refusal_of machine.old Tick ≡ None }
     ensures after { machine.new ≡ after machine.old Tick }
-    ensures writes { Writes (W.contents writer.old) (W.contents writer.new) (line_for machine.old Tick) result }
+    ensures writes { Writes (W.contents writer.old) (W.contents writer.new)
+        (line_for machine.old Tick) result }
 {
     let mut fired = Fired::new();
     let alarm = machine.serve_tick(&mut fired);
     put_tick(writer, &fired, alarm)
 }
 
-/// Asks for one request, and writes the answer's line. The request is lent, which spares copies of it.
+/// Asks for one request, and writes the answer's line. The request is lent, which spares copies of
+/// it.
 ///
 /// # Errors
 ///
@@ -34,7 +36,8 @@ pub fn write_answer_to<W: Write>(
     writer: &mut W,
 ) -> Result<(), Output>
     ensures after { machine.new ≡ after machine.old request.now }
-    ensures writes { Writes (W.contents writer.old) (W.contents writer.new) (line_for machine.old request.now) result }
+    ensures writes { Writes (W.contents writer.old) (W.contents writer.new)
+        (line_for machine.old request.now) result }
 {
     match machine.refusal(request) {
         Some(refusal) => put_refusal(writer, refusal),
@@ -55,7 +58,8 @@ pub fn write_answer<W: Write>(
     writer: &mut W,
 ) -> Result<(), Output>
     ensures after { machine.new ≡ after machine.old request }
-    ensures writes { Writes (W.contents writer.old) (W.contents writer.new) (line_for machine.old request) result }
+    ensures writes { Writes (W.contents writer.old) (W.contents writer.new)
+        (line_for machine.old request) result }
 {
     write_answer_to(machine, &request, writer)
 }
@@ -71,7 +75,8 @@ pub fn write_answers<W: Write>(
     writer: &mut W,
 ) -> Result<(), Output>
     ensures after { OnOk result (machine.new ≡ after_all machine.old requests.now) }
-    ensures writes { Writes (W.contents writer.old) (W.contents writer.new) (answer_lines machine.old requests.now) result }
+    ensures writes { Writes (W.contents writer.old) (W.contents writer.new)
+        (answer_lines machine.old requests.now) result }
 {
     for request in requests {
         write_answer_to(machine, request, writer)?;

@@ -12,7 +12,7 @@ use Rattle.agc_text.specs.Writing.{AppendsUpTo, AppendsFront, Writes}
 use Rattle.agc_text.proofs.Steps.{appends_none, up_to_end, writes_first, writes_second}
 use Rattle.agc_document.specs.Benches.{Benched}
 use Rattle.agc_desk.specs.Pulses.{repeated}
-use Rattle.agc_bench.specs.Runs.{device_requests, bench_requests}
+use Rattle.agc_session.specs.Runs.{device_requests, bench_requests}
 use Rattle.agc_trace.specs.Traces.{Traced, traced, traced_all, traced_text, traced_lines}
 
 -- one list of requests after another

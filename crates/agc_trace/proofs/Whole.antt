@@ -5,7 +5,7 @@ use Rattle.agc_machine.specs.Machines.{Machined}
 use Rattle.agc_text.specs.Writing.{AppendsFront}
 use Rattle.agc_text.proofs.Steps.{appends_both, front_of_first, up_to_more_front}
 use Rattle.agc_document.specs.Benches.{Benched}
-use Rattle.agc_bench.specs.Runs.{bench_machine, bench_requests}
+use Rattle.agc_session.specs.Runs.{bench_machine, bench_requests}
 use Rattle.agc_trace.specs.Runs.{heading, traced_from, trace_text}
 use Rattle.agc_trace.specs.Traces.{traced_lines}
 

@@ -1,5 +1,6 @@
 -- What is told of an alarm, below the line of its request.
-use Rattle.std.specs.Prelude.{ℕ, ◌+◌, ◌-◌, ◌==◌, Bool, if◌then◌else◌, List, [], ◌∷◌, ◌++◌, codes, length, slice_get, Option, Some, None}
+use Rattle.std.specs.Prelude.{ℕ, ◌+◌, ◌-◌, ◌==◌, Bool, if◌then◌else◌, List, [], ◌∷◌, ◌++◌, codes}
+use Rattle.std.specs.Prelude.{length, slice_get, Option, Some, None}
 use Rattle.std.specs.Fmt.{decimal}
 use Rattle.std.specs.List.{flat_map}
 use Rattle.agc_plan.specs.declared.reply.Alarm.{Alarm}
@@ -26,7 +27,9 @@ full_text A1203 = codes "        alarm 1203: nine tasks wait\n"
 -- the task whose action raised it, and this action
 abbrev pub cause_by : List (Task × Action) → Option Task → List ℕ
 cause_by rows None = []
-cause_by rows (Some task) = codes "        raised by task" ++ (fired_text task ++ (codes ": " ++ (action_line_of (action_in rows task) ++ codes "\n")))
+cause_by rows (Some task) =
+    codes "        raised by task"
+    ++ (fired_text task ++ (codes ": " ++ (action_line_of (action_in rows task) ++ codes "\n")))
 
 -- inside a tick that is the task that fired last
 abbrev pub cause_text : List (Task × Action) → Reply → List ℕ
@@ -41,7 +44,10 @@ area_text area = if area == 0 then [] else codes ", area " ++ decimal area
 
 -- core set k, and who is there
 abbrev pub who_text : ℕ → Seated → List ℕ
-who_text k seat = codes "          set " ++ (decimal k ++ (codes ": job " ++ (decimal seat.number ++ (codes ", priority " ++ octal 2 seat.priority))))
+who_text k seat =
+    codes "          set "
+    ++ (decimal k
+    ++ (codes ": job " ++ (decimal seat.number ++ (codes ", priority " ++ octal 2 seat.priority))))
 
 -- where that job is, and its area
 abbrev pub where_text : Seated → List ℕ
@@ -64,8 +70,13 @@ holders_text alarm seats = jobs_text 0 seats
 
 -- the phases with which the era begins, and below the columns the state with which it does
 unfoldable pub again_text : List ℕ → Scene → List ℕ
-again_text phases scene = column 56 (codes "        restart by phases" ++ flat_map count_text phases) ++ (scene_text scene ++ codes "\n")
+again_text phases scene =
+    column 56 (codes "        restart by phases" ++ flat_map count_text phases)
+    ++ (scene_text scene ++ codes "\n")
 
 -- all of it
-unfoldable pub account_text : List (Task × Action) → Reply → Alarm → List (Option Seated) → List ℕ → Scene → List ℕ
-account_text rows reply alarm seats phases after = full_text alarm ++ (cause_text rows reply ++ (holders_text alarm seats ++ again_text phases after))
+unfoldable pub account_text : List (Task × Action) → Reply → Alarm → List (Option Seated) → List ℕ
+    → Scene → List ℕ
+account_text rows reply alarm seats phases after =
+    full_text alarm
+    ++ (cause_text rows reply ++ (holders_text alarm seats ++ again_text phases after))

@@ -1,5 +1,6 @@
 -- The line of one request.
-use Rattle.std.specs.Prelude.{ℕ, ◌-◌, ◌==◌, if◌then◌else◌, List, [], ◌∷◌, ◌++◌, codes, length, replicate, Option, Some, None, Result}
+use Rattle.std.specs.Prelude.{ℕ, ◌-◌, ◌==◌, if◌then◌else◌, List, [], ◌∷◌, ◌++◌, codes, length}
+use Rattle.std.specs.Prelude.{replicate, Option, Some, None, Result}
 use Rattle.std.specs.Fmt.{decimal}
 use Rattle.std.specs.List.{flat_map, range_with_len}
 use Rattle.agc_plan.specs.declared.reply.Reply.{Reply}
@@ -24,13 +25,15 @@ running_text (Some number) = decimal number
 -- what a core set holds: a job's number, in brackets where it sleeps
 abbrev pub seat_text : Option Seated → List ℕ
 seat_text None = codes " ."
-seat_text (Some seat) = if seat.asleep then codes " (" ++ decimal seat.number ++ codes ")" else codes " " ++ decimal seat.number
+seat_text (Some seat) = if seat.asleep then codes " (" ++ decimal seat.number ++ codes ")"
+    else codes " " ++ decimal seat.number
 
 -- the number of the job that owns an area, if one does
 abbrev pub owner_of : ℕ → List (Option Seated) → Option ℕ
 owner_of area [] = None
 owner_of area (None ∷ seats) = owner_of area seats
-owner_of area (Some seat ∷ seats) = if seat.area == area then Some seat.number else owner_of area seats
+owner_of area (Some seat ∷ seats) = if seat.area == area then Some seat.number
+    else owner_of area seats
 
 abbrev pub owner_text : Option ℕ → List ℕ
 owner_text None = codes " ."
@@ -51,14 +54,19 @@ waits_text (wait ∷ waits) = flat_map wait_text (wait ∷ waits)
 -- a state
 unfoldable pub scene_text : Scene → List ℕ
 scene_text scene =
-    column 7 (running_text scene.running) ++ (column 16 (flat_map seat_text scene.seats) ++ (column 10 (owners_text scene.seats) ++ waits_text scene.waits))
+    column 7 (running_text scene.running)
+    ++ (column 16 (flat_map seat_text scene.seats)
+    ++ (column 10 (owners_text scene.seats) ++ waits_text scene.waits))
 
 -- the columns before the state: the request's number, the centisecond of the era, the request, and
 -- the answer
 unfoldable pub front_text : ℕ → ℕ → Request → Result Reply Refusal → List ℕ
 front_text number time asked answer =
-    column 6 (decimal number) ++ (column 6 (decimal time) ++ (column 22 (line_of asked) ++ column 16 (answer_text answer)))
+    column 6 (decimal number)
+    ++ (column 6 (decimal time)
+    ++ (column 22 (line_of asked) ++ column 16 (answer_text answer)))
 
 -- the line of a request
 unfoldable pub line_text : ℕ → ℕ → Request → Result Reply Refusal → Scene → List ℕ
-line_text number time asked answer scene = front_text number time asked answer ++ (scene_text scene ++ 10 ∷ [])
+line_text number time asked answer scene =
+    front_text number time asked answer ++ (scene_text scene ++ 10 ∷ [])

@@ -18,17 +18,25 @@ use Rattle.agc_trace.specs.Traces.{scene_unless}
 
 -- a core set's job, as a trace shows it
 abbrev pub seen : Held → Seated
-seen r = record { number = r.number; at = r.at; priority = r.priority; asleep = r.asleep; area = r.area }
+seen r = record {
+  number = r.number;
+  at = r.at;
+  priority = r.priority;
+  asleep = r.asleep;
+  area = r.area;
+}
 
 -- what each core set holds
 unfoldable pub seats_in : List ℕ → List (Option Seated)
 seats_in words = map (option_map seen) (sets_of words)
 
 abbrev pub scene_in : List ℕ → Scene
-scene_in words = record { running = runner_in words; seats = seats_in words; waits = waits_of words }
+scene_in words =
+    record { running = runner_in words; seats = seats_in words; waits = waits_of words }
 
 -- these words and this reply are what is shown of a request
-pub record IsShown (m : Machined) (asked : Request) (refusal : Option Refusal) (moment : Acting) : Type 0 where
+pub record IsShown (m : Machined) (asked : Request) (refusal : Option Refusal) (moment : Acting) :
+    Type 0 where
   pub size : IsSized moment.words
   pub cores : IsLawfulWords moment.words
   pub scene : scene_in moment.words ≡ scene_unless refusal m asked

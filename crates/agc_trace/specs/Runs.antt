@@ -3,9 +3,10 @@ use Rattle.std.specs.Prelude.{◌≡◌, ℕ, List, [], ◌∷◌, ◌++◌, cod
 use Rattle.std.specs.Io.KnownBytes.{Appends}
 use Rattle.agc_text.specs.Writing.{AppendsFront}
 use Rattle.agc_document.specs.Benches.{Benched}
-use Rattle.agc_bench.specs.Runs.{bench_machine, bench_requests}
-use Rattle.agc_bench.specs.declared.run_fault.RunFault.{RunFault}
-use Rattle.agc_bench.specs.declared.run_fault.RunFault.TheVariants.{NoMemory, Output, NoThread, Lost}
+use Rattle.agc_session.specs.Runs.{bench_machine, bench_requests}
+use Rattle.agc_session.specs.declared.run_fault.RunFault.{RunFault}
+use Rattle.agc_session.specs.declared.run_fault.RunFault.TheVariants.{NoMemory, Output, NoThread}
+use Rattle.agc_session.specs.declared.run_fault.RunFault.TheVariants.{Lost}
 use Rattle.agc_trace.specs.Traces.{Traced, traced_lines}
 
 -- what stands above the columns
@@ -22,7 +23,8 @@ trace_text bench = heading ++ traced_lines (traced_from bench) (bench_requests b
 
 -- the trace was written and nothing else; a front of it where a write failed; nothing where there
 -- was no memory; no other fault comes
-abbrev pub WritesTrace : {T : Type 0} → Option (List ℕ) → Option (List ℕ) → Benched → Result T RunFault → Type 0
+abbrev pub WritesTrace : {T : Type 0} → Option (List ℕ) → Option (List ℕ) → Benched
+    → Result T RunFault → Type 0
 WritesTrace old new bench (Ok _) = Appends old new (trace_text bench)
 WritesTrace old new bench (Err Output) = AppendsFront old new (trace_text bench)
 WritesTrace old new bench (Err NoMemory) = new ≡ old

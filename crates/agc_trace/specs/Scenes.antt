@@ -1,5 +1,6 @@
 -- What a trace shows of a state: who runs, what each core set holds, and the tasks in order.
-use Rattle.std.specs.Prelude.{ℕ, ◌-◌, ◌==◌, nat_lt, if◌then◌else◌, List, [], ◌∷◌, map, Option, None, option_map}
+use Rattle.std.specs.Prelude.{ℕ, ◌-◌, ◌==◌, nat_lt, if◌then◌else◌, List, [], ◌∷◌, map, Option, None}
+use Rattle.std.specs.Prelude.{option_map}
 use Rattle.std.specs.List.{fold}
 use Rattle.agc_plan.specs.Jobs.{Job, Jobs, job_in}
 use Rattle.agc_plan.specs.Tasks.{Pending, Agenda, Waiting}
@@ -8,11 +9,19 @@ use Rattle.agc_trace.specs.declared.seats.Seated.{Seated}
 
 -- this job, in a core set
 abbrev pub seated : ℕ → Job → Seated
-seated number job = record { number = number; at = job.at; priority = job.priority; asleep = job.asleep; area = job.area }
+seated number job =
+    record {
+      number = number;
+      at = job.at;
+      priority = job.priority;
+      asleep = job.asleep;
+      area = job.area;
+    }
 
 -- what a core set holds whose entry in the placement is this number, 0 for nobody
 abbrev pub seat_of : Jobs → ℕ → Option Seated
-seat_of jobs number = if number == 0 then None else option_map (seated number) (job_in jobs.slots number)
+seat_of jobs number = if number == 0 then None
+    else option_map (seated number) (job_in jobs.slots number)
 
 -- a task, behind all that are due no later
 abbrev pub put_in : Pending → List Pending → List Pending
@@ -40,4 +49,8 @@ pub record Scene : Type 0 where
 -- of a plain state and a placement
 abbrev pub scene_of : Plain → List ℕ → Scene
 scene_of plain places =
-    record { running = plain.work.jobs.running; seats = map (seat_of plain.work.jobs) places; waits = waits_in plain.work.agenda }
+    record {
+      running = plain.work.jobs.running;
+      seats = map (seat_of plain.work.jobs) places;
+      waits = waits_in plain.work.agenda;
+    }

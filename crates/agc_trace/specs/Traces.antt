@@ -28,7 +28,9 @@ pub record Traced : Type 0 where
 -- one did nothing
 abbrev pub scene_unless : Option Refusal → Machined → Request → Scene
 scene_unless (Some refusal) m asked = scene_of (plain_of m) (places_of m)
-scene_unless None m asked = scene_of (acted m.plan asked (plain_of m)).plain (places_acted m.plan asked (plain_of m) (places_of m))
+scene_unless None m asked =
+    scene_of (acted m.plan asked (plain_of m)).plain
+    (places_acted m.plan asked (plain_of m) (places_of m))
 
 -- the time at which a request is answered
 abbrev pub time_unless : Option Refusal → Request → ℕ → ℕ
@@ -38,13 +40,15 @@ time_unless None asked time = if is_tick asked then one_more time else time
 -- the time after it: an era begins at 0
 abbrev pub time_after : Option Refusal → Traced → Request → ℕ
 time_after (Some refusal) t asked = t.time
-time_after None t asked = if begins (acted t.machine.plan asked (plain_of t.machine)).reply then 0 else time_unless None asked t.time
+time_after None t asked = if begins (acted t.machine.plan asked (plain_of t.machine)).reply then 0
+    else time_unless None asked t.time
 
 -- the line of the next request
 unfoldable pub traced_line : Traced → Request → List ℕ
 traced_line t asked =
     let refusal = refusal_of t.machine asked in
-    line_text (one_more t.asked) (time_unless refusal asked t.time) asked (answer_of t.machine asked) (scene_unless refusal t.machine asked)
+    line_text (one_more t.asked) (time_unless refusal asked t.time) asked
+    (answer_of t.machine asked) (scene_unless refusal t.machine asked)
 
 -- the alarm that an answer tells
 abbrev pub told_alarm : Option Refusal → Reply → Option Alarm
@@ -54,14 +58,17 @@ told_alarm None reply = alarm_of reply
 -- what is told of it, by the state and the phases in which it came, and the machine as it is now
 abbrev pub account_by : Option Alarm → Machined → Reply → Scene → List ℕ → List ℕ
 account_by None now reply scene phases = []
-account_by (Some alarm) now reply scene phases = account_text now.plan.rows reply alarm scene.seats phases (scene_of (plain_of now) (places_of now))
+account_by (Some alarm) now reply scene phases =
+    account_text now.plan.rows reply alarm scene.seats phases
+    (scene_of (plain_of now) (places_of now))
 
 -- the account of the next request
 unfoldable pub traced_account : Traced → Request → List ℕ
 traced_account t asked =
     let did = acted t.machine.plan asked (plain_of t.machine) in
     let refusal = refusal_of t.machine asked in
-    account_by (told_alarm refusal did.reply) (after t.machine asked) did.reply (scene_unless refusal t.machine asked) did.plain.base.phases
+    account_by (told_alarm refusal did.reply) (after t.machine asked) did.reply
+    (scene_unless refusal t.machine asked) did.plain.base.phases
 
 -- the line of the next request, and its account
 abbrev pub traced_text : Traced → Request → List ℕ
@@ -69,7 +76,12 @@ traced_text t asked = traced_line t asked ++ traced_account t asked
 
 -- the run after it
 abbrev pub traced : Traced → Request → Traced
-traced t asked = record { machine = after t.machine asked; asked = one_more t.asked; time = time_after (refusal_of t.machine asked) t asked }
+traced t asked =
+    record {
+      machine = after t.machine asked;
+      asked = one_more t.asked;
+      time = time_after (refusal_of t.machine asked) t asked;
+    }
 
 -- the run after all of these requests, in order
 unfoldable pub traced_all : Traced → List Request → Traced

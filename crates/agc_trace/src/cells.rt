@@ -3,7 +3,8 @@ ghost use Rattle.std.specs.Prelude.{◌≡◌, ◌+◌, ◌*◌, ◌≤◌, ◌�
 ghost use Rattle.std.specs.Fmt.{decimal};
 ghost use Rattle.std.specs.List.{flat_map};
 ghost use Rattle.agc_text.specs.Lines.{entry_text, task_text, line_of};
-ghost use Rattle.agc_text.specs.Replies.{alarm_text, runner_text, fired_text, end_text, reply_text, refusal_text};
+ghost use Rattle.agc_text.specs.Replies.{alarm_text, runner_text, fired_text, end_text, reply_text};
+ghost use Rattle.agc_text.specs.Replies.{refusal_text};
 
 use crate::numerals::{add_number, add_octal_digit, add_priority, add_word};
 use agc_machine::Refusal;

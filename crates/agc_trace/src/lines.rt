@@ -8,7 +8,8 @@ ghost use Rattle.agc_wait.specs.Table.{waits_of};
 ghost use Rattle.agc_machine.specs.Machines.{result_of};
 ghost use Rattle.agc_text.specs.Lines.{line_of};
 ghost use Rattle.agc_text.specs.Replies.{answer_text};
-ghost use Rattle.agc_trace.specs.Lines.{running_text, seat_text, owners_text, waits_text, scene_text, front_text, line_text};
+ghost use Rattle.agc_trace.specs.Lines.{running_text, seat_text, owners_text, waits_text};
+ghost use Rattle.agc_trace.specs.Lines.{scene_text, front_text, line_text};
 ghost use Rattle.agc_trace.specs.Reading.{seats_in, scene_in};
 
 use crate::cells::{add_reply, add_request, refusal_text};
@@ -122,7 +123,8 @@ fn add_front(
     moment: &Moment,
 )
     requires { length line.old.bytes + 261 ≤ 2048 }
-    ensures text { line.new.bytes ≡ line.old.bytes ++ front_text number time request.now (result_of refusal moment.now.reply) }
+    ensures text { line.new.bytes ≡ line.old.bytes
+        ++ front_text number time request.now (result_of refusal moment.now.reply) }
     ensures len { length line.new.bytes ≤ length line.old.bytes + 261 }
 {
     add_column(line, 6, number_cell(number).as_str());
@@ -142,7 +144,9 @@ pub(crate) fn line_of(
 ) -> ArrayString<2048>
     requires sized { IsSized moment.now.words }
     requires lawful { IsLawfulWords moment.now.words }
-    ensures { result.bytes ≡ line_text number time request.now (result_of refusal moment.now.reply) (scene_in moment.now.words) }
+    ensures { result.bytes
+        ≡ line_text number time request.now (result_of refusal moment.now.reply)
+        (scene_in moment.now.words) }
 {
     let mut line = ArrayString::new();
     add_front(&mut line, number, time, request, refusal, moment);

@@ -1,5 +1,6 @@
 // What the core sets hold, and who owns which VAC area.
-ghost use Rattle.std.specs.Prelude.{◌≡◌, ◌+◌, ◌/◌, ◌%◌, ◌<◌, ◌≤◌, ◌++◌, length, slice_index, slice_get, Some};
+ghost use Rattle.std.specs.Prelude.{◌≡◌, ◌+◌, ◌/◌, ◌%◌, ◌<◌, ◌≤◌, ◌++◌, length, slice_index};
+ghost use Rattle.std.specs.Prelude.{slice_get, Some};
 ghost use Rattle.std.specs.List.{flat_map};
 ghost use Rattle.agc_word.specs.Layout as layout;
 ghost use Rattle.agc_word.specs.Layout.{IsSized, sets_in, set_place};

@@ -48,7 +48,8 @@ fn gap(e: &Erasable, place: usize) -> u16
 /// Appends a task.
 fn add_wait(cell: &mut ArrayString<256>, at: u16, distance: u32)
     requires { length cell.old.bytes + 27 ≤ 256 }
-    ensures text { cell.new.bytes ≡ cell.old.bytes ++ (codes " " ++ (octal 5 at ++ (codes "+" ++ decimal distance))) }
+    ensures text { cell.new.bytes ≡ cell.old.bytes
+        ++ (codes " " ++ (octal 5 at ++ (codes "+" ++ decimal distance))) }
     ensures len { length cell.new.bytes ≤ length cell.old.bytes + 27 }
 {
     cell.push_str(" ");
@@ -69,7 +70,8 @@ fn add_waits_from(
     requires nine { place + left ≡ 9 }
     requires far { distance ≤ 16384 * (place + 1) }
     requires room { length cell.old.bytes + 27 * left ≤ 256 }
-    ensures text { cell.new.bytes ≡ cell.old.bytes ++ flat_map wait_text (waits_from left place distance e.now) }
+    ensures text { cell.new.bytes ≡ cell.old.bytes
+        ++ flat_map wait_text (waits_from left place distance e.now) }
     ensures len { length cell.new.bytes ≤ length cell.old.bytes + 27 * left }
 {
     if left == 0 {

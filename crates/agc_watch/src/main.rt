@@ -1,31 +1,25 @@
 //! `agc_watch trace`: tells of a bench, from standard input, what its requests do to the tables.
 #![tactic(auto)]
 
-mod fault;
 mod mode;
 mod program;
 
-ghost use Rattle.std.specs.Prelude.{◌≡◌};
-ghost use Rattle.std.specs.Process.{exit_status};
-ghost use Rattle.agc_watch.specs.Statuses.{status_after};
+ghost use Rattle.std.specs.Prelude.{◌≡◌, codes};
 
-use fault::Fault;
-use std::io::Eprint;
+use agc_program::{Program, ended};
 use std::process::ExitCode;
 
-/// How the program ends: with status 0, or with a line on standard error and the fault's status.
-fn ended(rt: &impl Eprint, outcome: Result<(), Fault>) -> ExitCode
-    ensures { exit_status result ≡ status_after outcome }
+/// What the program is called, and which word it takes.
+fn this_program() -> Program
+    ensures name { result.name.now ≡ codes "agc_watch" }
+    ensures usage { result.usage.now ≡ codes "use trace" }
 {
-    match outcome {
-        Ok(()) => ExitCode::SUCCESS,
-        Err(fault) => {
-            let _ = eprintln!(rt; "agc_watch: {fault}");
-            ExitCode::from(fault.status())
-        }
+    Program {
+        name: "agc_watch",
+        usage: "use trace",
     }
 }
 
 fn main(rt: HostRuntime) -> ExitCode {
-    ended(&rt, program::run(&rt))
+    ended(&rt, this_program(), program::run(&rt))
 }

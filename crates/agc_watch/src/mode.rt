@@ -1,5 +1,5 @@
 //! The words of the command line.
-use crate::fault::Fault;
+use agc_program::{Fault, only_word};
 use clap::error::ErrorKind;
 use clap::{Command, Error};
 use std::alloc::Global;
@@ -25,8 +25,7 @@ fn asked_of(error: Error) -> Result<Asked, Fault> {
     match error.kind() {
         ErrorKind::DisplayHelp => Ok(Asked::Text(error)),
         ErrorKind::DisplayVersion => Ok(Asked::Text(error)),
-        ErrorKind::OutOfMemory => Err(Fault::NoMemory),
-        _ => Err(Fault::Words),
+        _ => Err(Fault::from(error)),
     }
 }
 
@@ -44,15 +43,7 @@ pub fn asked_for(alloc: Global, words: &[String]) -> Result<Asked, Fault> {
             "Writes a line for each request, with the tables",
         ))?;
     match command.try_get_matches_from(words) {
-        Ok(matches) => {
-            if words.len() != 2 {
-                return Err(Fault::Words);
-            }
-            matches
-                .subcommand_name()
-                .and_then(|name| asked_by(name))
-                .ok_or(Fault::Words)
-        }
+        Ok(matches) => asked_by(only_word(&matches, words)?).ok_or(Fault::Words),
         Err(error) => asked_of(error),
     }
 }

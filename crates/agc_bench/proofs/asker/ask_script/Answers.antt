@@ -1,6 +1,6 @@
 use Rattle.std.proofs.Common.{◌∙◌}
 use Rattle.agc_text.proofs.Sessions.{after_next, after_last}
-use Rattle.agc_bench.proofs.Histories.{answers_next, answers_last, calls_next, calls_last}
+use Rattle.agc_bench.proofs.Histories.{calls_next, calls_last}
 use Rattle.agc_bench.proofs.asker.ask_script.Goals as goal
 
 pub loop-request-preserved : goal.loop-request-preserved
@@ -13,8 +13,9 @@ loop-request-preserved g c =
     rw (c.serve.ensures.desk, c.serve.ensures.heard) (record {
       rest = after_next _ m script at r c.loop-request-test.true c.request-item.is i.rest;
       history = calls_next _ _ m script at r _ c.serve.result c.loop-request-test.true c.request-item.is (i.number ∙ c.requires) c.serve.ensures.request c.serve.ensures.outcome i.history;
-      heard = answers_next _ _ m script at r c.serve.result c.loop-request-test.true c.request-item.is c.serve.ensures.request c.serve.ensures.outcome i.heard;
+      heard = calls_next _ _ m script at r _ c.serve.result c.loop-request-test.true c.request-item.is (i.number ∙ c.requires) c.serve.ensures.request c.serve.ensures.outcome i.heard;
       number = i.number;
+      drains = i.drains;
       given = i.given;
       lines = i.lines;
     })
@@ -29,5 +30,5 @@ returns-clause-history g c =
 
 pub returns-clause-heard : goal.returns-clause-heard
 returns-clause-heard g c =
-    let all = answers_last _ _ c.loop-request.desk.machine c.args.script.now c.loop-request.request-index c.loop-request-test.false c.loop-request.invariant.heard in
-    λ i. record { number = c.loop-request.invariant.number i; heard = all i }
+    let all = calls_last _ _ c.loop-request.desk.machine c.args.script.now c.loop-request.request-index c.loop-request-test.false c.loop-request.invariant.heard in
+    λ i. record { number = c.loop-request.invariant.number i; heard = all i; drains = c.loop-request.invariant.drains i }

@@ -3,7 +3,7 @@ use Rattle.agc_latch.specs.Accounts.{IsOf}
 use Rattle.agc_latch.specs.Lines.{zeros}
 use Rattle.agc_desk.specs.Desks.{Desked}
 use Rattle.agc_desk.specs.Draining.{answers_to}
-use Rattle.agc_desk.specs.History.{Holder}
+use Rattle.agc_desk.specs.History.{Holder, new_holder, with_heard}
 use Rattle.agc_desk.specs.Keeping.{IsLent, lent_of}
 use Rattle.agc_bench.specs.Sharing.{first_calls}
 use Rattle.agc_bench.specs.Threads.{askers_of}
@@ -47,9 +47,9 @@ returns-clause-ready g c =
     record {
       caller_is =
           c.ask_script.ensures.heard
-          ∙ (ap (λ (h : Holder). record h { heard = h.heard ++ answers_to given.machine c.script.result.now }) c.desk_of-desk.ensures.first
-          ∙ (ap (λ m. record { number = 0; heard = answers_to m c.script.result.now }) machine
-          ∙ ap (λ rs. record { number = 0; heard = answers_to g.N.Names.first rs }) c.script.ensures));
+          ∙ (ap (λ (h : Holder). with_heard (first_calls (answers_to given.machine c.script.result.now)) h) c.desk_of-desk.ensures.first
+          ∙ (ap (λ m. with_heard (first_calls (answers_to m c.script.result.now)) (new_holder 0)) machine
+          ∙ ap (λ rs. with_heard (first_calls (answers_to g.N.Names.first rs)) (new_holder 0)) c.script.ensures));
       fresh = c.in_ok-shares.ensures.fresh;
       for_each = omega (arith, c.in_ok-shares.ensures.for_each);
       devices_are = c.in_ok-shares.ensures.devices;

@@ -1,6 +1,9 @@
-use Rattle.std.proofs.Common.{take}
+use Rattle.std.proofs.Common.{ℕ, ◌<◌, take, true}
 use Rattle.agc_desk.specs.Runs.{Reached}
 use Rattle.agc_desk.proofs.console.drive.Given as goal
 
 abbrev pub invariant-loop-call : goal.invariant-loop-call
-invariant-loop-call g l = Reached g.C.Console.leads l.initial.console (take l.call l.requests) l.console
+invariant-loop-call g l = record {
+  reached : Reached g.C.Console.leads l.initial.console (take l.call l.requests) l.console;
+  passed : (call : ℕ) → call < l.call → g.G.Gate.may_answer l.gate l.worker call true;
+}

@@ -6,7 +6,7 @@ use Rattle.agc_plan.specs.declared.request.Request.{Request}
 use Rattle.agc_trace.specs.Traces.{traced_all}
 use Rattle.agc_trace.specs.Traces.{traced_lines}
 use Rattle.agc_text.specs.Writing.{Writes}
-use Rattle.agc_bench.specs.Runs.{device_requests, bench_requests}
+use Rattle.agc_session.specs.Runs.{device_requests, bench_requests}
 use Rattle.agc_trace.proofs.Sessions.{after_both, writes_both, writes_front}
 use Rattle.agc_trace.proofs.Sessions.{bench_is}
 use Rattle.agc_trace.proofs.runs.trace_bench.Goals as goal

@@ -1,6 +1,6 @@
 use Rattle.std.proofs.Common.{sym, ◌∙◌}
 use Rattle.agc_desk.specs.Pulses.{pulse_request}
-use Rattle.agc_bench.specs.Runs.{bench_plan}
+use Rattle.agc_session.specs.Runs.{bench_plan}
 use Rattle.agc_trace.proofs.Sessions.{nothing_after, nothing_written}
 use Rattle.agc_trace.proofs.runs.trace_device.Goals as goal
 

@@ -7,7 +7,7 @@ use Rattle.agc_latch.specs.declared.line.Line.TheVariants.{Timer}
 use Rattle.agc_trace.specs.Traces.{traced_all}
 use Rattle.agc_trace.specs.Traces.{traced_lines}
 use Rattle.agc_text.specs.Writing.{Writes}
-use Rattle.agc_bench.specs.Runs.{device_requests}
+use Rattle.agc_session.specs.Runs.{device_requests}
 use Rattle.agc_text.proofs.Steps.{up_to_more, fails_next}
 use Rattle.agc_trace.proofs.Sessions.{after_item, after_items, line_item, line_items}
 use Rattle.agc_trace.proofs.runs.trace_devices.Goals as goal

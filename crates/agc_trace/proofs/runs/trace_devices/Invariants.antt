@@ -3,7 +3,7 @@ use Rattle.std.specs.List.{flat_map}
 use Rattle.agc_text.specs.Writing.{AppendsUpTo}
 use Rattle.agc_trace.specs.Traces.{traced_all}
 use Rattle.agc_trace.specs.Traces.{traced_lines}
-use Rattle.agc_bench.specs.Runs.{device_requests}
+use Rattle.agc_session.specs.Runs.{device_requests}
 use Rattle.agc_trace.proofs.runs.trace_devices.Given as goal
 
 abbrev pub invariant-loop-device : goal.invariant-loop-device

@@ -51,23 +51,22 @@ returns-clause-lines g c =
 pub invariant_of-share : goal.invariant_of-share
 invariant_of-share g c =
     let heard = c.share.inside.own.heard in
+    let call : Call = record { by = c.share.inside.own.number; answer = c.apply-answer.result; pulse = c.args.pulse } in
     let same : c.growth-told.result ≡ told c.apply-answer.result.outcome =
     same_growth c.totals-before.result c.growth-told.result (told c.apply-answer.result.outcome)
     (c.growth-told.ensures ∙ (c.totals.ensures.totals ∙ (ap (λ m. m.totals) c.apply-answer.ensures.after ∙ (told_after c.self.inside.machine c.args.request
     ∙ (ap (λ t. add t (told (answer_of c.self.inside.machine c.args.request))) (sym c.totals-before.ensures.totals) ∙ ap (λ o. add c.totals-before.result (told o)) (sym c.apply-answer.ensures.outcome)))))) in
     let grew : c.add.new.amounts ≡ add (told_in heard) (told c.apply-answer.result.outcome) =
     c.add.ensures.told ∙ (ap (λ t. add t c.growth-told.result) c.share.invariant ∙ ap (λ t. add (told_in heard) t) same) in
-    grew ∙ (sym (told_push heard c.apply-answer.result) ∙ sym (ap (λ o. told_in o.heard) c.note.ensures.own))
+    grew ∙ (sym (told_push heard call) ∙ sym (ap (λ o. told_in o.heard) c.note.ensures.own))
 
 pub returns-clause-given : goal.returns-clause-given
 returns-clause-given g c =
     let machine = c.self.inside.machine in
-    let same = same_setting g.N.Names.first c.self.inside.history.calls machine c.self.invariant.leads in
     record {
+      calls = c.self.inside.history.calls;
       machine = machine;
+      leads = c.self.invariant.leads;
       lawful = c.apply-answer.ensures.lawful;
-      plan = same.plan;
-      limit = same.limit;
-      allowance = same.allowance;
       answer = c.apply-answer.ensures.outcome ∙ ap (λ q. answer_of machine q) (sym c.apply-answer.ensures.request);
     }

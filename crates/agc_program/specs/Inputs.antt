@@ -1,0 +1,27 @@
+-- What comes of a program's input.
+use Rattle.std.specs.Prelude.{◌≡◌, ℕ, ◌⊎◌, List, Option, Result, Err}
+use Rattle.toml.specs.Parse.{parse_document}
+use Rattle.agc_text.specs.declared.fault.ReadFault.{ReadFault}
+use Rattle.agc_text.specs.Faults.{RefusesInput}
+use Rattle.agc_text.specs.Input.{ReadsAll}
+use Rattle.agc_document.specs.Benches.{Benched, IsBench, bench_texts}
+use Rattle.agc_document.specs.Faults.{HasTexts}
+use Rattle.agc_program.specs.declared.fault.Fault.{Fault}
+use Rattle.agc_program.specs.declared.fault.Fault.TheVariants as fault
+
+-- the text is the document of a bench
+abbrev pub IsDocument : List ℕ → Benched → Type 0
+IsDocument text bench = IsBench bench × HasTexts (parse_document text) (bench_texts bench)
+
+-- why input can't be read, so that nothing was written
+abbrev pub IsUnread : Option (List ℕ) → Option (List ℕ) → Result Unit Fault → Type 0
+IsUnread unread rest outcome =
+    (why : ReadFault) × (outcome ≡ Err (fault.Read why)) × RefusesInput unread rest why
+
+-- what comes of input: it can't be read, or all of it was read, and this comes of its text
+abbrev pub EndsBy : (List ℕ → Option (List ℕ) → Option (List ℕ) → Result Unit Fault → Type 0)
+    → Option (List ℕ) → Option (List ℕ) → Option (List ℕ) → Option (List ℕ)
+    → Result Unit Fault → Type 0
+EndsBy runs unread rest old new outcome =
+    (IsUnread unread rest outcome × (new ≡ old))
+    ⊎ ((text : List ℕ) × ReadsAll unread rest text × runs text old new outcome)

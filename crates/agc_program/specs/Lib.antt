@@ -1,0 +1,3 @@
+pub mod Statuses
+pub mod Messages
+pub mod Inputs

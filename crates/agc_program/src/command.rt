@@ -1,0 +1,41 @@
+//! The words of the command line.
+ghost use Rattle.std.specs.Prelude.{◌≡◌, IfOk, length};
+
+use crate::fault::Fault;
+use clap::ArgMatches;
+use std::env;
+use std::io::ErrorKind;
+use std::rt::Env;
+
+/// The words of the command line, of which the first is the program's own name.
+///
+/// # Errors
+///
+/// `Words` where one isn't text, and `NoMemory`.
+pub fn given_words<R: Env + AllocGlobal>(rt: &R) -> Result<Vec<String>, Fault> {
+    match env::args(rt) {
+        Ok(args) => Ok(args.collect(rt.alloc())?),
+        Err(error) => {
+            if error.kind() == ErrorKind::OutOfMemory {
+                Err(Fault::NoMemory)
+            } else {
+                Err(Fault::Words)
+            }
+        }
+    }
+}
+
+/// The subcommand that these words name: it is the only one after the program's own name. `clap`
+/// alone takes more, as `--`.
+///
+/// # Errors
+///
+/// `Words` for no subcommand, and for more words.
+pub fn only_word<'a>(matches: &ArgMatches<'a>, words: &[String]) -> Result<&'a str, Fault>
+    ensures { IfOk result (λ _. length words.now ≡ 2) }
+{
+    if words.len() != 2 {
+        return Err(Fault::Words);
+    }
+    matches.subcommand_name().ok_or(Fault::Words)
+}

@@ -1,0 +1,59 @@
+//! How a program ends.
+ghost use Rattle.std.specs.Prelude.{◌≡◌, Some};
+ghost use Rattle.std.specs.Process.{exit_status};
+ghost use Rattle.agc_program.specs.Messages.{told_text};
+ghost use Rattle.agc_program.specs.Statuses.{status_after};
+
+use crate::fault::Fault;
+use std::fmt;
+use std::io::Eprint;
+use std::process::ExitCode;
+
+/// What a program is called, and what it says to words that it doesn't take.
+#[derive(Clone, Copy, Debug)]
+pub struct Program {
+    pub name: &'static str,
+    pub usage: &'static str,
+}
+
+/// A fault as a program tells it, in a line on standard error.
+#[derive(Clone, Copy, Debug)]
+pub struct Told {
+    pub program: Program,
+    pub fault: Fault,
+}
+
+impl fmt::Display for Told {
+    ghost output = { λ told.
+        Some (told_text told.program.name.now told.program.usage.now told.fault) };
+
+    fn fmt<W: fmt::Write>(&self, f: &mut fmt::Formatter<W>) -> fmt::Result {
+        f.write_str(self.program.name)?;
+        f.write_str(": ")?;
+        match &self.fault {
+            Fault::Words => f.write_str(self.program.usage),
+            Fault::NoMemory => f.write_str("no memory"),
+            Fault::Output => f.write_str("output"),
+            Fault::Read(fault) => fault.fmt(f),
+            Fault::Script(fault) => fault.fmt(f),
+            Fault::Bench(fault) => fault.fmt(f),
+            Fault::Run(fault) => fault.fmt(f),
+        }
+    }
+}
+
+impl std::error::Error for Told {}
+
+/// How a program ends: with status 0, or with a line on standard error and the fault's status.
+pub fn ended(rt: &impl Eprint, program: Program, outcome: Result<(), Fault>) -> ExitCode
+    ensures { exit_status result ≡ status_after outcome }
+{
+    match outcome {
+        Ok(()) => ExitCode::SUCCESS,
+        Err(fault) => {
+            let told = Told { program, fault };
+            let _ = eprintln!(rt; "{told}");
+            ExitCode::from(fault.status())
+        }
+    }
+}

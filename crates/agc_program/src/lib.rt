@@ -1,0 +1,13 @@
+//! What the programs share: why one ends early, what it tells of that, the words of the command
+//! line, and standard output. Source: profile.
+#![tactic(auto)]
+
+mod command;
+mod ending;
+mod fault;
+mod output;
+
+pub use command::{given_words, only_word};
+pub use ending::{Program, Told, ended};
+pub use fault::Fault;
+pub use output::{buffered, flushed};

@@ -1,0 +1,4 @@
+pub mod Messages
+pub mod Session
+pub mod Runs
+pub mod Steps

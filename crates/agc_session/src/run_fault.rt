@@ -1,0 +1,69 @@
+ghost use Rattle.std.specs.Prelude.{◌≡◌, Some};
+ghost use Rattle.agc_session.specs.declared.run_fault.RunFault.TheVariants.{NoMemory as WantOfMemory, Output as OutputFailed};
+
+use agc_machine::NoMemory;
+use agc_text::Output;
+use std::alloc::{AllocError, AllocFailed};
+use std::fmt;
+
+/// Why a run did not come to its end. Source: profile.
+#[derive(Clone, Copy, PartialEq, Eq, Debug)]
+pub enum RunFault {
+    /// Nothing was written.
+    NoMemory,
+    /// A write failed, or took nothing of what was left; a front of the text, perhaps empty, was written, and not all.
+    Output,
+    /// A thread couldn't be started. Nothing was written.
+    NoThread,
+    /// Shares are missing. Nothing was written. It is proved that no run comes to this.
+    Lost,
+}
+
+impl From<NoMemory> for RunFault {
+    ghost from_gives = { λ _ e. e ≡ WantOfMemory };
+
+    fn from(_error: NoMemory) -> RunFault {
+        RunFault::NoMemory
+    }
+}
+
+impl From<Output> for RunFault {
+    ghost from_gives = { λ _ e. e ≡ OutputFailed };
+
+    fn from(_error: Output) -> RunFault {
+        RunFault::Output
+    }
+}
+
+impl From<AllocError> for RunFault {
+    ghost from_gives = { λ _ e. e ≡ WantOfMemory };
+
+    fn from(_error: AllocError) -> RunFault {
+        RunFault::NoMemory
+    }
+}
+
+impl<T: Drop> From<AllocFailed<T>> for RunFault {
+    ghost from_gives = { λ _ e. e ≡ WantOfMemory };
+
+    fn from(_error: AllocFailed<T>) -> RunFault {
+        RunFault::NoMemory
+    }
+}
+
+impl fmt::Display for RunFault {
+    ghost use Rattle.agc_session.specs.Messages.{run_fault_text};
+
+    ghost output = { λ f. Some (run_fault_text f) };
+
+    fn fmt<W: fmt::Write>(&self, f: &mut fmt::Formatter<W>) -> fmt::Result {
+        match self {
+            RunFault::NoMemory => f.write_str("no memory"),
+            RunFault::Output => f.write_str("output"),
+            RunFault::NoThread => f.write_str("no thread"),
+            RunFault::Lost => f.write_str("lost"),
+        }
+    }
+}
+
+impl std::error::Error for RunFault {}
