@@ -190,7 +190,9 @@ class Clone:
         return clone
 
     def date(self, seconds):
-        """Dates the source so many seconds from now."""
+        """Dates the source so many seconds from now, and later than all that was written: times of
+        files move by steps of up to 10 ms, and a change within the same step is no later one."""
+        time.sleep(0.05)
         when = time.time() + seconds
         os.utime(f"{self.room}/crates/agc/src/main.rt", (when, when))
 
