@@ -1,5 +1,7 @@
 //! The words of the command line.
-ghost use Rattle.std.specs.Prelude.{◌≡◌, IfOk, length};
+ghost use Rattle.std.specs.Prelude.{◌≡◌, ◌⊎◌, IfErr, IfOk, None, Some, length};
+ghost use Rattle.clap.specs.Matches.{subcommand_name_of};
+ghost use Rattle.agc_program.specs.declared.fault.Fault.TheVariants.{NoMemory, Words};
 
 use crate::fault::Fault;
 use clap::ArgMatches;
@@ -12,7 +14,9 @@ use std::rt::Env;
 /// # Errors
 ///
 /// `Words` where one isn't text, and `NoMemory`.
-pub fn given_words<R: Env + AllocGlobal>(rt: &R) -> Result<Vec<String>, Fault> {
+pub fn given_words<R: Env + AllocGlobal>(rt: &R) -> Result<Vec<String>, Fault>
+    ensures refused { IfErr result (λ e. (e ≡ Words) ⊎ (e ≡ NoMemory)) }
+{
     match env::args(rt) {
         Ok(args) => Ok(args.collect(rt.alloc())?),
         Err(error) => {
@@ -32,7 +36,11 @@ pub fn given_words<R: Env + AllocGlobal>(rt: &R) -> Result<Vec<String>, Fault> {
 ///
 /// `Words` for no subcommand, and for more words.
 pub fn only_word<'a>(matches: &ArgMatches<'a>, words: &[String]) -> Result<&'a str, Fault>
-    ensures { IfOk result (λ _. length words.now ≡ 2) }
+    ensures alone { IfOk result (λ _. length words.now ≡ 2) }
+    ensures named { IfOk result (λ word. subcommand_name_of matches.now ≡ Some word.now) }
+    ensures refused { IfErr result (λ e. e ≡ Words) }
+    ensures none { length words.now ≡ 2
+        → IfErr result (λ _. subcommand_name_of matches.now ≡ None) }
 {
     if words.len() != 2 {
         return Err(Fault::Words);

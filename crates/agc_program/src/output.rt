@@ -1,4 +1,9 @@
 //! Standard output, through a buffer.
+ghost use Rattle.std.specs.Prelude.{◌≡◌, [], IfErr, IfOk};
+ghost use Rattle.std.specs.Io.Buffered.{writer_buffer};
+ghost use Rattle.std.specs.Io.KnownBytes.{Keeps};
+ghost use Rattle.agc_program.specs.declared.fault.Fault.TheVariants.{NoMemory, Output};
+
 use crate::fault::Fault;
 use std::io;
 use std::io::{BufWriter, Printer, Write};
@@ -8,7 +13,10 @@ use std::io::{BufWriter, Printer, Write};
 /// # Errors
 ///
 /// `NoMemory`, and no other.
-pub fn buffered<R: AllocGlobal + Print>(rt: &R) -> Result<BufWriter<Printer<'_, R>>, Fault> {
+pub fn buffered<R: AllocGlobal + Print>(rt: &R) -> Result<BufWriter<Printer<'_, R>>, Fault>
+    ensures empty { IfOk result (λ w. writer_buffer w ≡ []) }
+    ensures refused { IfErr result (λ e. e ≡ NoMemory) }
+{
     BufWriter::new(rt.alloc(), io::writer(rt)).map_err(|_| Fault::NoMemory)
 }
 
@@ -17,6 +25,9 @@ pub fn buffered<R: AllocGlobal + Print>(rt: &R) -> Result<BufWriter<Printer<'_, 
 /// # Errors
 ///
 /// `Output`, and no other.
-pub fn flushed<W: Write>(writer: &mut W) -> Result<(), Fault> {
+pub fn flushed<W: Write>(writer: &mut W) -> Result<(), Fault>
+    ensures refused { IfErr result (λ e. e ≡ Output) }
+    ensures kept { Keeps (W.contents writer.old) (W.contents writer.new) }
+{
     writer.flush().map_err(|_| Fault::Output)
 }

@@ -1,4 +1,10 @@
 //! The words of the command line.
+ghost use Rattle.std.specs.Prelude.{◌≡◌, ◌⊎◌, ◌↔◌, IfErr, IfOk, IfSome, IsSome, codes, length};
+ghost use Rattle.clap.specs.Values.{kind_of};
+ghost use Rattle.clap.specs.declared.error.kind.ErrorKind.TheVariants as kind;
+ghost use Rattle.agc_program.specs.declared.fault.Fault.TheVariants.{NoMemory, Words};
+ghost use Rattle.agc_watch.specs.declared.mode.Asked.TheVariants.{Text, Trace};
+
 use agc_program::{Fault, only_word};
 use clap::error::ErrorKind;
 use clap::{Command, Error};
@@ -13,7 +19,11 @@ pub enum Asked {
     Text(Error),
 }
 
-fn asked_by(name: &str) -> Option<Asked> {
+/// What a subcommand asks for.
+fn asked_by(name: &str) -> Option<Asked>
+    ensures named { IsSome result ↔ (name.now ≡ codes "trace") }
+    ensures trace { IfSome result (λ asked. asked ≡ Trace) }
+{
     match name {
         "trace" => Some(Asked::Trace),
         _ => None,
@@ -21,7 +31,11 @@ fn asked_by(name: &str) -> Option<Asked> {
 }
 
 /// The words that clap doesn't take: they ask for a text, or are wrong.
-fn asked_of(error: Error) -> Result<Asked, Fault> {
+fn asked_of(error: Error) -> Result<Asked, Fault>
+    ensures text { IfOk result (λ asked. (asked ≡ Text error)
+        × ((kind_of error ≡ kind.DisplayHelp) ⊎ (kind_of error ≡ kind.DisplayVersion))) }
+    ensures refused { IfErr result (λ e. (e ≡ Words) ⊎ (e ≡ NoMemory)) }
+{
     match error.kind() {
         ErrorKind::DisplayHelp => Ok(Asked::Text(error)),
         ErrorKind::DisplayVersion => Ok(Asked::Text(error)),
@@ -35,7 +49,9 @@ fn asked_of(error: Error) -> Result<Asked, Fault> {
 /// # Errors
 ///
 /// `Words` for any other words, and `NoMemory`.
-pub fn asked_for(alloc: Global, words: &[String]) -> Result<Asked, Fault> {
+pub fn asked_for(alloc: Global, words: &[String]) -> Result<Asked, Fault>
+    ensures { IfOk result (λ asked. asked ≡ Trace → length words.now ≡ 2) }
+{
     let command = Command::new(alloc, "agc_watch")
         .version("1.0.0")
         .about("Shows what the requests of a bench, on standard input, do to the tables")
