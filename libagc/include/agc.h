@@ -42,6 +42,9 @@
 extern "C" {
 #endif
 
+/* The release that this header is of. */
+#define AGC_VERSION "1.0.0"
+
 /* How many numbers an array has, how many agc_recover wants, and the place of -PHASE1, their first. */
 enum { AGC_WORDS = 144, AGC_PHASE_WORDS = 12, AGC_PHASE_PLACE = 117 };
 
@@ -93,6 +96,13 @@ enum { AGC_NOVAC = 1, AGC_FINDVAC = 2 };
 #else
 #define AGC_INLINE static
 #define AGC_TYPE typedef
+#endif
+
+/* Where a pointer points, as a number. */
+#ifdef __cplusplus
+#define AGC_PLACE(pointer) reinterpret_cast<uintptr_t>(pointer)
+#else
+#define AGC_PLACE(pointer) ((uintptr_t)(pointer))
 #endif
 
 /* What a request is answered: the kind of the reply, and its number, or 0. */
@@ -159,7 +169,8 @@ AGC_INLINE const char *agc_reply_text(uint32_t reply) {
 
 /* Whether a pointer may be passed: AGC_OK, or AGC_NULL where it is null or not aligned. */
 AGC_INLINE uint32_t agc_pointer(const uint16_t *words) {
-    return words == NULL || (uintptr_t)words % sizeof *words != 0 ? (uint32_t)AGC_NULL : (uint32_t)AGC_OK;
+    if (words && AGC_PLACE(words) % sizeof *words == 0) return AGC_OK;
+    return AGC_NULL;
 }
 
 /* The image of a fresh start, whatever stood there: no jobs, no tasks, six phases 0, no codes. */
@@ -172,7 +183,8 @@ AgcTruth agc_check(const uint16_t words[AGC_WORDS], uint32_t sets);
 /* A software restart, without what the phases begin again: no jobs, no tasks; phases and codes stay. */
 uint32_t agc_restart(uint16_t words[AGC_WORDS], uint32_t sets);
 
-/* An image of seven core sets becomes one of eight. AGC_NOT_NOW where a task is due. */
+/* An image of seven core sets becomes one of eight. AGC_NOT_NOW where a task is due. The words don't
+   tell whether they are of eight already: then the job in core set 7 is lost. */
 uint32_t agc_migrate(uint16_t words[AGC_WORDS]);
 
 /* NOVAC, FINDVAC: a job of this priority, 1 to 31, at this address, 1 to 16383, in this bank, a word.
@@ -290,6 +302,7 @@ AGC_INLINE uint32_t agc_begin(uint16_t words[AGC_WORDS], uint32_t sets, uint32_t
 
 #undef AGC_INLINE
 #undef AGC_TYPE
+#undef AGC_PLACE
 
 #ifdef __cplusplus
 }

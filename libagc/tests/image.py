@@ -140,6 +140,32 @@ def an_era_that_cannot_begin():
     assert image.words[84:89] == (0, 0, 0, 0, 0) and image != busy()
 
 
+def a_plan_that_is_none():
+    """What isn't a plan is a `TypeError` with a sentence, also where no group is in that phase."""
+    image, job = busy(), JobStart(1, 1, 1)
+    image.set_phase(4, 5)
+    was = image.words
+    for plan, sentence in [
+        ([None], "an entry of a plan has to be a PhaseEntry, and None is of type NoneType"),
+        (PhaseEntry(4, 5), "an entry of a plan has to be a PhaseEntry, and 4 is of type int"),
+        ([(4, 5, job)], f"an entry of a plan has to be a PhaseEntry, and {(4, 5, job)} is of type tuple"),
+        ([PhaseEntry(4, 5, (1, 1, 1))], "its job has to be a JobStart, and (1, 1, 1) is of type tuple"),
+        ([PhaseEntry(4, 6, Listing(1, 1, 1))], f"its job has to be a JobStart, and {Listing(1, 1, 1)} is of type Listing"),
+        ([PhaseEntry(4, 5, None, job)], f"its task has to be a Listing, and {job} is of type JobStart"),
+        ([PhaseEntry("4", 5, job)], "a number has to be an int, and '4' is of type str"),
+        ([PhaseEntry(4, 5.0, job)], "a number has to be an int, and 5.0 is of type float"),
+    ]:
+        assert raised(TypeError, lambda: image.begin(plan, 0o1201)) == sentence and image.words == was
+    raised(TypeError, lambda: image.begin(None))
+
+
+def a_star_brings_the_modules_own_names():
+    names = {}
+    exec("from agc import *", names)
+    assert {"Image", "Kind", "Lacking", "PhaseEntry", "recover", "library"} <= set(names)
+    assert not {"os", "ctypes", "operator", "POINTER", "Structure", "Any", "Iterable"} & set(names)
+
+
 def what_is_no_number():
     image = Image(7)
     number = "a number has to be an int, and {} is of type {}"
@@ -178,10 +204,21 @@ def a_wrong_library_is_told():
         assert ran.returncode == 1 and part in ran.stderr, f"{named}: {ran.stderr}"
 
 
-def each_function_is_hinted():
+def module():
     with open(agc.__file__, encoding="utf-8") as file:
-        functions = [it for it in ast.walk(ast.parse(file.read())) if isinstance(it, ast.FunctionDef)]
-    for it in functions:
+        return ast.parse(file.read())
+
+
+def python_3_8_will_do():
+    """It has no `list[int]` but in hints, which aren't evaluated."""
+    for it in module().body:
+        parts = ast.walk(it.value) if isinstance(it, (ast.Assign, ast.AnnAssign)) else []
+        of = {one.value.id for one in parts if isinstance(one, ast.Subscript) and isinstance(one.value, ast.Name)}
+        assert not of & {"dict", "list", "tuple", "type"}, f"line {it.lineno}"
+
+
+def each_function_is_hinted():
+    for it in (one for one in ast.walk(module()) if isinstance(one, ast.FunctionDef)):
         arguments = [*it.args.args, *filter(None, [it.args.vararg])]
         without = [one.arg for one in arguments if one.annotation is None and one.arg != "self"]
         assert it.returns is not None and not without, f"{it.name} lacks hints"
@@ -199,9 +236,12 @@ def main():
         words_are_a_tuple,
         an_era_begins,
         an_era_that_cannot_begin,
+        a_plan_that_is_none,
+        a_star_brings_the_modules_own_names,
         what_is_no_number,
         lacking_has_a_sentence,
         a_wrong_library_is_told,
+        python_3_8_will_do,
         each_function_is_hinted,
     ]:
         try:
