@@ -12,7 +12,8 @@ use Rattle.std.proofs.lemmas.Map.Steps.{length-le_from_distinct_below}
 use Rattle.agc_plan.specs.declared.request.Request.{Request}
 use Rattle.agc_machine.specs.declared.answer.Refusal.{Refusal}
 use Rattle.agc_machine.specs.declared.totals.Totals.{Totals}
-use Rattle.agc_machine.specs.Machines.{Machined, after, after_unless, answer_of, refusal_of, result_of, stepped}
+use Rattle.std.specs.Option.{option_map_or}
+use Rattle.agc_machine.specs.Machines.{Machined, after, answer_of, refusal_of, result_of, served, stepped}
 use Rattle.agc_machine.specs.Told.{add, nothing, told}
 use Rattle.agc_desk.specs.declared.book.Call.{Call}
 use Rattle.agc_desk.specs.Accounts.{told_in, told_to}
@@ -42,7 +43,7 @@ pub record SameSetting (first last : Machined) : Type 0 where
 after_setting : (m : Machined) (asked : Request) → SameSetting m (after m asked)
 after_setting m asked = by_refusal (refusal_of m asked)
   where
-    by_refusal : (r : Option Refusal) → SameSetting m (after_unless r m asked)
+    by_refusal : (r : Option Refusal) → SameSetting m (option_map_or (λ refusal. m) r (served (stepped m asked) asked m))
     by_refusal None = record { plan = refl; limit = refl; allowance = refl }
     by_refusal (Some refusal) = record { plan = refl; limit = refl; allowance = refl }
 
@@ -86,7 +87,7 @@ with_nothing t = search rules
 pub told_after : (m : Machined) (asked : Request) → (after m asked).totals ≡ add m.totals (told (answer_of m asked))
 told_after m asked = by_refusal (refusal_of m asked)
   where
-    by_refusal : (r : Option Refusal) → (after_unless r m asked).totals ≡ add m.totals (told (result_of r (stepped m asked).reply))
+    by_refusal : (r : Option Refusal) → (option_map_or (λ refusal. m) r (served (stepped m asked) asked m)).totals ≡ add m.totals (told (result_of r (stepped m asked).reply))
     by_refusal None = refl
     by_refusal (Some refusal) = with_nothing m.totals
 

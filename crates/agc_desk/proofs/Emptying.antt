@@ -1,7 +1,7 @@
 -- Requests that a desk is asked one after another, and lines that are drained one after another.
 use Rattle.std.proofs.Common.{◌≡◌, ℕ, ◌+◌, ◌<◌, ◌≤◌, ◌==◌, Bool, true, false, true≢false, if◌then◌else◌, List, [], ◌∷◌, ◌++◌, replicate, Option, None, Some, Result, Ok, Err, IsOk, is_some, refl, sym, ap, ◌∙◌, subst, append_assoc, append-nil, arith}
 use Rattle.std.specs.List.{fold}
-use Rattle.std.specs.Option.{option_and_then, option_map, option_to_list}
+use Rattle.std.specs.Option.{option_and_then, option_map, option_map_or, option_to_list}
 use Rattle.std.proofs.lemmas.Bool.Decides.{nat_tests}
 use Rattle.std.proofs.lemmas.List.{replicate_more}
 use Rattle.std.proofs.lemmas.List.Elements.{All-append, All-nil, All-push}
@@ -14,7 +14,7 @@ use Rattle.agc_plan.specs.declared.reply.Reply.{Reply}
 use Rattle.agc_plan.specs.Plans.{Planned}
 use Rattle.agc_machine.specs.declared.answer.Refusal.{Refusal}
 use Rattle.agc_machine.specs.declared.totals.Totals.{Totals}
-use Rattle.agc_machine.specs.Machines.{Machined, after, after_all, after_unless, answer_of, refusal_of, result_of, stepped}
+use Rattle.agc_machine.specs.Machines.{Machined, after, after_all, answer_of, refusal_of, result_of, served, stepped}
 use Rattle.agc_machine.specs.Said.{Said}
 use Rattle.agc_machine.specs.Told.{add, nothing, told}
 use Rattle.agc_desk.specs.declared.book.Call.{Call}
@@ -27,7 +27,7 @@ use Rattle.agc_desk.specs.Stages.{DrainsLine, Marks, next_pulse, pulse_on}
 use Rattle.agc_desk.proofs.Calls.{with_nothing}
 
 -- no request changes a machine's plan
-same_plan_unless : (o : Option Refusal) (m : Machined) (q : Request) → (after_unless o m q).plan ≡ m.plan
+same_plan_unless : (o : Option Refusal) (m : Machined) (q : Request) → (option_map_or (λ refusal. m) o (served (stepped m q) q m)).plan ≡ m.plan
 same_plan_unless None m q = refl
 same_plan_unless (Some r) m q = refl
 
@@ -157,7 +157,7 @@ refused_is : (o : Option Refusal) (reply : Reply) (r : Refusal) → result_of o 
 refused_is None reply r e = cc
 refused_is (Some x) reply r e = cc
 
-unchanged : (o : Option Refusal) (m : Machined) (q : Request) (r : Refusal) → o ≡ Some r → after_unless o m q ≡ m
+unchanged : (o : Option Refusal) (m : Machined) (q : Request) (r : Refusal) → o ≡ Some r → option_map_or (λ refusal. m) o (served (stepped m q) q m) ≡ m
 unchanged None m q r e = cc
 unchanged (Some x) m q r e = refl
 

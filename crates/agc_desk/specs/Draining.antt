@@ -1,5 +1,6 @@
 -- What a desk does as it is drained.
-use Rattle.std.specs.Prelude.{◌≡◌, ◌↔◌, ℕ, ◌+◌, ◌*◌, ◌<◌, ◌≤◌, List, [], ◌∷◌, ◌++◌, map, Option, Some, IsNone, IsOk}
+use Rattle.std.specs.Prelude.{◌≡◌, ◌↔◌, ℕ, ◌+◌, ◌*◌, ◌<◌, ◌≤◌, List, [], ◌∷◌, ◌++◌, map, Option}
+use Rattle.std.specs.Prelude.{Some, IsNone, IsOk}
 use Rattle.std.specs.List.{All}
 use Rattle.std.specs.Option.{option_and_then, option_to_list}
 use Rattle.atomic_table.specs.Seated.{TableId}
@@ -85,8 +86,8 @@ pulse_refusal m pulse = refusal_of m pulse.request
 -- The desk is drained with a share: it takes pulses, and applies what is owed, line by line, up to
 -- the first pulse that is refused, which stays owed with all that come after it. Its requests, the
 -- refused one too, come with their answers into the history, as those of pulses of their lines, to
--- the share's holder and into the books, and nothing else of the desk changes; and the holder counts
--- one drain more.
+-- the share's holder and into the books, and nothing else of the desk changes; and the holder
+-- counts one drain more.
 pub record Drains (old : Desked) (share : Holder)
     (result : Drained) (now : Desked) (new : Holder) : Type 0 where
   pub lines : Moves result.taken result.applied old.lines now.lines

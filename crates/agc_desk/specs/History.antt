@@ -1,5 +1,6 @@
 -- The history of one machine: who asked what, and what was answered.
-use Rattle.std.specs.Prelude.{◌≡◌, ℕ, ◌+◌, ◌++◌, ◌==◌, ◌&&◌, Bool, false, is_ok, List, [], ◌∷◌, map, nat_eq, Option, Some, None}
+use Rattle.std.specs.Prelude.{◌≡◌, ℕ, ◌+◌, ◌++◌, ◌==◌, ◌&&◌, Bool, false, is_ok, List, [], ◌∷◌, map}
+use Rattle.std.specs.Prelude.{nat_eq, Option, Some, None}
 use Rattle.std.specs.List.{All, Contains, IsDistinct, count_by, filter}
 use Rattle.agc_latch.specs.declared.line.Line.{Line}
 use Rattle.agc_latch.specs.Lines.{word_of}
@@ -12,7 +13,8 @@ use Rattle.agc_desk.specs.declared.book.Call.{Call}
 abbrev pub Leads : Machined → List Call → Machined → Type 0
 Leads first [] last = first ≡ last
 Leads first (call ∷ more) last =
-    (call.answer.outcome ≡ answer_of first call.answer.request) × Leads (after first call.answer.request) more last
+    (call.answer.outcome ≡ answer_of first call.answer.request)
+    × Leads (after first call.answer.request) more last
 
 -- what was asked with the share of this number, and answered, in order
 abbrev pub calls_by : ℕ → List Call → List Call
@@ -63,7 +65,8 @@ abbrev pub numbers_of : List Holder → List ℕ
 numbers_of shares = map (λ share. share.number) shares
 
 -- the history of a machine that was asked with just these shares, no two of the same number
-pub record IsHistory (first : Machined) (shares : List Holder) (calls : List Call) (last : Machined) : Type 0 where
+pub record IsHistory (first : Machined) (shares : List Holder) (calls : List Call) (last : Machined)
+    : Type 0 where
   pub leads : Leads first calls last
   pub apart : IsDistinct nat_eq (numbers_of shares)
   pub each : All (λ share. calls_by share.number calls ≡ share.heard) shares

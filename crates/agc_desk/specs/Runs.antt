@@ -1,5 +1,6 @@
 -- What callers ask, and what they are told.
-use Rattle.std.specs.Prelude.{◌≡◌, ℕ, ◌<◌, ◌≤◌, ◌⊎◌, Bool, true, false, List, [], ◌∷◌, length, map, take, IsNone}
+use Rattle.std.specs.Prelude.{◌≡◌, ℕ, ◌<◌, ◌≤◌, ◌⊎◌, Bool, true, false, List, [], ◌∷◌, length, map}
+use Rattle.std.specs.Prelude.{take, IsNone}
 use Rattle.std.specs.List.{All}
 use Rattle.agc_plan.specs.declared.request.Request.{Request}
 use Rattle.agc_machine.specs.Machines.{Machined, IsLawful, answer_of}
@@ -48,7 +49,8 @@ pub record IsFront (may_answer : ℕ → Bool → Type 0) (requests asked : List
 
 -- these requests, each answered as the relation says, lead in this order from the first state to
 -- the last
-abbrev pub Reached : {State : Type 0} → (State → Request → Said → State → Type 0) → State → List Request → State → Type 0
+abbrev pub Reached : {State : Type 0} → (State → Request → Said → State → Type 0) → State
+    → List Request → State → Type 0
 Reached leads first [] last = first ≡ last
 Reached {State} leads first (asked ∷ more) last =
     (next : State) × (((said : Said) × leads first asked said next) × Reached leads next more last)

@@ -22,7 +22,8 @@ next_pulse plan line owed = option_and_then (pulse_of plan) (line_if_any line ow
 abbrev pub pulse_on : Line → Request → Pulse
 pulse_on line asked = record { line = line; request = asked }
 
--- one pulse of the line is applied, if this is a pulse's outcome and no refusal; else nothing changes
+-- one pulse of the line is applied, if this is a pulse's outcome and no refusal; else nothing
+-- changes
 abbrev pub Marks : Option Line → Result Reply Refusal → LineAccounts → LineAccounts → Type 0
 Marks (Some line) (Ok reply) old now = Applies line 1 old now
 Marks (Some line) (Err refusal) old now = now ≡ old

@@ -11,15 +11,31 @@ use Rattle.agc_desk.specs.Naming.{DeskNames}
 
 -- a name of no history
 abbrev pub no_history : TableId
-no_history = record { words = 0; slots = 0; views_name = 0; atom = 0; block = 0; offset = 0; slot_names = [] }
+no_history = record {
+  words = 0;
+  slots = 0;
+  views_name = 0;
+  atom = 0;
+  block = 0;
+  offset = 0;
+  slot_names = [];
+}
 
 -- names for where nothing is picked
 abbrev pub no_names : DeskNames
-no_names = record { served = 0; a1201 = 0; a1202 = 0; a1203 = 0; restarts = 0; history = no_history }
+no_names = record {
+  served = 0;
+  a1201 = 0;
+  a1202 = 0;
+  a1203 = 0;
+  restarts = 0;
+  history = no_history;
+}
 
 -- a machine for where nothing is picked
 abbrev pub no_machine : Machined
-no_machine = begun_with (record { rows = []; entries = []; key = Nothing; radar = Nothing; sets = 7 }) 1 0 fresh_base
+no_machine = begun_with
+    (record { rows = []; entries = []; key = Nothing; radar = Nothing; sets = 7 }) 1 0 fresh_base
 
 -- an answer for where nothing is picked
 abbrev pub no_answer : Said

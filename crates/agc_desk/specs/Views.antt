@@ -10,7 +10,7 @@ use Rattle.agc_latch.specs.declared.line.Line.{Line}
 use Rattle.agc_machine.specs.Said.{Said}
 use Rattle.agc_desk.specs.declared.book.Call.{Call}
 use Rattle.agc_desk.specs.declared.book.View.{View}
-use Rattle.agc_desk.specs.History.{Holder, calls_by}
+use Rattle.agc_desk.specs.History.{Holder, calls_by, with_heard}
 use Rattle.agc_desk.specs.Knowing.{knower}
 
 -- a share's: it has a number, and knows what was asked with it, and how often it drained
@@ -33,6 +33,14 @@ holder_of v = record { number = v.number; heard = v.heard; drains = v.drains }
 -- a call with the share of this view
 abbrev pub call_by : View → Said → Option Line → Call
 call_by v said pulse = record { by = v.number; answer = said; pulse = pulse }
+
+-- the desk's view after this call
+abbrev pub with_call : View → Call → View
+with_call v call = knower (v.calls ++ call ∷ []) v.given v.settled
+
+-- the view of a share that heard this call
+abbrev pub hearing : View → Call → View
+hearing v call = owner (with_heard (call ∷ []) (holder_of v))
 
 -- who knows nothing
 abbrev pub nobody : View
@@ -58,9 +66,12 @@ pub record IsSettled (given : ℕ) (seat_of : ℕ → ℕ) (number : ℕ) : Type
 
 -- what the rule says of the view of this seat; seat_of is 0 of a number that no seat has, else
 -- greater by 1 than the seat
-pub record Fits (keeper given : ℕ) (seat_of : ℕ → ℕ) (calls : List Call) (seat : ℕ) (v : View) : Type 0 where
-  pub knows : v.keeps ≡ true → (seat ≡ keeper) × (v.calls ≡ calls) × (v.given ≡ given) × All (λ n. IsSettled given seat_of n) v.settled
-  pub own : v.owns ≡ true → (seat_of v.number ≡ seat + 1) × (v.number < given) × (calls_by v.number calls ≡ v.heard)
+pub record Fits (keeper given : ℕ) (seat_of : ℕ → ℕ) (calls : List Call) (seat : ℕ) (v : View)
+    : Type 0 where
+  pub knows : v.keeps ≡ true → (seat ≡ keeper) × (v.calls ≡ calls) × (v.given ≡ given)
+      × All (λ n. IsSettled given seat_of n) v.settled
+  pub own : v.owns ≡ true → (seat_of v.number ≡ seat + 1) × (v.number < given)
+      × (calls_by v.number calls ≡ v.heard)
 
 -- there is one history, which one seat knows; each number has at most one seat, which knows the
 -- calls of that number; and all calls are of numbers that were given out
@@ -70,7 +81,8 @@ pub record Kept (views : List View) : Type 0 where
   pub seat_of : ℕ → ℕ
   pub calls : List Call
   pub below : All (λ call. call.by < given) calls
-  pub fits : (seat : ℕ) (v : View) → get_elem? views seat ≡ some v → Fits keeper given seat_of calls seat v
+  pub fits : (seat : ℕ) (v : View) → get_elem? views seat ≡ some v
+      → Fits keeper given seat_of calls seat v
 
 -- the number is settled: what was heard with it is what the history has of it, and it was given out
 -- and not settled before

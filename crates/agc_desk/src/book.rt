@@ -3,8 +3,8 @@
 // bytes.
 ghost use Rattle.std.specs.Prelude.{◌≡◌, ◌<◌, ◌+◌, ◌++◌, ◌∷◌, [], ℕ, true, All, nat_eq, false};
 ghost use Rattle.std.specs.List.{list_any};
-ghost use Rattle.agc_desk.specs.History.{calls_by, new_holder, with_heard};
-ghost use Rattle.agc_desk.specs.Views.{call_by, holder_of, joined, nobody, owner};
+ghost use Rattle.agc_desk.specs.History.{calls_by, new_holder};
+ghost use Rattle.agc_desk.specs.Views.{call_by, hearing, joined, nobody, owner, with_call};
 ghost use Rattle.agc_desk.specs.Knowing.{knower};
 
 use agc_latch::Line;
@@ -117,13 +117,12 @@ struct Adding<J: Noting> {
 
 impl<J: Noting> Split<View> for Adding<J> {
     ghost use Rattle.std.specs.Prelude.{[], ◌∷◌, ◌++◌};
-    ghost use Rattle.agc_desk.specs.History.{with_heard};
-    ghost use Rattle.agc_desk.specs.Views.{call_by, holder_of, owner};
+    ghost use Rattle.agc_desk.specs.Views.{call_by, hearing, with_call};
     ghost use Rattle.agc_desk.specs.Knowing.{knower};
 
-    ghost left = { λ v. knower (v.calls ++ call_by v J.answer J.pulse ∷ []) v.given v.settled };
+    ghost left = { λ v. with_call v (call_by v J.answer J.pulse) };
 
-    ghost right = { λ v. owner (with_heard (call_by v J.answer J.pulse ∷ []) (holder_of v)) };
+    ghost right = { λ v. hearing v (call_by v J.answer J.pulse) };
 }
 
 /// Settles the number of the share that was taken in.
@@ -155,17 +154,26 @@ impl Play<u64, View> for Checking {
 
 /// A table for a history of no calls, and the desk's seat.
 pub(crate) fn open_book(alloc: Global) -> Result<(Book, Pass), NoMemory>
-    ensures { Rattle.std.specs.Prelude.IfOk result (λ r. (0 < r.0.shared.table_id.words) × (r.1.table_id ≡ r.0.shared.table_id) × (r.1.me ≡ (knower [] 0 [], []))) }
+    ensures { Rattle.std.specs.Prelude.IfOk result
+        (λ r. (0 < r.0.shared.table_id.words) × (r.1.table_id ≡ r.0.shared.table_id)
+        × (r.1.me ≡ (knower [] 0 [], []))) }
 {
     Ok(Book::of_words(alloc, &[0], &())?)
 }
 
 /// A new number's seat.
 pub(crate) fn deal(book: &Book, keeper: &mut Pass) -> Pass
-    requires table { (keeper.old.table_id ≡ book.now.shared.table_id) × (0 < book.now.shared.table_id.words) }
+    requires table { (keeper.old.table_id ≡ book.now.shared.table_id)
+        × (0 < book.now.shared.table_id.words) }
     requires keeps { keeper.old.me.0.keeps ≡ true }
-    ensures keeper { (keeper.new.table_id ≡ keeper.old.table_id) × (keeper.new.me ≡ (knower keeper.old.me.0.calls (keeper.old.me.0.given + 1) keeper.old.me.0.settled, keeper.old.me.1)) }
-    ensures pass { (result.table_id ≡ keeper.old.table_id) × (result.me ≡ (owner (new_holder keeper.old.me.0.given), [])) }
+    ensures keeper { (keeper.new.table_id ≡ keeper.old.table_id)
+        × (keeper.new.me ≡ (
+          knower keeper.old.me.0.calls (keeper.old.me.0.given + 1)
+              keeper.old.me.0.settled,
+          keeper.old.me.1,
+        )) }
+    ensures pass { (result.table_id ≡ keeper.old.table_id)
+        × (result.me ≡ (owner (new_holder keeper.old.me.0.given), [])) }
 {
     book.shared.split_seat::<Dealing>(keeper)
 }
@@ -180,11 +188,15 @@ fn noted<J: Noting>(
 ) -> Pass
     requires answer { answer.now ≡ J.answer }
     requires pulse { pulse ≡ J.pulse }
-    requires table { (keeper.old.table_id ≡ book.now.shared.table_id) × (pass.table_id ≡ book.now.shared.table_id) × (0 < book.now.shared.table_id.words) }
+    requires table { (keeper.old.table_id ≡ book.now.shared.table_id)
+        × (pass.table_id ≡ book.now.shared.table_id) × (0 < book.now.shared.table_id.words) }
     requires keeps { keeper.old.me.0.keeps ≡ true }
     requires owns { (pass.me.0.owns ≡ true) × (pass.me.1 ≡ []) }
-    ensures keeper { (keeper.new.table_id ≡ keeper.old.table_id) × (keeper.new.me ≡ (knower (keeper.old.me.0.calls ++ call_by pass.me.0 answer.now pulse ∷ []) keeper.old.me.0.given keeper.old.me.0.settled, keeper.old.me.1)) }
-    ensures pass { (result.table_id ≡ pass.table_id) × (result.me ≡ (owner (with_heard (call_by pass.me.0 answer.now pulse ∷ []) (holder_of pass.me.0)), [])) }
+    ensures keeper { (keeper.new.table_id ≡ keeper.old.table_id)
+        × (keeper.new.me
+        ≡ (with_call keeper.old.me.0 (call_by pass.me.0 answer.now pulse), keeper.old.me.1)) }
+    ensures pass { (result.table_id ≡ pass.table_id)
+        × (result.me ≡ (hearing pass.me.0 (call_by pass.me.0 answer.now pulse), [])) }
 {
     let _ = answer;
     let _ = pulse;
@@ -200,11 +212,15 @@ pub(crate) fn note(
     answer: &Answer,
     pulse: Option<Line>,
 )
-    requires table { (keeper.old.table_id ≡ book.now.shared.table_id) × (pass.old.table_id ≡ book.now.shared.table_id) × (0 < book.now.shared.table_id.words) }
+    requires table { (keeper.old.table_id ≡ book.now.shared.table_id)
+        × (pass.old.table_id ≡ book.now.shared.table_id) × (0 < book.now.shared.table_id.words) }
     requires keeps { keeper.old.me.0.keeps ≡ true }
     requires owns { (pass.old.me.0.owns ≡ true) × (pass.old.me.1 ≡ []) }
-    ensures keeper { (keeper.new.table_id ≡ keeper.old.table_id) × (keeper.new.me ≡ (knower (keeper.old.me.0.calls ++ call_by pass.old.me.0 answer.now pulse ∷ []) keeper.old.me.0.given keeper.old.me.0.settled, keeper.old.me.1)) }
-    ensures pass { (pass.new.table_id ≡ pass.old.table_id) × (pass.new.me ≡ (owner (with_heard (call_by pass.old.me.0 answer.now pulse ∷ []) (holder_of pass.old.me.0)), [])) }
+    ensures keeper { (keeper.new.table_id ≡ keeper.old.table_id)
+        × (keeper.new.me
+        ≡ (with_call keeper.old.me.0 (call_by pass.old.me.0 answer.now pulse), keeper.old.me.1)) }
+    ensures pass { (pass.new.table_id ≡ pass.old.table_id)
+        × (pass.new.me ≡ (hearing pass.old.me.0 (call_by pass.old.me.0 answer.now pulse), [])) }
 {
     let spare = book.shared.split_seat::<Spare>(keeper);
     let own = std::mem::replace(pass, spare);
@@ -213,7 +229,8 @@ pub(crate) fn note(
 
 /// Counts one drain more with the pass.
 pub(crate) fn count(book: &Book, pass: &mut Pass)
-    requires { (pass.old.table_id ≡ book.now.shared.table_id) × (0 < book.now.shared.table_id.words) }
+    requires { (pass.old.table_id ≡ book.now.shared.table_id)
+        × (0 < book.now.shared.table_id.words) }
     ensures table { pass.new.table_id ≡ pass.old.table_id }
     ensures pass { pass.new.me ≡
         (record pass.old.me.0 { drains = pass.old.me.0.drains + 1 }, pass.old.me.1) }
@@ -224,10 +241,16 @@ pub(crate) fn count(book: &Book, pass: &mut Pass)
 /// Settles the pass's number: what the pass knows is what the history has of it, and no other pass
 /// has it.
 pub(crate) fn settle(book: &Book, keeper: &mut Pass, pass: Pass)
-    requires table { (keeper.old.table_id ≡ book.now.shared.table_id) × (pass.table_id ≡ book.now.shared.table_id) × (0 < book.now.shared.table_id.words) }
+    requires table { (keeper.old.table_id ≡ book.now.shared.table_id)
+        × (pass.table_id ≡ book.now.shared.table_id) × (0 < book.now.shared.table_id.words) }
     requires keeps { keeper.old.me.0.keeps ≡ true }
     requires owns { (pass.me.0.owns ≡ true) × (pass.me.1 ≡ []) }
-    ensures keeper { (keeper.new.table_id ≡ keeper.old.table_id) × (keeper.new.me ≡ (knower keeper.old.me.0.calls keeper.old.me.0.given (keeper.old.me.0.settled ++ pass.me.0.number ∷ []), keeper.old.me.1)) }
+    ensures keeper { (keeper.new.table_id ≡ keeper.old.table_id)
+        × (keeper.new.me ≡ (
+          knower keeper.old.me.0.calls keeper.old.me.0.given
+              (keeper.old.me.0.settled ++ pass.me.0.number ∷ []),
+          keeper.old.me.1,
+        )) }
     ensures heard { calls_by pass.me.0.number keeper.old.me.0.calls ≡ pass.me.0.heard }
     ensures given_out { pass.me.0.number < keeper.old.me.0.given }
     ensures apart { list_any (nat_eq pass.me.0.number) keeper.old.me.0.settled ≡ false }
@@ -238,7 +261,8 @@ pub(crate) fn settle(book: &Book, keeper: &mut Pass, pass: Pass)
 
 /// All calls of the history are of numbers that were given out.
 pub(crate) fn check(book: &Book, keeper: &mut Pass)
-    requires table { (keeper.old.table_id ≡ book.now.shared.table_id) × (0 < book.now.shared.table_id.words) }
+    requires table { (keeper.old.table_id ≡ book.now.shared.table_id)
+        × (0 < book.now.shared.table_id.words) }
     requires keeps { keeper.old.me.0.keeps ≡ true }
     ensures same { (keeper.new.table_id ≡ keeper.old.table_id) × (keeper.new.me ≡ keeper.old.me) }
     ensures below { All (λ call. call.by < keeper.old.me.0.given) keeper.old.me.0.calls }

@@ -44,7 +44,11 @@ impl<L: Ledger> Model for Column<L> {
 
     ghost Value = { Account };
 
-    ghost view = { λ c. record { total = c.book.total; left = c.rest.parts; back = c.rest.amount } };
+    ghost view = { λ c. record {
+      total = c.book.total;
+      left = c.rest.parts;
+      back = c.rest.amount;
+    } };
 
     ghost invariant = { λ c. L.parts ≡ 65 };
 }

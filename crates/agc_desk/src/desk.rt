@@ -58,7 +58,8 @@ impl<N: Names> Model for Desk<N> {
       lines = d.lines;
     } };
 
-    ghost invariant = { λ d. IsBooked N.first d.machine d.history d.since d.ledgers d.lines.applied };
+    ghost invariant = { λ d.
+        IsBooked N.first d.machine d.history d.since d.ledgers d.lines.applied };
 }
 
 /// What its holder asked of one desk, and was answered. Contracts see it as its number and these
@@ -138,7 +139,8 @@ impl<N: Names> Desk<N> {
     pub fn share(&mut self) -> Option<Share<N>>
         ensures none { IsNone result ↔ (self.old.given ≡ 64) }
         ensures share { IfSome result (λ s. s ≡ new_holder self.old.given) }
-        ensures given { IfSome result (λ s. self.new ≡ record self.old { given = self.old.given + 1 }) }
+        ensures given { IfSome result
+            (λ s. self.new ≡ record self.old { given = self.old.given + 1 }) }
         ensures same { IfNone result (self.new ≡ self.old) }
     {
         if self.history.given() == SHARES {
@@ -168,8 +170,8 @@ impl<N: Names> Desk<N> {
         self.ask_for(share, request, None)
     }
 
-    /// Serves a request of a caller, or the one that a pulse of this line asks for, as [`Desk::serve`]
-    /// does; the pulse, which is owed, is applied where it isn't refused.
+    /// Serves a request of a caller, or the one that a pulse of this line asks for, as
+    /// [`Desk::serve`] does; the pulse, which is owed, is applied where it isn't refused.
     pub(crate) fn ask_for(
         &mut self,
         share: &mut Share<N>,
@@ -185,7 +187,14 @@ impl<N: Names> Desk<N> {
         ensures given { IsGiven N.first result }
         ensures heard { share.new ≡ with_heard (record
             { by = share.old.number; answer = result; pulse = pulse } ∷ []) share.old }
-        ensures desk { self.new ≡ with_lines self.new.lines (record self.old { machine = after self.old.machine request; history = self.old.history ++ record { by = share.old.number; answer = result; pulse = pulse } ∷ []; booked = add self.old.booked (told result.outcome) }) }
+        ensures desk { self.new
+            ≡ with_lines self.new.lines
+            (record self.old {
+              machine = after self.old.machine request;
+              history = self.old.history
+                  ++ record { by = share.old.number; answer = result; pulse = pulse } ∷ [];
+              booked = add self.old.booked (told result.outcome);
+            }) }
         ensures lines { Marks pulse result.outcome self.old.lines self.new.lines }
     {
         let before = self.machine.totals();

@@ -27,7 +27,8 @@ impl Model for Opened {
 
     ghost view = { λ o. o.book.shared.table_id };
 
-    ghost invariant = { λ o. (o.keeper.table_id ≡ o.book.shared.table_id) × (0 < o.book.shared.table_id.words) × (o.keeper.me ≡ (knower [] 0 [], [])) };
+    ghost invariant = { λ o. (o.keeper.table_id ≡ o.book.shared.table_id)
+        × (0 < o.book.shared.table_id.words) × (o.keeper.me ≡ (knower [] 0 [], [])) };
 }
 
 impl Opened {
@@ -54,9 +55,12 @@ impl<N: Names> Model for History<N> {
 
     ghost Value = { Known };
 
-    ghost view = { λ h. record { calls = h.keeper.me.0.calls; given = h.given; settled = h.keeper.me.0.settled } };
+    ghost view = { λ h. record
+        { calls = h.keeper.me.0.calls; given = h.given; settled = h.keeper.me.0.settled } };
 
-    ghost invariant = { λ h. (h.book.shared.table_id ≡ N.names.history) × (h.keeper.table_id ≡ N.names.history) × (0 < N.names.history.words) × (h.keeper.me.0.keeps ≡ true) × (h.keeper.me.0.given ≡ h.given) };
+    ghost invariant = { λ h. (h.book.shared.table_id ≡ N.names.history)
+        × (h.keeper.table_id ≡ N.names.history) × (0 < N.names.history.words)
+        × (h.keeper.me.0.keeps ≡ true) × (h.keeper.me.0.given ≡ h.given) };
 }
 
 /// What the holder of a share asked and was answered, and its number. Contracts see it as these.
@@ -75,7 +79,8 @@ impl<N: Names> Model for Own<N> {
 
     ghost view = { λ o. holder_of o.pass.me.0 };
 
-    ghost invariant = { λ o. (o.pass.table_id ≡ N.names.history) × (o.pass.me.0.owns ≡ true) × (o.pass.me.1 ≡ []) };
+    ghost invariant = { λ o. (o.pass.table_id ≡ N.names.history) × (o.pass.me.0.owns ≡ true)
+        × (o.pass.me.1 ≡ []) };
 }
 
 impl<N: Names> History<N> {
@@ -113,11 +118,16 @@ impl<N: Names> History<N> {
         }
     }
 
-    /// The holder of this number was answered so, as it asked for a pulse of this line, or for none.
+    /// The holder of this number was answered so, as it asked for a pulse of this line, or for
+    /// none.
     pub(crate) fn note(&mut self, own: &mut Own<N>, answer: &Answer, pulse: Option<Line>)
         ensures own { own.new ≡ with_heard (record
             { by = own.old.number; answer = answer.now; pulse = pulse } ∷ []) own.old }
-        ensures calls { self.new ≡ record self.old { calls = self.old.calls ++ record { by = own.old.number; answer = answer.now; pulse = pulse } ∷ [] } }
+        ensures calls { self.new
+            ≡ record self.old {
+              calls = self.old.calls
+                  ++ record { by = own.old.number; answer = answer.now; pulse = pulse } ∷ [];
+            } }
     {
         note(&self.book, &mut self.keeper, &mut own.pass, answer, pulse);
     }
@@ -132,7 +142,8 @@ impl<N: Names> History<N> {
     /// What the holder of this number heard is what the history has of it; and it was given out,
     /// and settled just now.
     pub(crate) fn settle(&mut self, own: Own<N>)
-        ensures settled { self.new ≡ record self.old { settled = self.old.settled ++ own.number ∷ [] } }
+        ensures settled { self.new
+            ≡ record self.old { settled = self.old.settled ++ own.number ∷ [] } }
         ensures heard { calls_by own.number self.old.calls ≡ own.heard }
         ensures given_out { own.number < self.old.given }
         ensures apart { list_any (nat_eq own.number) self.old.settled ≡ false }

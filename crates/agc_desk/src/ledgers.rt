@@ -24,7 +24,13 @@ impl<N: Names> Model for Amounts<N> {
 
     ghost Value = { Totals };
 
-    ghost view = { λ s. record { served = s.served; a1201 = s.a1201; a1202 = s.a1202; a1203 = s.a1203; restarts = s.restarts } };
+    ghost view = { λ s. record {
+      served = s.served;
+      a1201 = s.a1201;
+      a1202 = s.a1202;
+      a1203 = s.a1203;
+      restarts = s.restarts;
+    } };
 }
 
 impl<N: Names> Amounts<N> {
@@ -59,12 +65,25 @@ impl<N: Names> Model for Ledgers<N> {
     ghost Value = { Accounts };
 
     ghost view = { λ l. record {
-      total = record { served = l.served.total; a1201 = l.a1201.total; a1202 = l.a1202.total; a1203 = l.a1203.total; restarts = l.restarts.total };
+      total = record {
+        served = l.served.total;
+        a1201 = l.a1201.total;
+        a1202 = l.a1202.total;
+        a1203 = l.a1203.total;
+        restarts = l.restarts.total;
+      };
       left = l.served.left;
-      back = record { served = l.served.back; a1201 = l.a1201.back; a1202 = l.a1202.back; a1203 = l.a1203.back; restarts = l.restarts.back };
+      back = record {
+        served = l.served.back;
+        a1201 = l.a1201.back;
+        a1202 = l.a1202.back;
+        a1203 = l.a1203.back;
+        restarts = l.restarts.back;
+      };
     } };
 
-    ghost invariant = { λ l. (l.a1201.left ≡ l.served.left) × (l.a1202.left ≡ l.served.left) × (l.a1203.left ≡ l.served.left) × (l.restarts.left ≡ l.served.left) };
+    ghost invariant = { λ l. (l.a1201.left ≡ l.served.left) × (l.a1202.left ≡ l.served.left)
+        × (l.a1203.left ≡ l.served.left) × (l.restarts.left ≡ l.served.left) };
 }
 
 impl<N: Names> Ledgers<N> {

@@ -32,19 +32,18 @@ unused_number sets n e =
     let number : 1 + (n - 1) ≡ n = omega arith in
     (low, omega arith, ap (job_numbered sets) (sym number) ∙ sym (get_or-slots_from (length sets) 1 sets (n - 1) (omega arith)) ∙ at)
 
-pub Fits-new : (sets : List (Option Held)) (k : ℕ) (r : Held) → least_unused 1 (slots_of sets) ≡ Some r.number → r.area ≤ 5 → (0 < r.area → IsUnowned sets r.area) → Fits sets k r
-Fits-new sets k r e five own =
+pub Fits-new : (sets : List (Option Held)) (k : ℕ) (r : Held) → least_unused 1 (slots_of sets) ≡ Some r.number → (0 < r.area → IsUnowned sets r.area) → Fits sets k r
+Fits-new sets k r e own =
     let (low, high, unused) = unused_number sets r.number e in
     record {
       low = low;
       high = high;
       apart = λ j s ne at. None-job_numbered sets r.number unused j s at;
       own = λ j s ne at above. own above j s at;
-      five = five;
     }
 
-pub written-lawful : (sets : List (Option Held)) (k : ℕ) (r : Held) → IsLawful sets → least_unused 1 (slots_of sets) ≡ Some r.number → r.area ≤ 5 → (0 < r.area → IsUnowned sets r.area) → IsLawful (slice_set sets k (Some r))
-written-lawful sets k r lawful e five own = IsLawful-set sets k (Some r) lawful (λ s same. let is : r ≡ s = same_Some r s same in rw (← is) (Fits-new sets k r e five own))
+pub written-lawful : (sets : List (Option Held)) (k : ℕ) (r : Held) → IsLawful sets → least_unused 1 (slots_of sets) ≡ Some r.number → (0 < r.area → IsUnowned sets r.area) → IsLawful (slice_set sets k (Some r))
+written-lawful sets k r lawful e own = IsLawful-set sets k (Some r) lawful (λ s same. let is : r ≡ s = same_Some r s same in rw (← is) (Fits-new sets k r e own))
 
 -- the jobs and the places after the write
 pub written-slots : (sets : List (Option Held)) (k : ℕ) (r : Held) → k < length sets → IsFreeAt sets k → least_unused 1 (slots_of sets) ≡ Some r.number → slots_of (slice_set sets k (Some r)) ≡ with_job (slots_of sets) r.number (Some (job_of r))
@@ -84,7 +83,7 @@ Arrives-made sets k r number priority entry area standing free first e five own 
     record { standing = standing; within = free.0; free = free.1; first = first; number = ap Some is ∙ e; five = rw of_area five; own = rw of_area own; same = same }
 
 pub arrived-lawful : (sets : List (Option Held)) (k : ℕ) (r : Held) (job : Job) → Arrives sets k r job → IsLawful (slice_set sets k (Some r))
-arrived-lawful sets k r job a = written-lawful sets k r a.standing.lawful (sym a.number) a.five a.own
+arrived-lawful sets k r job a = written-lawful sets k r a.standing.lawful (sym a.number) a.own
 
 -- somebody runs: the new job stays where it came
 pub Gives-busy : (sets : List (Option Held)) (k n : ℕ) (r : Held) (job : Job) → Arrives sets k r job → running_in sets ≡ Some n → let new = slice_set sets k (Some r) in let number = least_unused 1 (slots_of sets) in Gives (establish_at number job (jobs_of sets)) (placed_new (Some r.number) (running_in new) (entries_of sets)) new (Established r.number)

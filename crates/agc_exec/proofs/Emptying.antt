@@ -11,11 +11,12 @@ use Rattle.std.proofs.lemmas.List.{get_or-set_same, get_or-set_other, get_or_pas
 use Rattle.agc_plan.specs.Jobs.{is_owned, no_jobs}
 use Rattle.agc_exec.specs.Held.{Held}
 use Rattle.agc_exec.specs.Blocks.{blocks_of}
-use Rattle.agc_exec.specs.Sets.{Holds, IsStanding, slots_from, slots_of, entries_of, running_in, job_numbered}
+use Rattle.agc_exec.specs.Sets.{Holds, IsStanding, slots_of, entries_of, running_in, job_numbered}
 use Rattle.agc_exec.specs.Image.{minus_zero, held_of, sets_of, IsLawfulWords, jobs_in, entries_in}
 use Rattle.agc_exec.proofs.Decoding.{length-sets, length-sets_of, get-sets_of, IsSized-kept}
 use Rattle.agc_exec.proofs.Finishing.{newjob_of-none, sets_kept}
 use Rattle.agc_exec.proofs.Reading.{blocks_of-kept}
+use Rattle.agc_exec.proofs.Slots.{slots_from}
 
 -- no set holds a job
 abbrev pub Empty : List (Option Held) → Type 0
@@ -57,7 +58,6 @@ empty-standing sets e = record {
     low = λ i r at. absurd (e i r at);
     high = λ i r at. absurd (e i r at);
     areas = λ i j r s at_i at_j own same. absurd (e i r at_i);
-    five = λ i r at. absurd (e i r at);
   };
   in_front = λ i r at awake. absurd (e i r at);
 }

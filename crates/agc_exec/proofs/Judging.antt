@@ -175,7 +175,6 @@ lawful_sets words all sound apart fronted =
           low = λ i r at. (job i r at).low;
           high = λ i r at. let high : r.number ≤ sets_in words = (job i r at).high in omega arith;
           areas = λ i j r s at_i at_j positive same. areas i j r s at_i at_j positive same;
-          five = λ i r at. (job i r at).coded.five;
         };
         in_front = fronted;
       };

@@ -21,7 +21,6 @@ Fits-same sets k r new lawful at number area = record {
   high = rw number (lawful.high k r at);
   apart = λ j s ne at_j same. ne (lawful.distinct j k s r at_j at (same ∙ number));
   own = λ j s ne at_j above same. ne (lawful.areas j k s r at_j at (rw same above) (same ∙ area));
-  five = rw area (lawful.five k r at);
 }
 
 pub changed-lawful : (sets : List (Option Held)) (k : ℕ) (r new : Held) → IsLawful sets → Holds sets k r → new.number ≡ r.number → new.area ≡ r.area → IsLawful (slice_set sets k (Some new))

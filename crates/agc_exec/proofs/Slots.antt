@@ -1,10 +1,15 @@
 -- The slots of the jobs that sets hold.
-use Rattle.std.proofs.Common.{◌≡◌, ◌≢◌, ℕ, zero, suc, ◌+◌, ◌-◌, ◌<◌, ◌≤◌, ◌==◌, cond, List, [], ◌∷◌, Option, Some, None, length, slice_index_or, slice_set, refl, ap, inl, inr, arith}
+use Rattle.std.proofs.Common.{◌≡◌, ◌≢◌, ℕ, zero, suc, ◌+◌, ◌-◌, ◌<◌, ◌≤◌, ◌==◌, cond, List, [], ◌∷◌, map, Option, Some, None, length, slice_index_or, slice_set, refl, ap, inl, inr, arith}
 use Rattle.std.proofs.lemmas.Bool.{cases_eq}
 use Rattle.std.proofs.lemmas.Grind.{common_steps}
 use Rattle.agc_plan.specs.Jobs.{Job}
 use Rattle.agc_exec.specs.Held.{Held}
-use Rattle.agc_exec.specs.Sets.{job_of, job_numbered, slots_from, number_in, Holds}
+use Rattle.agc_exec.specs.Sets.{job_of, job_numbered, number_in, Holds}
+use Rattle.std.specs.List.{range_with_len}
+
+-- the jobs of so many numbers, from this one on
+abbrev pub slots_from : ℕ → ℕ → List (Option Held) → List (Option Job)
+slots_from more number sets = map (job_numbered sets) (range_with_len number more)
 
 -- a number that no set has
 pub job_numbered-none : (sets : List (Option Held)) (n : ℕ) → ((i : ℕ) (r : Held) → Holds sets i r → r.number ≢ n) → job_numbered sets n ≡ None

@@ -44,7 +44,6 @@ IsLawful-swap sets k lt lawful = record {
   low = λ i r at. lawful.low (moved k i) r (Holds-swap sets k i r lt at);
   high = λ i r at. rw length-swap (lawful.high (moved k i) r (Holds-swap sets k i r lt at));
   areas = λ i j r s at_i at_j own same. moved_apart k i j (lawful.areas (moved k i) (moved k j) r s (Holds-swap sets k i r lt at_i) (Holds-swap sets k j s lt at_j) own same);
-  five = λ i r at. lawful.five (moved k i) r (Holds-swap sets k i r lt at);
 }
 
 -- the same jobs stand in both lists
@@ -97,7 +96,6 @@ pub record Fits (sets : List (Option Held)) (k : ℕ) (r : Held) : Type 0 where
   pub high : r.number ≤ length sets
   pub apart : (j : ℕ) (s : Held) → j ≢ k → Holds sets j s → s.number ≢ r.number
   pub own : (j : ℕ) (s : Held) → j ≢ k → Holds sets j s → 0 < r.area → s.area ≢ r.area
-  pub five : r.area ≤ 5
 
 -- what a set holds after a write to set k
 pub Holds-set : (sets : List (Option Held)) (k : ℕ) (v : Option Held) (j : ℕ) (s : Held) → Holds (slice_set sets k v) j s → ((j ≡ k) × (v ≡ Some s)) ⊎ ((j ≢ k) × Holds sets j s)
@@ -121,7 +119,6 @@ IsLawful-set sets k v lawful fits =
         | inl here ↦ elim (Holds-set sets k v j s at_j) [ inl there ↦ here.0 ∙ sym there.0 | inr there ↦ absurd ((fits r here.1).own j s there.0 there.1 own (sym same)) ]
         | inr here ↦ elim (Holds-set sets k v j s at_j) [ inl there ↦ absurd ((fits s there.1).own i r here.0 here.1 (omega arith) same) | inr there ↦ lawful.areas i j r s here.1 there.1 own same ]
       ];
-      five = λ i r at. elim (Holds-set sets k v i r at) [ inl here ↦ (fits r here.1).five | inr here ↦ lawful.five i r here.1 ];
     }
 
 -- the job of set k was removed

@@ -6,7 +6,8 @@ use Rattle.agc_word.proofs.Keeping.{kept_twice}
 use Rattle.agc_exec.proofs.Finishing.{sets_kept}
 use Rattle.agc_exec.specs.Calls.{fronted_blocks, front_block, urgent_block, blocks_changed, Does}
 use Rattle.agc_plan.specs.declared.reply.Reply.{Reply}
-use Rattle.agc_plan.specs.Jobs.{prio, change, with_priority, with_running}
+use Rattle.agc_plan.specs.Jobs.{prio, change, with_priority}
+use Rattle.agc_plan.proofs.Running.{with_running, prio_is}
 use Rattle.agc_plan.specs.Places.{fronted}
 use Rattle.agc_exec.specs.Held.{Held}
 use Rattle.agc_exec.specs.Blocks.{block_in, blocks_of}
@@ -78,7 +79,7 @@ Does-prio old mid words new job q reply lawful runs t others renewed does =
     let ran : running_in (sets_of old) ≡ Some job.number = running_in-awake (sets_of old) job runs.0 runs.1 in
     record {
       lawful = does.lawful;
-      outcome_is = does.outcome_is ∙ ap change jobs;
+      outcome_is = does.outcome_is ∙ ap change jobs ∙ sym (prio_is q (jobs_in old));
       placed = does.placed ∙ ap (fronted (running_in (sets_of new))) entries;
       words = rw (ran, front_is old lawful.sets.sized) (does.words ∙ ap (λ es. fronted_blocks (running_in (sets_of new)) es (blocks_of words)) entries ∙ ap (fronted_blocks (running_in (sets_of new)) (entries_in old)) blocks);
       tidy = λ tidy. does.tidy (rw blocks (Each-set IsTidyBlock (blocks_of old) 0 (urgent_block q (block_in old 0)) tidy (tidy-kept old 0 job (urgent_block q (block_in old 0)) lawful.sets runs.0 (urgent-same old 0 q) tidy)));

@@ -2,7 +2,8 @@
 use Rattle.std.proofs.Common.{◌≡◌, ℕ, true, false, nat_lt, List, Option, Some, None, length, slice_set, swap, refl, ap, subst, sym, ◌∙◌}
 use Rattle.agc_exec.specs.Stages.{Gives, BringsBest, GivesWay, IsBestBelow}
 use Rattle.std.proofs.lemmas.List.{get_or-set_same}
-use Rattle.agc_plan.specs.Jobs.{Job, Jobs, job_in, with_job, best, best_from, change, prio, with_priority, with_running, store, with_word}
+use Rattle.agc_plan.specs.Jobs.{Job, Jobs, job_in, with_job, best, best_from, change, Outcome, prio, with_priority, store, with_word}
+use Rattle.agc_plan.proofs.Running.{with_running, prio_is, store_is}
 use Rattle.agc_plan.specs.Places.{place_of, fronted}
 use Rattle.agc_plan.specs.declared.reply.Reply.{Reply}
 use Rattle.agc_plan.specs.declared.reply.Reply.TheVariants.{Runs, Stored}
@@ -74,7 +75,7 @@ pub Gives-prio : (sets new : List (Option Held)) (r changed : Held) (priority : 
 Gives-prio sets new r changed priority reply standing at awake number job gives =
     let awake' : changed.asleep ≡ false = ap (λ j. j.asleep) job ∙ awake in
     let P : Jobs → Type 0 = λ j. Gives (change j) (fronted (running_in new) (entries_of sets)) new reply in
-    subst P (jobs_of-changed sets r changed (with_priority priority) standing at awake number job awake') (rw (changed-entries sets 0 r changed at number) at gives)
+    subst (λ (o : Outcome). Gives o (fronted (running_in new) (entries_of sets)) new reply) (sym (prio_is priority (jobs_of sets))) (subst P (jobs_of-changed sets r changed (with_priority priority) standing at awake number job awake') (rw (changed-entries sets 0 r changed at number) at gives))
 
 pub Gives-store : (sets : List (Option Held)) (r changed : Held) (place word : ℕ) → IsStanding sets → Holds sets 0 r → r.asleep ≡ false → changed.number ≡ r.number → job_of changed ≡ with_word place word (job_of r) → Gives (store place word (jobs_of sets)) (entries_of sets) (slice_set sets 0 (Some changed)) Stored
 Gives-store sets r changed place word standing at awake number job =
@@ -83,6 +84,6 @@ Gives-store sets r changed place word standing at awake number job =
     let ran : running_in sets ≡ Some r.number = running_in-awake sets r at awake in
     record {
       standing = changed-standing sets r changed standing at number area awake';
-      outcome_is = rw (jobs_of-changed sets r changed (with_word place word) standing at awake number job awake', ran);
+      outcome_is = rw (store_is place word (jobs_of sets), jobs_of-changed sets r changed (with_word place word) standing at awake number job awake', ran);
       entries_is = changed-entries sets 0 r changed at number;
     }

@@ -1,6 +1,7 @@
 -- Core sets, seen as a plain list of jobs and their places.
-use Rattle.std.specs.Prelude.{◌≡◌, ℕ, zero, suc, ◌+◌, ◌<◌, ◌≤◌, ◌==◌, false, if◌then◌else◌, List}
+use Rattle.std.specs.Prelude.{◌≡◌, ℕ, ◌<◌, ◌≤◌, ◌==◌, false, if◌then◌else◌, List}
 use Rattle.std.specs.Prelude.{[], ◌∷◌, Option, Some, None, map, length, slice_index_or}
+use Rattle.std.specs.List.{range_with_len}
 use Rattle.agc_plan.specs.Jobs.{Job, Jobs}
 use Rattle.agc_exec.specs.Held.{Held}
 
@@ -22,14 +23,9 @@ job_numbered (None ∷ sets) number = job_numbered sets number
 job_numbered (Some r ∷ sets) number =
     if r.number == number then Some (job_of r) else job_numbered sets number
 
--- the jobs of so many numbers, from this one on
-abbrev pub slots_from : ℕ → ℕ → List (Option Held) → List (Option Job)
-slots_from zero number sets = []
-slots_from (suc more) number sets = job_numbered sets number ∷ slots_from more (number + 1) sets
-
 -- the jobs by number, with as many numbers as sets
 abbrev pub slots_of : List (Option Held) → List (Option Job)
-slots_of sets = slots_from (length sets) 1 sets
+slots_of sets = map (job_numbered sets) (range_with_len 1 (length sets))
 
 -- the number of a set's job, 0 for none
 abbrev pub number_in : Option Held → ℕ
@@ -66,7 +62,6 @@ pub record IsLawful (sets : List (Option Held)) : Type 0 where
   pub high : (i : ℕ) (r : Held) → Holds sets i r → r.number ≤ length sets
   pub areas : (i j : ℕ) (r s : Held) → Holds sets i r → Holds sets j s → 0 < r.area
       → r.area ≡ s.area → i ≡ j
-  pub five : (i : ℕ) (r : Held) → Holds sets i r → r.area ≤ 5
 
 -- where anybody is awake, the job in set 0 is
 abbrev pub IsFronted : List (Option Held) → Type 0

@@ -1,6 +1,7 @@
 -- The accounts of lines: what contracts see of them, what their type keeps, and how calls change
 -- them.
-use Rattle.std.specs.Prelude.{◌≡◌, ◌≢◌, ℕ, ◌+◌, ◌*◌, ◌≤◌, List, length, sum_by, Option, Some, None, IfSome}
+use Rattle.std.specs.Prelude.{◌≡◌, ◌≢◌, ℕ, ◌+◌, ◌*◌, ◌≤◌, List, length, sum_by, Option, Some, None}
+use Rattle.std.specs.Prelude.{IfSome}
 use Rattle.atomic_table.specs.Seated.{TableId}
 use Rattle.agc_latch.specs.declared.line.Line.{Line}
 use Rattle.agc_latch.specs.Lines.{on, zeros}

@@ -1,11 +1,13 @@
 -- What the line account says of each kind of step.
-use Rattle.std.specs.Prelude.{◌≡◌, ◌≢◌, ℕ, ◌+◌, ◌*◌, ◌<◌, ◌≤◌, List, [], ◌∷◌, ◌++◌, slice_index, slice_set, sum}
+use Rattle.std.specs.Prelude.{◌≡◌, ◌≢◌, ℕ, ◌+◌, ◌*◌, ◌<◌, ◌≤◌, List, [], ◌∷◌, ◌++◌, slice_index}
+use Rattle.std.specs.Prelude.{slice_set, sum}
 use mathlib.Core.Option.{some}
 use lib.ListN.{get_elem?}
 use Rattle.agc_latch.specs.declared.views.View.{View}
 use Rattle.agc_latch.specs.declared.views.Role.TheVariants.{Takes, Posts}
 use Rattle.agc_latch.specs.Account.{LineAccount, total, posted_at, taken_at}
-use Rattle.agc_latch.specs.Steps.{after_post, after_take, after_split, after_join, device_view, spent_view}
+use Rattle.agc_latch.specs.Steps.{after_post, after_take, after_split, after_join, device_view}
+use Rattle.agc_latch.specs.Steps.{spent_view}
 
 -- a device that has posted less than 4,294,967,295 pulses posts one on line i: the word grows by 1
 abbrev pub PostKeeps : Type 0

@@ -11,11 +11,25 @@ Seated = Me (Unit {0}) View
 
 -- a new device's view
 abbrev pub device_view : View
-device_view = record { role = Posts; posted = zeros; taken = zeros; takes = zeros; seats = 1; given = 0 }
+device_view = record {
+  role = Posts;
+  posted = zeros;
+  taken = zeros;
+  takes = zeros;
+  seats = 1;
+  given = 0;
+}
 
 -- the view of a device that came back
 abbrev pub spent_view : View
-spent_view = record { role = Spent; posted = zeros; taken = zeros; takes = zeros; seats = 0; given = 0 }
+spent_view = record {
+  role = Spent;
+  posted = zeros;
+  taken = zeros;
+  takes = zeros;
+  seats = 0;
+  given = 0;
+}
 
 -- post: one more pulse on line i
 abbrev pub after_post : ℕ → View → View

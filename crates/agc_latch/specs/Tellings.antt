@@ -12,7 +12,14 @@ Accounted s = LineAccount s.words s.views
 
 -- the taker's view when the latch is made
 abbrev pub first_view : View
-first_view = record { role = Takes; posted = zeros; taken = zeros; takes = zeros; seats = 0; given = 0 }
+first_view = record {
+  role = Takes;
+  posted = zeros;
+  taken = zeros;
+  takes = zeros;
+  seats = 0;
+  given = 0;
+}
 
 -- what a post tells: the device's count of this line grew by 1
 abbrev pub Posted : Step (Unit {0}) → Seated → ℕ → Seated → Type 0

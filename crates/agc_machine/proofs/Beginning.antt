@@ -2,9 +2,10 @@
 use Rattle.std.proofs.Common.{◌≡◌, ℕ, ◌+◌, ◌-◌, ◌/◌, ◌<◌, List, ◌∷◌, Option, length, drop, get_or, replicate, add-one, drop-cons, refl, ap, sym, ◌∙◌}
 use Rattle.agc_word.specs.Layout.{sets_in, others_size, set_size}
 use Rattle.agc_plan.specs.Begins.{Begins}
-use Rattle.agc_plan.specs.Eras.{Work, no_work, active, begun_from, group_begun}
+use Rattle.agc_plan.specs.Eras.{Work, no_work, active}
+use Rattle.agc_plan.specs.Groups.{begun_from, group_begun, places_from}
 use Rattle.agc_plan.specs.Jobs.{no_jobs}
-use Rattle.agc_plan.specs.Seats.{no_places, places_from}
+use Rattle.agc_plan.specs.Seats.{no_places}
 use Rattle.agc_exec.specs.Calls as cores
 use Rattle.agc_exec.proofs.Decoding.{IsSized-kept}
 use Rattle.agc_exec.proofs.Agreeing.{kept_by_waitlist, jobs_in-agrees, entries_in-agrees, IsTidy-agrees, IsLawfulWords-agrees}

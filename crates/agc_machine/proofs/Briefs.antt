@@ -59,8 +59,12 @@ change_by (Some number) slots = tt
 pub brief_change : (jobs : Jobs) → IsBrief (plain.change jobs).reply
 brief_change jobs = change_by jobs.running jobs.slots
 
+prio_by : (priority : ℕ) (running : Option ℕ) (slots : List (Option Job)) → IsBrief (plain.prio priority (record { slots = slots; running = running })).reply
+prio_by priority None slots = tt
+prio_by priority (Some number) slots = tt
+
 pub brief_prio : (priority : ℕ) (jobs : Jobs) → IsBrief (plain.prio priority jobs).reply
-brief_prio priority jobs = brief_change _
+brief_prio priority jobs = prio_by priority jobs.running jobs.slots
 
 store_by : (place word : ℕ) (running : Option ℕ) (slots : List (Option Job)) → IsBrief (plain.store place word (record { slots = slots; running = running })).reply
 store_by place word None slots = tt

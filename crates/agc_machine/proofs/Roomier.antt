@@ -4,11 +4,11 @@ use Rattle.std.proofs.lemmas.List.{length-append, map-append}
 use Rattle.agc_plan.specs.Jobs.{Job, is_owned}
 use Rattle.agc_exec.specs.Held.{Held}
 use Rattle.agc_exec.specs.Image.{newjob_of}
-use Rattle.agc_exec.specs.Sets.{job_of, job_numbered, slots_from, slots_of, number_in, entries_of, running_in, jobs_of, Holds, IsLawful, IsStanding}
+use Rattle.agc_exec.specs.Sets.{job_of, job_numbered, slots_of, number_in, entries_of, running_in, jobs_of, Holds, IsLawful, IsStanding}
 use Rattle.agc_exec.specs.Stages.{IsBestBelow, BestBelow}
 use Rattle.agc_exec.proofs.Finishing.{newjob_of-none, newjob_of-best}
 use Rattle.agc_exec.proofs.Named.{best_exists}
-use Rattle.agc_exec.proofs.Slots.{job_numbered-none, slots_from-same}
+use Rattle.agc_exec.proofs.Slots.{job_numbered-none, slots_from, slots_from-same}
 use Rattle.agc_exec.proofs.Swaps.{Holds-within}
 use Rattle.agc_machine.specs.Migration.{roomier}
 
@@ -70,7 +70,6 @@ IsLawful-roomier sets lawful = record {
       let long : length (sets ++ None ∷ []) ≡ suc (length sets) = length-roomier sets in
       omega arith;
   areas = λ i j r s at_i at_j positive same. lawful.areas i j r s (held_before sets i r at_i) (held_before sets j s at_j) positive same;
-  five = λ i r at. lawful.five i r (held_before sets i r at);
 }
 
 pub IsStanding-roomier : (sets : List (Option Held)) → IsStanding sets → IsStanding (sets ++ None ∷ [])

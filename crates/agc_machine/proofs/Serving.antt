@@ -11,7 +11,7 @@ use Rattle.agc_plan.specs.declared.reply.Reply.TheVariants.{Alarmed, Ticked, Res
 use Rattle.agc_plan.specs.declared.request.Request.{Request}
 use Rattle.agc_plan.specs.declared.request.Request.TheVariants.{Restart, Fresh}
 use Rattle.agc_word.specs.Layout.{sets_in}
-use Rattle.agc_plan.specs.Plans.{Written, Planned, planned_with, fault_of}
+use Rattle.agc_plan.specs.Plans.{Written, Planned, planned_with}
 use Rattle.agc_plan.specs.Base.{Base}
 use Rattle.agc_plan.specs.Seats.{Placed, placed, placed_step, places_after, era_places}
 use Rattle.agc_machine.specs.declared.totals.Totals.{Totals}
@@ -129,14 +129,14 @@ kept_by true m asked now l unspent based short begun goes =
     let one : (reply_told now.reply).served ≡ 1 = t.one in
     let few : (reply_told now.reply).restarts ≤ 1 = t.few in
     let most : (reply_told now.reply).a1201 + (reply_told now.reply).a1202 + (reply_told now.reply).a1203 ≤ (reply_told now.reply).restarts = t.alarms in
-    (record { accepted = l.accepted; base = based; least = l.least; short = omega arith; most = l.most; allowed = omega arith; fits = l.fits; restarts = omega arith; alarms = omega arith }, begun refl)
+    (record { base = based; least = l.least; short = omega arith; most = l.most; allowed = omega arith; fits = l.fits; restarts = omega arith; alarms = omega arith }, begun refl)
 kept_by false m asked now l unspent based short begun goes =
     let t : Tells (reply_told now.reply) = tells now.reply in
     let one : (reply_told now.reply).served ≡ 1 = t.one in
     let few : (reply_told now.reply).restarts ≤ 1 = t.few in
     let most : (reply_told now.reply).a1201 + (reply_told now.reply).a1202 + (reply_told now.reply).a1203 ≤ (reply_told now.reply).restarts = t.alarms in
     let left : length m.log < m.limit = short refl in
-    (record { accepted = l.accepted; base = l.base; least = l.least; short = rw length-append (omega arith); most = l.most; allowed = omega arith; fits = l.fits; restarts = omega arith; alarms = omega arith }, goes)
+    (record { base = l.base; least = l.least; short = rw length-append (omega arith); most = l.most; allowed = omega arith; fits = l.fits; restarts = omega arith; alarms = omega arith }, goes)
 
 places_by : (over : Bool) (m : Machined) (asked : Request) (now : Stepped) (places : List ℕ) → (over ≡ true → places ≡ era_places m.plan now.plain.base) → places ≡ (placed m.plan m.base (m.log ++ asked ∷ [])).places → places ≡ places_of (served_by over now asked m)
 places_by true m asked now places begun goes = begun refl
@@ -213,14 +213,14 @@ kept_stored m asked words reply room over base log totals lawful reserved e sets
     (subst (λ (x : Machined). IsKept x words room) (sym here) (kept_served m asked words reply room lawful reserved e sets ready steps), here)
 
 -- what is kept where an era has just begun
-pub kept_begun : (plan : Planned) (limit allowance : ℕ) (base : Base) (log : List Request) (totals : Totals) (start words : List ℕ) (room : ℕ) → fault_of plan.rows plan.entries ≡ None → 1 ≤ limit → limit ≤ 1000000 → room ≡ limit → allowance < 2 ^ 64 → log ≡ [] → totals ≡ nothing → phases.IsLawfulTable start → base ≡ base_of start → plan.sets ≡ sets_in start → BeginsEra plan start words → IsKept (record { plan = plan; limit = limit; allowance = allowance; base = base; log = log; totals = totals }) words room
-kept_begun plan limit allowance base log totals start words room accepted least most reserved fits empty zero_is lawful base_is sets begins_era =
+pub kept_begun : (plan : Planned) (limit allowance : ℕ) (base : Base) (log : List Request) (totals : Totals) (start words : List ℕ) (room : ℕ) → 1 ≤ limit → limit ≤ 1000000 → room ≡ limit → allowance < 2 ^ 64 → log ≡ [] → totals ≡ nothing → phases.IsLawfulTable start → base ≡ base_of start → plan.sets ≡ sets_in start → BeginsEra plan start words → IsKept (record { plan = plan; limit = limit; allowance = allowance; base = base; log = log; totals = totals }) words room
+kept_begun plan limit allowance base log totals start words room least most reserved fits empty zero_is lawful base_is sets begins_era =
     subst (λ (b : Base). IsKept (record { plan = plan; limit = limit; allowance = allowance; base = b; log = log; totals = totals }) words room) (sym base_is)
     (subst (λ (l : List Request). IsKept (record { plan = plan; limit = limit; allowance = allowance; base = base_of start; log = l; totals = totals }) words room) (sym empty)
     (subst (λ (t : Totals). IsKept (record { plan = plan; limit = limit; allowance = allowance; base = base_of start; log = []; totals = t }) words room) (sym zero_is)
     (let m : Machined = record { plan = plan; limit = limit; allowance = allowance; base = base_of start; log = []; totals = nothing } in
     record {
-      image = image_of m words (record { accepted = accepted; base = IsLawfulBase-read start lawful; least = least; short = omega arith; most = most; allowed = omega arith; fits = fits; restarts = omega arith; alarms = omega arith }) (ap (λ (n : ℕ). (n - 48) / 12) begins_era.same_length ∙ sym sets) begins_era.ready (record { work = begins_era.stands; base_is = sym begins_era.same_base });
+      image = image_of m words (record { base = IsLawfulBase-read start lawful; least = least; short = omega arith; most = most; allowed = omega arith; fits = fits; restarts = omega arith; alarms = omega arith }) (ap (λ (n : ℕ). (n - 48) / 12) begins_era.same_length ∙ sym sets) begins_era.ready (record { work = begins_era.stands; base_is = sym begins_era.same_base });
       reserved = reserved;
     })))
 

@@ -2,7 +2,7 @@
 use Rattle.std.proofs.Common.{◌≡◌, ℕ, true, false, List, refl, ap, sym, ◌∙◌, subst}
 use Rattle.agc_plan.specs.declared.reply.Reply.{Reply}
 use Rattle.agc_plan.specs.declared.request.Request.{Request}
-use Rattle.agc_plan.specs.Eras.{begun}
+use Rattle.agc_plan.specs.Steps.{begun}
 use Rattle.agc_plan.specs.Plans.{Planned}
 use Rattle.agc_plan.specs.Seats.{places_acted, places_after, era_places}
 use Rattle.agc_plan.specs.Steps.{Plain, acted, step, begins, base_after, era}

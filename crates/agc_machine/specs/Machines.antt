@@ -1,12 +1,15 @@
 -- The machine's step over base, log and totals.
-use Rattle.std.specs.Prelude.{◌≡◌, ℕ, ◌+◌, ◌≤◌, ◌<◌, ◌^◌, ◌==◌, ◌&&◌, Bool, true, false, not, if◌then◌else◌, List, [], ◌∷◌, ◌++◌, length, replicate, Option, Some, None, Result, Ok, Err}
+use Rattle.std.specs.Prelude.{ℕ, ◌+◌, ◌≤◌, ◌<◌, ◌^◌, ◌==◌, ◌&&◌, Bool, true, false, not}
+use Rattle.std.specs.Prelude.{if◌then◌else◌, List, [], ◌∷◌, ◌++◌, length, replicate, Option, Some}
+use Rattle.std.specs.Prelude.{None, Result, Ok, Err}
 use Rattle.std.specs.List.{fold}
+use Rattle.std.specs.Option.{option_map_or}
 use Rattle.agc_plan.specs.declared.request.Request.{Request}
 use Rattle.agc_plan.specs.declared.request.Request.TheVariants.{Restart, Fresh}
 use Rattle.agc_plan.specs.declared.reply.Reply.{Reply}
 use Rattle.agc_plan.specs.declared.reply.Code.TheVariants.{C1107}
 use Rattle.agc_plan.specs.Base.{Base, fresh_base, with_code}
-use Rattle.agc_plan.specs.Plans.{Planned, fault_of}
+use Rattle.agc_plan.specs.Plans.{Planned}
 use Rattle.agc_plan.specs.Seats.{placed}
 use Rattle.agc_plan.specs.Steps.{Plain, Stepped, step, reached, begins}
 use Rattle.agc_phase.specs.Image.{phases_in, IsLawfulBase}
@@ -15,8 +18,8 @@ use Rattle.agc_machine.specs.declared.answer.Refusal.TheVariants.{Spent, LogFull
 use Rattle.agc_machine.specs.declared.totals.Totals.{Totals}
 use Rattle.agc_machine.specs.Told.{add, reply_told, nothing}
 
--- a machine: its plan and its number of core sets, limit and allowance, with what the last era began, the requests stored
--- since, and the totals
+-- a machine: its plan and its number of core sets, limit and allowance, with what the last era
+-- began, the requests stored since, and the totals
 pub record Machined : Type 0 where
   pub plan : Planned
   pub limit : ℕ
@@ -33,9 +36,8 @@ plain_of m = reached m.plan m.base m.log
 abbrev pub places_of : Machined → List ℕ
 places_of m = (placed m.plan m.base m.log).places
 
--- what holds of every machine
+-- what holds of every machine; that its plan has no fault, the type of plans keeps
 pub record IsLawful (m : Machined) : Type 0 where
-  pub accepted : fault_of m.plan.rows m.plan.entries ≡ None
   pub base : IsLawfulBase m.base
   pub least : 1 ≤ m.limit
   pub short : length m.log ≤ m.limit
@@ -62,9 +64,9 @@ refusal_of m asked =
     else if (length m.log == m.limit) && not (starts_over asked) then Some LogFull
     else None
 
+-- a refusal, if there is one, else the reply
 abbrev pub result_of : Option Refusal → Reply → Result Reply Refusal
-result_of None reply = Ok reply
-result_of (Some refusal) reply = Err refusal
+result_of refusal reply = option_map_or Err refusal (Ok reply)
 
 -- what the request is answered
 abbrev pub answer_of : Machined → Request → Result Reply Refusal
@@ -73,22 +75,15 @@ answer_of m asked = result_of (refusal_of m asked) (stepped m asked).reply
 -- the machine after a request that is served: an era began with what is now the base, or the
 -- request is stored
 abbrev pub served : Stepped → Request → Machined → Machined
-served now asked m = record {
-  plan = m.plan;
-  limit = m.limit;
-  allowance = m.allowance;
+served now asked m = record m {
   base = if begins now.reply then now.plain.base else m.base;
   log = if begins now.reply then [] else m.log ++ asked ∷ [];
   totals = add m.totals (reply_told now.reply);
 }
 
-abbrev pub after_unless : Option Refusal → Machined → Request → Machined
-after_unless (Some refusal) m asked = m
-after_unless None m asked = served (stepped m asked) asked m
-
 -- the machine after a request: a refused one changes nothing
 abbrev pub after : Machined → Request → Machined
-after m asked = after_unless (refusal_of m asked) m asked
+after m asked = option_map_or (λ refusal. m) (refusal_of m asked) (served (stepped m asked) asked m)
 
 -- the machine after all of these requests, in order
 unfoldable pub after_all : Machined → List Request → Machined

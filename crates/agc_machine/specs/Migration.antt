@@ -17,8 +17,9 @@ roomier jobs = record jobs { slots = jobs.slots ++ None ∷ [] }
 abbrev pub with_roomier : Plain → Plain
 with_roomier plain = record plain { work = record plain.work { jobs = roomier plain.work.jobs } }
 
--- the old words are kept, and an eighth core set stands behind them, free; the new words are lawful,
--- and stand for each plain state for which the old ones do, with each job in the set that it had
+-- the old words are kept, and an eighth core set stands behind them, free; the new words are
+-- lawful, and stand for each plain state for which the old ones do, with each job in the set that
+-- it had
 pub record Migrates (old new : List ℕ) : Type 0 where
   pub words : new ≡ old ++ free_set
   pub lawful : IsLawfulImage new

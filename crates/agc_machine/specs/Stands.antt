@@ -1,5 +1,6 @@
 -- For the proofs: how the words stand for plain lists, and what the private functions do to both.
 use Rattle.std.specs.Prelude.{⊤, ◌≡◌, ℕ, List, [], length, Option, Some, None}
+use Rattle.std.specs.Option.{option_map_or}
 use Rattle.agc_word.specs.Layout.{IsSized}
 use Rattle.agc_plan.specs.declared.reply.Alarm.{Alarm}
 use Rattle.agc_plan.specs.declared.reply.Reply.{Reply}
@@ -10,10 +11,14 @@ use Rattle.agc_plan.specs.declared.request.Request.{Request}
 use Rattle.agc_plan.specs.declared.request.Task.{Task}
 use Rattle.agc_plan.specs.Base.{Base, with_code}
 use Rattle.agc_plan.specs.Begins.{Begins}
-use Rattle.agc_plan.specs.Eras.{Work, begun, no_work, jobs_begun, agenda_begun}
+use Rattle.agc_plan.specs.Eras.{Work, no_work}
+use Rattle.agc_plan.specs.Groups.{started, jobs_begun, agenda_begun, begun_from, places_begun}
+use Rattle.agc_plan.specs.Groups.{places_from}
 use Rattle.agc_plan.specs.Plans.{Planned}
-use Rattle.agc_plan.specs.Seats.{Seated, no_places, places_from, seated_action, seated_fired, places_begun, job_of_entry, places_acted, places_after, era_places}
-use Rattle.agc_plan.specs.Steps.{Plain, Stepped, Acted, done, acted, step, code_of, fire_all, tick_fires}
+use Rattle.agc_plan.specs.Seats.{Seated, no_places, seated_action, seated_fired, seated_new}
+use Rattle.agc_plan.specs.Seats.{places_acted, places_after, era_places}
+use Rattle.agc_plan.specs.Steps.{Plain, Stepped, Acted, done, begun, acted, step, code_of, fire_all}
+use Rattle.agc_plan.specs.Steps.{tick_fires}
 use Rattle.agc_plan.specs.Tasks as tasks
 use Rattle.agc_exec.specs.Image.{jobs_in, entries_in}
 use Rattle.agc_exec.specs.Image as cores
@@ -50,20 +55,24 @@ pub record StandsFor (words : List ℕ) (plain : Plain) (places : List ℕ) : Ty
 
 -- jobs and tasks change: whatever the old words stand for, the new ones stand for this change of
 -- it, and are sound; phases and codes stay
-pub record Changes (change : Work → Work) (seat : Work → List ℕ → List ℕ) (old new : List ℕ) : Type 0 where
+pub record Changes (change : Work → Work) (seat : Work → List ℕ → List ℕ) (old new : List ℕ) : Type
+    0 where
   pub sound : IsSound new
   pub same_length : length new ≡ length old
   pub same_base : base_of new ≡ base_of old
-  pub stands : (work : Work) (places : List ℕ) → Stands old work places → Stands new (change work) (seat work places)
+  pub stands : (work : Work) (places : List ℕ) → Stands old work places
+      → Stands new (change work) (seat work places)
 
 -- as many tasks are due as before
 abbrev pub SameDue : List ℕ → List ℕ → Type 0
 SameDue old new = due_now (waits_of new) ≡ due_now (waits_of old)
 
 -- jobs and tasks change by a request, with this reply
-pub record Works (change : Work → Acted) (seat : Work → List ℕ → List ℕ) (old : List ℕ) (reply : Reply) (new : List ℕ) : Type 0 where
+pub record Works (change : Work → Acted) (seat : Work → List ℕ → List ℕ) (old : List ℕ)
+    (reply : Reply) (new : List ℕ) : Type 0 where
   pub changes : Changes (λ work. (change work).work) seat old new
-  pub reply_is : (work : Work) (places : List ℕ) → Stands old work places → reply ≡ (change work).reply
+  pub reply_is : (work : Work) (places : List ℕ) → Stands old work places → reply
+      ≡ (change work).reply
 
 -- every job stays in its core set
 abbrev pub same_places : Work → List ℕ → List ℕ
@@ -78,20 +87,25 @@ abbrev pub places_done : Action → Work → List ℕ → List ℕ
 places_done action work places = (seated_action action (seated_in work places)).places
 
 -- an action of the plan is done, with this alarm
-pub record Performs (action : Action) (old : List ℕ) (alarm : Option Alarm) (new : List ℕ) : Type 0 where
-  pub changes : Changes (λ work. (done action work).work) (places_done action) old new
-  pub alarm_is : (work : Work) (places : List ℕ) → Stands old work places → alarm ≡ (done action work).alarm
-  pub same_due : SameDue old new
+pub record Performs (action : Action) (old : List ℕ) (alarm : Option Alarm) (new : List ℕ) : Type 0
+  where
+    pub changes : Changes (λ work. (done action work).work) (places_done action) old new
+    pub alarm_is : (work : Work) (places : List ℕ) → Stands old work places → alarm
+        ≡ (done action work).alarm
+    pub same_due : SameDue old new
 
 -- the core sets after the actions of these tasks
 abbrev pub places_fired : List (Task × Action) → List Task → Work → List ℕ → List ℕ
 places_fired rows fired work places = (seated_fired rows (seated_in work places) fired).places
 
 -- what is due fires, until an action raises an alarm
-pub record FiresDue (rows : List (Task × Action)) (old : List ℕ) (fired : List Task) (alarm : Option Alarm) (new : List ℕ) : Type 0 where
+pub record FiresDue (rows : List (Task × Action)) (old : List ℕ) (fired : List Task)
+    (alarm : Option Alarm) (new : List ℕ) : Type 0 where
   pub changes : Changes (λ work. (fire_all rows work []).work) (places_fired rows fired) old new
-  pub fired_is : (work : Work) (places : List ℕ) → Stands old work places → fired ≡ (fire_all rows work []).fired
-  pub alarm_is : (work : Work) (places : List ℕ) → Stands old work places → alarm ≡ (fire_all rows work []).alarm
+  pub fired_is : (work : Work) (places : List ℕ) → Stands old work places → fired
+      ≡ (fire_all rows work []).fired
+  pub alarm_is : (work : Work) (places : List ℕ) → Stands old work places → alarm
+      ≡ (fire_all rows work []).alarm
   pub none_due : alarm ≡ None → due_now (waits_of new) ≡ 0
 
 -- the core sets after a tick
@@ -104,7 +118,8 @@ with_job job work = record work { jobs = jobs_begun job work.jobs }
 
 -- and comes to the first free set
 abbrev pub places_with_job : Option JobStart → Work → List ℕ → List ℕ
-places_with_job job work places = places_begun job work.jobs places
+places_with_job job work places =
+    option_map_or (λ job. (seated_new (started job work.jobs) places).places) job places
 
 -- a phase's task is listed, if it has one
 abbrev pub with_task : Option (ℕ × Task) → Work → Work
@@ -112,7 +127,7 @@ with_task task work = record work { agenda = agenda_begun task work.agenda }
 
 -- the core sets after a group began
 abbrev pub places_group : Option Begins → Work → List ℕ → List ℕ
-places_group entry work places = places_begun (job_of_entry entry) work.jobs places
+places_group entry work places = places_begun entry work.jobs places
 
 -- the six groups begin, in order, with these phases, where nobody lived and nothing waited
 pub record BeginsGroups (plan : Planned) (phases : List ℕ) (old new : List ℕ) : Type 0 where
@@ -120,7 +135,8 @@ pub record BeginsGroups (plan : Planned) (phases : List ℕ) (old new : List ℕ
   pub same_length : length new ≡ length old
   pub same_base : base_of new ≡ base_of old
   pub same_due : SameDue old new
-  pub stands : Stands new (begun plan phases) (places_from plan.entries 1 phases (no_work plan.sets) (no_places plan.sets))
+  pub stands : Stands new (begun_from plan.entries 1 phases (no_work plan.sets))
+      (places_from plan.entries 1 phases (no_work plan.sets) (no_places plan.sets))
 
 -- an era begins with the phases in the words: all jobs and tasks are gone but those of the plan's
 -- entries
@@ -143,21 +159,26 @@ pub record BeginsAfter (plan : Planned) (alarm : Option Alarm) (old new : List �
   pub stands : Stands new (begun plan (base_of new).phases) (era_places plan (base_of new))
 
 -- after a request, and with its reply
-pub record Steps (words : List ℕ) (reply : Reply) (stepped : Stepped) (places : List ℕ) : Type 0 where
-  pub state : StandsFor words stepped.plain places
-  pub reply_is : reply ≡ stepped.reply
+pub record Steps (words : List ℕ) (reply : Reply) (stepped : Stepped) (places : List ℕ) : Type 0
+  where
+    pub state : StandsFor words stepped.plain places
+    pub reply_is : reply ≡ stepped.reply
 
 -- what a request does, before an era begins with it
-pub record Acts (plan : Planned) (asked : Request) (old : List ℕ) (reply : Reply) (new : List ℕ) : Type 0 where
+pub record Acts (plan : Planned) (asked : Request) (old : List ℕ) (reply : Reply) (new : List ℕ)
+    : Type 0 where
   pub sound : IsSound new
   pub same_length : length new ≡ length old
-  pub steps : (plain : Plain) (places : List ℕ) → StandsFor old plain places → Steps new reply (acted plan asked plain) (places_acted plan asked plain places)
+  pub steps : (plain : Plain) (places : List ℕ) → StandsFor old plain places
+      → Steps new reply (acted plan asked plain) (places_acted plan asked plain places)
 
 -- one step: what the request does, and the beginning of an era, if one begins with it
-pub record StepsTo (plan : Planned) (asked : Request) (old : List ℕ) (reply : Reply) (new : List ℕ) : Type 0 where
+pub record StepsTo (plan : Planned) (asked : Request) (old : List ℕ) (reply : Reply) (new : List ℕ)
+    : Type 0 where
   pub ready : IsReady new
   pub same_length : length new ≡ length old
-  pub steps : (plain : Plain) (places : List ℕ) → StandsFor old plain places → Steps new reply (step plan asked plain) (places_after plan asked plain places)
+  pub steps : (plain : Plain) (places : List ℕ) → StandsFor old plain places
+      → Steps new reply (step plan asked plain) (places_after plan asked plain places)
 
 -- every reply but a tick's
 abbrev pub IsBrief : Reply → Type 0

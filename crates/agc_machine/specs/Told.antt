@@ -1,9 +1,11 @@
 -- What an answer tells of the totals.
-use Rattle.std.specs.Prelude.{◌+◌, Some, Result, Ok, Err}
+use Rattle.std.specs.Prelude.{◌+◌, Result, Ok, Err}
+use Rattle.std.specs.Option.{option_map_or}
 use Rattle.agc_plan.specs.declared.reply.Alarm.{Alarm}
 use Rattle.agc_plan.specs.declared.reply.Alarm.TheVariants.{A1201, A1202, A1203}
 use Rattle.agc_plan.specs.declared.reply.Reply.{Reply}
-use Rattle.agc_plan.specs.declared.reply.Reply.TheVariants.{Alarmed, Ticked, Restarted}
+use Rattle.agc_plan.specs.declared.reply.Reply.TheVariants.{Restarted}
+use Rattle.agc_plan.specs.Steps.{alarm_of}
 use Rattle.agc_machine.specs.declared.answer.Refusal.{Refusal}
 use Rattle.agc_machine.specs.declared.totals.Totals.{Totals}
 
@@ -24,10 +26,10 @@ alarm_told A1203 = record { served = 1; a1201 = 0; a1202 = 0; a1203 = 1; restart
 
 -- what a reply tells: one served, and where an era began with it, one restart
 abbrev pub reply_told : Reply → Totals
-reply_told (Alarmed alarm) = alarm_told alarm
-reply_told (Ticked fired (Some alarm)) = alarm_told alarm
 reply_told Restarted = record { served = 1; a1201 = 0; a1202 = 0; a1203 = 0; restarts = 1 }
-reply_told reply = record { served = 1; a1201 = 0; a1202 = 0; a1203 = 0; restarts = 0 }
+reply_told reply =
+    let quiet : Totals = record { served = 1; a1201 = 0; a1202 = 0; a1203 = 0; restarts = 0 } in
+    option_map_or alarm_told (alarm_of reply) quiet
 
 -- what an answer tells: a refusal tells nothing
 abbrev pub told : Result Reply Refusal → Totals

@@ -5,8 +5,8 @@ ghost use Rattle.agc_machine.specs.Stands.{IsBrief};
 
 use agc_plan::{Alarm, JobNo, Reply};
 
-/// A reply but for a tick's, in two bytes, which are handed on in a register: a `Reply` has room for
-/// nine tasks. Source: profile.
+/// A reply but for a tick's, in two bytes, which are handed on in a register: a `Reply` has room
+/// for nine tasks. Source: profile.
 #[derive(Clone, Copy, PartialEq, Eq, Debug)]
 pub enum Brief {
     /// A job with this number was established.

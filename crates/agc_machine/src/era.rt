@@ -2,10 +2,13 @@
 ghost use Rattle.std.specs.Prelude.{◌≡◌, length, Some};
 ghost use Rattle.agc_word.specs.Layout.{sets_in};
 ghost use Rattle.agc_plan.specs.Plans.{planned_with};
-ghost use Rattle.agc_plan.specs.Eras.{active, group_begun, no_work};
+ghost use Rattle.agc_plan.specs.Eras.{active, no_work};
+ghost use Rattle.agc_plan.specs.Groups.{group_begun};
 ghost use Rattle.agc_plan.specs.Seats.{no_places};
 ghost use Rattle.agc_phase.specs.Image as phases;
-ghost use Rattle.agc_machine.specs.Stands.{IsSound, Stands, Changes, SameDue, with_job, with_task, places_with_job, same_places, places_group, BeginsGroups, BeginsEra};
+ghost use Rattle.agc_machine.specs.Stands.{IsSound, Stands, Changes, SameDue, with_job, with_task};
+ghost use Rattle.agc_machine.specs.Stands.{places_with_job, same_places, places_group};
+ghost use Rattle.agc_machine.specs.Stands.{BeginsGroups, BeginsEra};
 
 use crate::tick::list;
 use agc_exec::{findvac, novac};

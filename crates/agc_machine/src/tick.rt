@@ -5,7 +5,8 @@ ghost use Rattle.agc_plan.specs.Steps.{with_listed, ticked};
 ghost use Rattle.agc_wait.specs.Table.{waits_of};
 ghost use Rattle.agc_wait.specs.Waits.{due_now};
 ghost use Rattle.agc_machine.specs.Briefs.{reply_of};
-ghost use Rattle.agc_machine.specs.Stands.{IsSound, IsReady, Works, SameDue, same_places, Performs, FiresDue, places_ticked};
+ghost use Rattle.agc_machine.specs.Stands.{IsSound, IsReady, Works, SameDue, same_places, Performs};
+ghost use Rattle.agc_machine.specs.Stands.{FiresDue, places_ticked};
 
 use crate::brief::Brief;
 use agc_exec::{findvac, job_wake, novac};
@@ -61,7 +62,8 @@ fn fire(plan: &Plan, e: &mut Erasable, fired: &mut Fired) -> Option<Alarm>
 pub(crate) fn tick(plan: &Plan, e: &mut Erasable, fired: &mut Fired) -> Option<Alarm>
     requires ready { IsReady e.old }
     requires none { fired.old ≡ [] }
-    ensures works { Works (ticked plan.now.rows) (places_ticked plan.now.rows) e.old (Ticked fired.new result) e.new }
+    ensures works { Works (ticked plan.now.rows) (places_ticked plan.now.rows) e.old
+        (Ticked fired.new result) e.new }
     ensures none_due { result ≡ None → due_now (waits_of e.new) ≡ 0 }
 {
     let _ = count_time3(e);

@@ -41,7 +41,9 @@ impl Totals {
 
     /// One more request was served, which raised this alarm.
     fn count_alarm(&mut self, alarm: Alarm)
-        requires { (self.old.served + 1 < 2 ^ 64) × (self.old.a1201 + 1 < 2 ^ 64) × (self.old.a1202 + 1 < 2 ^ 64) × (self.old.a1203 + 1 < 2 ^ 64) × (self.old.restarts + 1 < 2 ^ 64) }
+        requires { (self.old.served + 1 < 2 ^ 64) × (self.old.a1201 + 1 < 2 ^ 64)
+            × (self.old.a1202 + 1 < 2 ^ 64) × (self.old.a1203 + 1 < 2 ^ 64)
+            × (self.old.restarts + 1 < 2 ^ 64) }
         ensures { self.new ≡ add self.old (alarm_told alarm) }
     {
         self.served += 1;
@@ -70,10 +72,12 @@ impl Totals {
         self.served += 1;
     }
 
-    /// One more request other than a tick was served, which got this reply. Counts are changed where
-    /// they stand, which is cheaper than totals handed on.
+    /// One more request other than a tick was served, which got this reply. Counts are changed
+    /// where they stand, which is cheaper than totals handed on.
     pub(crate) fn count(&mut self, reply: &Brief)
-        requires { (self.old.served + 1 < 2 ^ 64) × (self.old.a1201 + 1 < 2 ^ 64) × (self.old.a1202 + 1 < 2 ^ 64) × (self.old.a1203 + 1 < 2 ^ 64) × (self.old.restarts + 1 < 2 ^ 64) }
+        requires { (self.old.served + 1 < 2 ^ 64) × (self.old.a1201 + 1 < 2 ^ 64)
+            × (self.old.a1202 + 1 < 2 ^ 64) × (self.old.a1203 + 1 < 2 ^ 64)
+            × (self.old.restarts + 1 < 2 ^ 64) }
         ensures { self.new ≡ add self.old (reply_told (reply_of reply.now)) }
     {
         match reply {
@@ -94,7 +98,9 @@ impl Totals {
 
     /// One more tick was served, which this alarm ended, if one did.
     pub(crate) fn count_tick(&mut self, alarm: Option<Alarm>)
-        requires { (self.old.served + 1 < 2 ^ 64) × (self.old.a1201 + 1 < 2 ^ 64) × (self.old.a1202 + 1 < 2 ^ 64) × (self.old.a1203 + 1 < 2 ^ 64) × (self.old.restarts + 1 < 2 ^ 64) }
+        requires { (self.old.served + 1 < 2 ^ 64) × (self.old.a1201 + 1 < 2 ^ 64)
+            × (self.old.a1202 + 1 < 2 ^ 64) × (self.old.a1203 + 1 < 2 ^ 64)
+            × (self.old.restarts + 1 < 2 ^ 64) }
         ensures { (fired : List Task) → self.new ≡ add self.old (reply_told (Ticked fired alarm)) }
     {
         match alarm {

@@ -1,6 +1,8 @@
 -- The words of the phases and of FAILREG: the pairs -PHASE1, PHASE1 to -PHASE6, PHASE6, and after
 -- them FAILREG.
-use Rattle.std.specs.Prelude.{◌≡◌, ℕ, ◌+◌, ◌*◌, ◌<◌, ◌≤◌, ◌==◌, if◌then◌else◌, List, [], ◌∷◌, length, take, drop, slice_index, slice_index_or, Option, Some, None, IsSome}
+use Rattle.std.specs.Prelude.{◌≡◌, ℕ, ◌+◌, ◌*◌, ◌<◌, ◌≤◌, ◌==◌, List, [], ◌∷◌, length, take, drop}
+use Rattle.std.specs.Prelude.{slice_index, slice_index_or, Option, Some, None, IsSome}
+use Rattle.std.specs.List.{find}
 use Rattle.agc_word.specs.Layout.{Keeps, OutsidePhases}
 use Rattle.agc_word.specs.Layout as layout
 use Rattle.agc_word.specs.Words.{complement}
@@ -40,11 +42,7 @@ code_word (Some C1203) = 0o1203
 -- the code that a word is read as: none, where it is no code's word
 abbrev pub code_of_word : ℕ → Option Code
 code_of_word word =
-    if word == 0o1107 then Some C1107
-    else if word == 0o1201 then Some C1201
-    else if word == 0o1202 then Some C1202
-    else if word == 0o1203 then Some C1203
-    else None
+    find (λ code. word == code_word (Some code)) (C1107 ∷ C1201 ∷ C1202 ∷ C1203 ∷ [])
 
 -- a word of FAILREG is 00000 or a code's word: it is the word of what it is read as
 abbrev pub IsCodeWord : ℕ → Type 0

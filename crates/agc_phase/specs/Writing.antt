@@ -1,9 +1,11 @@
 -- Helpers of proofs: what was written so far.
-use Rattle.std.specs.Prelude.{◌≡◌, ◌⊎◌, ℕ, ◌+◌, ◌*◌, ◌<◌, ◌≤◌, List, slice_index, slice_index_or, Option, None}
+use Rattle.std.specs.Prelude.{◌≡◌, ◌⊎◌, ℕ, ◌+◌, ◌*◌, ◌<◌, ◌≤◌, List, slice_index, slice_index_or}
+use Rattle.std.specs.Prelude.{Option, None}
 use Rattle.agc_word.specs.Layout.{Keeps, OutsidePhases, phase_words, failreg}
 use Rattle.agc_word.specs.Words.{complement}
 use Rattle.agc_plan.specs.declared.reply.Code.{Code}
-use Rattle.agc_phase.specs.Image.{failreg_word, code_word, code_of_word, IsCodeWord, AreFirstSecondLatest}
+use Rattle.agc_phase.specs.Image.{failreg_word, code_word, code_of_word, IsCodeWord}
+use Rattle.agc_phase.specs.Image.{AreFirstSecondLatest}
 
 -- three words of FAILREG are code words, in the order in which alarms leave them
 pub record IsLawfulFailreg (first second latest : ℕ) : Type 0 where

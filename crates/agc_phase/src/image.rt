@@ -1,6 +1,7 @@
 // How phases and codes are spelled as words.
 ghost use Rattle.std.specs.Prelude.{◌≡◌, ◌+◌, ◌<◌, ◌↔◌, IsSome, IsTrue, IfSome, length};
-ghost use Rattle.agc_phase.specs.Image.{IsPair, ArePairs, phases_in, code_word, code_of_word, IsCodeWord, AreFirstSecondLatest, phase_words};
+ghost use Rattle.agc_phase.specs.Image.{IsPair, ArePairs, phases_in, code_word, code_of_word};
+ghost use Rattle.agc_phase.specs.Image.{IsCodeWord, AreFirstSecondLatest, phase_words};
 ghost use Rattle.agc_phase.specs.Writing.{IsLawfulFailreg, WritesPair, PairsWritten, CodesWritten};
 
 use crate::bases::Phases;

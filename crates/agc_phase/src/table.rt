@@ -2,7 +2,8 @@
 ghost use Rattle.std.specs.Prelude.{◌≡◌, ◌+◌, ◌<◌, ◌↔◌, IsTrue, map};
 ghost use Rattle.agc_word.specs.Layout as layout;
 ghost use Rattle.agc_plan.specs.Base.{fresh_base, with_phase, with_code};
-ghost use Rattle.agc_phase.specs.Image.{base_of, code_word, failreg_words, IsLawfulTable, Becomes, phase_in, phase_words};
+ghost use Rattle.agc_phase.specs.Image.{base_of, code_word, failreg_words, IsLawfulTable, Becomes};
+ghost use Rattle.agc_phase.specs.Image.{phase_in, phase_words};
 ghost use Rattle.agc_phase.specs.Recording.{free_place};
 
 use crate::bases::{Base, Phases};

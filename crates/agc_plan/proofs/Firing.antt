@@ -16,7 +16,9 @@ use Rattle.agc_plan.specs.Tasks.{Agenda, Pending, InOrder, has_room, listed_if_r
 use Rattle.agc_plan.specs.Base.{Base}
 use Rattle.agc_plan.specs.Begins.{Begins}
 use Rattle.agc_plan.specs.Plans.{Planned, same_task, action_in, is_for, entry_at}
-use Rattle.agc_plan.specs.Eras.{Work, no_work, agenda_begun, active, group_begun, begun_from}
+use Rattle.agc_plan.specs.Eras.{Work, no_work, active}
+use Rattle.agc_plan.specs.Groups.{agenda_begun, group_begun, begun_from}
+use Rattle.agc_plan.proofs.Groups.{begun_is}
 use Rattle.agc_plan.specs.Steps.{Plain, Did, Fires, Stepped, era, done, dispatched_work, unless_alarm, fire_first, fire, tick_fires, later_work, acted, begins, base_after, ended, step, reached}
 use Rattle.agc_plan.specs.Laws.{IsNothingDue, IsActionDelayed, IsListingDelayed, IsRequestDelayed, AreActionsDelayed, AreListingsDelayed, FiresThese}
 
@@ -211,7 +213,7 @@ groups_idle es group [] work d idle = idle
 groups_idle es group (phase ∷ phases) work d idle = groups_idle es (group + 1) phases (group_begun (active es group phase) work) d (group_idle (active es group phase) work (active_delayed es group phase d) idle)
 
 era_idle : (plan : Planned) (base : Base) → AreListingsDelayed plan.entries → Idle (era plan base).work.agenda
-era_idle plan base d = groups_idle plan.entries 1 base.phases (no_work plan.sets) d refl
+era_idle plan base d = subst (λ (work : Work). Idle work.agenda) (sym (begun_is plan base.phases)) (groups_idle plan.entries 1 base.phases (no_work plan.sets) d refl)
 
 ended_idle : (plan : Planned) (did : Stepped) → AreListingsDelayed plan.entries → (begins did.reply ≡ false → Idle did.plain.work.agenda) → Idle (ended plan did).work.agenda
 ended_idle plan did d idle = elim (cases_Bool (begins did.reply)) [

@@ -12,7 +12,12 @@ use Rattle.agc_plan.specs.Jobs.{Job, Jobs, least_unused, is_owned, least_unowned
 use Rattle.agc_plan.specs.Tasks.{Agenda}
 use Rattle.agc_plan.specs.Begins.{Begins}
 use Rattle.agc_plan.specs.Plans.{Written, entry_at, is_for, group_wants, all_want, wants_area, fault_of, task_twice, phase_twice}
-use Rattle.agc_plan.specs.Eras.{Work, no_work, alarm_in, jobs_begun, job_alarms, agenda_begun, task_alarms, active, group_begun, group_alarms, alarms_from, BeginsQuietly}
+use Rattle.std.specs.Option.{option_to_list}
+use Rattle.agc_plan.specs.Eras.{Work, no_work, active}
+use Rattle.agc_plan.specs.Steps.{alarm_of}
+use Rattle.agc_plan.specs.Quiet.{BeginsQuietly}
+use Rattle.agc_plan.specs.Groups.{jobs_begun, job_alarms, agenda_begun, task_alarms, group_begun, group_alarms, alarms_from}
+use Rattle.agc_plan.proofs.Groups.{alarms_from_is}
 
 -- at most k jobs so far, in the first slots, with areas up to a
 pub record Roomy (k a : ℕ) (jobs : Jobs) : Type 0 where
@@ -74,9 +79,9 @@ same_jobs k a b jobs r le = record {
 }
 
 -- a job is established at this number
-established_quiet : (k a b n : ℕ) (job : Job) (jobs : Jobs) → Roomy k a jobs → k < 6 → 1 ≤ n → n ≤ 1 + k → a ≤ b → job.area ≤ b → (o : Option ℕ) → o ≡ Some n → (alarm_in (establish_at o job jobs).reply ≡ []) × Roomy (suc k) b (establish_at o job jobs).jobs
+established_quiet : (k a b n : ℕ) (job : Job) (jobs : Jobs) → Roomy k a jobs → k < 6 → 1 ≤ n → n ≤ 1 + k → a ≤ b → job.area ≤ b → (o : Option ℕ) → o ≡ Some n → (option_to_list (alarm_of (establish_at o job jobs).reply) ≡ []) × Roomy (suc k) b (establish_at o job jobs).jobs
 established_quiet k a b n job jobs r lt low high le area o is =
-    subst (λ (x : Option ℕ). (alarm_in (establish_at x job jobs).reply ≡ []) × Roomy (suc k) b (establish_at x job jobs).jobs) (sym is)
+    subst (λ (x : Option ℕ). (option_to_list (alarm_of (establish_at x job jobs).reply) ≡ []) × Roomy (suc k) b (establish_at x job jobs).jobs) (sym is)
     (refl, one_more k a b n job (runner_after jobs.running (with_job jobs.slots n (Some job))) jobs r lt low high le area)
 
 -- the group's job finds room
@@ -91,7 +96,7 @@ job_quiet (Some (Findvac priority entry)) k a b jobs r lt le room =
     let (five, up) = room refl in
     let (n, is, low, high) = low_number 1 jobs.slots k (omega arith) (r.free k (omega arith)) in
     let (area, owns, most) = low_area 5 1 a jobs.slots r.areas (omega arith) (omega arith) in
-    subst (λ (x : Option ℕ). (alarm_in (findvac_at x priority entry jobs).reply ≡ []) × Roomy (suc k) b (findvac_at x priority entry jobs).jobs) (sym owns)
+    subst (λ (x : Option ℕ). (option_to_list (alarm_of (findvac_at x priority entry jobs).reply) ≡ []) × Roomy (suc k) b (findvac_at x priority entry jobs).jobs) (sym owns)
     (established_quiet k a b n (new_job priority entry area) jobs r lt low high le (omega arith) (least_unused 1 jobs.slots) is)
 
 pub task_quiet : (task : Option (ℕ × Task)) (t : ℕ) (agenda : Agenda) → length agenda.tasks ≤ t → t < 9 → (task_alarms task agenda ≡ []) × (length (agenda_begun task agenda).tasks ≤ suc t)
@@ -203,4 +208,5 @@ accepted-areas plan accepted = elim (bool_cases (all_want plan.entries)) [
 pub quiet : (plan : Written) → fault_of plan.rows plan.entries ≡ None → BeginsQuietly plan
 quiet plan accepted sets enough phases six =
     let (q, low, le, none_wants) = some_group plan.entries (accepted-areas plan accepted) in
-    rest_quiet plan.entries q none_wants 1 phases 0 0 (no_work sets) (begins_roomy sets enough) (omega arith) (omega arith) le (omega arith) (λ h. omega arith) (λ h. let no : ⊥ = omega arith in absurd no)
+    alarms_from_is plan.entries 1 phases (no_work sets)
+    ∙ rest_quiet plan.entries q none_wants 1 phases 0 0 (no_work sets) (begins_roomy sets enough) (omega arith) (omega arith) le (omega arith) (λ h. omega arith) (λ h. let no : ⊥ = omega arith in absurd no)

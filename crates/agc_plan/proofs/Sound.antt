@@ -6,8 +6,9 @@ use Rattle.std.proofs.lemmas.Option.{same_Some}
 use Rattle.std.proofs.lemmas.Grind.{common_steps}
 use Rattle.std.specs.Prelude.{option_map, IsSome}
 use Rattle.agc_plan.specs.declared.request.Entry.{Entry}
-use Rattle.agc_plan.specs.Jobs.{Job, Jobs, Ready, no_jobs, job_in, with_job, best, best_from, runner_after, least_unused, least_unowned, new_job, establish_at, novac, findvac_at, findvac, end_of_job, sleeping_at, sleep, outrun_by, run_on, change, with_running, with_priority, prio, with_word, store, sleeper_from, woken, rouse}
+use Rattle.agc_plan.specs.Jobs.{Job, Jobs, Ready, no_jobs, job_in, with_job, best, best_from, runner_after, least_unused, least_unowned, new_job, Outcome, establish_at, novac, findvac_at, findvac, end_of_job, sleeping_at, sleep, outrun_by, run_on, change, with_priority, prio, with_word, store, sleeper_from, woken, rouse}
 use Rattle.agc_plan.specs.Laws.{Lives, LivesAwake, SomebodyIsAwake, NobodyIsAwake, IsLeastUnused, IsLeastUnowned, IsRunnerAwake, IsNoAreaShared, IsEachAreaKnown, IsUnrivalled}
+use Rattle.agc_plan.proofs.Running.{with_running, prio_is, store_is}
 use Rattle.agc_plan.proofs.Searches.{At, at_within, lives_at, option_cases, best-most_urgent, best-nobody, ready_found, least_unused-least, least_unowned-least}
 
 -- so many slots, areas up to 5, and none owned twice
@@ -179,10 +180,10 @@ made_sound made keeps awake slots (Some n) s = record {
 }
 
 pub prio_sound : {size : ℕ} → (priority : ℕ) (jobs : Jobs) → IsSound size jobs → IsSound size (prio priority jobs).jobs
-prio_sound priority jobs s = change_sound (with_running (with_priority priority) jobs) (made_sound (with_priority priority) (λ job. refl) (λ job e. e) jobs.slots jobs.running s)
+prio_sound {size = size} priority jobs s = subst (λ (o : Outcome). IsSound size o.jobs) (sym (prio_is priority jobs)) (change_sound (with_running (with_priority priority) jobs) (made_sound (with_priority priority) (λ job. refl) (λ job e. e) jobs.slots jobs.running s))
 
 pub store_sound : {size : ℕ} → (place word : ℕ) (jobs : Jobs) → IsSound size jobs → IsSound size (store place word jobs).jobs
-store_sound place word jobs s = made_sound (with_word place word) (λ job. refl) (λ job e. e) jobs.slots jobs.running s
+store_sound {size = size} place word jobs s = subst (λ (o : Outcome). IsSound size o.jobs) (sym (store_is place word jobs)) (made_sound (with_word place word) (λ job. refl) (λ job e. e) jobs.slots jobs.running s)
 
 pub rouse_sound : {size : ℕ} → (at : ℕ) (jobs : Jobs) → IsSound size jobs → IsSound size (rouse at jobs).jobs
 rouse_sound {size = size} at jobs s = elim (option_cases (sleeper_from 1 at jobs.slots)) [
@@ -303,7 +304,7 @@ pub change_unrivalled : (jobs : Jobs) → IsUnrivalled (change jobs).jobs
 change_unrivalled jobs = changed_unrivalled jobs.slots jobs.running
 
 pub prio_unrivalled : (priority : ℕ) (jobs : Jobs) → IsUnrivalled (prio priority jobs).jobs
-prio_unrivalled priority jobs = change_unrivalled (with_running (with_priority priority) jobs)
+prio_unrivalled priority jobs = subst (λ (o : Outcome). IsUnrivalled o.jobs) (sym (prio_is priority jobs)) (change_unrivalled (with_running (with_priority priority) jobs))
 
 -- who runs goes on where a job comes or wakes
 established_running : (o : Option ℕ) (job : Job) (jobs : Jobs) (number : ℕ) → jobs.running ≡ Some number → (establish_at o job jobs).jobs.running ≡ Some number

@@ -1,5 +1,5 @@
 -- What stays true of jobs and tasks, over every run of requests.
-use Rattle.std.proofs.Common.{◌≡◌, ℕ, zero, suc, ◌+◌, ◌<◌, ◌≤◌, List, [], ◌∷◌, ◌++◌, Option, Some, None, length, ◌↔◌, inl, inr, nat_le, arith}
+use Rattle.std.proofs.Common.{◌≡◌, ℕ, zero, suc, ◌+◌, ◌<◌, ◌≤◌, List, [], ◌∷◌, ◌++◌, Option, Some, None, length, ◌↔◌, sym, subst, inl, inr, nat_le, arith}
 use Rattle.std.proofs.lemmas.Bool.{cases_Bool}
 use Rattle.std.proofs.lemmas.List.{length-append}
 use Rattle.std.proofs.lemmas.Grind.{common_steps}
@@ -18,7 +18,9 @@ use Rattle.agc_plan.specs.Tasks.{Agenda, Pending, has_room, listed_if_room, with
 use Rattle.agc_plan.specs.Base.{Base}
 use Rattle.agc_plan.specs.Begins.{Begins}
 use Rattle.agc_plan.specs.Plans.{Planned, action_in}
-use Rattle.agc_plan.specs.Eras.{Work, no_work, jobs_begun, agenda_begun, active, group_begun, begun_from}
+use Rattle.agc_plan.specs.Eras.{Work, no_work, active}
+use Rattle.agc_plan.specs.Groups.{jobs_begun, agenda_begun, group_begun, begun_from}
+use Rattle.agc_plan.proofs.Groups.{begun_is}
 use Rattle.agc_plan.specs.Steps.{Plain, Fires, Stepped, era, done, dispatched_work, unless_alarm, fire_first, fire, later_work, acted, begins, base_after, ended, step, reached}
 use Rattle.agc_plan.specs.Laws.{SomebodyIsAwake, IsRunnerAwake, IsNoAreaShared, IsEachAreaKnown, IsUnrivalled}
 use Rattle.agc_plan.proofs.Sound.{IsSound, no_jobs_sound, novac_sound, findvac_sound, end_of_job_sound, sleep_sound, change_sound, prio_sound, store_sound, rouse_sound, sound_runner, sound_somebody, sound_areas, sound_known, end_unrivalled, sleep_unrivalled, prio_unrivalled, change_unrivalled}
@@ -103,7 +105,7 @@ begun_steady entries group [] work s = s
 begun_steady entries group (phase ∷ phases) work s = begun_steady entries (group + 1) phases (group_begun (active entries group phase) work) (group_steady (active entries group phase) work s)
 
 era_steady : (plan : Planned) (base : Base) → IsSteady plan.sets (era plan base).work
-era_steady plan base = begun_steady plan.entries 1 base.phases (no_work plan.sets) (record { jobs = no_jobs_sound plan.sets; tasks = omega arith })
+era_steady plan base = subst (IsSteady plan.sets) (sym (begun_is plan base.phases)) (begun_steady plan.entries 1 base.phases (no_work plan.sets) (record { jobs = no_jobs_sound plan.sets; tasks = omega arith }))
 
 ended_steady : (plan : Planned) (did : Stepped) → IsSteady plan.sets did.plain.work → IsSteady plan.sets (ended plan did).work
 ended_steady plan did s = elim (cases_Bool (begins did.reply)) [

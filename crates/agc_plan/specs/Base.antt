@@ -1,5 +1,6 @@
 -- The six phases, and the codes in FAILREG.
-use Rattle.std.specs.Prelude.{ℕ, ◌-◌, List, Option, Some, None, slice_set, slice_index_or, replicate}
+use Rattle.std.specs.Prelude.{ℕ, ◌-◌, List, Option, Some, None, slice_set, slice_index_or}
+use Rattle.std.specs.Prelude.{replicate}
 use Rattle.agc_plan.specs.declared.reply.Code.{Code}
 
 -- what an era begins with, and a restart keeps

@@ -1,8 +1,12 @@
 -- The plain list of jobs, without core sets: what each request does to it and answers.
-use Rattle.std.specs.Prelude.{ℕ, zero, suc, ◌+◌, ◌-◌, ◌==◌, ◌&&◌, nat_lt, Bool, true, false, if◌then◌else◌, List, [], ◌∷◌, Option, Some, None, option_map, slice_set, slice_index_or, replicate}
+use Rattle.std.specs.Prelude.{ℕ, zero, suc, ◌+◌, ◌-◌, ◌==◌, ◌&&◌, nat_lt, Bool, true, false}
+use Rattle.std.specs.Prelude.{if◌then◌else◌, List, [], ◌∷◌, Option, Some, None, option_map}
+use Rattle.std.specs.Prelude.{slice_set, slice_index_or, replicate}
+use Rattle.std.specs.Option.{option_map_or}
 use Rattle.agc_plan.specs.declared.reply.Alarm.TheVariants.{A1201, A1202}
 use Rattle.agc_plan.specs.declared.reply.Reply.{Reply}
-use Rattle.agc_plan.specs.declared.reply.Reply.TheVariants.{Established, Left, Roused, NoSleeper, NoJob, Runs, Stored, Alarmed}
+use Rattle.agc_plan.specs.declared.reply.Reply.TheVariants.{Established, Left, Roused, NoSleeper}
+use Rattle.agc_plan.specs.declared.reply.Reply.TheVariants.{NoJob, Runs, Stored, Alarmed}
 use Rattle.agc_plan.specs.declared.request.Entry.{Entry}
 
 -- a job: where it begins or sleeps, its bank, its urgency, whether it sleeps, its area (0 for none)
@@ -114,16 +118,13 @@ left_by number made jobs =
     let slots = with_job jobs.slots number made in
     record { jobs = record { slots = slots; running = best slots }; reply = Left (best slots) }
 
--- nobody runs, and nothing changes
-abbrev pub no_job : Jobs → Outcome
-no_job jobs = record { jobs = jobs; reply = NoJob }
+-- what is done with the number of the running job; where nobody runs, nothing changes
+abbrev pub if_running : (ℕ → Outcome) → Jobs → Outcome
+if_running done jobs = option_map_or done jobs.running (record { jobs = jobs; reply = NoJob })
 
 -- end of job: the running job is removed, and then the best runs
 abbrev pub end_of_job : Jobs → Outcome
-end_of_job jobs = end_of jobs.running jobs where
-  end_of : Option ℕ → Jobs → Outcome
-  end_of None jobs = no_job jobs
-  end_of (Some number) jobs = left_by number None jobs
+end_of_job jobs = if_running (λ number. left_by number None jobs) jobs
 
 -- a job asleep, to be awakened at this address
 abbrev pub sleeping_at : ℕ → Job → Job
@@ -131,10 +132,9 @@ sleeping_at at job = record job { asleep = true; at = at }
 
 -- the running job falls asleep, to be awakened at this address, and then the best runs
 abbrev pub sleep : ℕ → Jobs → Outcome
-sleep at jobs = sleep_of jobs.running at jobs where
-  sleep_of : Option ℕ → ℕ → Jobs → Outcome
-  sleep_of None at jobs = no_job jobs
-  sleep_of (Some number) at jobs = left_by number (option_map (sleeping_at at) (job_in jobs.slots number)) jobs
+sleep at jobs =
+    let slept : ℕ → Option Job = λ number. option_map (sleeping_at at) (job_in jobs.slots number) in
+    if_running (λ number. left_by number (slept number) jobs) jobs
 
 -- who runs, of the best and of the job of this number, which stays unless the best is strictly more
 -- urgent
@@ -151,17 +151,11 @@ run_on number slots =
 
 -- change of job: where the best is strictly more urgent, it runs
 abbrev pub change : Jobs → Outcome
-change jobs = change_of jobs.running jobs where
-  change_of : Option ℕ → Jobs → Outcome
-  change_of None jobs = no_job jobs
-  change_of (Some number) jobs = run_on number jobs.slots
+change jobs = if_running (λ number. run_on number jobs.slots) jobs
 
--- the running job, if there is one, becomes what is made of it
-abbrev pub with_running : (Job → Job) → Jobs → Jobs
-with_running made jobs = record jobs { slots = made_in jobs.running made jobs.slots } where
-  made_in : Option ℕ → (Job → Job) → List (Option Job) → List (Option Job)
-  made_in None made slots = slots
-  made_in (Some number) made slots = with_job slots number (option_map made (job_in slots number))
+-- the slots, in which the job of this number becomes what is made of it
+abbrev pub with_changed : (Job → Job) → List (Option Job) → ℕ → List (Option Job)
+with_changed made slots number = with_job slots number (option_map made (job_in slots number))
 
 -- a job with this priority
 abbrev pub with_priority : ℕ → Job → Job
@@ -170,7 +164,8 @@ with_priority priority job = record job { priority = priority }
 -- change of priority: the running job gets this priority; where the best is then strictly more
 -- urgent, it runs
 abbrev pub prio : ℕ → Jobs → Outcome
-prio priority jobs = change (with_running (with_priority priority) jobs)
+prio priority jobs =
+    if_running (λ number. run_on number (with_changed (with_priority priority) jobs.slots number)) jobs
 
 -- a job with this word in one of its six places
 abbrev pub with_word : ℕ → ℕ → Job → Job
@@ -178,10 +173,9 @@ with_word place word job = record job { work = slice_set job.work (place - 1) wo
 
 -- store: one work word of the running job is set
 abbrev pub store : ℕ → ℕ → Jobs → Outcome
-store place word jobs = record { jobs = with_running (with_word place word) jobs; reply = stored jobs.running } where
-  stored : Option ℕ → Reply
-  stored None = NoJob
-  stored (Some number) = Stored
+store place word jobs =
+    let slots : ℕ → List (Option Job) = with_changed (with_word place word) jobs.slots in
+    if_running (λ number. record { jobs = record jobs { slots = slots number }; reply = Stored }) jobs
 
 -- whether a job sleeps until this address is called
 abbrev pub is_sleeper : ℕ → Job → Bool
@@ -203,7 +197,7 @@ rouse at jobs = rouse_of (sleeper_from 1 at jobs.slots) jobs where
   rouse_of : Option ℕ → Jobs → Outcome
   rouse_of None jobs = record { jobs = jobs; reply = NoSleeper }
   rouse_of (Some number) jobs =
-      let slots = with_job jobs.slots number (option_map woken (job_in jobs.slots number)) in
+      let slots = with_changed woken jobs.slots number in
       record { jobs = record { slots = slots; running = runner_after jobs.running slots }; reply = Roused number }
 
 -- the new job's number, if the reply tells one

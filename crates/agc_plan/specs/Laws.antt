@@ -1,6 +1,7 @@
 -- What a reader of the landing alarms wants to know, in words that know nothing of how the model
 -- computes, but for what one task that fires does.
-use Rattle.std.specs.Prelude.{◌≡◌, ◌⊎◌, ℕ, ◌<◌, ◌≤◌, suc, true, false, List, [], ◌∷◌, ◌++◌, length, map, All, slice_index_or, Option, Some, None}
+use Rattle.std.specs.Prelude.{◌≡◌, ◌⊎◌, ℕ, ◌<◌, ◌≤◌, suc, true, false, List, [], ◌∷◌, ◌++◌, length}
+use Rattle.std.specs.Prelude.{map, All, slice_index_or, Option, Some, None}
 use Rattle.agc_plan.specs.declared.reply.Alarm.{Alarm}
 use Rattle.agc_plan.specs.declared.reply.Alarm.TheVariants.{A1201, A1202, A1203}
 use Rattle.agc_plan.specs.declared.request.Action.{Action}
@@ -39,8 +40,10 @@ NobodyIsAwake slots = (number : ℕ) (job : Job) → Lives slots number job → 
 pub record IsMostUrgent (slots : List (Option Job)) (number : ℕ) : Type 0 where
   pub job : Job
   pub awake : LivesAwake slots number job
-  pub greatest : (other : ℕ) (rival : Job) → LivesAwake slots other rival → rival.priority ≤ job.priority
-  pub lowest : (other : ℕ) (rival : Job) → LivesAwake slots other rival → rival.priority ≡ job.priority → number ≤ other
+  pub greatest : (other : ℕ) (rival : Job) → LivesAwake slots other rival
+      → rival.priority ≤ job.priority
+  pub lowest : (other : ℕ) (rival : Job) → LivesAwake slots other rival → rival.priority
+      ≡ job.priority → number ≤ other
 
 -- somebody has this number
 abbrev pub IsUsed : List (Option Job) → ℕ → Type 0
@@ -110,7 +113,8 @@ MissesArea other work = ⊥
 -- of the five is nobody's
 abbrev pub MissesNumber : Action → Work → Type 0
 MissesNumber (action.Novac priority entry) work = living work.jobs.slots ≡ length work.jobs.slots
-MissesNumber (action.Findvac priority entry) work = SomeAreaIsUnowned work.jobs.slots × (living work.jobs.slots ≡ length work.jobs.slots)
+MissesNumber (action.Findvac priority entry) work = SomeAreaIsUnowned work.jobs.slots
+    × (living work.jobs.slots ≡ length work.jobs.slots)
 MissesNumber other work = ⊥
 
 -- it lists a task, and nine wait
@@ -150,12 +154,14 @@ EndsByLast rows work (task ∷ tasks) told =
 
 -- the running job lives and is awake
 abbrev pub IsRunnerAwake : Jobs → Type 0
-IsRunnerAwake jobs = (number : ℕ) → jobs.running ≡ Some number → (job : Job) × LivesAwake jobs.slots number job
+IsRunnerAwake jobs = (number : ℕ) → jobs.running ≡ Some number → (job : Job)
+    × LivesAwake jobs.slots number job
 
 -- no area is owned by two jobs; area 0 is none
 abbrev pub IsNoAreaShared : List (Option Job) → Type 0
 IsNoAreaShared slots =
-    (first second : ℕ) (job other : Job) → Lives slots first job → Lives slots second other → 1 ≤ job.area → job.area ≡ other.area → first ≡ second
+    (first second : ℕ) (job other : Job) → Lives slots first job → Lives slots second other
+    → 1 ≤ job.area → job.area ≡ other.area → first ≡ second
 
 -- a job's area is one of the five, or 0 for none
 abbrev pub IsEachAreaKnown : List (Option Job) → Type 0
@@ -164,7 +170,9 @@ IsEachAreaKnown slots = (number : ℕ) (job : Job) → Lives slots number job �
 -- no awake job is strictly more urgent than the one that runs
 abbrev pub IsUnrivalled : Jobs → Type 0
 IsUnrivalled jobs =
-    (number : ℕ) (job : Job) → jobs.running ≡ Some number → Lives jobs.slots number job → (other : ℕ) (rival : Job) → LivesAwake jobs.slots other rival → rival.priority ≤ job.priority
+    (number : ℕ) (job : Job) → jobs.running ≡ Some number → Lives jobs.slots number job
+    → (other : ℕ) (rival : Job) → LivesAwake jobs.slots other rival
+    → rival.priority ≤ job.priority
 
 -- nothing is due: each task that waits is due later than now
 abbrev pub IsNothingDue : Agenda → Type 0
@@ -195,7 +203,8 @@ AreListingsDelayed entries = All (λ e. IsListingDelayed e.task) entries
 
 -- of these tasks the first ones fired, in this order, and all of them unless an alarm came
 abbrev pub FiresThese : List Pending → Fires → Type 0
-FiresThese due fires = (rest : List Task) × (fires.fired ++ rest ≡ map (λ p. p.task) due) × (fires.alarm ≡ None → rest ≡ [])
+FiresThese due fires = (rest : List Task) × (fires.fired ++ rest ≡ map (λ p. p.task) due)
+    × (fires.alarm ≡ None → rest ≡ [])
 
 -- these are one task: the same address and bank
 abbrev pub IsOneTask : Task → Task → Type 0
@@ -207,7 +216,8 @@ pub record HasTwoRows (rows : List (Task × Action)) : Type 0 where
   pub second : ℕ
   pub before : first < second
   pub within : second < length rows
-  pub same : (d : Task × Action) → IsOneTask (slice_index_or rows first d).0 (slice_index_or rows second d).0
+  pub same : (d : Task × Action)
+      → IsOneTask (slice_index_or rows first d).0 (slice_index_or rows second d).0
 
 -- these are of one group and phase
 abbrev pub IsOnePhase : Begins → Begins → Type 0
@@ -219,7 +229,8 @@ pub record HasTwoEntries (entries : List Begins) : Type 0 where
   pub second : ℕ
   pub before : first < second
   pub within : second < length entries
-  pub same : (d : Begins) → IsOnePhase (slice_index_or entries first d) (slice_index_or entries second d)
+  pub same : (d : Begins)
+      → IsOnePhase (slice_index_or entries first d) (slice_index_or entries second d)
 
 -- a FINDVAC job
 abbrev pub IsWithArea : Option JobStart → Type 0

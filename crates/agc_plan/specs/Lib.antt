@@ -7,6 +7,8 @@ pub mod Plans
 pub mod Eras
 pub mod Steps
 pub mod Seats
+pub mod Quiet
+pub mod Groups
 pub mod Laws
 pub mod Examples
 pub mod Messages

@@ -1,7 +1,8 @@
 -- The text of each fault of a plan.
 use Rattle.std.specs.Prelude.{ℕ, List, codes}
 use Rattle.agc_plan.specs.declared.plan.PlanFault.{PlanFault}
-use Rattle.agc_plan.specs.declared.plan.PlanFault.TheVariants.{NoMemory, TaskTwice, PhaseTwice, TooManyAreas}
+use Rattle.agc_plan.specs.declared.plan.PlanFault.TheVariants.{NoMemory, TaskTwice, PhaseTwice}
+use Rattle.agc_plan.specs.declared.plan.PlanFault.TheVariants.{TooManyAreas}
 
 -- what a fault is printed as
 abbrev pub plan_fault_text : PlanFault → List ℕ

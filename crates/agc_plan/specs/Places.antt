@@ -1,5 +1,6 @@
 -- Placement, which core set holds which job: an entry for each set, a job's number or 0.
-use Rattle.std.specs.Prelude.{ℕ, suc, ◌==◌, if◌then◌else◌, List, [], ◌∷◌, Option, Some, None, slice_set, swap}
+use Rattle.std.specs.Prelude.{ℕ, suc, ◌==◌, if◌then◌else◌, List, [], ◌∷◌, Option, Some, None}
+use Rattle.std.specs.Prelude.{slice_set, swap}
 
 -- the first entry of this number
 abbrev pub place_of : ℕ → List ℕ → ℕ

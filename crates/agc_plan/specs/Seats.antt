@@ -1,19 +1,18 @@
 -- Placement over a run of requests: which core set holds which job. It reads the plain states, and
 -- nothing in them reads it.
-use Rattle.std.specs.Prelude.{ℕ, ◌+◌, if◌then◌else◌, List, [], ◌∷◌, Option, Some, None, replicate}
+use Rattle.std.specs.Prelude.{ℕ, if◌then◌else◌, List, replicate}
 use Rattle.std.specs.List.{fold}
 use Rattle.agc_plan.specs.declared.request.Action.{Action}
 use Rattle.agc_plan.specs.declared.request.Action.TheVariants as action
-use Rattle.agc_plan.specs.declared.request.JobStart.{JobStart}
 use Rattle.agc_plan.specs.declared.request.Request.{Request}
 use Rattle.agc_plan.specs.declared.request.Request.TheVariants as request
 use Rattle.agc_plan.specs.declared.request.Task.{Task}
-use Rattle.agc_plan.specs.Jobs.{Jobs, Outcome, novac, findvac, end_of_job, sleep, rouse, prio, change, established}
+use Rattle.agc_plan.specs.Jobs.{Jobs, Outcome, no_jobs, novac, findvac, end_of_job, sleep, rouse}
+use Rattle.agc_plan.specs.Jobs.{prio, change, established}
 use Rattle.agc_plan.specs.Places.{placed_new, placed_end, fronted}
 use Rattle.agc_plan.specs.Base.{Base}
-use Rattle.agc_plan.specs.Begins.{Begins}
 use Rattle.agc_plan.specs.Plans.{Planned, action_in}
-use Rattle.agc_plan.specs.Eras.{Work, started, active, group_begun, no_work}
+use Rattle.agc_plan.specs.Eras.{actions_from}
 use Rattle.agc_plan.specs.Steps.{Plain, era, step, begins, tick_fires}
 
 -- no job in any of so many core sets
@@ -40,6 +39,10 @@ seated_action (action.Findvac priority entry) seated = seated_new (findvac prior
 seated_action (action.Rouse at) seated = seated_front (rouse at seated.jobs) seated.places
 seated_action other seated = seated
 
+-- these actions are done, in order
+abbrev pub seated_by : List Action → Seated → Seated
+seated_by actions seated = fold (λ s act. seated_action act s) seated actions
+
 -- the actions of these fired tasks are done, in order
 abbrev pub seated_fired : List (Task × Action) → Seated → List Task → Seated
 seated_fired rows seated fired = fold (λ s task. seated_action (action_in rows task) s) seated fired
@@ -57,26 +60,11 @@ places_acted plan request.Tick plain places =
     (seated_fired plan.rows (record { jobs = plain.work.jobs; places = places }) (tick_fires plan.rows plain.work).fired).places
 places_acted plan other plain places = places
 
--- a phase's job, if it has one, came to the first free set
-abbrev pub places_begun : Option JobStart → Jobs → List ℕ → List ℕ
-places_begun None jobs places = places
-places_begun (Some job) jobs places = (seated_new (started job jobs) places).places
-
--- the job of a group's entry, if there is an entry
-abbrev pub job_of_entry : Option Begins → Option JobStart
-job_of_entry None = None
-job_of_entry (Some e) = e.job
-
--- the groups from this one on begin, in order, with these phases
-abbrev pub places_from : List Begins → ℕ → List ℕ → Work → List ℕ → List ℕ
-places_from entries group [] work places = places
-places_from entries group (phase ∷ phases) work places =
-    let entry = active entries group phase in
-    places_from entries (group + 1) phases (group_begun entry work) (places_begun (job_of_entry entry) work.jobs places)
-
 -- the core sets with which an era begins
 abbrev pub era_places : Planned → Base → List ℕ
-era_places plan base = places_from plan.entries 1 base.phases (no_work plan.sets) (no_places plan.sets)
+era_places plan base =
+    let empty : Seated = record { jobs = no_jobs plan.sets; places = no_places plan.sets } in
+    (seated_by (actions_from plan.entries 1 base.phases) empty).places
 
 -- the core sets after one request
 abbrev pub places_after : Planned → Request → Plain → List ℕ → List ℕ

@@ -1,31 +1,31 @@
 -- The plain state, an action, a tick, a step, and what a log of requests reaches.
-use Rattle.std.specs.Prelude.{ℕ, zero, suc, Bool, true, false, if◌then◌else◌, List, [], ◌∷◌, ◌++◌, Option, Some, None}
+use Rattle.std.specs.Prelude.{ℕ, zero, suc, Bool, true, if◌then◌else◌, List, [], ◌∷◌, ◌++◌, Option}
+use Rattle.std.specs.Prelude.{Some, None}
 use Rattle.std.specs.List.{fold}
+use Rattle.std.specs.Option.{is_some, option_map_or}
 use Rattle.agc_plan.specs.declared.reply.Alarm.{Alarm}
 use Rattle.agc_plan.specs.declared.reply.Alarm.TheVariants.{A1201, A1202, A1203}
 use Rattle.agc_plan.specs.declared.reply.Code.{Code}
 use Rattle.agc_plan.specs.declared.reply.Code.TheVariants.{C1201, C1202, C1203}
 use Rattle.agc_plan.specs.declared.reply.Reply.{Reply}
-use Rattle.agc_plan.specs.declared.reply.Reply.TheVariants.{Listed, Alarmed, Ticked, Phased, Restarted}
+use Rattle.agc_plan.specs.declared.reply.Reply.TheVariants.{Listed, Alarmed, Ticked, Phased}
+use Rattle.agc_plan.specs.declared.reply.Reply.TheVariants.{Restarted}
 use Rattle.agc_plan.specs.declared.request.Action.{Action}
 use Rattle.agc_plan.specs.declared.request.Action.TheVariants as action
 use Rattle.agc_plan.specs.declared.request.Request.{Request}
 use Rattle.agc_plan.specs.declared.request.Request.TheVariants as request
 use Rattle.agc_plan.specs.declared.request.Task.{Task}
-use Rattle.agc_plan.specs.Jobs.{Outcome, novac, findvac, end_of_job, sleep, rouse, prio, change, store}
+use Rattle.agc_plan.specs.Jobs.{Outcome, novac, findvac, end_of_job, sleep, rouse, prio, change}
+use Rattle.agc_plan.specs.Jobs.{store}
 use Rattle.agc_plan.specs.Tasks.{has_room, listed_if_room, later, dispatched, first_due, count_due}
 use Rattle.agc_plan.specs.Base.{Base, fresh_base, with_phase, with_code}
 use Rattle.agc_plan.specs.Plans.{Planned, action_in}
-use Rattle.agc_plan.specs.Eras.{Work, begun}
+use Rattle.agc_plan.specs.Eras.{Work, no_work, actions_from}
 
 -- the plain state: jobs, tasks and time, phases and codes
 pub record Plain : Type 0 where
   pub work : Work
   pub base : Base
-
--- with this base an era begins
-abbrev pub era : Planned → Base → Plain
-era plan base = record { work = begun plan base.phases; base = base }
 
 -- the jobs and tasks after a request, and its reply
 pub record Acted : Type 0 where
@@ -63,6 +63,16 @@ done (action.Novac priority entry) work = did_of (with_jobs (novac priority entr
 done (action.Findvac priority entry) work = did_of (with_jobs (findvac priority entry work.jobs) work)
 done (action.Rouse at) work = did_of (with_jobs (rouse at work.jobs) work)
 done (action.List delay task) work = did_of (with_listed delay task work)
+
+-- the jobs and tasks with which an era begins
+abbrev pub begun : Planned → List ℕ → Work
+begun plan phases =
+    let actions : List Action = actions_from plan.entries 1 phases in
+    fold (λ work act. (done act work).work) (no_work plan.sets) actions
+
+-- with this base an era begins
+abbrev pub era : Planned → Base → Plain
+era plan base = record { work = begun plan base.phases; base = base }
 
 -- what firing leaves, the tasks that fired, and the alarm that ended it, if one did
 pub record Fires : Type 0 where
@@ -142,16 +152,12 @@ code_of A1203 = C1203
 
 -- whether an era begins with this reply: with every alarm, restart and fresh start
 abbrev pub begins : Reply → Bool
-begins (Alarmed alarm) = true
-begins (Ticked fired (Some alarm)) = true
 begins Restarted = true
-begins reply = false
+begins reply = is_some (alarm_of reply)
 
 -- the phases and codes after this reply: an alarm adds its code
 abbrev pub base_after : Reply → Base → Base
-base_after (Alarmed alarm) base = with_code (code_of alarm) base
-base_after (Ticked fired (Some alarm)) base = with_code (code_of alarm) base
-base_after reply base = base
+base_after reply base = option_map_or (λ alarm. with_code (code_of alarm) base) (alarm_of reply) base
 
 -- where an era begins, jobs and tasks start over
 abbrev pub ended : Planned → Stepped → Plain

@@ -4,16 +4,19 @@
 //! behind them come from, the listings or the profile, is said at the requests and in
 //! docs/MODEL.md.
 
-ghost use Rattle.std.specs.Prelude.{◌≡◌, ◌↔◌, ◌≤◌, ℕ, ◌+◌, List, Option, Some, None, IsSome, All, length, true};
+ghost use Rattle.std.specs.Prelude.{◌≡◌, ◌↔◌, ◌≤◌, ℕ, ◌+◌, List, Option, Some, None, IsSome, All};
+ghost use Rattle.std.specs.Prelude.{length, true};
 ghost use Rattle.agc_plan.specs.declared.reply.Alarm.{Alarm};
 ghost use Rattle.agc_plan.specs.declared.reply.Alarm.TheVariants.{A1201, A1202, A1203};
 ghost use Rattle.agc_plan.specs.declared.reply.Reply.TheVariants.{Alarmed, Established, Ticked};
 ghost use Rattle.agc_plan.specs.declared.request.Action.{Action};
 ghost use Rattle.agc_plan.specs.declared.request.Entry.{Entry};
 ghost use Rattle.agc_plan.specs.declared.request.Request.{Request};
-ghost use Rattle.agc_plan.specs.declared.request.Request.TheVariants.{Novac, Findvac, EndOfJob, Sleep, Prio, Change, Tick};
+ghost use Rattle.agc_plan.specs.declared.request.Request.TheVariants.{Novac, Findvac, EndOfJob};
+ghost use Rattle.agc_plan.specs.declared.request.Request.TheVariants.{Sleep, Prio, Change, Tick};
 ghost use Rattle.agc_plan.specs.declared.request.Task.{Task};
-ghost use Rattle.agc_plan.specs.Jobs.{Job, Jobs, best, least_unused, least_unowned, sleeper_from, novac, findvac, rouse};
+ghost use Rattle.agc_plan.specs.Jobs.{Job, Jobs, best, least_unused, least_unowned, sleeper_from};
+ghost use Rattle.agc_plan.specs.Jobs.{novac, findvac, rouse};
 ghost use Rattle.agc_plan.specs.Tasks.{Pending, due_at, InOrder};
 ghost use Rattle.agc_plan.specs.Base.{Base};
 ghost use Rattle.agc_plan.specs.Begins.{Begins};
@@ -21,7 +24,14 @@ ghost use Rattle.agc_plan.specs.Plans.{Planned, task_twice, phase_twice, all_wan
 ghost use Rattle.agc_plan.specs.Eras.{Work};
 ghost use Rattle.agc_plan.specs.Steps.{Plain, with_listed, later_work, tick_fires, step, reached};
 ghost use Rattle.agc_plan.specs.Examples.{Examples};
-ghost use Rattle.agc_plan.specs.Laws.{Lives, IsMostUrgent, NobodyIsAwake, IsLeastUnused, IsEachUsed, IsLeastUnowned, IsEachOwned, SomeAreaIsUnowned, IsFirstSleeper, NobodySleepsAt, IsUnrivalled, SomebodyIsAwake, IsRunnerAwake, IsNoAreaShared, IsEachAreaKnown, IsNothingDue, IsRequestDelayed, AreActionsDelayed, AreListingsDelayed, FiresThese, HasTwoRows, HasTwoEntries, HasEachArea, Misses, EndsByLast, as_action, living};
+ghost use Rattle.agc_plan.specs.Laws.{Lives, IsMostUrgent, NobodyIsAwake, IsLeastUnused};
+ghost use Rattle.agc_plan.specs.Laws.{IsEachUsed, IsLeastUnowned, IsEachOwned, SomeAreaIsUnowned};
+ghost use Rattle.agc_plan.specs.Laws.{IsFirstSleeper, NobodySleepsAt, IsUnrivalled};
+ghost use Rattle.agc_plan.specs.Laws.{SomebodyIsAwake, IsRunnerAwake, IsNoAreaShared};
+ghost use Rattle.agc_plan.specs.Laws.{IsEachAreaKnown, IsNothingDue, IsRequestDelayed};
+ghost use Rattle.agc_plan.specs.Laws.{AreActionsDelayed, AreListingsDelayed, FiresThese};
+ghost use Rattle.agc_plan.specs.Laws.{HasTwoRows, HasTwoEntries, HasEachArea, Misses, EndsByLast};
+ghost use Rattle.agc_plan.specs.Laws.{as_action, living};
 
 /// The best job is awake, no awake job has a greater priority, and none of the same priority a
 /// lower number. There is one exactly where somebody is awake.
@@ -96,8 +106,13 @@ pub fn alarm_1202_where_each_number_is_used()
 /// answered by alarm 1202 exactly where as many jobs live as there are core sets, seven or eight;
 /// FINDVAC where besides one of the five areas is nobody's.
 pub fn alarm_1202_with_as_many_jobs_as_sets()
-    ensures novac { (plan : Planned) (base : Base) (log : List Request) (priority : ℕ) (entry : Entry) → ((step plan (Novac priority entry) (reached plan base log)).reply ≡ Alarmed A1202) ↔ (living (reached plan base log).work.jobs.slots ≡ plan.sets) }
-    ensures findvac { (plan : Planned) (base : Base) (log : List Request) (priority : ℕ) (entry : Entry) → ((step plan (Findvac priority entry) (reached plan base log)).reply ≡ Alarmed A1202) ↔ (SomeAreaIsUnowned (reached plan base log).work.jobs.slots × (living (reached plan base log).work.jobs.slots ≡ plan.sets)) }
+    ensures novac { (plan : Planned) (base : Base) (log : List Request) (priority : ℕ)
+        (entry : Entry) → ((step plan (Novac priority entry) (reached plan base log)).reply
+        ≡ Alarmed A1202) ↔ (living (reached plan base log).work.jobs.slots ≡ plan.sets) }
+    ensures findvac { (plan : Planned) (base : Base) (log : List Request) (priority : ℕ)
+        (entry : Entry) → ((step plan (Findvac priority entry) (reached plan base log)).reply
+        ≡ Alarmed A1202) ↔ (SomeAreaIsUnowned (reached plan base log).work.jobs.slots
+        × (living (reached plan base log).work.jobs.slots ≡ plan.sets)) }
 {}
 
 /// Where at most nine tasks wait, a listing is answered by alarm 1203 exactly where nine do.
@@ -120,7 +135,9 @@ pub fn request_is_alarmed_where_it_misses_something()
 /// has an alarm, this tells what that task's action missed, in the work in which it was done, and
 /// the tasks before it missed nothing; where it has none, no action missed anything.
 pub fn tick_ends_by_its_last_task()
-    ensures { (plan : Planned) (base : Base) (log : List Request) (fired : List Task) (told : Option Alarm) → (step plan Tick (reached plan base log)).reply ≡ Ticked fired told → EndsByLast plan.rows (later_work (reached plan base log).work) fired told }
+    ensures { (plan : Planned) (base : Base) (log : List Request) (fired : List Task)
+        (told : Option Alarm) → (step plan Tick (reached plan base log)).reply ≡ Ticked fired told
+        → EndsByLast plan.rows (later_work (reached plan base log).work) fired told }
 {}
 
 /// In every state that a run of requests reaches, a tick never has alarm 1203: the task that fired

@@ -1,7 +1,9 @@
 ghost use Rattle.std.specs.Prelude.{◌≡◌, ◌⊎◌, Some, None, IfOk, IfErr, OnOk};
-ghost use Rattle.agc_plan.specs.Plans.{Written, same_task, has_task, task_twice, has_entry, phase_twice, wants_area, group_wants, all_want, fault_of, action_in, entry_at, is_for};
+ghost use Rattle.agc_plan.specs.Plans.{Written, same_task, has_task, task_twice, has_entry};
+ghost use Rattle.agc_plan.specs.Plans.{phase_twice, wants_area, group_wants, all_want, fault_of};
+ghost use Rattle.agc_plan.specs.Plans.{action_in, entry_at, is_for};
 ghost use Rattle.std.specs.Option.{option_copied};
-ghost use Rattle.agc_plan.specs.Eras.{BeginsQuietly};
+ghost use Rattle.agc_plan.specs.Quiet.{BeginsQuietly};
 ghost use Rattle.agc_plan.specs.Messages.{plan_fault_text};
 
 use crate::number::{Group, Phase};
@@ -66,7 +68,8 @@ impl Model for Plan {
 
     ghost Value = { Written };
 
-    ghost view = { λ p. record { rows = p.rows.items; entries = p.entries.items; key = p.key; radar = p.radar } };
+    ghost view = { λ p. record
+        { rows = p.rows.items; entries = p.entries.items; key = p.key; radar = p.radar } };
 
     ghost invariant = { λ p. fault_of p.rows.items p.entries.items ≡ None };
 }

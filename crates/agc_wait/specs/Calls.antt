@@ -1,8 +1,10 @@
 -- What each call does to the words, and to the agenda that they stand for.
-use Rattle.std.specs.Prelude.{◌≡◌, ◌↔◌, ℕ, ◌+◌, ◌≤◌, Bool, true, false, IsTrue, List, [], Some, IsSome}
+use Rattle.std.specs.Prelude.{◌≡◌, ◌↔◌, ℕ, ◌+◌, ◌≤◌, Bool, true, false, IsTrue, List, [], Some}
+use Rattle.std.specs.Prelude.{IsSome}
 use Rattle.agc_word.specs.Layout.{Keeps, OutsideWaitlist}
 use Rattle.agc_plan.specs.declared.request.Task.{Task}
-use Rattle.agc_plan.specs.Tasks.{Agenda, StandsFor, has_room, listed_if_room, later, first_due, dispatched}
+use Rattle.agc_plan.specs.Tasks.{Agenda, StandsFor, has_room, listed_if_room, later, first_due}
+use Rattle.agc_plan.specs.Tasks.{dispatched}
 use Rattle.agc_wait.specs.Table.{waits_of, IsLawfulTable, IsTidy}
 use Rattle.agc_wait.specs.Waits.{is_due, due_now, place_for}
 use Rattle.agc_wait.specs.Writing.{IsPut, IsTaken, IsCounted, IsBlank}

@@ -1,5 +1,6 @@
 -- Helpers of proofs: words that move by some places, and the walk to the place of a new task.
-use Rattle.std.specs.Prelude.{◌≡◌, ℕ, ◌+◌, ◌-◌, ◌*◌, ◌<◌, ◌≤◌, ◌==◌, nat_lt, nat_le, ◌&&◌, if◌then◌else◌, List, length, drop, slice_index}
+use Rattle.std.specs.Prelude.{◌≡◌, ℕ, ◌+◌, ◌-◌, ◌*◌, ◌<◌, ◌≤◌, ◌==◌, nat_lt, nat_le, ◌&&◌}
+use Rattle.std.specs.Prelude.{if◌then◌else◌, List, length, drop, slice_index}
 use Rattle.agc_word.specs.Layout as layout
 use Rattle.agc_plan.specs.Tasks.{Waiting}
 use Rattle.agc_wait.specs.Waits.{place_for}

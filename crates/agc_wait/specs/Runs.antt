@@ -1,10 +1,12 @@
 -- Runs of listings and ticks on the plain list of tasks, and which task fired when.
-use Rattle.std.specs.Prelude.{◌≡◌, ℕ, ◌+◌, ◌<◌, ◌≤◌, if◌then◌else◌, List, [], ◌∷◌, ◌++◌, Option, Some, None, IsSome, drop}
+use Rattle.std.specs.Prelude.{◌≡◌, ℕ, ◌+◌, ◌<◌, ◌≤◌, if◌then◌else◌, List, [], ◌∷◌, ◌++◌, Option}
+use Rattle.std.specs.Prelude.{Some, None, IsSome, drop}
 use Rattle.std.specs.List.{fold}
 use Rattle.agc_plan.specs.declared.request.Task.{Task}
 use Rattle.agc_plan.specs.Eras.{Work, no_work}
 use Rattle.agc_plan.specs.Steps.{tick_fires}
-use Rattle.agc_plan.specs.Tasks.{Pending, has_room, listed, due_at, first_due, without_first_due, InOrder}
+use Rattle.agc_plan.specs.Tasks.{Pending, has_room, listed, due_at, first_due, without_first_due}
+use Rattle.agc_plan.specs.Tasks.{InOrder}
 
 -- a task is listed with a delay, or a centisecond passes
 pub data Move : Type 0 where

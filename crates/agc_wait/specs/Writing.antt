@@ -1,5 +1,6 @@
 -- How the words of the Waitlist are written: each word after a call, by the words before it.
-use Rattle.std.specs.Prelude.{◌≡◌, ℕ, ◌+◌, ◌-◌, ◌<◌, ◌≤◌, ◌==◌, nat_lt, if◌then◌else◌, List, length, slice_index_or}
+use Rattle.std.specs.Prelude.{◌≡◌, ℕ, ◌+◌, ◌-◌, ◌<◌, ◌≤◌, ◌==◌, nat_lt, if◌then◌else◌, List, length}
+use Rattle.std.specs.Prelude.{slice_index_or}
 use Rattle.agc_word.specs.Layout.{Keeps}
 use Rattle.agc_word.specs.Layout as layout
 use Rattle.agc_plan.specs.declared.request.Task.{Task}

@@ -1,5 +1,6 @@
 // The calls of the Waitlist.
-ghost use Rattle.std.specs.Prelude.{◌≡◌, ◌⊎◌, ◌<◌, ◌≤◌, ◌-◌, ◌==◌, if◌then◌else◌, ℕ, length, slice_index, true, false};
+ghost use Rattle.std.specs.Prelude.{◌≡◌, ◌⊎◌, ◌<◌, ◌≤◌, ◌-◌, ◌==◌, if◌then◌else◌, ℕ, length};
+ghost use Rattle.std.specs.Prelude.{slice_index, true, false};
 ghost use Rattle.std.specs.Result.{is_ok};
 ghost use Rattle.agc_wait.specs.Waits.{is_due};
 ghost use Rattle.agc_wait.specs.Table.{waits_of, IsLawfulTable, at_in, bank_in, gap_of};

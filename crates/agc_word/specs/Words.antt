@@ -1,5 +1,6 @@
 -- Words in ones' complement, seen as their bits.
-use Rattle.std.specs.Prelude.{ℕ, ℤ, pos, negsuc, ◌+◌, ◌-◌, ◌-ℤ◌, ◌+ℤ◌, neg_ℤ, nat_lt, int_le, Bool, true, false, if◌then◌else◌}
+use Rattle.std.specs.Prelude.{ℕ, ℤ, pos, negsuc, ◌+◌, ◌-◌, ◌-ℤ◌, ◌+ℤ◌, neg_ℤ, nat_lt, int_le, Bool}
+use Rattle.std.specs.Prelude.{true, false, if◌then◌else◌}
 
 -- the value of a word: its bits where these are below 0o40000, else its bits less 0o77777
 abbrev pub value_of : ℕ → ℤ

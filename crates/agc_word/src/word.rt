@@ -1,4 +1,5 @@
-ghost use Rattle.std.specs.Prelude.{◌≡◌, ◌+◌, ◌<◌, ◌≤◌, ◌↔◌, ◌≤ℤ◌, ◌+ℤ◌, ◌-ℤ◌, pos, neg_ℤ, true, false, IsTrue, IsFalse, IsSome, IfSome};
+ghost use Rattle.std.specs.Prelude.{◌≡◌, ◌+◌, ◌<◌, ◌≤◌, ◌↔◌, ◌≤ℤ◌, ◌+ℤ◌, ◌-ℤ◌, pos, neg_ℤ, true};
+ghost use Rattle.std.specs.Prelude.{false, IsTrue, IsFalse, IsSome, IfSome};
 ghost use Rattle.agc_word.specs.Words.{value_of, complement, word_of, sum_of, carried_round};
 
 use std::marker::Model;
@@ -110,7 +111,8 @@ impl Word {
         ensures above { let exact = value_of self +ℤ value_of other in
             pos 16384 ≤ℤ exact → IsTrue result.1 × (value_of result.0 ≡ exact -ℤ pos 16384) }
         ensures below { let exact = value_of self +ℤ value_of other in
-            exact ≤ℤ neg_ℤ (pos 16384) → IsTrue result.1 × (value_of result.0 ≡ exact +ℤ pos 16384) }
+            exact ≤ℤ neg_ℤ (pos 16384) → IsTrue result.1
+            × (value_of result.0 ≡ exact +ℤ pos 16384) }
         ensures range { result.0 < 32768 }
     {
         let exact = self.value() + other.value();

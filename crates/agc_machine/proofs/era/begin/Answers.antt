@@ -1,8 +1,12 @@
 use Rattle.std.proofs.Common.{List, ℕ, ◌∙◌, sym, subst}
+use Rattle.agc_plan.specs.Base.{Base}
+use Rattle.agc_plan.specs.Groups.{begun_from, places_from}
+use Rattle.agc_plan.proofs.Groups.{begun_is, era_places_is}
+use Rattle.agc_phase.specs.Image.{base_of}
 use Rattle.agc_word.specs.Layout.{sets_in}
-use Rattle.agc_plan.specs.Eras.{begun, no_work}
-use Rattle.agc_plan.specs.Plans.{planned_with}
-use Rattle.agc_plan.specs.Seats.{places_from, no_places}
+use Rattle.agc_plan.specs.Eras.{Work, no_work}
+use Rattle.agc_plan.specs.Plans.{Planned, planned_with}
+use Rattle.agc_plan.specs.Seats.{no_places, era_places}
 use Rattle.agc_machine.specs.Stands.{Stands, BeginsGroups}
 use Rattle.agc_machine.proofs.Beginning.{Cleared, cleared, same_sets}
 use Rattle.agc_machine.proofs.era.begin.Goals as goal
@@ -24,5 +28,11 @@ returns c =
       ready = record { sound = groups.sound; none_due = groups.same_due ∙ start.none_due };
       same_length = groups.same_length ∙ start.same_length;
       same_base = groups.same_base ∙ start.same_base;
-      stands = subst (λ (phases : List ℕ). Stands c.begin_groups.new.e (begun (planned_with c.args.plan.now (sets_in c.args.e.now)) phases) (places_from c.args.plan.now.entries 1 phases (no_work (sets_in c.args.e.now)) (no_places (sets_in c.args.e.now)))) c.phases-phases.ensures groups.stands;
+      stands =
+          let plan : Planned = planned_with c.args.plan.now (sets_in c.args.e.now) in
+          let base : Base = base_of c.args.e.now in
+          let by_groups : Stands c.begin_groups.new.e (begun_from plan.entries 1 base.phases (no_work plan.sets)) (places_from plan.entries 1 base.phases (no_work plan.sets) (no_places plan.sets)) =
+          subst (λ (phases : List ℕ). Stands c.begin_groups.new.e (begun_from plan.entries 1 phases (no_work plan.sets)) (places_from plan.entries 1 phases (no_work plan.sets) (no_places plan.sets))) c.phases-phases.ensures groups.stands in
+          subst (λ (work : Work). Stands c.begin_groups.new.e work (era_places plan base)) (sym (begun_is plan base.phases))
+          (subst (λ (places : List ℕ). Stands c.begin_groups.new.e (begun_from plan.entries 1 base.phases (no_work plan.sets)) places) (sym (era_places_is plan base)) by_groups);
     }

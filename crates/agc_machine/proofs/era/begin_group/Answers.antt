@@ -1,7 +1,7 @@
 use Rattle.std.proofs.Common.{Option, sym, subst}
 use Rattle.agc_plan.specs.Begins.{Begins}
 use Rattle.agc_machine.specs.Stands.{Changes, with_job, with_task, places_with_job, same_places, places_group}
-use Rattle.agc_plan.specs.Eras.{group_begun}
+use Rattle.agc_plan.specs.Groups.{group_begun}
 use Rattle.agc_machine.proofs.Frames.{changes_twice}
 use Rattle.agc_machine.proofs.era.begin_group.Goals as goal
 

@@ -1,5 +1,5 @@
 use Rattle.std.proofs.Common.{◌≡◌, ◌+◌, sym, ◌∙◌}
-use Rattle.agc_plan.specs.Eras.{group_begun}
+use Rattle.agc_plan.specs.Groups.{group_begun}
 use Rattle.agc_machine.specs.Stands.{places_group}
 use Rattle.agc_machine.proofs.Beginning.{one_more}
 use Rattle.agc_machine.proofs.era.begin_groups.Goals as goal

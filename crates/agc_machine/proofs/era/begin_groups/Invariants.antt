@@ -1,15 +1,15 @@
 use Rattle.std.proofs.Common.{◌≡◌, ℕ, ◌+◌, drop, List, length}
 use Rattle.agc_word.specs.Layout.{sets_in}
-use Rattle.agc_plan.specs.Plans.{planned_with}
-use Rattle.agc_plan.specs.Eras.{Work, begun_from, begun, no_work}
-use Rattle.agc_plan.specs.Seats.{places_from, no_places}
+use Rattle.agc_plan.specs.Eras.{Work, no_work}
+use Rattle.agc_plan.specs.Groups.{begun_from, places_from}
+use Rattle.agc_plan.specs.Seats.{no_places}
 use Rattle.agc_phase.specs.Image.{base_of}
 use Rattle.agc_machine.specs.Stands.{IsSound, SameDue, Stands}
 use Rattle.agc_machine.proofs.era.begin_groups.Given as goal
 
 abbrev pub invariant-loop-k : goal.invariant-loop-k
 invariant-loop-k l = record {
-  stands : (w : Work) × (places : List ℕ) × Stands l.e w places × (begun_from l.plan.entries (l.k + 1) (drop l.k l.phases) w ≡ begun (planned_with l.plan (sets_in l.fn.e)) l.phases) × (places_from l.plan.entries (l.k + 1) (drop l.k l.phases) w places ≡ places_from l.plan.entries 1 l.phases (no_work (sets_in l.fn.e)) (no_places (sets_in l.fn.e)));
+  stands : (w : Work) × (places : List ℕ) × Stands l.e w places × (begun_from l.plan.entries (l.k + 1) (drop l.k l.phases) w ≡ begun_from l.plan.entries 1 l.phases (no_work (sets_in l.fn.e))) × (places_from l.plan.entries (l.k + 1) (drop l.k l.phases) w places ≡ places_from l.plan.entries 1 l.phases (no_work (sets_in l.fn.e)) (no_places (sets_in l.fn.e)));
   sound : IsSound l.e;
   same_length : length l.e ≡ length l.fn.e;
   same_base : base_of l.e ≡ base_of l.fn.e;

@@ -1,7 +1,7 @@
 use Rattle.std.proofs.Common.{◌≡◌, ℕ, length, sym, ◌∙◌, subst}
 use Rattle.agc_word.specs.Layout.{sets_in}
 use Rattle.agc_plan.specs.Base.{Base}
-use Rattle.agc_plan.specs.Eras.{begun}
+use Rattle.agc_plan.specs.Steps.{begun}
 use Rattle.agc_plan.specs.Plans.{planned_with}
 use Rattle.agc_plan.specs.Seats.{era_places}
 use Rattle.agc_machine.specs.Stands.{Stands, BeginsEra}

@@ -1,6 +1,6 @@
 use Rattle.std.proofs.Common.{subst}
 use Rattle.agc_plan.specs.Plans.{Written}
-use Rattle.agc_plan.specs.Eras.{BeginsQuietly}
+use Rattle.agc_plan.specs.Quiet.{BeginsQuietly}
 use Rattle.agc_plan.proofs.Quiet.{quiet}
 use Rattle.agc_plan.proofs.plan.Plan.begins_quietly.Goals as goal
 
