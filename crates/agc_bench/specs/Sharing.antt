@@ -1,5 +1,6 @@
 -- Of proofs alone: what the threads of a run know of their shares and devices.
-use Rattle.std.specs.Prelude.{◌≡◌, ℕ, ◌+◌, ◌<◌, List, [], ◌∷◌, ◌++◌, length, map, slice_index_or, Bool, IsSome}
+use Rattle.std.specs.Prelude.{◌≡◌, ℕ, ◌+◌, ◌<◌, List, [], ◌∷◌, ◌++◌, length, map, slice_index_or}
+use Rattle.std.specs.Prelude.{Bool, IsSome}
 use Rattle.std.specs.List.{All}
 use Rattle.atomic_table.specs.Seated.{TableId}
 use Rattle.agc_latch.specs.declared.accounts.Settled.{Settled}
@@ -97,9 +98,9 @@ pub record HaveSettled (devices : List Posting) (settled : Settled) : Type 0 whe
   pub whole : (line : Line)
       → on line settled.posted ≡ on line settled.applied + on line settled.owed
 
--- after these calls the caller attends once with its share, and then the calls that were made with that
--- share and with these are one history, which leads to the machine, and of whose pulses so many are
--- told to be applied
+-- after these calls the caller attends once with its share, and then the calls that were made with
+-- that share and with these are one history, which leads to the machine, and of whose pulses so
+-- many are told to be applied
 pub record Finishes (first : Machined) (calls : List Call) (caller : Holder) (shares : List Holder)
     (machine : Machined) (applied : List ℕ) : Type 0 where
   pub more : List Call

@@ -5,7 +5,8 @@ use Rattle.agc_machine.specs.declared.totals.Totals.{Totals}
 use Rattle.agc_machine.specs.Image.{HandsOut}
 use Rattle.agc_machine.specs.Machines.{Machined}
 use Rattle.agc_session.specs.declared.run_fault.RunFault.{RunFault}
-use Rattle.agc_session.specs.declared.run_fault.RunFault.TheVariants.{NoMemory, Output, NoThread, Lost}
+use Rattle.agc_session.specs.declared.run_fault.RunFault.TheVariants.{NoMemory, Output, NoThread}
+use Rattle.agc_session.specs.declared.run_fault.RunFault.TheVariants.{Lost}
 use Rattle.agc_document.specs.Benches.{Benched}
 use Rattle.agc_bench.specs.Threads.{Asker, Attends, threads_of}
 use Rattle.agc_text.specs.Pulses.{pulses_text}

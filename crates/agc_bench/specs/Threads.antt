@@ -1,5 +1,6 @@
 -- What the threads of a bench ask and post, and what a run of them writes.
-use Rattle.std.specs.Prelude.{◌≡◌, ℕ, ◌+◌, ◌<◌, List, [], ◌∷◌, ◌++◌, map, length, sum_by, slice_index_or, Bool, Option, IsNone, IsSome, Result, Ok, Err}
+use Rattle.std.specs.Prelude.{◌≡◌, ℕ, ◌+◌, ◌<◌, List, [], ◌∷◌, ◌++◌, map, length, sum_by}
+use Rattle.std.specs.Prelude.{slice_index_or, Bool, Option, IsNone, IsSome, Result, Ok, Err}
 use Rattle.std.specs.List.{All, enumerate_from}
 use Rattle.std.specs.Io.KnownBytes.{Appends}
 use Rattle.agc_plan.specs.declared.request.Request.{Request}
@@ -13,7 +14,8 @@ use Rattle.agc_desk.specs.Desks.{ArePulses}
 use Rattle.agc_desk.specs.History.{Leads, calls_by}
 use Rattle.agc_desk.specs.Runs.{IsFront, requests_of}
 use Rattle.agc_session.specs.declared.run_fault.RunFault.{RunFault}
-use Rattle.agc_session.specs.declared.run_fault.RunFault.TheVariants.{NoMemory, Output, NoThread, Lost}
+use Rattle.agc_session.specs.declared.run_fault.RunFault.TheVariants.{NoMemory, Output, NoThread}
+use Rattle.agc_session.specs.declared.run_fault.RunFault.TheVariants.{Lost}
 use Rattle.agc_document.specs.Benches.{Benched}
 use Rattle.agc_session.specs.Runs.{bench_machine, bench_plan}
 use Rattle.agc_text.specs.Pulses.{pulses_text}
@@ -34,7 +36,8 @@ workers_of bench = map (λ w. Worker w.0 w.1) (enumerate_from 0 bench.workers)
 abbrev pub threads_of : Benched → List Asker
 threads_of bench = workers_of bench ++ Attends bench.attends ∷ []
 
--- who asks: the caller of the run, which attends once when all threads have ended, and these threads
+-- who asks: the caller of the run, which attends once when all threads have ended, and these
+-- threads
 abbrev pub askers_of : Benched → List Asker
 askers_of bench = Attends 1 ∷ threads_of bench
 
@@ -78,7 +81,8 @@ pub record AreSettled (bench : Benched) (settled : Settled) : Type 0 where
       → on line settled.posted ≡ on line settled.applied + on line settled.owed
 
 -- the report of the machine that a run leaves, and the lines of what became of the pulses
-pub record IsRunReport (may_answer : ℕ → ℕ → Bool → Type 0) (bench : Benched) (text : List ℕ) : Type 0 where
+pub record IsRunReport (may_answer : ℕ → ℕ → Bool → Type 0) (bench : Benched) (text : List ℕ) : Type
+    0 where
   pub machine : Machined
   pub settled : Settled
   pub run : IsRun may_answer bench machine settled.applied

@@ -4,7 +4,8 @@ ghost use Rattle.agc_latch.specs.Lines.{zeros};
 ghost use Rattle.agc_desk.specs.Draining.{answers_to};
 ghost use Rattle.agc_desk.specs.Opening.{names_of};
 ghost use Rattle.agc_session.specs.Runs.{bench_machine};
-ghost use Rattle.agc_bench.specs.Sharing.{AreReady, AsksOwn, EachAsks, HaveRun, first_calls, spent_device};
+ghost use Rattle.agc_bench.specs.Sharing.{AreReady, AsksOwn, EachAsks, HaveRun, first_calls};
+ghost use Rattle.agc_bench.specs.Sharing.{spent_device};
 ghost use Rattle.agc_bench.specs.Threads.{AreSettled, IsRun, WritesRun, askers_of};
 ghost use Rattle.agc_bench.specs.Steps.{IsEarly, WritesSettled, thread_at};
 
@@ -37,7 +38,9 @@ struct Pledge<'b, 'g, N: Names, G: Gate> {
 }
 
 impl<'b, 'g, N: Names, G: Gate> Promise<Share<N>> for Pledge<'b, 'g, N, G> {
-    ghost kept_by = { λ pledge told. AsksOwn (λ n call answer. G.may_answer pledge.gate.now n call answer) (thread_at pledge.bench.now pledge.thread) pledge.start.value told };
+    ghost kept_by = { λ pledge told. AsksOwn
+        (λ n call answer. G.may_answer pledge.gate.now n call answer)
+        (thread_at pledge.bench.now pledge.thread) pledge.start.value told };
 }
 
 /// What a device's thread promises of its device: that it posts all its pulses, on its line.
@@ -176,7 +179,8 @@ fn run_locked<N: Sharing + Send + Sync, G: Gate + Sync, W: Threads + Wait + Sync
     requires latch { latch.now ≡ N.latch }
     requires ready { AreReady N.first bench.now latch.now parts.first parts.shares.items
         parts.devices.items }
-    ensures run { IfOk result (λ p. HaveRun (λ n call answer. G.may_answer gate.now n call answer) N.first
+    ensures run { IfOk result
+        (λ p. HaveRun (λ n call answer. G.may_answer gate.now n call answer) N.first
         bench.now latch.now p.first p.shares.items p.devices.items) }
     ensures early { IfErr result (λ fault. IsEarly fault) }
 {

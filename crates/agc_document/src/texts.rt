@@ -1,6 +1,36 @@
 //! The numbers and texts of a bench, which borrow from its document.
+ghost use Rattle.std.specs.Prelude.{◌≡◌};
+
 use agc_word::Sets;
 use std::marker::Model;
+
+/// A text of a list. Contracts see its bytes, where they would see a `&str` as a reference.
+#[derive(Drop)]
+pub(crate) struct Text<'a> {
+    text: &'a str,
+}
+
+impl<'a> Model for Text<'a> {
+    ghost use Rattle.std.specs.Prelude.{ℕ, List};
+
+    ghost Value = { List ℕ };
+
+    ghost view = { λ t. t.text.now };
+}
+
+impl<'a> Text<'a> {
+    pub(crate) fn new(text: &'a str) -> Text<'a>
+        ensures { result ≡ text.now }
+    {
+        Text { text }
+    }
+
+    pub(crate) fn as_str(&self) -> &'a str
+        ensures { result.now ≡ self.now }
+    {
+        self.text
+    }
+}
 
 /// The texts of a task's row.
 #[derive(Drop)]
@@ -41,6 +71,20 @@ impl<'a> Model for EntryTexts<'a> {
     } };
 }
 
+/// A worker: the texts of its script.
+#[derive(Drop)]
+pub(crate) struct WorkerTexts<'a> {
+    pub(crate) script: Vec<Text<'a>>,
+}
+
+impl<'a> Model for WorkerTexts<'a> {
+    ghost use Rattle.std.specs.Prelude.{ℕ, List};
+
+    ghost Value = { List (List ℕ) };
+
+    ghost view = { λ t. t.script.items };
+}
+
 /// A device: the text of its line, and its pulses.
 #[derive(Drop)]
 pub(crate) struct DeviceTexts<'a> {
@@ -68,11 +112,11 @@ pub(crate) struct Settings<'a> {
     pub(crate) attends: u32,
     pub(crate) key: &'a str,
     pub(crate) radar: &'a str,
-    pub(crate) power: Option<Vec<&'a str>>,
+    pub(crate) power: Option<Vec<Text<'a>>>,
 }
 
 impl<'a> Model for Settings<'a> {
-    ghost use Rattle.std.specs.Prelude.{◌≤◌, map};
+    ghost use Rattle.std.specs.Prelude.{◌≤◌};
     ghost use Rattle.std.specs.Option.{option_map};
     ghost use Rattle.agc_word.specs.Profiles.{count_of};
     ghost use Rattle.agc_plan.specs.Ranges.{IsBetween};
@@ -87,7 +131,7 @@ impl<'a> Model for Settings<'a> {
       attends = t.attends;
       key = t.key.now;
       radar = t.radar.now;
-      power = option_map (λ v. map (λ s. s.now) v.items) t.power;
+      power = option_map (λ v. v.items) t.power;
     } };
 
     ghost invariant = { λ t. IsBetween 7 8 (count_of t.sets)
@@ -97,24 +141,24 @@ impl<'a> Model for Settings<'a> {
 /// What a bench has many of.
 #[derive(Drop)]
 pub(crate) struct Lists<'a> {
-    pub(crate) script: Vec<&'a str>,
+    pub(crate) script: Vec<Text<'a>>,
     pub(crate) rows: Vec<RowTexts<'a>>,
     pub(crate) entries: Vec<EntryTexts<'a>>,
-    pub(crate) workers: Vec<Vec<&'a str>>,
+    pub(crate) workers: Vec<WorkerTexts<'a>>,
     pub(crate) devices: Vec<DeviceTexts<'a>>,
 }
 
 impl<'a> Model for Lists<'a> {
-    ghost use Rattle.std.specs.Prelude.{◌≤◌, map, length};
+    ghost use Rattle.std.specs.Prelude.{◌≤◌, length};
     ghost use Rattle.agc_document.specs.Texts.{Lists as Texts};
 
     ghost Value = { Texts };
 
     ghost view = { λ t. record {
-      script = map (λ s. s.now) t.script.items;
+      script = t.script.items;
       rows = t.rows.items;
       entries = t.entries.items;
-      workers = map (λ v. map (λ s. s.now) v.items) t.workers.items;
+      workers = t.workers.items;
       devices = t.devices.items;
     } };
 

@@ -19,7 +19,7 @@ ghost use Rattle.agc_document.specs.Kinds.{job_of, timed_of};
 ghost use Rattle.agc_document.specs.Gives.{RefusedLine};
 
 use crate::fault::BenchFault;
-use crate::texts::{DeviceTexts, EntryTexts, RowTexts};
+use crate::texts::{DeviceTexts, EntryTexts, RowTexts, Text, WorkerTexts};
 use agc_latch::Line;
 use agc_plan::{Action, Delay, Group, JobStart, Phase, PhaseEntry, Request, Task};
 use agc_text::{parse_action, parse_address, parse_line, parse_word};
@@ -27,15 +27,15 @@ use agc_word::Word;
 use std::alloc::Global;
 
 /// The requests that texts spell, in order.
-pub(crate) fn requests_of(alloc: Global, texts: &[&str]) -> Result<Vec<Request>, BenchFault>
+pub(crate) fn requests_of(alloc: Global, texts: &[Text<'_>]) -> Result<Vec<Request>, BenchFault>
     ensures found { IfOk result (λ v. AreRequests v.items
-        × (map (λ s. s.now) texts.now ≡ map line_of v.items)) }
+        × (texts.now ≡ map line_of v.items)) }
     ensures refused { IfErr result (RefusedLine
-        ((rs : List Request) → AreRequests rs → map (λ s. s.now) texts.now ≢ map line_of rs)) }
+        ((rs : List Request) → AreRequests rs → texts.now ≢ map line_of rs)) }
 {
     let mut requests = Vec::new(alloc);
     for text in texts {
-        match parse_line(*text) {
+        match parse_line(text.as_str()) {
             Some(request) => requests.push(request)?,
             None => return Err(BenchFault::Line),
         }
@@ -164,18 +164,17 @@ pub(crate) fn entries_of(
 /// The workers' scripts that their texts spell, in order.
 pub(crate) fn workers_of(
     alloc: Global,
-    texts: &[Vec<&str>],
+    texts: &[WorkerTexts<'_>],
 ) -> Result<Vec<Vec<Request>>, BenchFault>
     ensures found { IfOk result (λ v. AllByRecursion AreRequests (map (λ w. w.items) v.items)
-        × (map (λ w. map (λ s. s.now) w.items) texts.now
-        ≡ map (map line_of) (map (λ w. w.items) v.items))) }
+        × (texts.now ≡ map (map line_of) (map (λ w. w.items) v.items))) }
     ensures refused { IfErr result (RefusedLine
         ((ws : List (List Request)) → AllByRecursion AreRequests ws
-        → map (λ w. map (λ s. s.now) w.items) texts.now ≢ map (map line_of) ws)) }
+        → texts.now ≢ map (map line_of) ws)) }
 {
     let mut workers: Vec<Vec<Request>> = Vec::new(alloc);
     for text in texts {
-        let worker = requests_of(alloc, text.as_slice())?;
+        let worker = requests_of(alloc, text.script.as_slice())?;
         workers.push(worker)?;
     }
     Ok(workers)
@@ -224,18 +223,17 @@ pub(crate) fn devices_of(
 }
 
 /// The twelve words that as many texts spell.
-fn words_of(texts: &[&str]) -> Option<[Word; 12]>
-    ensures found { IfSome result (λ ws. IsPower (Some ws)
-        × (map (λ s. s.now) texts.now ≡ map (octal 5) ws)) }
+fn words_of(texts: &[Text<'_>]) -> Option<[Word; 12]>
+    ensures found { IfSome result (λ ws. IsPower (Some ws) × (texts.now ≡ map (octal 5) ws)) }
     ensures only { IfNone result ((ws : List ℕ) → IsPower (Some ws)
-        → map (λ s. s.now) texts.now ≢ map (octal 5) ws) }
+        → texts.now ≢ map (octal 5) ws) }
 {
     if texts.len() != 12 {
         return None;
     }
     let mut words = [Word::zero(); 12];
     for (k, text) in texts.iter().enumerate() {
-        match parse_word(*text) {
+        match parse_word(text.as_str()) {
             None => return None,
             Some(word) => words[k] = word,
         }
@@ -244,11 +242,11 @@ fn words_of(texts: &[&str]) -> Option<[Word; 12]>
 }
 
 /// The phase words of a power-up, if their texts are there. None where one of these spells no word.
-pub(crate) fn power_of(texts: &Option<Vec<&str>>) -> Option<Option<[Word; 12]>>
+pub(crate) fn power_of(texts: &Option<Vec<Text<'_>>>) -> Option<Option<[Word; 12]>>
     ensures found { IfSome result (λ p. IsPower p
-        × (option_map (λ v. map (λ s. s.now) v.items) texts.now ≡ power_texts p)) }
+        × (option_map (λ v. v.items) texts.now ≡ power_texts p)) }
     ensures only { IfNone result ((p : Option (List ℕ)) → IsPower p
-        → option_map (λ v. map (λ s. s.now) v.items) texts.now ≢ power_texts p) }
+        → option_map (λ v. v.items) texts.now ≢ power_texts p) }
 {
     match texts {
         None => Some(None),

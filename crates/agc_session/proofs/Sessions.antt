@@ -1,22 +1,18 @@
--- The text of a session, and the requests of a bench.
-use Rattle.std.proofs.Common.{◌≡◌, ℕ, List, ◌++◌, Option, None, Some, map, subst, refl, sym, ap, ◌∙◌, inl, inr}
+-- The text of a session.
+use Rattle.std.proofs.Common.{◌≡◌, ℕ, List, ◌++◌, Option, subst, refl, inl, inr}
 use Rattle.std.specs.Io.KnownBytes.{Appends}
-use Rattle.std.specs.List.{flat_map}
-use Rattle.std.proofs.lemmas.List.Folds.{flat_map-map}
+use Rattle.std.specs.List.{fold}
 use Rattle.agc_plan.specs.declared.request.Request.{Request}
 use Rattle.agc_machine.specs.Image.{HandsOut}
-use Rattle.agc_machine.specs.Machines.{Machined, after_all}
+use Rattle.agc_machine.specs.Machines.{Machined, after, after_all}
 use Rattle.agc_text.specs.Report.{report_text}
 use Rattle.agc_text.specs.Writing.{AppendsFront}
-use Rattle.agc_text.specs.Session.{answer_lines}
-use Rattle.agc_text.proofs.Steps.{appends_none, appends_both, up_to_more_front}
-use Rattle.agc_document.specs.Benches.{Benched}
-use Rattle.agc_desk.specs.Pulses.{repeated}
-use Rattle.agc_session.specs.Runs.{device_requests, bench_requests}
-use Rattle.agc_session.specs.Session.{IsSession, AppendsSessionFront}
+use Rattle.agc_text.proofs.Steps.{appends_both, up_to_more_front}
+use Rattle.agc_session.specs.Session.{IsSession, AppendsSessionFront, answer_lines}
 
 -- the text of a session, of words of the machine that was reached
-session_of : (machine m : Machined) (rs : List Request) (words : List ℕ) → m ≡ after_all machine rs → HandsOut m words → IsSession machine rs (answer_lines machine rs ++ report_text m.plan.sets words m.totals)
+session_of : (machine m : Machined) (rs : List Request) (words : List ℕ) → m ≡ fold after machine rs → HandsOut m words → IsSession machine rs (answer_lines machine rs ++ report_text m.plan.sets words m.totals)
+unfolding after_all
 session_of machine m rs words is image = record {
   words = words;
   words_are = subst (λ (x : Machined). HandsOut x words) is image;
@@ -24,13 +20,13 @@ session_of machine m rs words is image = record {
 }
 
 -- the report was written after the answers' lines
-pub session_written : (o w n : Option (List ℕ)) (machine start m : Machined) (rs : List Request) → start ≡ machine → m ≡ after_all start rs → Appends o w (answer_lines start rs) → (words : List ℕ) × HandsOut m words × Appends w n (report_text m.plan.sets words m.totals) → (text : List ℕ) × IsSession machine rs text × Appends o n text
+pub session_written : (o w n : Option (List ℕ)) (machine start m : Machined) (rs : List Request) → start ≡ machine → m ≡ fold after start rs → Appends o w (answer_lines start rs) → (words : List ℕ) × HandsOut m words × Appends w n (report_text m.plan.sets words m.totals) → (text : List ℕ) × IsSession machine rs text × Appends o n text
 session_written o w n machine start m rs from is h k =
     subst (λ (x : Machined). (text : List ℕ) × IsSession x rs text × Appends o n text) from
     (answer_lines start rs ++ report_text m.plan.sets k.0 m.totals, session_of start m rs k.0 is k.1, appends_both o w n (answer_lines start rs) (report_text m.plan.sets k.0 m.totals) h k.2)
 
 -- a front of it was
-pub session_front : (o w n : Option (List ℕ)) (machine start m : Machined) (rs : List Request) → start ≡ machine → m ≡ after_all start rs → Appends o w (answer_lines start rs) → (words : List ℕ) × HandsOut m words × AppendsFront w n (report_text m.plan.sets words m.totals) → AppendsSessionFront o n machine rs
+pub session_front : (o w n : Option (List ℕ)) (machine start m : Machined) (rs : List Request) → start ≡ machine → m ≡ fold after start rs → Appends o w (answer_lines start rs) → (words : List ℕ) × HandsOut m words × AppendsFront w n (report_text m.plan.sets words m.totals) → AppendsSessionFront o n machine rs
 session_front o w n machine start m rs from is h k =
     subst (λ (x : Machined). AppendsSessionFront o n x rs) from
     (inr (answer_lines start rs ++ report_text m.plan.sets k.0 m.totals, session_of start m rs k.0 is k.1, (k.2.0, k.2.1, up_to_more_front o w n (answer_lines start rs) (report_text m.plan.sets k.0 m.totals) k.2.0 h k.2.2)))
@@ -38,21 +34,3 @@ session_front o w n machine start m rs from is h k =
 -- a front of the answers' lines was
 pub lines_front : (o n : Option (List ℕ)) (machine start : Machined) (rs : List Request) → start ≡ machine → AppendsFront o n (answer_lines start rs) → AppendsSessionFront o n machine rs
 lines_front o n machine start rs from h = subst (λ (x : Machined). AppendsSessionFront o n x rs) from (inl h)
-
--- a pulse that asks for nothing
-pub nothing_after : (m : Machined) (asked : Option Request) (times : ℕ) → asked ≡ None → m ≡ after_all m (repeated asked times)
-unfolding after_all
-nothing_after m None times e = refl
-nothing_after m (Some r) times e = cc
-
-pub nothing_written : (o : Option (List ℕ)) (m : Machined) (asked : Option Request) (times : ℕ) → asked ≡ None → Appends o o (answer_lines m (repeated asked times))
-unfolding answer_lines
-nothing_written o m None times e = appends_none o
-nothing_written o m (Some r) times e = cc
-
--- the requests of a bench, its workers' as their lists hold them
-pub bench_is : {V : Type 0} → (f : V → List Request) (bench : Benched) (workers : List V) → map f workers ≡ bench.workers → bench_requests bench ≡ bench.script ++ (flat_map f workers ++ flat_map (device_requests bench) bench.devices)
-unfolding bench_requests
-bench_is f bench workers e =
-    let k : flat_map (λ rs. rs) bench.workers ≡ flat_map f workers = ap (flat_map (λ rs. rs)) (sym e) ∙ flat_map-map (λ rs. rs) f workers in
-    ap (λ (rs : List Request). bench.script ++ (rs ++ flat_map (device_requests bench) bench.devices)) k

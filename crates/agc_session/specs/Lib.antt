@@ -1,4 +1,5 @@
 pub mod Messages
+pub mod Walks
 pub mod Session
 pub mod Runs
 pub mod Steps

@@ -16,17 +16,22 @@ use Rattle.agc_document.specs.Benches.{Benched}
 abbrev pub empty_plan : Written
 empty_plan = record { rows = []; entries = []; key = action.Nothing; radar = action.Nothing }
 
--- the machine of a script: it has seven core sets, nothing is planned, the log holds 1000 requests, and 1,000,000 are served
+-- the machine of a script: it has seven core sets, nothing is planned, the log holds 1000 requests,
+-- and 1,000,000 are served
 unfoldable pub script_machine : Machined
 script_machine = begun_with (planned_with empty_plan 7) 1000 1000000 fresh_base
 
--- whether the words -PHASE and PHASE of a group, counted from 0, are complements, and the phase is at most 127
+-- whether the words -PHASE and PHASE of a group, counted from 0, are complements, and the phase is
+-- at most 127
 abbrev pub pair_agrees : List ℕ → ℕ → Bool
-pair_agrees words group = (minus_in words group == complement (phase_in words group)) && nat_le (phase_in words group) 127
+pair_agrees words group = (minus_in words group == complement (phase_in words group)) && nat_le
+    (phase_in words group) 127
 
 -- whether twelve phase words agree, pair by pair
 abbrev pub pairs_agree : List ℕ → Bool
-pairs_agree words = pair_agrees words 0 && (pair_agrees words 1 && (pair_agrees words 2 && (pair_agrees words 3 && (pair_agrees words 4 && pair_agrees words 5))))
+pairs_agree words = pair_agrees words 0 &&
+    (pair_agrees words 1 &&
+    (pair_agrees words 2 && (pair_agrees words 3 && (pair_agrees words 4 && pair_agrees words 5))))
 
 -- with what a bench's machine begins: as power comes back with these words, or else afresh
 abbrev pub bench_base : Option (List ℕ) → Base
@@ -35,7 +40,8 @@ bench_base (Some words) = power_base (pairs_agree words) words
 
 -- what a bench plans
 abbrev pub plan_of : Benched → Written
-plan_of bench = record { rows = bench.rows; entries = bench.entries; key = bench.key; radar = bench.radar }
+plan_of bench = record
+    { rows = bench.rows; entries = bench.entries; key = bench.key; radar = bench.radar }
 
 -- and on how many core sets
 abbrev pub bench_plan : Benched → Planned
@@ -43,7 +49,8 @@ bench_plan bench = planned_with (plan_of bench) bench.sets
 
 -- the machine of a bench
 unfoldable pub bench_machine : Benched → Machined
-bench_machine bench = begun_with (bench_plan bench) bench.limit bench.allowance (bench_base bench.power)
+bench_machine bench = begun_with (bench_plan bench) bench.limit bench.allowance
+    (bench_base bench.power)
 
 -- the requests of a device, one for each of its pulses
 abbrev pub device_requests : Benched → Line × ℕ → List Request
@@ -51,4 +58,6 @@ device_requests bench device = repeated (pulse_request (bench_plan bench) device
 
 -- the requests of a bench: its script, then each worker's, then each device's, in order
 unfoldable pub bench_requests : Benched → List Request
-bench_requests bench = bench.script ++ (flat_map (λ requests. requests) bench.workers ++ flat_map (device_requests bench) bench.devices)
+bench_requests bench = bench.script
+    ++ (flat_map (λ requests. requests) bench.workers
+    ++ flat_map (device_requests bench) bench.devices)

@@ -2,9 +2,11 @@
 #![tactic(auto)]
 
 mod asking;
+mod asks;
 mod run;
 mod run_fault;
 
-pub use asking::pulse_request;
+pub use asking::{ask_all, ask_bench, pulse_request};
+pub use asks::Asks;
 pub use run::{machine_of, run_script, serial};
 pub use run_fault::RunFault;

@@ -1,5 +1,10 @@
 ghost use Rattle.std.specs.Prelude.{◌≡◌, Some};
-ghost use Rattle.agc_session.specs.declared.run_fault.RunFault.TheVariants.{NoMemory as WantOfMemory, Output as OutputFailed};
+ghost use Rattle.agc_session.specs.declared.run_fault.RunFault.TheVariants.{};
+ghost use Rattle.agc_session.specs.declared.run_fault.RunFault.TheVariants.{
+  NoMemory as
+      WantOfMemory,
+};
+ghost use Rattle.agc_session.specs.declared.run_fault.RunFault.TheVariants.{Output as OutputFailed};
 
 use agc_machine::NoMemory;
 use agc_text::Output;
@@ -11,7 +16,8 @@ use std::fmt;
 pub enum RunFault {
     /// Nothing was written.
     NoMemory,
-    /// A write failed, or took nothing of what was left; a front of the text, perhaps empty, was written, and not all.
+    /// A write failed, or took nothing of what was left; a front of the text, perhaps empty, was
+    /// written, and not all.
     Output,
     /// A thread couldn't be started. Nothing was written.
     NoThread,

@@ -5,7 +5,7 @@
 mod fault;
 mod input;
 mod line;
-mod numbers;
+pub mod numbers;
 mod numerals;
 mod pulses;
 mod replies;
@@ -21,5 +21,5 @@ pub use numbers::{parse_address, parse_word};
 pub use pulses::report_pulses;
 pub use reporting::report;
 pub use script::read_script;
-pub use session::{write_answer, write_answer_to, write_answers};
+pub use session::write_answer_to;
 pub use writing::put;

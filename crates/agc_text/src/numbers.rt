@@ -77,49 +77,60 @@ fn decimal(text: &str) -> Option<u16>
     text.parse().ok()
 }
 
+/// The priority that two octal digits spell, 01 to 37; None for any other text. Source: profile.
 #[tactic(auto, unfolding(crate::specs::Reading::priority_of))]
-pub(crate) fn priority(text: &str) -> Option<Priority>
+pub fn priority(text: &str) -> Option<Priority>
     ensures { result ≡ priority_of text.now }
 {
     Priority::new(octal_pair(text)?)
 }
 
+/// The address that five octal digits spell, 00001 to 37777; None for any other text. Source:
+/// profile.
 #[tactic(auto, unfolding(crate::specs::Reading::address_of))]
-pub(crate) fn address(text: &str) -> Option<Address>
+pub fn address(text: &str) -> Option<Address>
     ensures { result ≡ address_of text.now }
 {
     Address::new(octal_five(text)?)
 }
 
-pub(crate) fn word(text: &str) -> Option<Word>
+/// The word that five octal digits spell; None for any other text. Source: profile.
+pub fn word(text: &str) -> Option<Word>
     ensures { result ≡ octal_five_of text.now }
 {
     Word::new(octal_five(text)?)
 }
 
+/// The delay in centiseconds that decimal digits without leading zeros spell, 1 to 16250; None for
+/// any other text. Source: profile.
 #[tactic(auto, unfolding(crate::specs::Reading::delay_of))]
-pub(crate) fn delay(text: &str) -> Option<Delay>
+pub fn delay(text: &str) -> Option<Delay>
     ensures { result ≡ delay_of text.now }
 {
     Delay::new(decimal(text)?)
 }
 
+/// The restart group that one octal digit spells, 1 to 6; None for any other text. Source: profile.
 #[tactic(auto, unfolding(crate::specs::Reading::group_of))]
-pub(crate) fn group(text: &str) -> Option<Group>
+pub fn group(text: &str) -> Option<Group>
     ensures { result ≡ group_of text.now }
 {
     Group::new(octal_one(text)?)
 }
 
+/// The place of a work word that one octal digit spells, 1 to 6; None for any other text. Source:
+/// profile.
 #[tactic(auto, unfolding(crate::specs::Reading::place_of))]
-pub(crate) fn place(text: &str) -> Option<Place>
+pub fn place(text: &str) -> Option<Place>
     ensures { result ≡ place_of text.now }
 {
     Place::new(octal_one(text)?)
 }
 
+/// The phase that decimal digits without leading zeros spell, 0 to 127; None for any other text.
+/// Source: profile.
 #[tactic(auto, unfolding(crate::specs::Reading::phase_of))]
-pub(crate) fn phase(text: &str) -> Option<Phase>
+pub fn phase(text: &str) -> Option<Phase>
     ensures { result ≡ phase_of text.now }
 {
     let number = decimal(text)?;

@@ -1,8 +1,8 @@
-ghost use Rattle.std.specs.Prelude.{◌≡◌, None, OnOk};
+ghost use Rattle.std.specs.Prelude.{◌≡◌, None};
 ghost use Rattle.agc_plan.specs.declared.request.Request.TheVariants.{Tick};
-ghost use Rattle.agc_machine.specs.Machines.{after, after_all, refusal_of};
+ghost use Rattle.agc_machine.specs.Machines.{after, refusal_of};
 ghost use Rattle.agc_text.specs.Writing.{Writes};
-ghost use Rattle.agc_text.specs.Session.{line_for, answer_lines};
+ghost use Rattle.agc_text.specs.Session.{line_for};
 
 use crate::fault::Output;
 use crate::replies::{put_refusal, put_reply, put_tick};
@@ -49,37 +49,4 @@ pub fn write_answer_to<W: Write>(
             }
         }
     }
-}
-
-/// Asks for one request, and writes the answer's line.
-pub fn write_answer<W: Write>(
-    machine: &mut Machine,
-    request: Request,
-    writer: &mut W,
-) -> Result<(), Output>
-    ensures after { machine.new ≡ after machine.old request }
-    ensures writes { Writes (W.contents writer.old) (W.contents writer.new)
-        (line_for machine.old request) result }
-{
-    write_answer_to(machine, &request, writer)
-}
-
-/// Asks for all requests in order, and writes the line of each answer.
-///
-/// # Errors
-///
-/// Where a write fails. No further request is then asked.
-pub fn write_answers<W: Write>(
-    machine: &mut Machine,
-    requests: &[Request],
-    writer: &mut W,
-) -> Result<(), Output>
-    ensures after { OnOk result (machine.new ≡ after_all machine.old requests.now) }
-    ensures writes { Writes (W.contents writer.old) (W.contents writer.new)
-        (answer_lines machine.old requests.now) result }
-{
-    for request in requests {
-        write_answer_to(machine, request, writer)?;
-    }
-    Ok(())
 }

@@ -1,6 +1,5 @@
-pub mod Sessions
 pub mod Scenes
-pub mod Shown
+pub mod Moments
 pub mod Words
 pub mod Pieces
 pub mod Whole

@@ -1,5 +1,5 @@
 -- A core set's words, and a task's.
-use Rattle.std.proofs.Common.{◌≡◌, ◌≢◌, ℕ, zero, suc, ◌+◌, ◌-◌, ◌/◌, ◌%◌, ◌<◌, ◌≤◌, ◌==◌, Bool, true, false, List, [], ◌∷◌, ◌++◌, codes, length, drop, drop-cons, add-one, Option, Some, None, option_map, slice_get, slice_index, refl, sym, ap, ◌∙◌, append_assoc, append-nil, arith}
+use Rattle.std.proofs.Common.{◌≡◌, ◌≢◌, ℕ, zero, suc, ◌+◌, ◌-◌, ◌/◌, ◌%◌, ◌<◌, ◌≤◌, ◌==◌, Bool, true, false, if◌then◌else◌, List, [], ◌∷◌, ◌++◌, codes, length, drop, drop-cons, add-one, zero-add, Option, Some, None, option_map, slice_get, slice_index, refl, sym, ap, ◌∙◌, append_assoc, append-nil, arith}
 use Rattle.std.proofs.lemmas.Grind.{common_steps}
 use Rattle.std.proofs.lemmas.List.{length-map, length-drop, nil_from_length}
 use Rattle.std.proofs.lemmas.Option.{slice_get-map, slice_get-get_or, slice_get_within, get_or_from_slice_get}
@@ -14,6 +14,7 @@ use Rattle.agc_exec.specs.Image.{sets_of, held_by, minus_zero, sign}
 use Rattle.agc_exec.proofs.Decoding.{length-sets}
 use Rattle.agc_exec.proofs.Ranks.{at_words, held_by-free, held_by-awake, held_by-asleep}
 use Rattle.agc_exec.proofs.Reading.{get-block_in}
+use Rattle.agc_plan.specs.Tasks.{Waiting}
 use Rattle.agc_wait.specs.Table.{waits_from, waits_of, at_in, lst1, gap_of, distance_of, time3}
 use Rattle.agc_trace.specs.declared.seats.Seated.{Seated}
 use Rattle.agc_trace.specs.Accounts.{job_text, jobs_text}
@@ -127,3 +128,50 @@ pub jobs_end : (seats : List (Option Seated)) (k : ℕ) (text whole : List ℕ) 
 jobs_end seats k text whole past rest =
     let nothing : drop k seats ≡ [] = nil_from_length _ (simp length-drop (omega arith)) in
     sym (append-nil text) ∙ ap (λ (l : List (Option Seated)). text ++ jobs_text k l) (sym nothing) ∙ rest
+
+-- how many tasks wait does not depend on when they are due
+count_by : (b : Bool) (x y : Waiting) (xs ys : List Waiting) → length xs ≡ length ys → length (if b then [] else x ∷ xs) ≡ length (if b then [] else y ∷ ys)
+count_by true x y xs ys same = refl
+count_by false x y xs ys same = ap suc same
+
+count_same : (left place d e : ℕ) (words : List ℕ) → length (waits_from left place d words) ≡ length (waits_from left place e words)
+count_same zero place d e words = refl
+count_same (suc left) place d e words =
+    count_by (at_in words place == 0) _ _ _ _ (count_same left (place + 1) (d + gap_of (lst1 words place)) (e + gap_of (lst1 words place)) words)
+
+counted_more : (left place : ℕ) (words : List ℕ) → at_in words place ≢ 0 → length (waits_from (suc left) place 0 words) ≡ suc (length (waits_from left (place + 1) 0 words))
+counted_more left place words some =
+    let there : (at_in words place == 0) ≡ false = grind (arith, common_steps) in
+    rw there (ap suc (count_same left (place + 1) (0 + gap_of (lst1 words place)) 0 words))
+
+-- so many tasks were counted, and these are left
+pub record IsCounted (words : List ℕ) (place : ℕ) : Type 0 where
+  pub rest : length (waits_of words) ≡ place + length (waits_from (9 - place) place 0 words)
+
+all_left : (words : List ℕ) → length (waits_of words) ≡ length (waits_from 9 0 0 words)
+unfolding waits_of
+all_left words = count_same 9 0 (distance_of (time3 words)) 0 words
+
+pub none_counted : (words : List ℕ) → IsCounted words 0
+none_counted words = record { rest = all_left words ∙ sym (zero-add (length (waits_from 9 0 0 words))) }
+
+pub one_counted : (words : List ℕ) (place : ℕ) → place < 9 → at_in words place ≢ 0 → IsCounted words place → IsCounted words (place + 1)
+one_counted words place within some counted =
+    let left : 9 - place ≡ suc (9 - (place + 1)) = omega arith in
+    let more : length (waits_from (9 - place) place 0 words) ≡ suc (length (waits_from (9 - (place + 1)) (place + 1) 0 words)) =
+    ap (λ (n : ℕ). length (waits_from n place 0 words)) left ∙ counted_more (9 - (place + 1)) place words some in
+    let whole = counted.rest in
+    record { rest = omega (arith, whole, more) }
+
+pub all_counted : (words : List ℕ) (place : ℕ) → at_in words place ≡ 0 → IsCounted words place → place ≡ length (waits_of words)
+all_counted words place none counted =
+    let rest : length (waits_from (9 - place) place 0 words) ≡ 0 = ap length (waits_end (9 - place) place 0 words none) in
+    let whole = counted.rest in
+    omega (arith, whole, rest)
+
+pub nine_counted : (words : List ℕ) (place : ℕ) → 9 ≤ place → IsCounted words place → place ≡ length (waits_of words)
+nine_counted words place past counted =
+    let left : 9 - place ≡ 0 = omega arith in
+    let rest : length (waits_from (9 - place) place 0 words) ≡ 0 = ap (λ (n : ℕ). length (waits_from n place 0 words)) left in
+    let whole = counted.rest in
+    omega (arith, whole, rest)

@@ -1,6 +1,6 @@
 -- For the proofs: a scene, as it is read from the words.
 use Rattle.std.specs.Prelude.{◌≡◌, ℕ, Bool, false, List, map, Option, Some, None, option_map}
-use Rattle.agc_word.specs.Layout.{IsSized}
+use Rattle.agc_word.specs.Layout.{IsSized, sets_in}
 use Rattle.agc_plan.specs.declared.request.Request.{Request}
 use Rattle.agc_plan.specs.declared.reply.Reply.{Reply}
 use Rattle.agc_plan.specs.Steps.{acted, begins}
@@ -38,6 +38,7 @@ scene_in words =
 pub record IsShown (m : Machined) (asked : Request) (refusal : Option Refusal) (moment : Acting) :
     Type 0 where
   pub size : IsSized moment.words
+  pub sets : sets_in moment.words ≡ m.plan.sets
   pub cores : IsLawfulWords moment.words
   pub scene : scene_in moment.words ≡ scene_unless refusal m asked
   pub answer : result_of refusal moment.reply ≡ answer_of m asked

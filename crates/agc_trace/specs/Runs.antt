@@ -7,7 +7,8 @@ use Rattle.agc_session.specs.Runs.{bench_machine, bench_requests}
 use Rattle.agc_session.specs.declared.run_fault.RunFault.{RunFault}
 use Rattle.agc_session.specs.declared.run_fault.RunFault.TheVariants.{NoMemory, Output, NoThread}
 use Rattle.agc_session.specs.declared.run_fault.RunFault.TheVariants.{Lost}
-use Rattle.agc_trace.specs.Traces.{Traced, traced_lines}
+use Rattle.agc_session.specs.Walks.{texts}
+use Rattle.agc_trace.specs.Traces.{Traced, traced, traced_text}
 
 -- what stands above the columns
 abbrev pub heading : List ℕ
@@ -19,7 +20,8 @@ traced_from bench = record { machine = bench_machine bench; asked = 0; time = 0 
 
 -- the heading, and the lines of all requests of a bench, in order
 unfoldable pub trace_text : Benched → List ℕ
-trace_text bench = heading ++ traced_lines (traced_from bench) (bench_requests bench)
+trace_text bench =
+    heading ++ texts traced traced_text (traced_from bench) (bench_requests bench)
 
 -- the trace was written and nothing else; a front of it where a write failed; nothing where there
 -- was no memory; no other fault comes

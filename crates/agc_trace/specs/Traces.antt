@@ -1,6 +1,5 @@
 -- The trace of a run: a line for each request, with the state in which it was answered.
-use Rattle.std.specs.Prelude.{ℕ, ◌+◌, ◌==◌, if◌then◌else◌, List, [], ◌∷◌, ◌++◌, Option, Some, None}
-use Rattle.std.specs.List.{fold}
+use Rattle.std.specs.Prelude.{ℕ, ◌+◌, ◌==◌, if◌then◌else◌, List, [], ◌++◌, Option, Some, None}
 use Rattle.agc_plan.specs.declared.request.Request.{Request}
 use Rattle.agc_plan.specs.Seats.{places_acted}
 use Rattle.agc_plan.specs.declared.reply.Alarm.{Alarm}
@@ -82,12 +81,3 @@ traced t asked =
       asked = one_more t.asked;
       time = time_after (refusal_of t.machine asked) t asked;
     }
-
--- the run after all of these requests, in order
-unfoldable pub traced_all : Traced → List Request → Traced
-traced_all t requests = fold traced t requests
-
--- their lines and accounts
-unfoldable pub traced_lines : Traced → List Request → List ℕ
-traced_lines t [] = []
-traced_lines t (asked ∷ requests) = traced_text t asked ++ traced_lines (traced t asked) requests

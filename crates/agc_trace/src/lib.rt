@@ -11,4 +11,8 @@ mod runs;
 mod seats;
 mod waits;
 
-pub use runs::trace;
+pub use lines::number_cell;
+pub use numerals::{add_number, add_priority, add_word};
+pub use runs::{alarm_of, begins, next_time, one_more, shown, time_at, trace};
+pub use seats::{Seated, owner, seat};
+pub use waits::waiting;

@@ -23,7 +23,8 @@ use agc_plan::Request;
 use agc_word::Erasable;
 use arrayvec::ArrayString;
 
-fn number_cell(number: u64) -> ArrayString<256>
+/// A number in decimal. Source: profile.
+pub fn number_cell(number: u64) -> ArrayString<256>
     ensures text { result.bytes ≡ decimal number }
     ensures len { length result.bytes ≤ 20 }
 {

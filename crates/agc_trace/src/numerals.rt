@@ -36,9 +36,9 @@ fn add_digits(cell: &mut ArrayString<256>, number: u64)
     add_digit(cell, (number % 10) as u8);
 }
 
-/// Appends a number in decimal, of at most twenty digits.
+/// Appends a number in decimal, of at most twenty digits. Source: profile.
 #[tactic(auto, using(agc_text::proofs::Digits::decimal_short))]
-pub(crate) fn add_number(cell: &mut ArrayString<256>, number: u64)
+pub fn add_number(cell: &mut ArrayString<256>, number: u64)
     requires { length cell.old.bytes + 20 ≤ 256 }
     ensures text { cell.new.bytes ≡ cell.old.bytes ++ decimal number }
     ensures len { length cell.new.bytes ≤ length cell.old.bytes + 20 }
@@ -46,8 +46,8 @@ pub(crate) fn add_number(cell: &mut ArrayString<256>, number: u64)
     add_digits(cell, number);
 }
 
-/// Appends a priority's two octal digits.
-pub(crate) fn add_priority(cell: &mut ArrayString<256>, priority: u16)
+/// Appends a priority's two octal digits. Source: profile.
+pub fn add_priority(cell: &mut ArrayString<256>, priority: u16)
     requires { length cell.old.bytes + 2 ≤ 256 }
     ensures text { cell.new.bytes ≡ cell.old.bytes ++ octal 2 priority }
     ensures len { length cell.new.bytes ≡ length cell.old.bytes + 2 }
@@ -56,8 +56,8 @@ pub(crate) fn add_priority(cell: &mut ArrayString<256>, priority: u16)
     add_octal_digit(cell, priority);
 }
 
-/// Appends a word's five octal digits.
-pub(crate) fn add_word(cell: &mut ArrayString<256>, word: u16)
+/// Appends a word's five octal digits. Source: profile.
+pub fn add_word(cell: &mut ArrayString<256>, word: u16)
     requires { length cell.old.bytes + 5 ≤ 256 }
     ensures text { cell.new.bytes ≡ cell.old.bytes ++ octal 5 word }
     ensures len { length cell.new.bytes ≡ length cell.old.bytes + 5 }

@@ -27,14 +27,14 @@ const SIGN: u16 = 0o40000;
 /// The lowest bit of the priority in PRIORITY; below it stands the area's address.
 const PRIORITY_UNIT: u16 = 0o1000;
 
-/// The job of a core set, as a trace shows it; area 0 is none.
+/// The job of a core set, as a trace shows it; area 0 is none. Source: profile.
 #[derive(Clone, Copy)]
-pub(crate) struct Seated {
-    pub(crate) number: u16,
-    pub(crate) at: u16,
-    pub(crate) priority: u16,
-    pub(crate) asleep: bool,
-    pub(crate) area: u16,
+pub struct Seated {
+    pub number: u16,
+    pub at: u16,
+    pub priority: u16,
+    pub asleep: bool,
+    pub area: u16,
 }
 
 /// The word at a place of a set.
@@ -67,8 +67,8 @@ fn seat_with(e: &Erasable, k: usize, urgency: u16, asleep: bool) -> Seated
     }
 }
 
-/// What a core set holds.
-pub(crate) fn seat(e: &Erasable, k: usize) -> Option<Seated>
+/// What core set k holds. Source: profile.
+pub fn seat(e: &Erasable, k: usize) -> Option<Seated>
     requires set { k < sets_in e.now }
     requires sized { IsSized e.now }
     ensures { slice_get (seats_in e.now) k ≡ Some result }
@@ -116,8 +116,8 @@ pub(crate) fn add_seats(cell: &mut ArrayString<256>, e: &Erasable)
     }
 }
 
-/// The number of the job that owns an area, if one does.
-fn owner(e: &Erasable, area: u16) -> Option<u16>
+/// The number of the job that owns an area, 1 to 5, if one does. Source: profile.
+pub fn owner(e: &Erasable, area: u16) -> Option<u16>
     requires { IsSized e.now }
     ensures { result ≡ owner_of area (seats_in e.now) }
 {

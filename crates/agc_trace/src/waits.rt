@@ -99,3 +99,17 @@ pub(crate) fn add_waits(cell: &mut ArrayString<256>, e: &Erasable)
         add_waits_from(cell, e, 9, 0, first_distance(e) as u32);
     }
 }
+
+/// How many tasks wait: the places of LST2 up to the first that has no address. Source: profile.
+pub fn waiting(e: &Erasable) -> usize
+    requires { IsSized e.now }
+    ensures count { result ≡ length (waits_of e.now) }
+    ensures nine { result ≤ 9 }
+{
+    for place in 0..9 {
+        if e.get(LST2 + 2 * place).bits() == 0 {
+            return place;
+        }
+    }
+    9
+}

@@ -7,5 +7,5 @@ use Rattle.agc_plan.specs.Ranges.{IsRequest}
 abbrev pub invariant-loop-text : goal.invariant-loop-text
 invariant-loop-text l = record {
   lawful : AllByRecursion IsRequest l.requests.items;
-  texts : map (λ s. s.now) (take l.text-index l.texts) ≡ map line_of l.requests.items;
+  texts : take l.text-index l.texts ≡ map line_of l.requests.items;
 }

@@ -8,5 +8,5 @@ abbrev pub invariant-loop-k : goal.invariant-loop-k
 invariant-loop-k l = record {
   twelve : length l.words ≡ 12;
   lawful : AllByRecursion IsWord (take l.k l.words);
-  texts : map (λ s. s.now) (take l.k l.texts) ≡ map (octal 5) (take l.k l.words);
+  texts : take l.k l.texts ≡ map (octal 5) (take l.k l.words);
 }

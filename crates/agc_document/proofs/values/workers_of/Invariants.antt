@@ -7,5 +7,5 @@ use Rattle.agc_document.proofs.values.workers_of.Given as goal
 abbrev pub invariant-loop-text : goal.invariant-loop-text
 invariant-loop-text l = record {
   lawful : AllByRecursion AreRequests (map (λ w. w.items) l.workers.items);
-  texts : map (λ w. map (λ s. s.now) w.items) (take l.text-index l.texts) ≡ map (map line_of) (map (λ w. w.items) l.workers.items);
+  texts : take l.text-index l.texts ≡ map (map line_of) (map (λ w. w.items) l.workers.items);
 }

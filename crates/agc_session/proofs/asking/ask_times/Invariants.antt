@@ -1,11 +1,8 @@
-use Rattle.std.proofs.Common.{◌≡◌, replicate, drop}
-use Rattle.agc_text.specs.Writing.{AppendsUpTo}
-use Rattle.agc_machine.specs.Machines.{after_all}
-use Rattle.agc_text.specs.Session.{answer_lines}
+use Rattle.std.proofs.Common.{drop, replicate}
+use Rattle.agc_session.proofs.Walks.{IsLeft}
 use Rattle.agc_session.proofs.asking.ask_times.Given as goal
 
 abbrev pub invariant-loop-pulse : goal.invariant-loop-pulse
 invariant-loop-pulse g l = record {
-  rest : after_all l.initial.machine (replicate l.times l.request) ≡ after_all l.machine (drop l._pulse (replicate l.times l.request));
-  written : AppendsUpTo (g.W.Write.contents l.initial.writer) (g.W.Write.contents l.writer) (answer_lines l.initial.machine (replicate l.times l.request)) (answer_lines l.machine (drop l._pulse (replicate l.times l.request)));
+  left : IsLeft _ g.A.Asks.next g.A.Asks.text l.initial.asker (replicate l.times l.request) (g.W.Write.contents l.initial.writer) l.asker (g.W.Write.contents l.writer) (drop l._pulse (replicate l.times l.request));
 }

@@ -1,25 +1,25 @@
-use Rattle.agc_text.proofs.Steps.{up_to_more, fails_next}
-use Rattle.agc_text.proofs.Sessions.{after_item, after_items, line_item, line_items}
+use Rattle.std.proofs.Common.{◌+◌, drop}
+use Rattle.std.specs.List.{flat_map}
+use Rattle.agc_session.proofs.Walks.{left_as, some_asked, some_failed, next_item, no_item, left_state, left_texts}
 use Rattle.agc_session.proofs.asking.ask_workers.Goals as goal
 
-pub returns-in_err-write_answers-clause-writes : goal.returns-in_err-write_answers-clause-writes
-returns-in_err-write_answers-clause-writes g c =
-    fails_next _ _ _ _ _ _ c.from_residual.result
-    (line_item (λ w. w.items) _ _ _ c.loop-worker.machine c.args.workers.now c.loop-worker.worker-index c.worker-item.result c.loop-worker-test.true c.worker-item.is c.loop-worker.invariant.written)
-    (rw c.as_slice.ensures.value at c.in_err-write_answers.ensures.writes) c.from_residual.ensures.0
+pub returns-in_err-ask_all-clause-writes : goal.returns-in_err-ask_all-clause-writes
+returns-in_err-ask_all-clause-writes g c =
+    let is = next_item (λ w. w.items) c.args.workers.now c.loop-worker.worker-index c.worker-item.result c.loop-worker-test.true c.worker-item.is in
+    some_failed c.worker-item.result.items (flat_map (λ w. w.items) (drop (c.loop-worker.worker-index + 1) c.args.workers.now)) c.from_residual.result (left_as is c.loop-worker.invariant.left) (rw c.as_slice.ensures.value at c.in_err-ask_all.ensures.writes) c.from_residual.ensures.0
 
 pub loop-worker-preserved : goal.loop-worker-preserved
 loop-worker-preserved g c =
-    let is = rw c.as_slice.ensures.value at c.in_ok-write_answers.ensures.after in
+    let is = next_item (λ w. w.items) c.args.workers.now c.loop-worker.worker-index c.worker-item.result c.loop-worker-test.true c.worker-item.is in
     record {
-      rest = after_item (λ w. w.items) _ c.loop-worker.machine c.write_answers.new.machine c.args.workers.now c.loop-worker.worker-index c.worker-item.result c.loop-worker-test.true c.worker-item.is c.loop-worker.invariant.rest is;
-      written = rw is (up_to_more _ _ _ _ _ _
-          (line_item (λ w. w.items) _ _ _ c.loop-worker.machine c.args.workers.now c.loop-worker.worker-index c.worker-item.result c.loop-worker-test.true c.worker-item.is c.loop-worker.invariant.written)
-          (rw c.as_slice.ensures.value at c.in_ok-write_answers.ensures.writes));
+      left = some_asked c.worker-item.result.items (flat_map (λ w. w.items) (drop (c.loop-worker.worker-index + 1) c.args.workers.now)) (left_as is c.loop-worker.invariant.left)
+          (rw c.as_slice.ensures.value at c.in_ok-ask_all.ensures.after) (rw c.as_slice.ensures.value at c.in_ok-ask_all.ensures.writes);
     }
 
 pub returns-clause-after : goal.returns-clause-after
-returns-clause-after g c = after_items (λ w. w.items) _ c.loop-worker.machine c.args.workers.now c.loop-worker.worker-index c.loop-worker-test.false c.loop-worker.invariant.rest
+returns-clause-after g c =
+    left_state (left_as (no_item (λ w. w.items) c.args.workers.now c.loop-worker.worker-index c.loop-worker-test.false) c.loop-worker.invariant.left)
 
 pub returns-clause-writes : goal.returns-clause-writes
-returns-clause-writes g c = line_items (λ w. w.items) _ _ _ c.loop-worker.machine c.args.workers.now c.loop-worker.worker-index c.loop-worker-test.false c.loop-worker.invariant.written
+returns-clause-writes g c =
+    left_texts (left_as (no_item (λ w. w.items) c.args.workers.now c.loop-worker.worker-index c.loop-worker-test.false) c.loop-worker.invariant.left)

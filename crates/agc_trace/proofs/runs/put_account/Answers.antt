@@ -11,7 +11,7 @@ use Rattle.agc_trace.specs.Accounts.{account_text}
 use Rattle.agc_trace.specs.Reading.{seats_in, scene_in}
 use Rattle.agc_trace.specs.Scenes.{Scene}
 use Rattle.agc_trace.specs.Traces.{account_by}
-use Rattle.agc_trace.proofs.Shown.{scene_now}
+use Rattle.agc_trace.proofs.Moments.{scene_now}
 use Rattle.agc_trace.proofs.runs.put_account.Goals as goal
 
 pub returns-in-None : goal.returns-in-None

@@ -1,7 +1,7 @@
 use Rattle.std.proofs.Common.{Option, subst, sym, ◌∙◌}
 use Rattle.agc_machine.specs.declared.answer.Refusal.{Refusal}
 use Rattle.agc_trace.specs.Reading.{IsShown}
-use Rattle.agc_trace.proofs.Shown.{shown_served, shown_refused}
+use Rattle.agc_trace.proofs.Moments.{shown_served, shown_refused}
 use Rattle.agc_trace.proofs.runs.shown.Goals as goal
 
 pub returns-in-None : goal.returns-in-None

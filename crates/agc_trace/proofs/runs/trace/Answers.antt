@@ -7,11 +7,11 @@ returns-in_err-put g c =
     let p = err_from_is_err_and c.from_residual-in_err-put.result c.from_residual-in_err-put.ensures.1 in
     rw (p.1, p.2) (heading_front _ _ c.args.bench.now c.as_bytes.result.now c.as_bytes.ensures.value c.in_err-put.ensures)
 
-pub returns-in_err-trace_bench : goal.returns-in_err-trace_bench
-returns-in_err-trace_bench g c =
-    let p = err_from_is_err_and c.from_residual-in_err-trace_bench.result c.from_residual-in_err-trace_bench.ensures.1 in
-    rw (p.1, p.2) (lines_front _ _ _ c.args.bench.now c.as_bytes.result.now c.in_ok-machine.machine c.as_bytes.ensures.value c.in_ok-machine.ensures.machine c.in_ok-put.ensures c.in_err-trace_bench.ensures.writes)
+pub returns-in_err-ask_bench : goal.returns-in_err-ask_bench
+returns-in_err-ask_bench g c =
+    let p = err_from_is_err_and c.from_residual-in_err-ask_bench.result c.from_residual-in_err-ask_bench.ensures.1 in
+    rw (p.1, p.2) (lines_front _ _ _ c.args.bench.now c.as_bytes.result.now c.in_ok-machine.machine c.as_bytes.ensures.value c.in_ok-machine.ensures.machine c.in_ok-put.ensures c.in_err-ask_bench.ensures.writes)
 
 pub returns : goal.returns
 returns g c =
-    all_written _ _ _ c.args.bench.now c.as_bytes.result.now c.in_ok-machine.machine c.as_bytes.ensures.value c.in_ok-machine.ensures.machine c.in_ok-put.ensures c.in_ok-trace_bench.ensures.writes
+    all_written _ _ _ c.args.bench.now c.as_bytes.result.now c.in_ok-machine.machine c.as_bytes.ensures.value c.in_ok-machine.ensures.machine c.in_ok-put.ensures c.in_ok-ask_bench.ensures.writes

@@ -1,0 +1,117 @@
+-- What is left of a walk: the requests that are still to be asked, and their texts.
+use Rattle.std.proofs.Common.{◌≡◌, ℕ, ◌+◌, ◌<◌, ◌≤◌, List, [], ◌∷◌, ◌++◌, length, get_or, drop, drop-cons, add-one, length-drop, Option, Some, None, map, subst, refl, sym, ap, ◌∙◌, append_assoc, append-nil, Result, Ok, Err, arith}
+use Rattle.std.specs.Prelude.{IsErr, OnOk}
+use Rattle.std.specs.Io.KnownBytes.{Appends}
+use Rattle.std.specs.List.{fold, flat_map}
+use Rattle.std.proofs.lemmas.List.Concat.{flat_map-cons}
+use Rattle.std.proofs.lemmas.List.Folds.{flat_map-map}
+use Rattle.std.proofs.lemmas.List.Sums.{fold-append}
+use Rattle.std.proofs.lemmas.List.{nil_from_length}
+use Rattle.agc_plan.specs.declared.request.Request.{Request}
+use Rattle.agc_text.specs.Writing.{AppendsUpTo, AppendsFront, Writes}
+use Rattle.agc_text.proofs.Steps.{appends_none, up_to_start, up_to_more, up_to_front, up_to_end, fails_next}
+use Rattle.agc_document.specs.Benches.{Benched}
+use Rattle.agc_desk.specs.Pulses.{repeated}
+use Rattle.agc_session.specs.Runs.{device_requests, bench_requests}
+use Rattle.agc_session.specs.Walks.{texts}
+
+-- of a walk from a state and contents on, these requests are left
+pub record IsLeft (S : Type 0) (next : S → Request → S) (text : S → Request → List ℕ) (start : S) (all : List Request) (old : Option (List ℕ)) (here : S) (now : Option (List ℕ)) (rest : List Request) : Type 0 where
+  pub ends : fold next start all ≡ fold next here rest
+  pub written : AppendsUpTo old now (texts next text start all) (texts next text here rest)
+
+pub all_left : {S : Type 0} → (next : S → Request → S) (text : S → Request → List ℕ) (start : S) (rs : List Request) (o : Option (List ℕ)) → IsLeft S next text start rs o start o rs
+all_left next text start rs o = record { ends = refl; written = up_to_start o (texts next text start rs) }
+
+pub left_as : {S : Type 0} → {next : S → Request → S} → {text : S → Request → List ℕ} → {start s : S} → {all a b : List Request} → {o w : Option (List ℕ)} → a ≡ b → IsLeft S next text start all o s w a → IsLeft S next text start all o s w b
+left_as {next} {text} {start} {s} {all} {a} {b} {o} {w} is left = subst (λ (rs : List Request). IsLeft _ next text start all o s w rs) is left
+
+-- one request was asked
+pub one_asked : {S : Type 0} → {next : S → Request → S} → {text : S → Request → List ℕ} → {start s t : S} → {all rest : List Request} → {o w n : Option (List ℕ)} → {r : Request} → IsLeft S next text start all o s w (r ∷ rest) → t ≡ next s r → Appends w n (text s r) → IsLeft S next text start all o t n rest
+unfolding texts
+one_asked {S} {next} {text} {start} {s} {t} {all} {rest} {o} {w} {n} {r} left is written = subst (λ u. IsLeft S next text start all o u n rest) (sym is) (record {
+  ends = left.ends;
+  written = up_to_more o w n (texts next text start all) (text s r) (texts next text (next s r) rest) left.written written;
+})
+
+pub one_failed : {S T E : Type 0} → {next : S → Request → S} → {text : S → Request → List ℕ} → {start s : S} → {all rest : List Request} → {o w n : Option (List ℕ)} → {r : Request} → (result : Result T E) → IsLeft S next text start all o s w (r ∷ rest) → AppendsFront w n (text s r) → IsErr result → Writes o n (texts next text start all) result
+unfolding texts
+one_failed {S} {T} {E} {next} {text} {start} {s} {all} {rest} {o} {w} {n} {r} result left front is =
+    fails_next o w n (texts next text start all) (text s r) (texts next text (next s r) rest) result left.written front is
+
+-- some requests were asked
+texts_append : {S : Type 0} → (next : S → Request → S) (text : S → Request → List ℕ) (s : S) (a b : List Request) → texts next text s (a ++ b) ≡ texts next text s a ++ texts next text (fold next s a) b
+unfolding texts
+texts_append next text s [] b = refl
+texts_append next text s (r ∷ a) b = ap (λ (x : List ℕ). text s r ++ x) (texts_append next text (next s r) a b) ∙ sym (append_assoc (text s r) (texts next text (next s r) a) (texts next text (fold next (next s r) a) b))
+
+split : {S : Type 0} → {next : S → Request → S} → {text : S → Request → List ℕ} → {start s : S} → {all : List Request} → {o w : Option (List ℕ)} → (a rest : List Request) → IsLeft S next text start all o s w (a ++ rest) → AppendsUpTo o w (texts next text start all) (texts next text s a ++ texts next text (fold next s a) rest)
+split {S} {next} {text} {start} {s} {all} {o} {w} a rest left = subst (λ (x : List ℕ). AppendsUpTo o w (texts next text start all) x) (texts_append next text s a rest) left.written
+
+pub some_asked : {S : Type 0} → {next : S → Request → S} → {text : S → Request → List ℕ} → {start s t : S} → {all : List Request} → {o w n : Option (List ℕ)} → (a rest : List Request) → IsLeft S next text start all o s w (a ++ rest) → t ≡ fold next s a → Appends w n (texts next text s a) → IsLeft S next text start all o t n rest
+some_asked {S} {next} {text} {start} {s} {t} {all} {o} {w} {n} a rest left is written = subst (λ u. IsLeft S next text start all o u n rest) (sym is) (record {
+  ends = left.ends ∙ fold-append next s a rest;
+  written = up_to_more o w n (texts next text start all) (texts next text s a) (texts next text (fold next s a) rest) (split a rest left) written;
+})
+
+pub some_failed : {S T E : Type 0} → {next : S → Request → S} → {text : S → Request → List ℕ} → {start s : S} → {all : List Request} → {o w n : Option (List ℕ)} → (a rest : List Request) (result : Result T E) → IsLeft S next text start all o s w (a ++ rest) → AppendsFront w n (texts next text s a) → IsErr result → Writes o n (texts next text start all) result
+some_failed {S} {T} {E} {next} {text} {start} {s} {all} {o} {w} {n} a rest result left front is =
+    fails_next o w n (texts next text start all) (texts next text s a) (texts next text (fold next s a) rest) result (split a rest left) front is
+
+-- nothing is left
+pub left_state : {S : Type 0} → {next : S → Request → S} → {text : S → Request → List ℕ} → {start s : S} → {all : List Request} → {o w : Option (List ℕ)} → IsLeft S next text start all o s w [] → s ≡ fold next start all
+left_state left = sym left.ends
+
+pub left_texts : {S : Type 0} → {next : S → Request → S} → {text : S → Request → List ℕ} → {start s : S} → {all : List Request} → {o w : Option (List ℕ)} → IsLeft S next text start all o s w [] → Appends o w (texts next text start all)
+unfolding texts
+left_texts {S} {next} {text} {start} {s} {all} {o} {w} left = up_to_end o w (texts next text start all) left.written
+
+-- all that was left was asked, or a write failed
+pub last_state : {S T E : Type 0} → {next : S → Request → S} → {text : S → Request → List ℕ} → {start s : S} → {all a : List Request} → {o w : Option (List ℕ)} → (t : S) (result : Result T E) → IsLeft S next text start all o s w a → OnOk result (t ≡ fold next s a) → OnOk result (t ≡ fold next start all)
+last_state t (Ok x) left is = is ∙ sym left.ends
+last_state t (Err x) left is = tt
+
+all_of : {S : Type 0} → {next : S → Request → S} → {text : S → Request → List ℕ} → {start s : S} → {all a : List Request} → {o w : Option (List ℕ)} → IsLeft S next text start all o s w a → AppendsUpTo o w (texts next text start all) (texts next text s a ++ [])
+all_of {S} {next} {text} {start} {s} {all} {a} {o} {w} left = subst (λ (x : List ℕ). AppendsUpTo o w (texts next text start all) x) (sym (append-nil (texts next text s a))) left.written
+
+pub last_texts : {S T E : Type 0} → {next : S → Request → S} → {text : S → Request → List ℕ} → {start s : S} → {all a : List Request} → {o w : Option (List ℕ)} → (n : Option (List ℕ)) (result : Result T E) → IsLeft S next text start all o s w a → Writes w n (texts next text s a) result → Writes o n (texts next text start all) result
+last_texts {S} {T} {E} {next} {text} {start} {s} {all} {a} {o} {w} n (Ok x) left written =
+    up_to_end o n (texts next text start all) (up_to_more o w n (texts next text start all) (texts next text s a) [] (all_of left) written)
+last_texts {S} {T} {E} {next} {text} {start} {s} {all} {a} {o} {w} n (Err x) left front =
+    up_to_front o w n (texts next text start all) (texts next text s a) [] (all_of left) front
+
+-- the next of what is left, and the rest
+pub next_is : {X : Type 0} → (xs : List X) (i : ℕ) (x : X) → i < length xs → x ≡ get_or xs i x → drop i xs ≡ x ∷ drop (i + 1) xs
+next_is xs i x l is =
+    let e : drop i xs ≡ get_or xs i x ∷ drop (i + 1) xs = rw (drop-cons xs i x l, add-one i) refl in
+    subst (λ y. drop i xs ≡ y ∷ drop (i + 1) xs) (sym is) e
+
+pub next_item : {X : Type 0} → (f : X → List Request) (xs : List X) (i : ℕ) (x : X) → i < length xs → x ≡ get_or xs i x → flat_map f (drop i xs) ≡ f x ++ flat_map f (drop (i + 1) xs)
+next_item f xs i x l is = ap (flat_map f) (next_is xs i x l is) ∙ flat_map-cons f x (drop (i + 1) xs)
+
+pub none_left : {X : Type 0} → (xs : List X) (i : ℕ) → length xs ≤ i → drop i xs ≡ []
+none_left xs i l = nil_from_length _ (simp length-drop (omega arith))
+
+pub no_item : {X : Type 0} → (f : X → List Request) (xs : List X) (i : ℕ) → length xs ≤ i → flat_map f (drop i xs) ≡ []
+no_item f xs i l = ap (flat_map f) (none_left xs i l)
+
+-- a pulse that asks for nothing
+pub nothing_after : {S : Type 0} → (next : S → Request → S) (s : S) (asked : Option Request) (times : ℕ) → asked ≡ None → s ≡ fold next s (repeated asked times)
+nothing_after next s None times e = refl
+nothing_after next s (Some r) times e = cc
+
+pub nothing_written : {S : Type 0} → (next : S → Request → S) (text : S → Request → List ℕ) (o : Option (List ℕ)) (s : S) (asked : Option Request) (times : ℕ) → asked ≡ None → Appends o o (texts next text s (repeated asked times))
+unfolding texts
+nothing_written next text o s None times e = appends_none o
+nothing_written next text o s (Some r) times e = cc
+
+-- the requests of a bench, its workers' as their lists hold them
+pub bench_is : {V : Type 0} → (f : V → List Request) (bench : Benched) (workers : List V) → map f workers ≡ bench.workers → bench_requests bench ≡ bench.script ++ (flat_map f workers ++ flat_map (device_requests bench) bench.devices)
+unfolding bench_requests
+bench_is f bench workers e =
+    let k : flat_map (λ rs. rs) bench.workers ≡ flat_map f workers = ap (flat_map (λ rs. rs)) (sym e) ∙ flat_map-map (λ rs. rs) f workers in
+    ap (λ (rs : List Request). bench.script ++ (rs ++ flat_map (device_requests bench) bench.devices)) k
+
+-- before the first request of a bench all are left
+pub bench_left : {S V : Type 0} → (next : S → Request → S) (text : S → Request → List ℕ) (start : S) (o : Option (List ℕ)) (f : V → List Request) (bench : Benched) (workers : List V) → map f workers ≡ bench.workers → IsLeft S next text start (bench_requests bench) o start o (bench.script ++ (flat_map f workers ++ flat_map (device_requests bench) bench.devices))
+bench_left next text start o f bench workers e = left_as (bench_is f bench workers e) (all_left next text start (bench_requests bench) o)

@@ -1,0 +1,83 @@
+-- What is shown of a request.
+use Rattle.std.proofs.Common.{◌≡◌, ℕ, if◌then◌else◌, Option, Some, None, Result, refl, ap, ◌∙◌}
+use Rattle.agc_plan.specs.declared.request.Request.{Request}
+use Rattle.agc_plan.specs.declared.request.Request.TheVariants.{Restart}
+use Rattle.agc_plan.specs.Seats.{places_acted}
+use Rattle.agc_plan.specs.Base.{Base}
+use Rattle.agc_plan.specs.Steps.{acted, alarm_of, begins}
+use Rattle.agc_phase.specs.Image.{base_of}
+use Rattle.agc_machine.specs.declared.answer.Refusal.{Refusal}
+use Rattle.agc_machine.specs.Machines.{Machined, refusal_of, result_of, answer_of, stepped, after, plain_of, places_of}
+use Rattle.agc_machine.specs.Moments.{Acting, IsMoment}
+use Rattle.agc_plan.specs.declared.reply.Reply.{Reply}
+use Rattle.agc_trace.specs.Lines.{line_text}
+use Rattle.agc_trace.specs.Reading.{IsShown, begins_unless, scene_in}
+use Rattle.agc_trace.specs.Scenes.{Scene, scene_of}
+use Rattle.agc_trace.specs.Traces.{Traced, one_more, scene_unless, time_unless, time_after, told_alarm, account_by, traced, traced_line, traced_account}
+use Rattle.agc_trace.proofs.Scenes.{scene_is}
+
+pub shown_served : (m : Machined) (asked : Request) (moment : Acting) → None ≡ refusal_of m asked → IsMoment m asked moment → IsShown m asked None moment
+shown_served m asked moment none is = record {
+  size = is.size;
+  sets = is.sets;
+  cores = is.cores;
+  scene = scene_is moment.words (acted m.plan asked (plain_of m)).plain (places_acted m.plan asked (plain_of m) (places_of m)) is.cores is.stands is.placed;
+  answer = ap (result_of None) is.reply ∙ ap (λ (r : Option Refusal). result_of r (stepped m asked).reply) none;
+  phases = is.phases;
+  base = λ e. is.stands.base;
+  reply = λ e. is.reply;
+}
+
+pub shown_refused : (m : Machined) (asked : Request) (refusal : Refusal) (moment : Acting) → Some refusal ≡ refusal_of m asked → IsMoment m Restart moment → IsShown m asked (Some refusal) moment
+shown_refused m asked refusal moment some is = record {
+  size = is.size;
+  sets = is.sets;
+  cores = is.cores;
+  scene = scene_is moment.words (plain_of m) (places_of m) is.cores is.stands is.placed;
+  answer = ap (λ (r : Option Refusal). result_of r (stepped m asked).reply) some;
+  phases = is.phases;
+  base = λ e. absurd (cc);
+  reply = λ e. absurd (cc);
+}
+
+-- the time after a request
+next_time_is : (t : Traced) (asked : Request) (refusal : Option Refusal) (moment : Acting) → IsShown t.machine asked refusal moment → (if begins_unless refusal moment.reply then 0 else time_unless refusal asked t.time) ≡ time_after refusal t asked
+next_time_is t asked None moment shown = ap (λ (r : Reply). if begins r then 0 else time_unless None asked t.time) (shown.reply refl)
+next_time_is t asked (Some refusal) moment shown = refl
+
+-- the run after it
+pub traced_is : (t : Traced) (asked : Request) (refusal : Option Refusal) (moment : Acting) (machine : Machined) (number time next : ℕ) → refusal ≡ refusal_of t.machine asked → IsShown t.machine asked refusal moment → machine ≡ after t.machine asked → number ≡ one_more t.asked → time ≡ time_unless refusal asked t.time → next ≡ (if begins_unless refusal moment.reply then 0 else time) → record { machine = machine; asked = number; time = next } ≡ traced t asked
+traced_is t asked refusal moment machine number time next refusal_is shown machine_is number_is time_is next_is =
+    ap (λ (m : Machined). record { machine = m; asked = number; time = next }) machine_is
+    ∙ ap (λ (n : ℕ). record { machine = after t.machine asked; asked = n; time = next }) number_is
+    ∙ ap (λ (n : ℕ). record { machine = after t.machine asked; asked = one_more t.asked; time = n })
+    (next_is ∙ ap (λ (n : ℕ). if begins_unless refusal moment.reply then 0 else n) time_is ∙ next_time_is t asked refusal moment shown ∙ ap (λ (r : Option Refusal). time_after r t asked) refusal_is)
+
+-- its line
+pub line_is : (t : Traced) (asked : Request) (refusal : Option Refusal) (moment : Acting) (number time : ℕ) → refusal ≡ refusal_of t.machine asked → IsShown t.machine asked refusal moment → number ≡ one_more t.asked → time ≡ time_unless refusal asked t.time → line_text number time asked (result_of refusal moment.reply) (scene_in moment.words) ≡ traced_line t asked
+unfolding traced_line
+line_is t asked refusal moment number time refusal_is shown number_is time_is =
+    ap (λ (n : ℕ). line_text n time asked (result_of refusal moment.reply) (scene_in moment.words)) number_is
+    ∙ ap (λ (n : ℕ). line_text (one_more t.asked) n asked (result_of refusal moment.reply) (scene_in moment.words)) time_is
+    ∙ ap (λ (a : Result Reply Refusal). line_text (one_more t.asked) (time_unless refusal asked t.time) asked a (scene_in moment.words)) shown.answer
+    ∙ ap (λ (s : Scene). line_text (one_more t.asked) (time_unless refusal asked t.time) asked (answer_of t.machine asked) s) shown.scene
+    ∙ ap (λ (r : Option Refusal). line_text (one_more t.asked) (time_unless r asked t.time) asked (answer_of t.machine asked) (scene_unless r t.machine asked)) refusal_is
+
+-- what is told of its alarm
+told_is : (t : Traced) (asked : Request) (refusal : Option Refusal) (moment : Acting) → IsShown t.machine asked refusal moment → account_by (told_alarm refusal moment.reply) (after t.machine asked) moment.reply (scene_in moment.words) (base_of moment.words).phases ≡ account_by (told_alarm refusal (acted t.machine.plan asked (plain_of t.machine)).reply) (after t.machine asked) (acted t.machine.plan asked (plain_of t.machine)).reply (scene_unless refusal t.machine asked) (acted t.machine.plan asked (plain_of t.machine)).plain.base.phases
+told_is t asked (Some refusal) moment shown = refl
+told_is t asked None moment shown =
+    ap (λ (r : Reply). account_by (alarm_of r) (after t.machine asked) r (scene_in moment.words) (base_of moment.words).phases) (shown.reply refl)
+    ∙ ap (λ (s : Scene). account_by (alarm_of (acted t.machine.plan asked (plain_of t.machine)).reply) (after t.machine asked) (acted t.machine.plan asked (plain_of t.machine)).reply s (base_of moment.words).phases) shown.scene
+    ∙ ap (λ (b : Base). account_by (alarm_of (acted t.machine.plan asked (plain_of t.machine)).reply) (after t.machine asked) (acted t.machine.plan asked (plain_of t.machine)).reply (scene_unless None t.machine asked) b.phases) (shown.base refl)
+
+pub account_is : (t : Traced) (asked : Request) (refusal : Option Refusal) (moment : Acting) (now : Machined) → refusal ≡ refusal_of t.machine asked → IsShown t.machine asked refusal moment → now ≡ after t.machine asked → account_by (told_alarm refusal moment.reply) now moment.reply (scene_in moment.words) (base_of moment.words).phases ≡ traced_account t asked
+unfolding traced_account
+account_is t asked refusal moment now refusal_is shown now_is =
+    ap (λ (m : Machined). account_by (told_alarm refusal moment.reply) m moment.reply (scene_in moment.words) (base_of moment.words).phases) now_is
+    ∙ told_is t asked refusal moment shown
+    ∙ ap (λ (r : Option Refusal). account_by (told_alarm r (acted t.machine.plan asked (plain_of t.machine)).reply) (after t.machine asked) (acted t.machine.plan asked (plain_of t.machine)).reply (scene_unless r t.machine asked) (acted t.machine.plan asked (plain_of t.machine)).plain.base.phases) refusal_is
+
+-- a restart's moment is the state as it is
+pub scene_now : (m : Machined) (moment : Acting) → IsMoment m Restart moment → scene_in moment.words ≡ scene_of (plain_of m) (places_of m)
+scene_now m moment is = scene_is moment.words (plain_of m) (places_of m) is.cores is.stands is.placed
