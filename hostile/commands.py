@@ -1,4 +1,4 @@
-"""Parts of hostile/run: the commands tools/many and ./agc, where much goes wrong around them."""
+"""Parts of hostile/run: tools/many, ./agc and ./agc_watch, where much goes wrong around them."""
 import os
 import shutil
 import subprocess
@@ -19,13 +19,15 @@ script = [%s "tick", "tick", "tick", "tick"]
 
 # A kit that proves nothing: it builds a program that ends with status 7, and tries by saying so.
 KIT = """#!/bin/sh
+name=${PWD##*/}
 case "$1 $2" in
-    'all check') printf '== agc\\n== summary\\n' ;;
-    'run --') mkdir -p out && cp ../../program out/agc && echo 'rt: running out/agc; ' ;;
+    'all check') printf '== %s\\n== summary\\n' "$name" ;;
+    'run --') mkdir -p out && cp ../../program "out/$name" && echo "rt: running out/$name; " ;;
     'try --') echo tried; printf 'checked: ended status=0\\nrun=ended status=0 \\n' >&2 ;;
 esac
 """
 PROGRAM = "#!/bin/sh\necho ran $*\necho own line >&2\nexit 7\n"
+PROGRAMS = ("agc", "agc_watch")
 NEEDED = "sh dirname find sort xargs cksum cp mkdir mktemp head cat tr awk sed rm".split()
 
 # A program that does what its bench says, as a script of the shell.
@@ -62,7 +64,7 @@ def run_many(hostile, *words, **settings):
 def many(hostile):
     """What one bench or run does wrong costs tools/many that row; an output's fault ends it."""
     with tempfile.TemporaryDirectory() as room:
-        for it in (rows_of_faults, rows_of_runs, tables_left, tables_that_are_none, outputs):
+        for it in (rows_of_faults, rows_of_runs, tables_left, tables_that_are_none, outputs, wrong_words):
             it(hostile, os.path.join(room, it.__name__))
 
 
@@ -163,19 +165,34 @@ def outputs(hostile, room):
     os.close(broken)
 
 
+def wrong_words(hostile, room):
+    """No job at all, a folder or a program that isn't there: told before a row is written."""
+    write(f"{room}/a.toml", "")
+    for wanted, words in (
+        ((2, "argument --jobs: invalid jobs value: '0'"), (room, "--jobs", "0")),
+        ((4, f"many: there is no folder {room}/none"), (f"{room}/none",)),
+        ((4, f"many: there is no program {room}/none: tools/prove builds it"), (room, "--program", f"{room}/none")),
+    ):
+        status, text, said = run_many(hostile, *words)
+        is_right = status == wanted[0] and text == "" and said.endswith(f"{wanted[1]}\n")
+        hostile.expect(f"many, with {words}: status {status}, {text}, {said}", is_right)
+
+
 class Clone:
-    """A clone of one crate, with ./agc, tools/prove and a kit."""
+    """A clone of two crates, with ./agc, ./agc_watch, tools/prove and a kit."""
 
     def __init__(self, hostile, room):
         self.hostile, self.room = hostile, room
 
     def fill(self):
-        for name in ("agc", "tools/prove", "tools/sources"):
+        for name in (*PROGRAMS, "tools/launch", "tools/prove", "tools/sources"):
             os.makedirs(os.path.dirname(f"{self.room}/{name}"), exist_ok=True)
             shutil.copy(f"{TOP}/{name}", f"{self.room}/{name}")
-        write(f"{self.room}/crates.txt", "agc:\n")
-        for name, text in (("src/main.rt", "fn main() {}\n"), ("args", "script\n"), ("stdin", "")):
-            write(f"{self.room}/crates/agc/{name}", text)
+        write(f"{self.room}/crates.txt", "".join(f"{it}:\n" for it in PROGRAMS))
+        for it in PROGRAMS:
+            write(f"{self.room}/crates/{it}/src/main.rt", "fn main() {}\n")
+            write(f"{self.room}/crates/{it}/args", "script\n")
+            write(f"{self.room}/crates/{it}/stdin", "")
         write(f"{self.room}/program", PROGRAM, 0o755)
         write(f"{self.room}/kit/rt", KIT, 0o755)
         os.mkdir(f"{self.room}/tools-of-system")
@@ -201,13 +218,13 @@ class Clone:
         path = f"{self.room}/tools-of-system" + (f":{self.room}/kit" if kit else "")
         return ended([*command, *words], env={"PATH": path})
 
-    def expect(self, what, wanted, *words, kit=True):
+    def expect(self, what, wanted, *words, kit=True, name="agc"):
         """What ./agc writes, its status, and the end of the first line on standard error, if any."""
-        status, text, said = self.run([f"{self.room}/agc"], *words, kit=kit)
+        status, text, said = self.run([f"{self.room}/{name}"], *words, kit=kit)
         lines = said.splitlines()
         first = lines[0] if len(lines) > 1 else ""
         is_right = (status, text) == wanted[:2] and first.endswith(wanted[2]) and bool(first) == bool(wanted[2])
-        self.hostile.expect(f"./agc, {what}: status {status}, {text}, {said}", is_right)
+        self.hostile.expect(f"./{name}, {what}: status {status}, {text}, {said}", is_right)
 
 
 def starter(hostile):
@@ -243,3 +260,17 @@ def starter(hostile):
         for words in ([], ["--help"], ["help"], ["script", "serial"]):
             wanted = (7, f"ran {' '.join(words)}".strip() + "\n", explained)
             clone.expect(f"asked for {words}", wanted, *words)
+        starter_of_watch(clone, ran[0])
+
+
+def starter_of_watch(clone, ended_with):
+    """./agc_watch does so too, and says nothing before the texts that its program has."""
+    clone.expect("before it is built", (0, "tried\n", "takes a minute or two"), "trace", name="agc_watch")
+    status, text, _ = clone.run([sys.executable, f"{clone.room}/tools/prove"], "agc_watch")
+    clone.hostile.expect(f"tools/prove agc_watch: status {status}, {text}", status == 0)
+    explained = "docs/FORMATS.md says what trace, picture and check --script read and write"
+    for words in ("trace", "picture", "check --script", "--help", "-V", "help check", "trace --help"):
+        clone.expect("when it is built", (ended_with, f"ran {words}\n", ""), *words.split(), name="agc_watch")
+    for words in ("", "serial", "trace trace"):
+        wanted = (ended_with, f"ran {words}".strip() + "\n", explained)
+        clone.expect(f"asked for {words}", wanted, *words.split(), name="agc_watch")

@@ -1,5 +1,8 @@
 -- What the program makes of its input.
-use Rattle.std.specs.Prelude.{◌≡◌, ℕ, List, Option, Result, Ok, Err}
+use Rattle.std.specs.Prelude.{◌≡◌, ℕ, ◌⊎◌, List, [], ◌∷◌, Option, Result, Ok, Err}
+use Rattle.std.specs.Prelude.{Bool, true, false}
+use Rattle.std.specs.List.{flat_map}
+use Rattle.std.specs.Io.KnownBytes.{Appends}
 use Rattle.toml.specs.Parse.{parse_document}
 use Rattle.agc_document.specs.Benches.{Benched}
 use Rattle.agc_document.specs.Faults.{RefusesBench}
@@ -7,7 +10,16 @@ use Rattle.agc_session.specs.declared.run_fault.RunFault.{RunFault}
 use Rattle.agc_program.specs.declared.fault.Fault.{Fault}
 use Rattle.agc_program.specs.declared.fault.Fault.TheVariants as fault
 use Rattle.agc_program.specs.Inputs.{IsDocument}
+use Rattle.agc_text.specs.declared.fault.ReadFault.{ReadFault}
+use Rattle.agc_text.specs.Faults.{RefusesInput}
+use Rattle.agc_text.specs.Input.{ReadsAll}
+use Rattle.agc_text.specs.Writing.{AppendsFront}
+use Rattle.agc_program.specs.Statuses.{status_of}
+use Rattle.agc_lint.specs.Findings.{Found}
+use Rattle.agc_lint.specs.Scripts.{script_findings}
+use Rattle.agc_lint.specs.Sentences.{told}
 use Rattle.agc_trace.specs.Runs.{WritesTrace}
+use Rattle.agc_picture.specs.Pictures.{WritesPicture}
 
 -- what was written of this text: the trace of its bench
 abbrev pub TraceOf : List ℕ → Option (List ℕ) → Option (List ℕ) → Result Unit RunFault → Type 0
@@ -21,3 +33,47 @@ TracesText text old new (Err (fault.Run why)) = TraceOf text old new (Err why)
 TracesText text old new (Err (fault.Bench why)) =
     RefusesBench (parse_document text) why × (new ≡ old)
 TracesText text old new (Err why) = ⊥
+
+-- the same of its picture
+abbrev pub PictureOf : List ℕ → Option (List ℕ) → Option (List ℕ) → Result Unit RunFault → Type 0
+PictureOf text old new outcome =
+    (bench : Benched) × IsDocument text bench × WritesPicture old new bench outcome
+
+abbrev pub DrawsText : List ℕ → Option (List ℕ) → Option (List ℕ) → Result Unit Fault → Type 0
+DrawsText text old new (Ok done) = PictureOf text old new (Ok done)
+DrawsText text old new (Err (fault.Run why)) = PictureOf text old new (Err why)
+DrawsText text old new (Err (fault.Bench why)) =
+    RefusesBench (parse_document text) why × (new ≡ old)
+DrawsText text old new (Err why) = ⊥
+
+-- whether nothing was found
+abbrev pub is_nothing : List Found → Bool
+is_nothing [] = true
+is_nothing (f ∷ fs) = false
+
+-- what is told of this text as a script
+abbrev pub script_told : List ℕ → List ℕ
+script_told text = flat_map told (script_findings text)
+
+-- what comes of checking this text as a script: all that is wrong with it was told, and the answer
+-- is whether that is nothing; or a write failed, or there was no memory
+abbrev pub ChecksScript : List ℕ → Option (List ℕ) → Option (List ℕ) → Result Bool Fault → Type 0
+ChecksScript text old new (Ok well) =
+    Appends old new (script_told text) × (well ≡ is_nothing (script_findings text))
+ChecksScript text old new (Err fault.Output) = AppendsFront old new (script_told text)
+ChecksScript text old new (Err fault.NoMemory) = new ≡ old
+ChecksScript text old new (Err why) = ⊥
+
+-- what comes of checking input: it can't be read, or all of it was read, and checked
+abbrev pub ChecksInput : Option (List ℕ) → Option (List ℕ) → Option (List ℕ) → Option (List ℕ)
+    → Result Bool Fault → Type 0
+ChecksInput unread rest old new outcome =
+    ((why : ReadFault) × (outcome ≡ Err (fault.Read why)) × RefusesInput unread rest why
+    × (new ≡ old))
+    ⊎ ((text : List ℕ) × ReadsAll unread rest text × ChecksScript text old new outcome)
+
+-- the exit status: 2 where the input isn't what it should be
+abbrev pub status_by : Result Bool Fault → ℕ
+status_by (Ok true) = 0
+status_by (Ok false) = 2
+status_by (Err why) = status_of why

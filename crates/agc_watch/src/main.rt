@@ -1,25 +1,40 @@
-//! `agc_watch trace`: tells of a bench, from standard input, what its requests do to the tables.
+//! `agc_watch trace` and `agc_watch picture`: tell and draw what the requests of a bench, from
+//! standard input, do to the tables. `agc_watch check --script`: tells what is wrong with a script.
 #![tactic(auto)]
 
 mod mode;
 mod program;
 
 ghost use Rattle.std.specs.Prelude.{◌≡◌, codes};
+ghost use Rattle.std.specs.Process.{exit_status};
+ghost use Rattle.agc_watch.specs.Program.{status_by};
 
-use agc_program::{Program, ended};
+use agc_program::{Fault, Program, ended};
+use std::io::Eprint;
 use std::process::ExitCode;
 
-/// What the program is called, and which word it takes.
+/// What the program is called, and which words it takes.
 fn this_program() -> Program
     ensures name { result.name.now ≡ codes "agc_watch" }
-    ensures usage { result.usage.now ≡ codes "use trace" }
+    ensures usage { result.usage.now ≡ codes "use trace, picture or check --script" }
 {
     Program {
         name: "agc_watch",
-        usage: "use trace",
+        usage: "use trace, picture or check --script",
+    }
+}
+
+/// How the program ends: with status 2 where its input isn't what it should be.
+fn ended_by(rt: &impl Eprint, outcome: Result<bool, Fault>) -> ExitCode
+    ensures { exit_status result ≡ status_by outcome }
+{
+    match outcome {
+        Ok(true) => ended(rt, this_program(), Ok(())),
+        Ok(false) => ExitCode::from(2),
+        Err(fault) => ended(rt, this_program(), Err(fault)),
     }
 }
 
 fn main(rt: HostRuntime) -> ExitCode {
-    ended(&rt, this_program(), program::run(&rt))
+    ended_by(&rt, program::run(&rt))
 }

@@ -1,9 +1,13 @@
-//! What the program does: the words, the reading, the bench, its trace, in this order.
+//! What the program does: the words, the reading, the bench, its trace or picture, in this order.
+ghost use Rattle.std.specs.Prelude.{◌≡◌};
 ghost use Rattle.agc_program.specs.Inputs.{EndsBy};
-ghost use Rattle.agc_watch.specs.Program.{TracesText};
+ghost use Rattle.agc_watch.specs.Program.{DrawsText, TracesText, is_nothing, ChecksScript};
+ghost use Rattle.agc_watch.specs.Program.{ChecksInput};
 
 use crate::mode::{Asked, asked_for};
 use agc_document::read_bench;
+use agc_lint::{Finding, script_findings, tell_all};
+use agc_picture::picture;
 use agc_program::{Fault, buffered, flushed, given_words};
 use agc_text::read_all;
 use agc_trace::trace;
@@ -33,6 +37,28 @@ fn trace_input<R: Read, W: Write>(
     trace_text(alloc, text.as_str(), writer)
 }
 
+/// Writes the picture of a text's bench.
+fn picture_text<W: Write>(alloc: Global, text: &str, writer: &mut W) -> Result<(), Fault>
+    ensures { DrawsText text.now (W.contents writer.old) (W.contents writer.new) result }
+{
+    let drawn = read_bench(alloc, text)?;
+    picture(alloc, &drawn, writer)?;
+    Ok(())
+}
+
+/// Reads the input whole, and writes the picture of its bench.
+fn picture_input<R: Read, W: Write>(
+    alloc: Global,
+    reader: &mut R,
+    writer: &mut W,
+) -> Result<(), Fault>
+    ensures { EndsBy DrawsText (R.remaining reader.old) (R.remaining reader.new)
+        (W.contents writer.old) (W.contents writer.new) result }
+{
+    let text = read_all(alloc, reader)?;
+    picture_text(alloc, text.as_str(), writer)
+}
+
 /// Reads a bench from standard input, and writes its trace through a buffer that is flushed at the
 /// end.
 fn run_trace<R: AllocGlobal + Input + Print>(rt: &R) -> Result<(), Fault> {
@@ -41,11 +67,63 @@ fn run_trace<R: AllocGlobal + Input + Print>(rt: &R) -> Result<(), Fault> {
     flushed(&mut output)
 }
 
-/// Runs the program.
-pub fn run(rt: &(impl Env + AllocGlobal + Input + Print + Eprint)) -> Result<(), Fault> {
+/// Reads a bench from standard input, and writes its picture in the same way.
+fn run_picture<R: AllocGlobal + Input + Print>(rt: &R) -> Result<(), Fault> {
+    let mut output = buffered(rt)?;
+    picture_input(rt.alloc(), &mut rt.reader(), &mut output)?;
+    flushed(&mut output)
+}
+
+/// Whether nothing was found.
+fn is_nothing(findings: &[Finding<'_>]) -> bool
+    ensures { result ≡ is_nothing findings.now }
+{
+    match findings {
+        [] => true,
+        _ => false,
+    }
+}
+
+/// Writes what is wrong with a script, and answers whether that is nothing.
+fn check_script<W: Write>(alloc: Global, text: &str, writer: &mut W) -> Result<bool, Fault>
+    ensures { ChecksScript text.now (W.contents writer.old) (W.contents writer.new) result }
+{
+    let findings = script_findings(alloc, text)?;
+    match tell_all(findings.as_slice(), writer) {
+        Ok(()) => Ok(is_nothing(findings.as_slice())),
+        Err(_failed) => Err(Fault::Output),
+    }
+}
+
+/// Reads the input whole, and writes what is wrong with its script.
+fn check_input<R: Read, W: Write>(
+    alloc: Global,
+    reader: &mut R,
+    writer: &mut W,
+) -> Result<bool, Fault>
+    ensures { ChecksInput (R.remaining reader.old) (R.remaining reader.new)
+        (W.contents writer.old) (W.contents writer.new) result }
+{
+    let text = read_all(alloc, reader)?;
+    check_script(alloc, text.as_str(), writer)
+}
+
+/// Reads a script from standard input, and writes what is wrong with it.
+fn run_check<R: AllocGlobal + Input + Print>(rt: &R) -> Result<bool, Fault> {
+    let mut output = buffered(rt)?;
+    let is_well = check_input(rt.alloc(), &mut rt.reader(), &mut output)?;
+    flushed(&mut output)?;
+    Ok(is_well)
+}
+
+/// Runs the program. False where it was asked what is wrong with its input, and something is.
+pub fn run(rt: &(impl Env + AllocGlobal + Input + Print + Eprint)) -> Result<bool, Fault> {
     let given = given_words(rt)?;
     match asked_for(rt.alloc(), given.as_slice())? {
-        Asked::Trace => run_trace(rt),
-        Asked::Text(text) => text.print(rt).map_err(|_| Fault::Output),
+        Asked::CheckScript => return run_check(rt),
+        Asked::Trace => run_trace(rt)?,
+        Asked::Picture => run_picture(rt)?,
+        Asked::Text(text) => text.print(rt).map_err(|_| Fault::Output)?,
     }
+    Ok(true)
 }

@@ -1,0 +1,5 @@
+pub mod Pieces
+pub mod Lanes
+pub mod Marks
+pub mod Frames
+pub mod Pictures

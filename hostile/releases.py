@@ -1,0 +1,158 @@
+"""A part of hostile/run: tools/release, on a copy of the repository in which stand-ins are built."""
+import hashlib
+import os
+import shutil
+import subprocess
+import sys
+import tarfile
+import tempfile
+
+TOP = os.path.join(os.path.dirname(os.path.realpath(__file__)), "..")
+LEFT_OUT = [f":!{it}" for it in ("crates/*/src", "crates/*/specs", "crates/*/proofs", "edits", "cases", "tests")]
+MODE = "crates/agc_watch/src/mode.rt"
+BUILT = ["crates/agc/out/agc", "crates/agc_watch/out/agc_watch", "crates/libagc/out/liblibagc.a"]
+LOGIC = "0123456789abcdef"
+WHO = {"GIT_AUTHOR_NAME": "who", "GIT_AUTHOR_EMAIL": "who@where", "GIT_AUTHOR_DATE": "2019-07-20T20:17:40Z"}
+WHO |= {name.replace("AUTHOR", "COMMITTER"): text for name, text in WHO.items()}
+
+
+def printed(words, room, **settings):
+    return subprocess.run(words, cwd=room, check=True, stdout=subprocess.PIPE, **settings).stdout.decode().strip()
+
+
+def git(room, *words):
+    return printed(["git", "-c", "init.defaultBranch=main", *words], room, env={**os.environ, **WHO})
+
+
+def commit(room):
+    git(room, "add", "-A")
+    git(room, "commit", "-q", "-m", "as it stands")
+
+
+def copy_of_repository(room):
+    """All files that git lists or would, but for what isn't packed and is large."""
+    listed = ["git", "ls-files", "-z", "-c", "-o", "--exclude-standard", "--"]
+    names = [*printed([*listed, ".", *LEFT_OUT], TOP).rstrip("\0").split("\0"), MODE]
+    for name in names:
+        os.makedirs(os.path.dirname(f"{room}/{name}"), exist_ok=True)
+        shutil.copy(f"{TOP}/{name}", f"{room}/{name}")
+    git(room, "init", "-q")
+    commit(room)
+
+
+def build(room):
+    """Stand-ins for what is proved, with what tools/prove keeps beside it."""
+    for path in BUILT:
+        os.makedirs(os.path.dirname(f"{room}/{path}"), exist_ok=True)
+    mark = f'__asm__(".ident \\"rattle logic={LOGIC}aa\\"");\n'.encode()
+    for path in BUILT[:2]:
+        printed(["cc", "-g", "-x", "c", "-", "-o", path], room, input=mark + b"int main(void) { return 0; }\n")
+    call = b"int agc_clear(void) { return 0; }\n"
+    printed(["cc", "-fPIC", "-c", "-x", "c", "-", "-o", "out.o"], room, input=mark + call)
+    printed(["ar", "rcD", BUILT[2], "out.o"], room)
+    os.remove(f"{room}/out.o")
+    for path in BUILT:
+        with open(f"{room}/{path}", "rb") as file:
+            sums = printed(["cksum"], room, stdin=file), printed(["tools/sources"], room), f"no kit logic {LOGIC}"
+        write(f"{room}/{path}.sums", "\n".join(sums) + "\n")
+
+
+def write(path, text):
+    with open(path, "w", encoding="utf-8") as file:
+        file.write(text)
+
+
+def read(path):
+    with open(path, encoding="utf-8") as file:
+        return file.read()
+
+
+def packed(room):
+    """The names below out/, each with the checksum of what it holds."""
+    found = {}
+    for at, _, names in os.walk(f"{room}/out"):
+        for name in names:
+            with open(f"{at}/{name}", "rb") as file:
+                found[name] = hashlib.sha256(file.read()).hexdigest()
+    return found
+
+
+def run(hostile, room):
+    hostile.runs += 1
+    return subprocess.run([sys.executable, f"{room}/tools/release"], capture_output=True, text=True, check=False)
+
+
+def refuse(hostile, room, why):
+    """It writes one line with this in it, and nothing else."""
+    before = packed(room)
+    ran = run(hostile, room)
+    is_right = (ran.returncode, ran.stdout, ran.stderr.count("\n")) == (1, "", 1) and why in ran.stderr
+    hostile.expect(f"release, {why}: {ran}", is_right and packed(room) == before)
+
+
+def release(hostile):
+    """What isn't as it has to be is refused; two runs, at two places, write the same bytes."""
+    with tempfile.TemporaryDirectory() as place:
+        room = f"{place}/repository"
+        copy_of_repository(room)
+        refuse(hostile, room, "there is no crates/agc/out/agc: tools/prove agc makes it")
+        build(room)
+        ran = run(hostile, room)
+        first = packed(room)
+        hostile.expect(f"release: {ran}", ran.returncode == 0 and len(first) == 1)
+        os.utime(f"{room}/README.md", (0, 0))
+        run(hostile, room)
+        hostile.expect("a second release has the same bytes", packed(room) == first)
+        git(place, "clone", "-q", room, "clone")
+        for path in (*BUILT, *(f"{it}.sums" for it in BUILT)):
+            os.makedirs(os.path.dirname(f"{place}/clone/{path}"), exist_ok=True)
+            shutil.copy(f"{room}/{path}", f"{place}/clone/{path}")
+        run(hostile, f"{place}/clone")
+        hostile.expect("a release of a clone has the same bytes", packed(f"{place}/clone") == first)
+        unpacked(hostile, room, place)
+        refusals(hostile, room)
+
+
+def unpacked(hostile, room, place):
+    """The files in it are as its checksums say, of nobody, and of the commit's time."""
+    with tarfile.open(f"{room}/out/{packed(room).popitem()[0]}") as tape:
+        entries = tape.getmembers()
+        tape.extractall(place)
+    names = [it.name for it in entries]
+    hostile.expect("the names of a release are in order", names == sorted(names))
+    whose = {(it.uid, it.gid, it.uname, it.gname, it.mtime) for it in entries}
+    hostile.expect(f"a release is of {whose}", whose == {(0, 0, "", "", 1563653860)})
+    top = f"{place}/{names[0].split('/')[0]}"
+    hostile.expect("the checksums of a release", printed(["sha256sum", "--quiet", "-c", "SHA256SUMS"], top) == "")
+    printed(["make", "-s", "install", f"PREFIX={place}/usr"], top)
+    placed = ("bin/agc", "bin/agc_watch", "lib/libagc.so.1", "share/man/man3/agc.3", "share/doc/agc/docs/FORMATS.md")
+    missing = [it for it in placed if not os.path.isfile(f"{place}/usr/{it}")]
+    hostile.expect(f"make install from a release leaves out {missing}", not missing)
+    printed(["make", "-s", "uninstall", f"PREFIX={place}/usr"], top)
+    left = [f"{at}/{it}" for at, _, names in os.walk(f"{place}/usr") for it in names]
+    hostile.expect(f"make uninstall from a release leaves {left}", not left)
+    said = read(f"{top}/PROVED-BY.txt")
+    hostile.expect(f"PROVED-BY.txt: {said}", f"no kit logic {LOGIC}" in said and git(room, "rev-parse", "HEAD") in said)
+
+
+def refusals(hostile, room):
+    sums = read(f"{room}/{BUILT[2]}.sums")
+    write(f"{room}/{BUILT[2]}.sums", sums.replace(LOGIC, "0" * 16))
+    refuse(hostile, room, f"{BUILT[2]} was not proved by no kit logic {'0' * 16}: its logic is {LOGIC}")
+    write(f"{room}/{BUILT[2]}.sums", sums)
+    write(f"{room}/new", "")
+    refuse(hostile, room, "the tree isn't as its commit has it: new")
+    os.remove(f"{room}/new")
+    mode = read(f"{room}/{MODE}")
+    write(f"{room}/{MODE}", f"{mode}//\n")
+    commit(room)
+    refuse(hostile, room, "crates/agc/out/agc was built from other sources")
+    write(f"{room}/{MODE}", mode)
+    version = read(f"{room}/VERSION").strip()
+    write(f"{room}/VERSION", "77.7.7\n")
+    commit(room)
+    refuse(hostile, room, f"VERSION says 77.7.7, and the newest section of CHANGELOG.md {version}")
+    changes = read(f"{room}/CHANGELOG.md")
+    write(f"{room}/CHANGELOG.md", changes.replace(f"## {version}", f"## 77.7.7\n\n## {version}"))
+    commit(room)
+    refuse(hostile, room, f"VERSION says 77.7.7, and {MODE} {version}")
