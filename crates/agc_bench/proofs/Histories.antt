@@ -12,7 +12,7 @@ use Rattle.agc_latch.specs.declared.line.Line.{Line}
 use Rattle.agc_plan.specs.Plans.{Planned}
 use Rattle.agc_machine.specs.declared.totals.Totals.{Totals}
 use Rattle.agc_machine.specs.Told.{add, nothing}
-use Rattle.agc_machine.specs.Machines.{Machined, after, after_all, answer_of}
+use Rattle.agc_machine.specs.Machines.{Machined, after, after_all, said_of}
 use Rattle.agc_machine.specs.Said.{Said}
 use Rattle.agc_desk.specs.declared.book.Call.{Call}
 use Rattle.agc_desk.specs.Desks.{ArePulses}
@@ -28,16 +28,16 @@ use Rattle.agc_bench.specs.Steps.{thread_at}
 
 -- the next request's answer, and those of the requests after it
 answers_at : (m : Machined) (rs : List Request) (i : ℕ) (r : Request) (said : Said) → i < length rs → r ≡ get_or rs i r
-    → said.request ≡ r → said.outcome ≡ answer_of m r → answers_to m (drop i rs) ≡ said ∷ answers_to (after m r) (drop (i + 1) rs)
+    → said ≡ said_of m r → answers_to m (drop i rs) ≡ said ∷ answers_to (after m r) (drop (i + 1) rs)
 unfolding answers_to
-answers_at m rs i r said below is asked answered =
-    ap (answers_to m) (rest_is rs i r below is) ∙ (λ k. record { request = sym asked k; outcome = sym answered k } ∷ answers_to (after m r) (drop (i + 1) rs))
+answers_at m rs i r said below is answered =
+    ap (answers_to m) (rest_is rs i r below is) ∙ (λ k. sym answered k ∷ answers_to (after m r) (drop (i + 1) rs))
 
 pub calls_next : (goal so_far : List Call) (m : Machined) (rs : List Request) (i : ℕ) (r : Request) (n : ℕ) (said : Said) → i < length rs → r ≡ get_or rs i r → n ≡ 0
-    → said.request ≡ r → said.outcome ≡ answer_of m r → goal ≡ so_far ++ first_calls (answers_to m (drop i rs))
+    → said ≡ said_of m r → goal ≡ so_far ++ first_calls (answers_to m (drop i rs))
     → goal ≡ (so_far ++ own_call n said ∷ []) ++ first_calls (answers_to (after m r) (drop (i + 1) rs))
-calls_next goal so_far m rs i r n said below is first asked answered whole =
-    whole ∙ (ap (λ l. so_far ++ first_calls l) (answers_at m rs i r said below is asked answered)
+calls_next goal so_far m rs i r n said below is first answered whole =
+    whole ∙ (ap (λ l. so_far ++ first_calls l) (answers_at m rs i r said below is answered)
     ∙ (ap (λ k. so_far ++ own_call k said ∷ first_calls (answers_to (after m r) (drop (i + 1) rs))) (sym first)
     ∙ sym (append_assoc so_far (own_call n said ∷ []) (first_calls (answers_to (after m r) (drop (i + 1) rs))))))
 

@@ -3,7 +3,7 @@ use Rattle.std.proofs.Common.{◌≡◌, ℕ, ◌+◌, List, [], ◌∷◌, ◌+
 use Rattle.std.specs.List.{All}
 use Rattle.std.proofs.lemmas.List.Elements.{All-append, All-cons, All-nil}
 use Rattle.atomic_table.specs.Seated.{TableId}
-use Rattle.agc_machine.specs.Machines.{Machined, after, answer_of}
+use Rattle.agc_machine.specs.Machines.{Machined, after, said_of}
 use Rattle.agc_desk.specs.declared.book.Call.{Call}
 use Rattle.agc_desk.specs.declared.drain.Drained.{Drained}
 use Rattle.agc_desk.specs.Desks.{Desked}
@@ -18,7 +18,7 @@ unfolding calls_of
 calls_pulses number m [] = All-nil (λ (call : Call). IsSome call.pulse)
 calls_pulses number m (pulse ∷ more) =
     All-cons (λ (call : Call). IsSome call.pulse)
-    (record { by = number; answer = record { request = pulse.request; outcome = answer_of m pulse.request }; pulse = Some pulse.line })
+    (record { by = number; answer = said_of m pulse.request; pulse = Some pulse.line })
     (calls_of number (after m pulse.request) more) refl (calls_pulses number (after m pulse.request) more)
 
 -- what is done with a share, and then more

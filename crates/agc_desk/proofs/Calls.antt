@@ -13,7 +13,7 @@ use Rattle.agc_plan.specs.declared.request.Request.{Request}
 use Rattle.agc_machine.specs.declared.answer.Refusal.{Refusal}
 use Rattle.agc_machine.specs.declared.totals.Totals.{Totals}
 use Rattle.std.specs.Option.{option_map_or}
-use Rattle.agc_machine.specs.Machines.{Machined, after, answer_of, refusal_of, result_of, served, stepped}
+use Rattle.agc_machine.specs.Machines.{Machined, after, answer_of, refusal_of, result_of, said_of, served, stepped}
 use Rattle.agc_machine.specs.Told.{add, nothing, told}
 use Rattle.agc_desk.specs.declared.book.Call.{Call}
 use Rattle.agc_desk.specs.Accounts.{told_in, told_to}
@@ -21,8 +21,8 @@ use Rattle.agc_desk.specs.History.{Holder, IsHistory, Leads, calls_by, numbers_o
 
 -- one call more
 pub leads_on : (first : Machined) (calls : List Call) (m : Machined) (call : Call) → Leads first calls m
-    → call.answer.outcome ≡ answer_of m call.answer.request → Leads first (calls ++ call ∷ []) (after m call.answer.request)
-leads_on first [] m call leads answer = (answer ∙ ap (λ n. answer_of n call.answer.request) (sym leads), ap (λ n. after n call.answer.request) leads)
+    → call.answer ≡ said_of m call.answer.request → Leads first (calls ++ call ∷ []) (after m call.answer.request)
+leads_on first [] m call leads answer = (answer ∙ ap (λ n. said_of n call.answer.request) (sym leads), ap (λ n. after n call.answer.request) leads)
 leads_on first (x ∷ xs) m call leads answer = (leads.0, leads_on (after first x.answer.request) xs m call leads.1 answer)
 
 -- the calls of a number among both

@@ -14,7 +14,7 @@ use Rattle.agc_plan.specs.declared.reply.Reply.{Reply}
 use Rattle.agc_plan.specs.Plans.{Planned}
 use Rattle.agc_machine.specs.declared.answer.Refusal.{Refusal}
 use Rattle.agc_machine.specs.declared.totals.Totals.{Totals}
-use Rattle.agc_machine.specs.Machines.{Machined, after, after_all, answer_of, refusal_of, result_of, served, stepped}
+use Rattle.agc_machine.specs.Machines.{Machined, after, after_all, answer_of, refusal_of, result_of, said_of, served, stepped}
 use Rattle.agc_machine.specs.Said.{Said}
 use Rattle.agc_machine.specs.Told.{add, nothing, told}
 use Rattle.agc_desk.specs.declared.book.Call.{Call}
@@ -47,7 +47,7 @@ pub told_by_append : (m : Machined) (a b : List Pulse) → told_by m (a ++ b) �
 unfolding answers_to after_all
 told_by_append m [] b = refl
 told_by_append m (p ∷ ps) b =
-    ap (λ l. record { request = p.request; outcome = answer_of m p.request } ∷ l) (told_by_append (after m p.request) ps b)
+    ap (λ l. said_of m p.request ∷ l) (told_by_append (after m p.request) ps b)
 
 after_by_append : (m : Machined) (a b : List Pulse) → after_by m (a ++ b) ≡ after_by (after_by m a) b
 unfolding after_all
@@ -59,7 +59,7 @@ calls_append : (number : ℕ) (m : Machined) (a b : List Pulse)
 unfolding calls_of after_all
 calls_append number m [] b = refl
 calls_append number m (p ∷ ps) b =
-    ap (λ l. record { by = number; answer = record { request = p.request; outcome = answer_of m p.request }; pulse = Some p.line } ∷ l)
+    ap (λ l. record { by = number; answer = said_of m p.request; pulse = Some p.line } ∷ l)
     (calls_append number (after m p.request) ps b)
 
 add_assoc : (s t u : Totals) → add (add s t) u ≡ add s (add t u)
@@ -141,12 +141,11 @@ serves_lines a old s mid t now before next =
 
 -- the desk was asked for one pulse
 pub serves_one : (p : Pulse) (old : Desked) (s : Holder) (said : Said) (now : Desked) (new : Holder)
-    → said.request ≡ p.request → said.outcome ≡ answer_of old.machine p.request
+    → said ≡ said_of old.machine p.request
     → now ≡ with_lines now.lines (record old { machine = after old.machine p.request; history = old.history ++ record { by = s.number; answer = said; pulse = Some p.line } ∷ []; booked = add old.booked (told said.outcome) })
     → new ≡ with_heard (record { by = s.number; answer = said; pulse = Some p.line } ∷ []) s → ServesAll (p ∷ []) old s now new
 unfolding after_all told_in calls_of
-serves_one p old s said now new request outcome desk heard =
-    let it : said ≡ record { request = p.request; outcome = answer_of old.machine p.request } = λ i. record { request = request i; outcome = outcome i } in
+serves_one p old s said now new it desk heard =
     record {
       desk = desk ∙ (λ i. with_lines now.lines (record old { machine = after old.machine p.request; history = old.history ++ record { by = s.number; answer = it i; pulse = Some p.line } ∷ []; booked = add old.booked (sym (nothing_and (told (it i).outcome)) i) }));
       heard = heard ∙ ap (λ (x : Said). with_heard (record { by = s.number; answer = x; pulse = Some p.line } ∷ []) s) it;
@@ -222,23 +221,23 @@ is_ok_of o reply e = subst (λ (x : Result Reply Refusal). IsOk x) (sym e) refl
 
 served_one : (m : Machined) (p : Pulse) (reply : Reply) → answer_of m p.request ≡ Ok reply → NoneRefused (told_by m (p ∷ []))
 unfolding answers_to
-served_one m p reply e = All-push (λ (x : Said). IsOk x.outcome) [] (record { request = p.request; outcome = answer_of m p.request }) (All-nil (λ (x : Said). IsOk x.outcome)) (is_ok_of (answer_of m p.request) reply e)
+served_one m p reply e = All-push (λ (x : Said). IsOk x.outcome) [] (said_of m p.request) (All-nil (λ (x : Said). IsOk x.outcome)) (is_ok_of (answer_of m p.request) reply e)
 
 -- one more was served and applied
 pub applied_more : (line : Line) (q : Request) (n : ℕ) (old : Desked) (s : Holder) (mid : Desked) (t : Holder) (said : Said) (now : Desked) (new : Holder) (reply : Reply)
-    → Applied line q n old s mid t → said.request ≡ q → said.outcome ≡ answer_of mid.machine q
+    → Applied line q n old s mid t → said ≡ said_of mid.machine q
     → now ≡ with_lines now.lines (record mid { machine = after mid.machine q; history = mid.history ++ record { by = t.number; answer = said; pulse = Some line } ∷ []; booked = add mid.booked (told said.outcome) })
     → new ≡ with_heard (record { by = t.number; answer = said; pulse = Some line } ∷ []) t → said.outcome ≡ Ok reply
     → Marks (Some line) said.outcome mid.lines now.lines
     → Applied line q (n + 1) old s now new
-applied_more line q n old s mid t said now new reply before request outcome desk heard ok marks =
+applied_more line q n old s mid t said now new reply before answer desk heard ok marks =
     let p : Pulse = pulse_on line q in
     let machine : mid.machine ≡ after_by old.machine (replicate n p) = ap (λ (d : Desked). d.machine) before.asked.desk in
-    let next = serves_one p mid t said now new request outcome desk heard in
+    let next = serves_one p mid t said now new answer desk heard in
     let all = serves_append (replicate n p) (p ∷ []) old s mid t now new before.asked next in
     let lines : Applies line 1 mid.lines now.lines = subst (λ (o : Result Reply Refusal). Marks (Some line) o mid.lines now.lines) ok marks in
     let served = All-append (λ (x : Said). IsOk x.outcome) _ _ before.served
-    (subst (λ (m : Machined). NoneRefused (told_by m (p ∷ []))) machine (served_one mid.machine p reply (sym outcome ∙ ok))) in
+    (subst (λ (m : Machined). NoneRefused (told_by m (p ∷ []))) machine (served_one mid.machine p reply (ap (λ (x : Said). x.outcome) (sym answer) ∙ ok))) in
     record {
       lines = applies_more line n old.lines mid.lines now.lines before.lines lines;
       asked = subst (λ (l : List Pulse). ServesAll l old s now new) (replicate_more n p) all;
@@ -283,20 +282,20 @@ line_done plan line q n old s mid t is before all =
 -- the next one was refused
 pub line_refused : (plan : Planned) (line : Line) (q : Request) (n : ℕ) (old : Desked) (s : Holder) (mid : Desked) (t : Holder) (said : Said) (now : Desked) (new : Holder) (refusal : Refusal)
     → pulse_request plan line ≡ Some q → Applied line q n old s mid t → n < on line old.lines.owed
-    → said.request ≡ q → said.outcome ≡ answer_of mid.machine q
+    → said ≡ said_of mid.machine q
     → now ≡ with_lines now.lines (record mid { machine = after mid.machine q; history = mid.history ++ record { by = t.number; answer = said; pulse = Some line } ∷ []; booked = add mid.booked (told said.outcome) })
     → new ≡ with_heard (record { by = t.number; answer = said; pulse = Some line } ∷ []) t → said.outcome ≡ Err refusal
     → Marks (Some line) said.outcome mid.lines now.lines
     → DrainsLine None plan line old s n (Some refusal) now new
-line_refused plan line q n old s mid t said now new refusal is before more request outcome desk heard err marks =
+line_refused plan line q n old s mid t said now new refusal is before more answer desk heard err marks =
     let p : Pulse = pulse_on line q in
     let same_lines : now.lines ≡ mid.lines = subst (λ (o : Result Reply Refusal). Marks (Some line) o mid.lines now.lines) err marks in
     let some : 0 < on line now.lines.owed = omega (arith, before.lines.owed, more, ap (λ (l : LineAccounts). on line l.owed) same_lines) in
     let next : next_pulse plan line now.lines.owed ≡ Some p = next_is plan line now.lines.owed some ∙ pulse_is plan line q is in
     let requests : replicate n (pulse_on line q) ≡ repeated (pulse_of plan line) n = ap (λ (o : Option Pulse). repeated o n) (sym (pulse_is plan line q is)) in
-    let refused : answer_of mid.machine q ≡ Err refusal = sym outcome ∙ err in
+    let refused : answer_of mid.machine q ≡ Err refusal = ap (λ (x : Said). x.outcome) (sym answer) ∙ err in
     let machine : now.machine ≡ after mid.machine q = ap (λ (d : Desked). d.machine) desk in
-    let all = serves_append (replicate n p) (p ∷ []) old s mid t now new before.asked (serves_one p mid t said now new request outcome desk heard) in
+    let all = serves_append (replicate n p) (p ∷ []) old s mid t now new before.asked (serves_one p mid t said now new answer desk heard) in
     record {
       lines = subst (λ (l : LineAccounts). Applies line n old.lines l) (sym same_lines) before.lines;
       asked = subst (λ (l : List Pulse). ServesAll l old s now new)

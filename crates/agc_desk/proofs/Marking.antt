@@ -11,6 +11,7 @@ use Rattle.agc_latch.specs.Accounts.{Applies, LineAccounts}
 use Rattle.agc_latch.specs.Lines.{on, word_of, zeros}
 use Rattle.agc_plan.specs.declared.reply.Reply.{Reply}
 use Rattle.agc_plan.specs.declared.request.Request.{Request}
+use Rattle.agc_plan.specs.declared.request.Task.{Task}
 use Rattle.agc_plan.specs.Plans.{Planned}
 use Rattle.agc_machine.specs.declared.answer.Refusal.{Refusal}
 use Rattle.agc_machine.specs.Said.{Said}
@@ -66,17 +67,17 @@ applied_no line calls call is =
     omega (arith, applied_push line calls call, none)
 
 -- with one call more, of whose pulse one more is applied where it isn't refused
-counted_on : (calls : List Call) (number : ℕ) (q : Request) (outcome : Result Reply Refusal) (pulse : Option Line)
+counted_on : (calls : List Call) (number : ℕ) (q : Request) (outcome : Result Reply Refusal) (fired : List Task) (pulse : Option Line)
     (old now : LineAccounts) (line : Line) → Marks pulse outcome old now → on line old.applied ≡ applied_in line calls
-    → on line now.applied ≡ applied_in line (calls ++ record { by = number; answer = record { request = q; outcome = outcome }; pulse = pulse } ∷ [])
-counted_on calls number q outcome None old now line marks before =
+    → on line now.applied ≡ applied_in line (calls ++ record { by = number; answer = record { request = q; outcome = outcome; fired = fired }; pulse = pulse } ∷ [])
+counted_on calls number q outcome fired None old now line marks before =
     ap (λ (a : LineAccounts). on line a.applied) marks
-    ∙ (before ∙ sym (applied_no line calls (record { by = number; answer = record { request = q; outcome = outcome }; pulse = None }) (and_off (is_ok outcome))))
-counted_on calls number q (Err refusal) (Some l) old now line marks before =
+    ∙ (before ∙ sym (applied_no line calls (record { by = number; answer = record { request = q; outcome = outcome; fired = fired }; pulse = None }) (and_off (is_ok outcome))))
+counted_on calls number q (Err refusal) fired (Some l) old now line marks before =
     ap (λ (a : LineAccounts). on line a.applied) marks
-    ∙ (before ∙ sym (applied_no line calls (record { by = number; answer = record { request = q; outcome = Err refusal }; pulse = Some l }) refl))
-counted_on calls number q (Ok reply) (Some l) old now line marks before =
-    let call : Call = record { by = number; answer = record { request = q; outcome = Ok reply }; pulse = Some l } in
+    ∙ (before ∙ sym (applied_no line calls (record { by = number; answer = record { request = q; outcome = Err refusal; fired = fired }; pulse = Some l }) refl))
+counted_on calls number q (Ok reply) fired (Some l) old now line marks before =
+    let call : Call = record { by = number; answer = record { request = q; outcome = Ok reply; fired = fired }; pulse = Some l } in
     ⊎_elim
     (λ (e : l ≡ line).
     let here : Applies line 1 old now = subst (λ (x : Line). Applies x 1 old now) e marks in
@@ -93,7 +94,7 @@ pub marked : (plan : Planned) (calls : List Call) (number : ℕ) (said : Said) (
 marked plan calls number said pulse old now before asks marks = record {
   each = All-push (λ (call : Call). IfSome call.pulse (λ line. pulse_request plan line ≡ Some call.answer.request)) calls
       (record { by = number; answer = said; pulse = pulse }) before.each asks;
-  counted = λ line some. counted_on calls number said.request said.outcome pulse old now line marks (before.counted line some);
+  counted = λ line some. counted_on calls number said.request said.outcome said.fired pulse old now line marks (before.counted line some);
 }
 
 -- on a line whose pulses ask for nothing, any are applied

@@ -10,7 +10,7 @@ use Rattle.agc_latch.specs.Accounts.{IsKept, IsOf, IsTakenOnce, LineAccounts}
 use Rattle.agc_latch.specs.Accounts.{given_of, latch_of, taken_on}
 use Rattle.agc_plan.specs.declared.request.Request.{Request}
 use Rattle.agc_machine.specs.declared.answer.Refusal.{Refusal}
-use Rattle.agc_machine.specs.Machines.{IsLawful, Machined, after, after_all, answer_of, refusal_of}
+use Rattle.agc_machine.specs.Machines.{IsLawful, Machined, after, after_all, refusal_of, said_of}
 use Rattle.agc_machine.specs.Said.{Said}
 use Rattle.agc_machine.specs.Told.{add}
 use Rattle.agc_desk.specs.declared.book.Call.{Call}
@@ -23,8 +23,7 @@ use Rattle.agc_desk.specs.Pulses.{Pulse, first_pulse, pulses_of}
 -- what a machine answers these requests, in order, each as its step answers it there
 unfoldable pub answers_to : Machined → List Request → List Said
 answers_to m [] = []
-answers_to m (asked ∷ more) =
-    record { request = asked; outcome = answer_of m asked } ∷ answers_to (after m asked) more
+answers_to m (asked ∷ more) = said_of m asked ∷ answers_to (after m asked) more
 
 -- what these pulses ask for
 abbrev pub requests_by : List Pulse → List Request
@@ -35,7 +34,7 @@ unfoldable pub calls_of : ℕ → Machined → List Pulse → List Call
 calls_of number m [] = []
 calls_of number m (pulse ∷ more) = record {
   by = number;
-  answer = record { request = pulse.request; outcome = answer_of m pulse.request };
+  answer = said_of m pulse.request;
   pulse = Some pulse.line;
 } ∷ calls_of number (after m pulse.request) more
 

@@ -5,7 +5,7 @@ use Rattle.std.specs.List.{All, Contains, IsDistinct, count_by, filter}
 use Rattle.agc_latch.specs.declared.line.Line.{Line}
 use Rattle.agc_latch.specs.Lines.{word_of}
 use Rattle.agc_machine.specs.Said.{Said}
-use Rattle.agc_machine.specs.Machines.{Machined, after, answer_of}
+use Rattle.agc_machine.specs.Machines.{Machined, after, said_of}
 use Rattle.agc_desk.specs.declared.book.Call.{Call}
 
 -- these calls lead in this order from the first machine to the last, each answered as the machine's
@@ -13,7 +13,7 @@ use Rattle.agc_desk.specs.declared.book.Call.{Call}
 abbrev pub Leads : Machined → List Call → Machined → Type 0
 Leads first [] last = first ≡ last
 Leads first (call ∷ more) last =
-    (call.answer.outcome ≡ answer_of first call.answer.request)
+    (call.answer ≡ said_of first call.answer.request)
     × Leads (after first call.answer.request) more last
 
 -- what was asked with the share of this number, and answered, in order

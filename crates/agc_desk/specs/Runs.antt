@@ -3,7 +3,7 @@ use Rattle.std.specs.Prelude.{◌≡◌, ℕ, ◌<◌, ◌≤◌, ◌⊎◌, Boo
 use Rattle.std.specs.Prelude.{take, IsNone}
 use Rattle.std.specs.List.{All}
 use Rattle.agc_plan.specs.declared.request.Request.{Request}
-use Rattle.agc_machine.specs.Machines.{Machined, IsLawful, answer_of}
+use Rattle.agc_machine.specs.Machines.{Machined, IsLawful, said_of}
 use Rattle.agc_machine.specs.Said.{Said}
 use Rattle.agc_desk.specs.declared.book.Call.{Call}
 use Rattle.agc_desk.specs.History.{Holder, Leads, own_call, with_heard}
@@ -15,7 +15,7 @@ pub record IsGiven (first : Machined) (said : Said) : Type 0 where
   pub machine : Machined
   pub leads : Leads first calls machine
   pub lawful : IsLawful machine
-  pub answer : said.outcome ≡ answer_of machine said.request
+  pub answer : said ≡ said_of machine said.request
 
 -- the holder of a share asks this, gets this answer, and has heard one call of its own more
 abbrev pub Asks : Machined → Holder → Request → Said → Holder → Type 0

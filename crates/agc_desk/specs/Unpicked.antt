@@ -39,4 +39,4 @@ no_machine = begun_with
 
 -- an answer for where nothing is picked
 abbrev pub no_answer : Said
-no_answer = record { request = Fresh; outcome = Err Spent }
+no_answer = record { request = Fresh; outcome = Err Spent; fired = [] }

@@ -5,7 +5,7 @@ ghost use Rattle.agc_latch.specs.Accounts.{Applies, AreAll, Collects, Gives, Set
 ghost use Rattle.agc_latch.specs.Accounts.{IsKept, IsOf, with_taker};
 ghost use Rattle.agc_latch.specs.Ends.{new_device};
 ghost use Rattle.agc_latch.specs.Lines.{on};
-ghost use Rattle.agc_machine.specs.Machines.{IsLawful, after, answer_of};
+ghost use Rattle.agc_machine.specs.Machines.{IsLawful, after, said_of};
 ghost use Rattle.agc_machine.specs.Told.{add, told};
 ghost use Rattle.agc_desk.specs.Accounts.{told_in, told_to};
 ghost use Rattle.agc_desk.specs.Desks.{ArePulses, new_desk, with_lines};
@@ -156,8 +156,7 @@ impl<N: Names> Desk<N> {
     /// request and its answer come into the history, as of no line's pulse, and to what the share's
     /// holder was answered. A refusal is the answer's result, and books nothing. Source: profile.
     pub fn serve(&mut self, share: &mut Share<N>, request: Request) -> Answer
-        ensures request { result.request ≡ request }
-        ensures outcome { result.outcome ≡ answer_of self.old.machine request }
+        ensures answer { result ≡ said_of self.old.machine request }
         ensures lawful { IsLawful self.old.machine }
         ensures given { IsGiven N.first result }
         ensures heard { share.new ≡ with_heard (own_call share.old.number result ∷ []) share.old }
@@ -181,8 +180,7 @@ impl<N: Names> Desk<N> {
         requires asks { IfSome pulse (λ line.
             pulse_request self.old.machine.plan line ≡ Some request) }
         requires owed { IfSome pulse (λ line. 1 ≤ on line self.old.lines.owed) }
-        ensures request { result.request ≡ request }
-        ensures outcome { result.outcome ≡ answer_of self.old.machine request }
+        ensures answer { result ≡ said_of self.old.machine request }
         ensures lawful { IsLawful self.old.machine }
         ensures given { IsGiven N.first result }
         ensures heard { share.new ≡ with_heard (record

@@ -18,7 +18,7 @@ use Rattle.agc_wait.specs.Table.{waits_of}
 use Rattle.agc_wait.specs.Waits.{due_now}
 use Rattle.agc_wait.proofs.Dues.{count_due-is}
 use Rattle.agc_phase.specs.Image.{base_of}
-use Rattle.agc_machine.specs.Stands.{IsSound, Stands, Works, Performs, FiresDue, seated_in, places_fired, places_ticked}
+use Rattle.agc_machine.specs.Stands.{IsSound, Stands, Works, Performs, FiresDue, FiresTick, seated_in, places_fired, places_ticked}
 use Rattle.agc_machine.proofs.Frames.{stands_by_waits}
 
 -- one more task fired, and its action moved the jobs
@@ -133,7 +133,7 @@ fires_by rows old fired alarm new sound same_length same_base none_due ends = re
 }
 
 -- a centisecond passed, and what was due fired
-pub works_ticked : (rows : List (Task × Action)) (old mid : List ℕ) (answer : Bool) (fired : List Task) (alarm : Option Alarm) (new : List ℕ) → Counts old answer mid → FiresDue rows mid fired alarm new → base_of mid ≡ base_of old → Works (ticked rows) (places_ticked rows) old (Ticked fired alarm) new
+pub works_ticked : (rows : List (Task × Action)) (old mid : List ℕ) (answer : Bool) (fired : List Task) (alarm : Option Alarm) (new : List ℕ) → Counts old answer mid → FiresDue rows mid fired alarm new → base_of mid ≡ base_of old → Works (ticked rows) (places_ticked rows) old (Ticked alarm) new
 works_ticked rows old mid answer fired alarm new counts fires same_base =
     let later_stands : (work : Work) (places : List ℕ) → Stands old work places → Stands mid (later_work work) places = stands_by_waits later old mid counts.others counts.counted in
     record {
@@ -145,7 +145,11 @@ works_ticked rows old mid answer fired alarm new counts fires same_base =
             subst (λ (x : List Task). Stands new (tick_fires rows work).work (places_fired rows x work places)) (fires.fired_is (later_work work) places (later_stands work places stands))
             (fires.changes.stands (later_work work) places (later_stands work places stands));
       };
-      reply_is = λ work places stands.
-          ap (λ (x : List Task). Ticked x alarm) (fires.fired_is (later_work work) places (later_stands work places stands))
-          ∙ ap (λ (a : Option Alarm). Ticked (tick_fires rows work).fired a) (fires.alarm_is (later_work work) places (later_stands work places stands));
+      reply_is = λ work places stands. ap Ticked (fires.alarm_is (later_work work) places (later_stands work places stands));
     }
+
+-- and what fired then
+pub fires_ticked : (rows : List (Task × Action)) (old mid : List ℕ) (answer : Bool) (fired : List Task) (alarm : Option Alarm) (new : List ℕ) → Counts old answer mid → FiresDue rows mid fired alarm new → FiresTick rows old fired
+fires_ticked rows old mid answer fired alarm new counts fires =
+    λ work places stands.
+    fires.fired_is (later_work work) places (stands_by_waits later old mid counts.others counts.counted work places stands)

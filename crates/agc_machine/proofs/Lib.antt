@@ -5,7 +5,7 @@ pub mod Beginning
 pub mod Stepping
 pub mod Serving
 pub mod Leading
-pub mod Briefs
+pub mod Alarms
 pub mod Roomier
 pub mod Migrating
 pub mod Moments

@@ -68,8 +68,8 @@ alarm_tells A1203 = record { one = refl; few = omega arith; alarms = omega arith
 
 pub tells : (reply : Reply) → Tells (reply_told reply)
 tells (Alarmed alarm) = alarm_tells alarm
-tells (Ticked fired (Some alarm)) = alarm_tells alarm
-tells (Ticked fired None) = record { one = refl; few = omega arith; alarms = omega arith }
+tells (Ticked (Some alarm)) = alarm_tells alarm
+tells (Ticked None) = record { one = refl; few = omega arith; alarms = omega arith }
 tells Restarted = record { one = refl; few = omega arith; alarms = omega arith }
 tells reply = record { one = refl; few = omega arith; alarms = omega arith }
 

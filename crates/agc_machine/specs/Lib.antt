@@ -1,5 +1,4 @@
 pub mod Said
-pub mod Briefs
 pub mod Told
 pub mod Stands
 pub mod Machines

@@ -6,16 +6,18 @@ use Rattle.std.specs.List.{fold}
 use Rattle.std.specs.Option.{option_map_or}
 use Rattle.agc_plan.specs.declared.request.Request.{Request}
 use Rattle.agc_plan.specs.declared.request.Request.TheVariants.{Restart, Fresh}
+use Rattle.agc_plan.specs.declared.request.Task.{Task}
 use Rattle.agc_plan.specs.declared.reply.Reply.{Reply}
 use Rattle.agc_plan.specs.declared.reply.Code.TheVariants.{C1107}
 use Rattle.agc_plan.specs.Base.{Base, fresh_base, with_code}
 use Rattle.agc_plan.specs.Plans.{Planned}
 use Rattle.agc_plan.specs.Seats.{placed}
-use Rattle.agc_plan.specs.Steps.{Plain, Stepped, step, reached, begins}
+use Rattle.agc_plan.specs.Steps.{Plain, Stepped, step, reached, begins, fired_in}
 use Rattle.agc_phase.specs.Image.{phases_in, IsLawfulBase}
 use Rattle.agc_machine.specs.declared.answer.Refusal.{Refusal}
 use Rattle.agc_machine.specs.declared.answer.Refusal.TheVariants.{Spent, LogFull}
 use Rattle.agc_machine.specs.declared.totals.Totals.{Totals}
+use Rattle.agc_machine.specs.Said.{Said}
 use Rattle.agc_machine.specs.Told.{add, reply_told, nothing}
 
 -- a machine: its plan and its number of core sets, limit and allowance, with what the last era
@@ -71,6 +73,14 @@ result_of refusal reply = option_map_or Err refusal (Ok reply)
 -- what the request is answered
 abbrev pub answer_of : Machined → Request → Result Reply Refusal
 answer_of m asked = result_of (refusal_of m asked) (stepped m asked).reply
+
+-- the tasks that fire in it, in order: none where it is refused
+abbrev pub fired_of : Machined → Request → List Task
+fired_of m asked = option_map_or (λ refusal. []) (refusal_of m asked) (fired_in m.plan asked (plain_of m))
+
+-- all that is said to it
+abbrev pub said_of : Machined → Request → Said
+said_of m asked = record { request = asked; outcome = answer_of m asked; fired = fired_of m asked }
 
 -- the machine after a request that is served: an era began with what is now the base, or the
 -- request is stored

@@ -3,8 +3,9 @@ use Rattle.std.specs.Prelude.{◌≡◌, ℕ, false, List}
 use Rattle.agc_word.specs.Layout.{IsSized, sets_in}
 use Rattle.agc_plan.specs.declared.reply.Reply.{Reply}
 use Rattle.agc_plan.specs.declared.request.Request.{Request}
+use Rattle.agc_plan.specs.declared.request.Task.{Task}
 use Rattle.agc_plan.specs.Seats.{places_acted}
-use Rattle.agc_plan.specs.Steps.{acted, begins}
+use Rattle.agc_plan.specs.Steps.{acted, begins, fired_in}
 use Rattle.agc_exec.specs.Image.{entries_in}
 use Rattle.agc_exec.specs.Image as cores
 use Rattle.agc_wait.specs.Table.{waits_of}
@@ -14,10 +15,11 @@ use Rattle.agc_phase.specs.Image as phases
 use Rattle.agc_machine.specs.Image.{IsTidyImage, WordsStandFor}
 use Rattle.agc_machine.specs.Machines.{Machined, plain_of, places_of}
 
--- the words then, and what is replied
+-- the words then, what is replied, and what fired
 pub record Acting : Type 0 where
   pub words : List ℕ
   pub reply : Reply
+  pub fired : List Task
 
 -- what this machine does for this request, before an era begins: its words are lawful and tidy,
 -- and where no era begins no task is due; they stand for what the model does, with the jobs in the
@@ -33,3 +35,4 @@ pub record IsMoment (m : Machined) (asked : Request) (moment : Acting) : Type 0 
   pub placed : entries_in moment.words ≡ places_acted m.plan asked (plain_of m) (places_of m)
   pub stands : WordsStandFor moment.words (acted m.plan asked (plain_of m)).plain
   pub reply : moment.reply ≡ (acted m.plan asked (plain_of m)).reply
+  pub fired : moment.fired ≡ fired_in m.plan asked (plain_of m)

@@ -1,10 +1,9 @@
 -- For the proofs: how the words stand for plain lists, and what the private functions do to both.
-use Rattle.std.specs.Prelude.{⊤, ◌≡◌, ℕ, List, [], length, Option, Some, None}
+use Rattle.std.specs.Prelude.{◌≡◌, ℕ, List, [], length, Option, Some, None}
 use Rattle.std.specs.Option.{option_map_or}
 use Rattle.agc_word.specs.Layout.{IsSized}
 use Rattle.agc_plan.specs.declared.reply.Alarm.{Alarm}
 use Rattle.agc_plan.specs.declared.reply.Reply.{Reply}
-use Rattle.agc_plan.specs.declared.reply.Reply.TheVariants.{Ticked}
 use Rattle.agc_plan.specs.declared.request.Action.{Action}
 use Rattle.agc_plan.specs.declared.request.JobStart.{JobStart}
 use Rattle.agc_plan.specs.declared.request.Request.{Request}
@@ -18,7 +17,7 @@ use Rattle.agc_plan.specs.Plans.{Planned}
 use Rattle.agc_plan.specs.Seats.{Seated, no_places, seated_action, seated_fired, seated_new}
 use Rattle.agc_plan.specs.Seats.{places_acted, places_after, era_places}
 use Rattle.agc_plan.specs.Steps.{Plain, Stepped, Acted, done, begun, acted, step, code_of, fire_all}
-use Rattle.agc_plan.specs.Steps.{tick_fires}
+use Rattle.agc_plan.specs.Steps.{tick_fires, fired_in}
 use Rattle.agc_plan.specs.Tasks as tasks
 use Rattle.agc_exec.specs.Image.{jobs_in, entries_in}
 use Rattle.agc_exec.specs.Image as cores
@@ -108,6 +107,11 @@ pub record FiresDue (rows : List (Task × Action)) (old : List ℕ) (fired : Lis
       ≡ (fire_all rows work []).alarm
   pub none_due : alarm ≡ None → due_now (waits_of new) ≡ 0
 
+-- these fire in a tick, whatever the words stand for
+abbrev pub FiresTick : List (Task × Action) → List ℕ → List Task → Type 0
+FiresTick rows old fired = (work : Work) (places : List ℕ) → Stands old work places → fired
+    ≡ (tick_fires rows work).fired
+
 -- the core sets after a tick
 abbrev pub places_ticked : List (Task × Action) → Work → List ℕ → List ℕ
 places_ticked rows work places = places_fired rows (tick_fires rows work).fired work places
@@ -172,6 +176,11 @@ pub record Acts (plan : Planned) (asked : Request) (old : List ℕ) (reply : Rep
   pub steps : (plain : Plain) (places : List ℕ) → StandsFor old plain places
       → Steps new reply (acted plan asked plain) (places_acted plan asked plain places)
 
+-- these fire in it, whatever the words stand for
+abbrev pub FiresIn : Planned → Request → List ℕ → List Task → Type 0
+FiresIn plan asked old fired = (plain : Plain) (places : List ℕ) → StandsFor old plain places
+    → fired ≡ fired_in plan asked plain
+
 -- one step: what the request does, and the beginning of an era, if one begins with it
 pub record StepsTo (plan : Planned) (asked : Request) (old : List ℕ) (reply : Reply) (new : List ℕ)
     : Type 0 where
@@ -179,8 +188,3 @@ pub record StepsTo (plan : Planned) (asked : Request) (old : List ℕ) (reply : 
   pub same_length : length new ≡ length old
   pub steps : (plain : Plain) (places : List ℕ) → StandsFor old plain places
       → Steps new reply (step plan asked plain) (places_after plan asked plain places)
-
--- every reply but a tick's
-abbrev pub IsBrief : Reply → Type 0
-IsBrief (Ticked fired alarm) = ⊥
-IsBrief other = ⊤

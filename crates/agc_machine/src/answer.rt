@@ -1,6 +1,6 @@
-ghost use Rattle.std.specs.Prelude.{◌≡◌, Ok, Err, is_err};
+ghost use Rattle.std.specs.Prelude.{◌≡◌, is_err};
 
-use agc_plan::{Reply, Request};
+use agc_plan::{Fired, Reply, Request};
 use std::marker::Model;
 use thiserror::Error;
 
@@ -15,13 +15,13 @@ pub enum Refusal {
     LogFull,
 }
 
-/// What `Machine::apply` answers, which alone makes one: the request, and the reply to it or a
-/// refusal. It can't be copied or cloned. Contracts see it as its request and its result. Source:
-/// profile.
+/// What `Machine::apply` answers, which alone makes one: the request, the reply to it or a refusal,
+/// and what fired. It can't be copied or cloned. Contracts see these three. Source: profile.
 #[derive(Drop)]
 pub struct Answer {
     request: Request,
     result: Result<Reply, Refusal>,
+    fired: Fired,
 }
 
 impl Model for Answer {
@@ -29,29 +29,18 @@ impl Model for Answer {
 
     ghost Value = { Said };
 
-    ghost view = { λ a. record { request = a.request; outcome = a.result } };
+    ghost view = { λ a. record { request = a.request; outcome = a.result; fired = a.fired } };
 }
 
 impl Answer {
-    /// The answer to a request that was served.
-    pub(crate) fn served(request: Request, reply: Reply) -> Answer
-        ensures request { result.request ≡ request }
-        ensures outcome { result.outcome ≡ Ok reply }
+    /// The answer to a request.
+    pub(crate) fn of(request: Request, outcome: Result<Reply, Refusal>, fired: Fired) -> Answer
+        ensures { result ≡ record { request = request; outcome = outcome; fired = fired } }
     {
         Answer {
             request,
-            result: Ok(reply),
-        }
-    }
-
-    /// The answer to a request that was refused.
-    pub(crate) fn refused(request: Request, refusal: Refusal) -> Answer
-        ensures request { result.request ≡ request }
-        ensures outcome { result.outcome ≡ Err refusal }
-    {
-        Answer {
-            request,
-            result: Err(refusal),
+            result: outcome,
+            fired,
         }
     }
 
@@ -69,13 +58,20 @@ impl Answer {
         self.result.is_err()
     }
 
+    /// The tasks that fired, in order: none but in a tick. Source: profile.
+    pub fn fired(&self) -> &Fired
+        ensures { result.now ≡ self.now.fired }
+    {
+        &self.fired
+    }
+
     /// The reply, or why there is none. Source: profile.
     ///
     /// # Errors
     ///
     /// The `Refusal`, where the request was not served.
-    pub fn result(self) -> Result<Reply, Refusal>
-        ensures { result ≡ self.outcome }
+    pub fn result(&self) -> Result<Reply, Refusal>
+        ensures { result ≡ self.now.outcome }
     {
         self.result
     }

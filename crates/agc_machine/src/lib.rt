@@ -2,7 +2,6 @@
 #![tactic(auto)]
 
 mod answer;
-mod brief;
 mod era;
 mod machine;
 mod migration;
@@ -12,9 +11,7 @@ mod tick;
 mod totals;
 
 pub use answer::{Answer, Refusal};
-pub use brief::Brief;
 pub use machine::{Machine, NoMemory};
 pub use migration::migrate;
 pub use moment::Moment;
-pub use step::is_tick;
 pub use totals::Totals;

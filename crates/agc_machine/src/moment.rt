@@ -5,20 +5,20 @@ ghost use Rattle.agc_plan.specs.Plans.{planned_with};
 ghost use Rattle.agc_plan.specs.Steps.{begins};
 ghost use Rattle.agc_wait.specs.Table.{waits_of};
 ghost use Rattle.agc_wait.specs.Waits.{due_now};
-ghost use Rattle.agc_machine.specs.Stands.{IsReady, Acts};
+ghost use Rattle.agc_machine.specs.Stands.{IsReady, Acts, FiresIn};
 
-use crate::step::{act, is_tick};
-use crate::tick::tick;
+use crate::step::act;
 use agc_plan::{Fired, Plan, Reply, Request};
 use agc_word::{Erasable, Sets};
 use std::marker::Model;
 
-/// What the words hold when a request has been acted on and no era has begun with it, and what is
-/// replied. Contracts see both. Source: profile.
+/// What the words hold when a request has been acted on and no era has begun with it, what is
+/// replied, and what fired. Contracts see all three. Source: profile.
 #[derive(Drop)]
 pub struct Moment {
     erasable: Erasable,
     reply: Reply,
+    fired: Fired,
 }
 
 impl Model for Moment {
@@ -26,7 +26,7 @@ impl Model for Moment {
 
     ghost Value = { Acting };
 
-    ghost view = { λ m. record { words = m.erasable; reply = m.reply } };
+    ghost view = { λ m. record { words = m.erasable; reply = m.reply; fired = m.fired } };
 }
 
 impl Moment {
@@ -42,6 +42,13 @@ impl Moment {
         ensures { result.now ≡ self.now.reply }
     {
         &self.reply
+    }
+
+    /// The tasks that fired, in order. Source: profile.
+    pub fn fired(&self) -> &Fired
+        ensures { result.now ≡ self.now.fired }
+    {
+        &self.fired
     }
 }
 
@@ -61,30 +68,20 @@ fn copy_of(e: &Erasable) -> Erasable
     copy
 }
 
-/// What a request does to the words, before an era begins with it.
-fn acted(plan: &Plan, e: &mut Erasable, request: &Request) -> Reply
-    requires ready { IsReady e.old }
-    ensures acts { Acts (planned_with plan.now (sets_in e.old)) request.now e.old result e.new }
-    ensures none_due { begins result ≡ false → due_now (waits_of e.new) ≡ 0 }
-{
-    if is_tick(request) {
-        let mut fired = Fired::new();
-        let alarm = tick(plan, e, &mut fired);
-        Reply::Ticked(fired, alarm)
-    } else {
-        let brief = act(e, request);
-        brief.reply()
-    }
-}
-
 /// The moment of a request that is asked of these words.
 pub(crate) fn moment_of(plan: &Plan, e: &Erasable, request: &Request) -> Moment
     requires ready { IsReady e.now }
     ensures acts { Acts (planned_with plan.now (sets_in e.now)) request.now e.now result.reply
         result.words }
+    ensures fired { FiresIn (planned_with plan.now (sets_in e.now)) request.now e.now result.fired }
     ensures none_due { begins result.reply ≡ false → due_now (waits_of result.words) ≡ 0 }
 {
     let mut erasable = copy_of(e);
-    let reply = acted(plan, &mut erasable, request);
-    Moment { erasable, reply }
+    let mut fired = Fired::new();
+    let reply = act(plan, &mut erasable, request, &mut fired);
+    Moment {
+        erasable,
+        reply,
+        fired,
+    }
 }

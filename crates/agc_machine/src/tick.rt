@@ -4,25 +4,23 @@ ghost use Rattle.agc_plan.specs.declared.reply.Reply.TheVariants.{Ticked};
 ghost use Rattle.agc_plan.specs.Steps.{with_listed, ticked};
 ghost use Rattle.agc_wait.specs.Table.{waits_of};
 ghost use Rattle.agc_wait.specs.Waits.{due_now};
-ghost use Rattle.agc_machine.specs.Briefs.{reply_of};
 ghost use Rattle.agc_machine.specs.Stands.{IsSound, IsReady, Works, SameDue, same_places, Performs};
-ghost use Rattle.agc_machine.specs.Stands.{FiresDue, places_ticked};
+ghost use Rattle.agc_machine.specs.Stands.{FiresDue, FiresTick, places_ticked};
 
-use crate::brief::Brief;
 use agc_exec::{findvac, job_wake, novac};
-use agc_plan::{Action, Alarm, Delay, Fired, Plan, Task};
+use agc_plan::{Action, Alarm, Delay, Fired, Plan, Reply, Task};
 use agc_wait::{count_time3, dispatch, due};
 use agc_word::Erasable;
 
 /// Lists a task, if there is room.
-pub(crate) fn list(e: &mut Erasable, delay: Delay, task: Task) -> Brief
+pub(crate) fn list(e: &mut Erasable, delay: Delay, task: Task) -> Reply
     requires { IsSound e.old }
-    ensures works { Works (with_listed delay task) same_places e.old (reply_of result) e.new }
+    ensures works { Works (with_listed delay task) same_places e.old result e.new }
     ensures due { SameDue e.old e.new }
 {
     match agc_wait::list(e, delay, task) {
-        Ok(()) => Brief::Listed,
-        Err(_full) => Brief::Alarmed(Alarm::A1203),
+        Ok(()) => Reply::Listed,
+        Err(_full) => Reply::Alarmed(Alarm::A1203),
     }
 }
 
@@ -58,12 +56,15 @@ fn fire(plan: &Plan, e: &mut Erasable, fired: &mut Fired) -> Option<Alarm>
     None
 }
 
-/// A centisecond passes, and what is due fires. Answers the alarm that ended it, if one did.
+/// A centisecond passes, and what is due fires. Answers the alarm that ended it, if one did. It
+/// stands apart so that other requests don't pay for its locals.
+#[inline(never)]
 pub(crate) fn tick(plan: &Plan, e: &mut Erasable, fired: &mut Fired) -> Option<Alarm>
     requires ready { IsReady e.old }
     requires none { fired.old ≡ [] }
     ensures works { Works (ticked plan.now.rows) (places_ticked plan.now.rows) e.old
-        (Ticked fired.new result) e.new }
+        (Ticked result) e.new }
+    ensures fired { FiresTick plan.now.rows e.old fired.new }
     ensures none_due { result ≡ None → due_now (waits_of e.new) ≡ 0 }
 {
     let _ = count_time3(e);

@@ -1,11 +1,8 @@
-ghost use Rattle.std.specs.Prelude.{◌≡◌, ◌+◌, ◌<◌, ◌^◌, List};
-ghost use Rattle.agc_plan.specs.declared.reply.Reply.TheVariants.{NoJob, Restarted, Ticked};
-ghost use Rattle.agc_plan.specs.declared.request.Task.{Task};
-ghost use Rattle.agc_machine.specs.Briefs.{reply_of};
+ghost use Rattle.std.specs.Prelude.{◌≡◌, ◌+◌, ◌<◌, ◌^◌};
+ghost use Rattle.agc_plan.specs.declared.reply.Reply.TheVariants.{NoJob, Restarted};
 ghost use Rattle.agc_machine.specs.Told.{nothing, add, reply_told};
 
-use crate::brief::Brief;
-use agc_plan::Alarm;
+use agc_plan::{Alarm, Reply};
 
 /// Counts of served requests: a machine's since it was made, or those whose answers the holder of a
 /// share was told; each at most the allowance. Source: profile.
@@ -72,40 +69,28 @@ impl Totals {
         self.served += 1;
     }
 
-    /// One more request other than a tick was served, which got this reply. Counts are changed
-    /// where they stand, which is cheaper than totals handed on.
-    pub(crate) fn count(&mut self, reply: &Brief)
+    /// One more request was served, which got this reply. Counts are changed where they stand,
+    /// which is cheaper than totals handed on.
+    pub(crate) fn count(&mut self, reply: &Reply)
         requires { (self.old.served + 1 < 2 ^ 64) × (self.old.a1201 + 1 < 2 ^ 64)
             × (self.old.a1202 + 1 < 2 ^ 64) × (self.old.a1203 + 1 < 2 ^ 64)
             × (self.old.restarts + 1 < 2 ^ 64) }
-        ensures { self.new ≡ add self.old (reply_told (reply_of reply.now)) }
+        ensures { self.new ≡ add self.old (reply_told reply.now) }
     {
         match reply {
-            Brief::Alarmed(alarm) => self.count_alarm(*alarm),
-            Brief::Restarted => self.count_restart(),
-            Brief::Established(_) => self.count_served(),
-            Brief::Left(_) => self.count_served(),
-            Brief::Idle => self.count_served(),
-            Brief::Roused(_) => self.count_served(),
-            Brief::NoSleeper => self.count_served(),
-            Brief::NoJob => self.count_served(),
-            Brief::Runs(_) => self.count_served(),
-            Brief::Stored => self.count_served(),
-            Brief::Listed => self.count_served(),
-            Brief::Phased => self.count_served(),
-        }
-    }
-
-    /// One more tick was served, which this alarm ended, if one did.
-    pub(crate) fn count_tick(&mut self, alarm: Option<Alarm>)
-        requires { (self.old.served + 1 < 2 ^ 64) × (self.old.a1201 + 1 < 2 ^ 64)
-            × (self.old.a1202 + 1 < 2 ^ 64) × (self.old.a1203 + 1 < 2 ^ 64)
-            × (self.old.restarts + 1 < 2 ^ 64) }
-        ensures { (fired : List Task) → self.new ≡ add self.old (reply_told (Ticked fired alarm)) }
-    {
-        match alarm {
-            Some(alarm) => self.count_alarm(alarm),
-            None => self.count_served(),
+            Reply::Alarmed(alarm) => self.count_alarm(*alarm),
+            Reply::Ticked(Some(alarm)) => self.count_alarm(*alarm),
+            Reply::Ticked(None) => self.count_served(),
+            Reply::Restarted => self.count_restart(),
+            Reply::Established(_) => self.count_served(),
+            Reply::Left(_) => self.count_served(),
+            Reply::Roused(_) => self.count_served(),
+            Reply::NoSleeper => self.count_served(),
+            Reply::NoJob => self.count_served(),
+            Reply::Runs(_) => self.count_served(),
+            Reply::Stored => self.count_served(),
+            Reply::Listed => self.count_served(),
+            Reply::Phased => self.count_served(),
         }
     }
 }

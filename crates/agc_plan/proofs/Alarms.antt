@@ -18,7 +18,7 @@ use Rattle.agc_plan.specs.Tasks.{Pending, has_room, first_due, without_first_due
 use Rattle.agc_plan.specs.Base.{Base}
 use Rattle.agc_plan.specs.Plans.{Planned, action_in}
 use Rattle.agc_plan.specs.Eras.{Work}
-use Rattle.agc_plan.specs.Steps.{Plain, Fires, alarm_of, with_listed, done, dispatched_work, unless_alarm, fire_first, fire, tick_fires, later_work, step, reached}
+use Rattle.agc_plan.specs.Steps.{Plain, Fires, alarm_of, with_listed, done, dispatched_work, unless_alarm, fire_first, fire, tick_fires, later_work, fired_in, step, reached}
 use Rattle.agc_plan.specs.Laws.{Misses, MissesNothing, EndsByLast, as_action, living, SomeAreaIsUnowned}
 use Rattle.agc_plan.proofs.Searches.{option_cases}
 use Rattle.agc_plan.proofs.Replies.{novac_1201, novac_1202, findvac_1201, findvac_1202, listed_1203}
@@ -117,7 +117,7 @@ step_misses plan (request.Store place word) plain s alarm = quiet_misses (step p
 step_misses plan (request.List delay task) plain s alarm = listed_misses delay task plain.work s alarm
 step_misses plan request.Tick plain s alarm =
     let fires = tick_fires plan.rows plain.work in
-    (λ e. absurd (let no : Ticked fires.fired fires.alarm ≡ Alarmed alarm = e in cc), λ missed. absurd (nothing_misses plain.work alarm missed))
+    (λ e. absurd (let no : Ticked fires.alarm ≡ Alarmed alarm = e in cc), λ missed. absurd (nothing_misses plain.work alarm missed))
 step_misses plan (request.SetPhase group phase) plain s alarm = quiet_misses (step plan (request.SetPhase group phase) plain).reply action.Nothing plain.work refl (nothing_misses plain.work) alarm
 step_misses plan request.Restart plain s alarm = quiet_misses (step plan request.Restart plain).reply action.Nothing plain.work refl (nothing_misses plain.work) alarm
 step_misses plan request.Fresh plain s alarm = quiet_misses (step plan request.Fresh plain).reply action.Nothing plain.work refl (nothing_misses plain.work) alarm
@@ -216,18 +216,13 @@ reached_ends plan base log =
     let work : Work = later_work (reached plan base log).work in
     fire_ends (count_due work.agenda.time work.agenda.tasks) plan.rows work [] (later_steady (reached plan base log).work (reached_steady plan base log))
 
--- what a tick is answered is what fired, and the alarm
-abbrev fired_in : Reply → List Task
-fired_in (Ticked fired told) = fired
-fired_in reply = []
-
-pub tick_ends : (plan : Planned) (base : Base) (log : List Request) (fired : List Task) (told : Option Alarm) → (step plan request.Tick (reached plan base log)).reply ≡ Ticked fired told → EndsByLast plan.rows (later_work (reached plan base log).work) fired told
-tick_ends plan base log fired told e =
+pub tick_ends : (plan : Planned) (base : Base) (log : List Request) (told : Option Alarm) → (step plan request.Tick (reached plan base log)).reply ≡ Ticked told → EndsByLast plan.rows (later_work (reached plan base log).work) (fired_in plan request.Tick (reached plan base log)) told
+tick_ends plan base log told e =
     let work : Work = (reached plan base log).work in
     let ended = reached_ends plan base log in
-    let same : ended.fired ≡ fired = sym ended.all ∙ ap fired_in e in
+    let same : ended.fired ≡ (tick_fires plan.rows work).fired = sym ended.all in
     let alarm : (tick_fires plan.rows work).alarm ≡ told = ap alarm_of e in
     subst (λ tasks. EndsByLast plan.rows (later_work work) tasks told) same (subst (λ o. EndsByLast plan.rows (later_work work) ended.fired o) alarm ended.ends)
 
-pub tick_has_room : (plan : Planned) (base : Base) (log : List Request) (fired : List Task) → (step plan request.Tick (reached plan base log)).reply ≡ Ticked fired (Some A1203) → ⊥
-tick_has_room plan base log fired e = (reached_ends plan base log).room (ap alarm_of e)
+pub tick_has_room : (plan : Planned) (base : Base) (log : List Request) → (step plan request.Tick (reached plan base log)).reply ≡ Ticked (Some A1203) → ⊥
+tick_has_room plan base log e = (reached_ends plan base log).room (ap alarm_of e)

@@ -221,9 +221,9 @@ ended_idle plan did d idle = elim (cases_Bool (begins did.reply)) [
   | inr on ↦ rw on (idle on)
 ]
 
-no_alarm : (fired : List Task) (o : Option Alarm) → begins (Ticked fired o) ≡ false → o ≡ None
-no_alarm fired None e = refl
-no_alarm fired (Some alarm) e = absurd (cc)
+no_alarm : (o : Option Alarm) → begins (Ticked o) ≡ false → o ≡ None
+no_alarm None e = refl
+no_alarm (Some alarm) e = absurd (cc)
 
 acted_idle : (plan : Planned) (asked : Request) (plain : Plain) → AreActionsDelayed plan.rows → IsRequestDelayed asked → Idle plain.work.agenda → begins (acted plan asked plain).reply ≡ false → Idle (acted plan asked plain).plain.work.agenda
 acted_idle plan (request.Novac priority entry) plain d a idle on = idle
@@ -237,7 +237,7 @@ acted_idle plan (request.Store place word) plain d a idle on = idle
 acted_idle plan (request.List delay task) plain d a idle on = listed_idle delay task plain.work.agenda a idle
 acted_idle plan request.Tick plain d a idle on =
     let f = tick_fired plan.rows plain.work d in
-    let off : (tick_fires plan.rows plain.work).alarm ≡ None = no_alarm (tick_fires plan.rows plain.work).fired (tick_fires plan.rows plain.work).alarm on in
+    let off : (tick_fires plan.rows plain.work).alarm ≡ None = no_alarm (tick_fires plan.rows plain.work).alarm on in
     ap (λ t. due_by t (tick_fires plan.rows plain.work).work.agenda.tasks) f.time_is ∙ (f.none_left off).1
 acted_idle plan (request.SetPhase group phase) plain d a idle on = idle
 acted_idle plan request.Restart plain d a idle on = idle

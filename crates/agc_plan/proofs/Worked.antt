@@ -21,8 +21,8 @@ worked = record {
   area_without_number = refl;
   alarm_1203 = refl;
   three_alarms = refl;
-  equal_due_times = refl;
-  alarm_inside_a_tick = refl;
-  task_lists_itself = refl;
-  phase_begins_again = refl;
+  equal_due_times = (refl, refl);
+  alarm_inside_a_tick = (refl, refl);
+  task_lists_itself = (refl, refl);
+  phase_begins_again = (refl, refl);
 }

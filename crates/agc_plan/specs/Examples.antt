@@ -1,4 +1,4 @@
--- The definitions on worked examples: what was asked, and the replies. Addresses and priorities are
+-- The definitions on worked examples: what was asked, the replies, and what fired. Addresses and priorities are
 -- octal, as in the listings.
 use Rattle.std.specs.Prelude.{◌≡◌, ℕ, List, [], ◌∷◌, ◌++◌, Some, None, option_map, replicate}
 use Rattle.agc_plan.specs.declared.reply.Alarm.TheVariants.{A1201, A1202, A1203}
@@ -22,7 +22,7 @@ use Rattle.agc_plan.specs.Places.{placed_new}
 use Rattle.agc_plan.specs.Base.{fresh_base}
 use Rattle.agc_plan.specs.Begins.{Begins}
 use Rattle.agc_plan.specs.Plans.{Planned}
-use Rattle.agc_plan.specs.Steps.{Plain, era, step, reached}
+use Rattle.agc_plan.specs.Steps.{Plain, era, step, reached, fired_in}
 
 -- where a job begins, in bank 5
 abbrev pub entry : ℕ → Entry
@@ -46,6 +46,16 @@ replies_from plan plain (asked ∷ log) = (step plan asked plain).reply ∷ repl
 -- the replies after a fresh start, with this plan
 abbrev pub replies_by : Planned → List Request → List Reply
 replies_by plan log = replies_from plan (era plan fresh_base) log
+
+-- the tasks that fire in each of these requests
+abbrev pub fires_from : Planned → Plain → List Request → List (List Task)
+fires_from plan plain [] = []
+fires_from plan plain (asked ∷ log) =
+    fired_in plan asked plain ∷ fires_from plan (step plan asked plain).plain log
+
+-- those that fire after a fresh start, with this plan
+abbrev pub fires_by : Planned → List Request → List (List Task)
+fires_by plan log = fires_from plan (era plan fresh_base) log
 
 -- the same with a plan of nothing
 abbrev pub replies : List Request → List Reply
@@ -89,7 +99,41 @@ abbrev pub area_again : List Request
 area_again = Findvac 0o10 (entry 0o2000) ∷ Findvac 0o10 (entry 0o2010) ∷ EndOfJob ∷ Findvac 0o10
     (entry 0o2020) ∷ []
 
--- each line is what was asked and what was answered
+-- three tasks, the first and the last due in five ticks, and these ticks
+abbrev pub three_due : List Request
+three_due = request.List 5 (task 0o2000) ∷ request.List 10 (task 0o2010) ∷ request.List 5
+    (task 0o2020) ∷ replicate 5 Tick
+
+-- a plan in which a task establishes a job; seven jobs, and three tasks due at once, that one second
+abbrev pub an_eighth_job : Planned
+an_eighth_job = planned ((task 0o2010, action.Novac 0o10 (entry 0o3000)) ∷ []) []
+
+abbrev pub three_at_once : List Request
+three_at_once = replicate 7 (Novac 0o10 (entry 0o2000))
+    ++ request.List 1 (task 0o2000) ∷ request.List 1 (task 0o2010) ∷ request.List 1
+    (task 0o2020) ∷ Tick ∷ []
+
+-- a plan in which a task lists itself; it and another, and four ticks
+abbrev pub again_in_three : Planned
+again_in_three = planned ((task 0o2000, action.List 3 (task 0o2000)) ∷ []) []
+
+abbrev pub two_listed : List Request
+two_listed = request.List 1 (task 0o2000) ∷ request.List 1 (task 0o2010) ∷ replicate 4 Tick
+
+-- a plan with a job and a task for a phase; another job, that phase, and a restart
+abbrev pub both_again : Planned
+both_again = planned [] (record {
+  group = 2;
+  phase = 3;
+  job = Some (start.Findvac 0o20 (entry 0o4100));
+  task = Some (2, task 0o4000);
+} ∷ [])
+
+abbrev pub phase_and_restart : List Request
+phase_and_restart = Novac 0o10 (entry 0o2000) ∷ SetPhase 2 3 ∷ Restart ∷ Tick ∷ Tick ∷ EndOfJob ∷
+    []
+
+-- each line is what was asked, and what was answered or fired
 pub record Examples : Type 0 where
   -- one job, and its end
   pub one_job : replies (Novac 0o20 (entry 0o2000) ∷ EndOfJob ∷ []) ≡ Established 1 ∷ Left None ∷ []
@@ -148,33 +192,23 @@ pub record Examples : Type 0 where
       ≡ Some C1201 ∷ Some C1202 ∷ Some C1203 ∷ []
   -- tasks of one due time fire in order of arrival
   pub equal_due_times :
-      replies (request.List 5 (task 0o2000) ∷ request.List 10 (task 0o2010) ∷ request.List 5
-      (task 0o2020) ∷ replicate 5 Tick)
-      ≡ replicate 3 Listed ++ replicate 4 (Ticked [] None)
-      ++ Ticked (task 0o2000 ∷ task 0o2020 ∷ []) None ∷ []
+      (replies three_due ≡ replicate 3 Listed ++ replicate 5 (Ticked None))
+      × (fires_by (planned [] []) three_due
+      ≡ replicate 7 [] ++ (task 0o2000 ∷ task 0o2020 ∷ []) ∷ [])
   -- an alarm in an action ends the tick, and the third task is lost
   pub alarm_inside_a_tick :
-      replies_by (planned ((task 0o2010, action.Novac 0o10 (entry 0o3000)) ∷ []) [])
-      (replicate 7 (Novac 0o10 (entry 0o2000))
-      ++ request.List 1 (task 0o2000) ∷ request.List 1 (task 0o2010) ∷ request.List 1
-      (task 0o2020) ∷ Tick ∷ [])
-      ≡ seven_established ++ replicate 3 Listed
-      ++ Ticked (task 0o2000 ∷ task 0o2010 ∷ []) (Some A1202) ∷ []
+      (replies_by an_eighth_job three_at_once
+      ≡ seven_established ++ replicate 3 Listed ++ Ticked (Some A1202) ∷ [])
+      × (fires_by an_eighth_job three_at_once
+      ≡ replicate 10 [] ++ (task 0o2000 ∷ task 0o2010 ∷ []) ∷ [])
   -- a task that lists itself fires again three ticks later
   pub task_lists_itself :
-      replies_by (planned ((task 0o2000, action.List 3 (task 0o2000)) ∷ []) [])
-      (request.List 1 (task 0o2000) ∷ request.List 1 (task 0o2010) ∷ replicate 4 Tick)
-      ≡ replicate 2 Listed ++ Ticked (task 0o2000 ∷ task 0o2010 ∷ []) None ∷ Ticked [] None ∷ Ticked
-      [] None ∷ Ticked (task 0o2000 ∷ []) None ∷ []
+      (replies_by again_in_three two_listed ≡ replicate 2 Listed ++ replicate 4 (Ticked None))
+      × (fires_by again_in_three two_listed
+      ≡ [] ∷ [] ∷ (task 0o2000 ∷ task 0o2010 ∷ []) ∷ [] ∷ [] ∷ (task 0o2000 ∷ []) ∷ [])
   -- the job and the task of a phase begin again with a restart
   pub phase_begins_again :
-      replies_by (planned []
-      (record {
-        group = 2;
-        phase = 3;
-        job = Some (start.Findvac 0o20 (entry 0o4100));
-        task = Some (2, task 0o4000);
-      } ∷ []))
-      (Novac 0o10 (entry 0o2000) ∷ SetPhase 2 3 ∷ Restart ∷ Tick ∷ Tick ∷ EndOfJob ∷ [])
-      ≡ Established 1 ∷ Phased ∷ Restarted ∷ Ticked [] None ∷ Ticked (task 0o4000 ∷ []) None ∷ Left
-      None ∷ []
+      (replies_by both_again phase_and_restart
+      ≡ Established 1 ∷ Phased ∷ Restarted ∷ Ticked None ∷ Ticked None ∷ Left None ∷ [])
+      × (fires_by both_again phase_and_restart
+      ≡ replicate 4 [] ++ (task 0o4000 ∷ []) ∷ [] ∷ [])

@@ -44,7 +44,7 @@ with_listed delay task work =
 -- the alarm that a reply tells, if any
 abbrev pub alarm_of : Reply → Option Alarm
 alarm_of (Alarmed alarm) = Some alarm
-alarm_of (Ticked fired alarm) = alarm
+alarm_of (Ticked alarm) = alarm
 alarm_of reply = None
 
 -- the jobs and tasks after an action, and its alarm
@@ -117,7 +117,7 @@ tick_fires rows work = fire_all rows (later_work work) []
 abbrev pub ticked : List (Task × Action) → Work → Acted
 ticked rows work =
     let fires = tick_fires rows work in
-    record { work = fires.work; reply = Ticked fires.fired fires.alarm }
+    record { work = fires.work; reply = Ticked fires.alarm }
 
 -- the plain state after a request, and its reply
 pub record Stepped : Type 0 where
@@ -143,6 +143,11 @@ acted plan request.Tick plain = with_work (ticked plan.rows plain.work) plain
 acted plan (request.SetPhase group phase) plain = record { plain = record plain { base = with_phase group phase plain.base }; reply = Phased }
 acted plan request.Restart plain = record { plain = plain; reply = Restarted }
 acted plan request.Fresh plain = record { plain = record plain { base = fresh_base }; reply = Restarted }
+
+-- the tasks that fire in a request, in order: none but in a tick
+abbrev pub fired_in : Planned → Request → Plain → List Task
+fired_in plan request.Tick plain = (tick_fires plan.rows plain.work).fired
+fired_in plan asked plain = []
 
 -- an alarm's code
 abbrev pub code_of : Alarm → Code

@@ -70,6 +70,13 @@ impl Fired {
         self.tasks.push(FiredTask { task });
     }
 
+    /// No task fired: those that were there are gone.
+    pub fn clear(&mut self)
+        ensures { self.new ≡ [] }
+    {
+        self.tasks.clear();
+    }
+
     /// How many tasks fired, 0 to 9.
     pub fn len(&self) -> usize
         ensures value { result ≡ length self.now }

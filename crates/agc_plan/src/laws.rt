@@ -22,7 +22,8 @@ ghost use Rattle.agc_plan.specs.Base.{Base};
 ghost use Rattle.agc_plan.specs.Begins.{Begins};
 ghost use Rattle.agc_plan.specs.Plans.{Planned, task_twice, phase_twice, all_want};
 ghost use Rattle.agc_plan.specs.Eras.{Work};
-ghost use Rattle.agc_plan.specs.Steps.{Plain, with_listed, later_work, tick_fires, step, reached};
+ghost use Rattle.agc_plan.specs.Steps.{Plain, with_listed, later_work, tick_fires, fired_in, step};
+ghost use Rattle.agc_plan.specs.Steps.{reached};
 ghost use Rattle.agc_plan.specs.Examples.{Examples};
 ghost use Rattle.agc_plan.specs.Laws.{Lives, IsMostUrgent, NobodyIsAwake, IsLeastUnused};
 ghost use Rattle.agc_plan.specs.Laws.{IsEachUsed, IsLeastUnowned, IsEachOwned, SomeAreaIsUnowned};
@@ -135,16 +136,17 @@ pub fn request_is_alarmed_where_it_misses_something()
 /// has an alarm, this tells what that task's action missed, in the work in which it was done, and
 /// the tasks before it missed nothing; where it has none, no action missed anything.
 pub fn tick_ends_by_its_last_task()
-    ensures { (plan : Planned) (base : Base) (log : List Request) (fired : List Task)
-        (told : Option Alarm) → (step plan Tick (reached plan base log)).reply ≡ Ticked fired told
-        → EndsByLast plan.rows (later_work (reached plan base log).work) fired told }
+    ensures { (plan : Planned) (base : Base) (log : List Request) (told : Option Alarm)
+        → (step plan Tick (reached plan base log)).reply ≡ Ticked told
+        → EndsByLast plan.rows (later_work (reached plan base log).work)
+        (fired_in plan Tick (reached plan base log)) told }
 {}
 
 /// In every state that a run of requests reaches, a tick never has alarm 1203: the task that fired
 /// made room.
 pub fn tick_has_room_for_listings()
-    ensures { (plan : Planned) (base : Base) (log : List Request) (fired : List Task)
-        → (step plan Tick (reached plan base log)).reply ≡ Ticked fired (Some A1203) → ⊥ }
+    ensures { (plan : Planned) (base : Base) (log : List Request)
+        → (step plan Tick (reached plan base log)).reply ≡ Ticked (Some A1203) → ⊥ }
 {}
 
 /// An alarm by itself changes neither jobs nor tasks: what follows is the beginning of an era.

@@ -1,7 +1,6 @@
 ghost use Rattle.std.specs.Prelude.{◌≡◌};
 ghost use Rattle.agc_plan.specs.Steps.{alarm_of, begins};
 
-use crate::fired::Fired;
 use crate::number::JobNo;
 
 /// An alarm: which table a request, or the action of a task in a tick, found full. Source: the
@@ -30,8 +29,9 @@ pub enum Code {
     C1203,
 }
 
-/// What a request is answered. Source: profile.
-#[derive(Drop)]
+/// What a request is answered, but for the tasks that fired in a tick. It is small: what fired goes
+/// into a list that the caller lends. Source: profile.
+#[derive(Clone, Copy, PartialEq, Eq, Debug)]
 pub enum Reply {
     /// A job with this number was established.
     Established(JobNo),
@@ -49,9 +49,9 @@ pub enum Reply {
     Stored,
     /// A task was listed.
     Listed,
-    /// A centisecond passed: the tasks that fired, in order, and the alarm that one's action
-    /// raised, if one did.
-    Ticked(Fired, Option<Alarm>),
+    /// A centisecond passed, and what was due fired: the alarm that ended it, which the action of
+    /// the task that fired last raised, if it did.
+    Ticked(Option<Alarm>),
     /// A phase was set.
     Phased,
     /// An era began, by restart or fresh start.
@@ -68,7 +68,7 @@ impl Reply {
     {
         match self {
             Reply::Alarmed(alarm) => Some(*alarm),
-            Reply::Ticked(_, alarm) => *alarm,
+            Reply::Ticked(alarm) => *alarm,
             Reply::Established(_) => None,
             Reply::Left(_) => None,
             Reply::Roused(_) => None,
@@ -88,9 +88,9 @@ impl Reply {
     {
         match self {
             Reply::Alarmed(_) => true,
-            Reply::Ticked(_, Some(_)) => true,
+            Reply::Ticked(Some(_)) => true,
             Reply::Restarted => true,
-            Reply::Ticked(_, None) => false,
+            Reply::Ticked(None) => false,
             Reply::Established(_) => false,
             Reply::Left(_) => false,
             Reply::Roused(_) => false,

@@ -1,14 +1,13 @@
 -- The next request of a session and those after it, and the line of one.
-use Rattle.std.proofs.Common.{◌≡◌, ℕ, ◌+◌, ◌<◌, ◌≤◌, List, [], ◌∷◌, ◌++◌, length, get_or, drop, drop-cons, add-one, length-drop, Option, Some, None, subst, refl, sym, ap, ◌∙◌, arith}
+use Rattle.std.proofs.Common.{◌≡◌, ℕ, ◌+◌, ◌<◌, ◌≤◌, List, [], ◌∷◌, ◌++◌, length, get_or, drop, drop-cons, add-one, length-drop, Result, subst, refl, sym, ap, ◌∙◌, arith}
 use Rattle.std.specs.List.{fold}
 use Rattle.std.proofs.lemmas.List.{nil_from_length}
 use Rattle.agc_plan.specs.declared.reply.Reply.{Reply}
 use Rattle.agc_plan.specs.declared.request.Request.{Request}
-use Rattle.agc_plan.specs.declared.request.Request.TheVariants.{Tick}
+use Rattle.agc_plan.specs.declared.request.Task.{Task}
 use Rattle.agc_machine.specs.declared.answer.Refusal.{Refusal}
-use Rattle.std.specs.Option.{option_map_or}
-use Rattle.agc_machine.specs.Machines.{Machined, after, after_all, refusal_of, result_of, served, stepped}
-use Rattle.agc_text.specs.Replies.{refusal_text, reply_text, answer_line}
+use Rattle.agc_machine.specs.Machines.{Machined, after, after_all, answer_of, fired_of}
+use Rattle.agc_text.specs.Replies.{answer_line}
 use Rattle.agc_text.specs.Session.{line_for}
 
 -- what is left is the next request, and the rest
@@ -28,19 +27,7 @@ pub after_last : (goal m : Machined) (rs : List Request) (i : ℕ) → length rs
 unfolding after_all
 after_last goal m rs i l h = sym (subst (λ (xs : List Request). goal ≡ fold after m xs) (nothing_left rs i l) h)
 
--- the line of a request that is refused, and of one that is served
-pub line_refused : (m : Machined) (asked : Request) (refusal : Refusal) → refusal_of m asked ≡ Some refusal → refusal_text refusal ++ 10 ∷ [] ≡ line_for m asked
+-- the line of what is answered
+pub line_is : (m : Machined) (asked : Request) (answer : Result Reply Refusal) (fired : List Task) → answer ≡ answer_of m asked → fired ≡ fired_of m asked → answer_line fired answer ≡ line_for m asked
 unfolding line_for
-line_refused m asked refusal is = ap (λ (r : Option Refusal). answer_line (result_of r (stepped m asked).reply)) (sym is)
-
-pub line_served : (m : Machined) (asked : Request) (reply : Reply) → refusal_of m asked ≡ None → reply ≡ (stepped m asked).reply → reply_text reply ++ 10 ∷ [] ≡ line_for m asked
-unfolding line_for
-line_served m asked reply none is = ap (λ (r : Reply). reply_text r ++ 10 ∷ []) is ∙ ap (λ (r : Option Refusal). answer_line (result_of r (stepped m asked).reply)) (sym none)
-
--- the machine after a request that is served
-pub after_served : (m new : Machined) (asked : Request) → refusal_of m asked ≡ None → new ≡ served (stepped m asked) asked m → new ≡ after m asked
-after_served m new asked none is = is ∙ ap (λ (r : Option Refusal). option_map_or (λ refusal. m) r (served (stepped m asked) asked m)) (sym none)
-
--- a tick that isn't refused
-pub none_for : (m : Machined) (asked : Request) → asked ≡ Tick → refusal_of m asked ≡ None → refusal_of m Tick ≡ None
-none_for m asked is none = subst (λ (r : Request). refusal_of m r ≡ None) is none
+line_is m asked answer fired answer_is fired_is = ap (λ (f : List Task). answer_line f answer) fired_is ∙ ap (answer_line (fired_of m asked)) answer_is

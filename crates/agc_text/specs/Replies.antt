@@ -41,20 +41,20 @@ abbrev pub end_text : Option Alarm → List ℕ
 end_text None = []
 end_text (Some alarm) = 32 ∷ alarm_text alarm
 
--- what was replied
-abbrev pub reply_text : Reply → List ℕ
-reply_text (Established number) = codes "job " ++ decimal number
-reply_text (Left runner) = codes "left " ++ runner_text runner
-reply_text (Roused number) = codes "roused " ++ decimal number
-reply_text NoSleeper = codes "no sleeper"
-reply_text NoJob = codes "no job"
-reply_text (Runs number) = codes "runs " ++ decimal number
-reply_text Stored = codes "stored"
-reply_text Listed = codes "listed"
-reply_text (Ticked fired alarm) = codes "tick" ++ flat_map fired_text fired ++ end_text alarm
-reply_text Phased = codes "phased"
-reply_text Restarted = codes "restarted"
-reply_text (Alarmed alarm) = alarm_text alarm
+-- what was replied, and in a tick what fired
+abbrev pub reply_text : List Task → Reply → List ℕ
+reply_text fired (Established number) = codes "job " ++ decimal number
+reply_text fired (Left runner) = codes "left " ++ runner_text runner
+reply_text fired (Roused number) = codes "roused " ++ decimal number
+reply_text fired NoSleeper = codes "no sleeper"
+reply_text fired NoJob = codes "no job"
+reply_text fired (Runs number) = codes "runs " ++ decimal number
+reply_text fired Stored = codes "stored"
+reply_text fired Listed = codes "listed"
+reply_text fired (Ticked alarm) = codes "tick" ++ flat_map fired_text fired ++ end_text alarm
+reply_text fired Phased = codes "phased"
+reply_text fired Restarted = codes "restarted"
+reply_text fired (Alarmed alarm) = alarm_text alarm
 
 -- why there is no reply
 abbrev pub refusal_text : Refusal → List ℕ
@@ -62,10 +62,10 @@ refusal_text Spent = codes "refused spent"
 refusal_text LogFull = codes "refused log full"
 
 -- a reply, or why there is none
-abbrev pub answer_text : Result Reply Refusal → List ℕ
-answer_text (Ok reply) = reply_text reply
-answer_text (Err refusal) = refusal_text refusal
+abbrev pub answer_text : List Task → Result Reply Refusal → List ℕ
+answer_text fired (Ok reply) = reply_text fired reply
+answer_text fired (Err refusal) = refusal_text refusal
 
 -- each answer has a line of its own
-abbrev pub answer_line : Result Reply Refusal → List ℕ
-answer_line answer = answer_text answer ++ 10 ∷ []
+abbrev pub answer_line : List Task → Result Reply Refusal → List ℕ
+answer_line fired answer = answer_text fired answer ++ 10 ∷ []

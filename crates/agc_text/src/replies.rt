@@ -1,8 +1,10 @@
 ghost use Rattle.std.specs.Prelude.{◌≡◌, ◌+◌, ◌*◌, ◌≤◌, [], ◌∷◌, ◌++◌, length, codes};
+ghost use Rattle.std.specs.Prelude.{List, IfNone, IfSome};
 ghost use Rattle.std.specs.Fmt.{decimal};
 ghost use Rattle.std.specs.List.{flat_map};
 ghost use Rattle.agc_plan.specs.declared.reply.Reply.TheVariants.{Ticked};
-ghost use Rattle.agc_machine.specs.Briefs.{reply_of};
+ghost use Rattle.agc_plan.specs.declared.request.Task.{Task};
+ghost use Rattle.agc_plan.specs.Steps.{alarm_of};
 ghost use Rattle.agc_text.specs.Writing.{Writes};
 ghost use Rattle.agc_text.specs.Replies.{alarm_text, fired_text, end_text, reply_text};
 ghost use Rattle.agc_text.specs.Replies.{refusal_text};
@@ -10,8 +12,8 @@ ghost use Rattle.agc_text.specs.Replies.{refusal_text};
 use crate::fault::Output;
 use crate::numerals::octal_digit;
 use crate::writing::put;
-use agc_machine::{Brief, Refusal};
-use agc_plan::{Alarm, Fired, JobNo, Task};
+use agc_machine::Refusal;
+use agc_plan::{Alarm, Fired, JobNo, Reply, Task};
 use arrayvec::ArrayVec;
 use std::io::Write;
 
@@ -160,18 +162,15 @@ fn add_tasks(line: &mut ArrayVec<u8, 128>, fired: &Fired)
     }
 }
 
-/// Writes the line of a tick.
+/// Writes the line of a tick. It stands apart so that other replies don't pay for the line's buffer.
 ///
 /// # Errors
 ///
 /// Where a write fails.
-pub(crate) fn put_tick<W: Write>(
-    writer: &mut W,
-    fired: &Fired,
-    alarm: Option<Alarm>,
-) -> Result<(), Output>
+#[inline(never)]
+fn put_tick<W: Write>(writer: &mut W, fired: &Fired, alarm: Option<Alarm>) -> Result<(), Output>
     ensures { Writes (W.contents writer.old) (W.contents writer.new)
-        (reply_text (Ticked fired.now alarm) ++ 10 ∷ []) result }
+        (reply_text fired.now (Ticked alarm) ++ 10 ∷ []) result }
 {
     let mut line = ArrayVec::new();
     add(&mut line, "tick".as_bytes());
@@ -180,36 +179,42 @@ pub(crate) fn put_tick<W: Write>(
     put(writer, line.as_slice())
 }
 
-/// The line of a reply other than a tick's.
-fn brief_line(reply: Brief) -> &'static str
-    ensures { result.now ≡ reply_text (reply_of reply) ++ 10 ∷ [] }
+/// The line of a reply, which is one of a few. None for a tick's.
+fn reply_line(reply: Reply) -> Option<&'static str>
+    ensures line { (fired : List Task) → IfSome result (λ line. line.now
+        ≡ reply_text fired reply ++ 10 ∷ []) }
+    ensures tick { IfNone result (reply ≡ Ticked (alarm_of reply)) }
 {
     match reply {
-        Brief::Established(number) => established_line(number),
-        Brief::Left(number) => left_line(number),
-        Brief::Idle => "left idle\n",
-        Brief::Roused(number) => roused_line(number),
-        Brief::NoSleeper => "no sleeper\n",
-        Brief::NoJob => "no job\n",
-        Brief::Runs(number) => runs_line(number),
-        Brief::Stored => "stored\n",
-        Brief::Listed => "listed\n",
-        Brief::Phased => "phased\n",
-        Brief::Restarted => "restarted\n",
-        Brief::Alarmed(alarm) => alarm_line(alarm),
+        Reply::Established(number) => Some(established_line(number)),
+        Reply::Left(Some(number)) => Some(left_line(number)),
+        Reply::Left(None) => Some("left idle\n"),
+        Reply::Roused(number) => Some(roused_line(number)),
+        Reply::NoSleeper => Some("no sleeper\n"),
+        Reply::NoJob => Some("no job\n"),
+        Reply::Runs(number) => Some(runs_line(number)),
+        Reply::Stored => Some("stored\n"),
+        Reply::Listed => Some("listed\n"),
+        Reply::Ticked(_) => None,
+        Reply::Phased => Some("phased\n"),
+        Reply::Restarted => Some("restarted\n"),
+        Reply::Alarmed(alarm) => Some(alarm_line(alarm)),
     }
 }
 
-/// Writes the line of a reply other than a tick's.
+/// Writes the line of a reply, of a tick with what fired.
 ///
 /// # Errors
 ///
 /// Where a write fails.
-pub(crate) fn put_reply<W: Write>(writer: &mut W, reply: Brief) -> Result<(), Output>
+pub(crate) fn put_reply<W: Write>(writer: &mut W, reply: Reply, fired: &Fired) -> Result<(), Output>
     ensures { Writes (W.contents writer.old) (W.contents writer.new)
-        (reply_text (reply_of reply) ++ 10 ∷ []) result }
+        (reply_text fired.now reply ++ 10 ∷ []) result }
 {
-    put(writer, brief_line(reply).as_bytes())
+    match reply_line(reply) {
+        Some(line) => put(writer, line.as_bytes()),
+        None => put_tick(writer, fired, reply.alarm()),
+    }
 }
 
 /// Writes the line of a refusal.

@@ -1,13 +1,15 @@
 -- What is shown of a request.
-use Rattle.std.proofs.Common.{◌≡◌, ℕ, if◌then◌else◌, Option, Some, None, Result, refl, ap, ◌∙◌}
+use Rattle.std.proofs.Common.{◌≡◌, ℕ, if◌then◌else◌, List, [], Option, Some, None, Result, refl, ap, ◌∙◌}
 use Rattle.agc_plan.specs.declared.request.Request.{Request}
 use Rattle.agc_plan.specs.declared.request.Request.TheVariants.{Restart}
+use Rattle.agc_plan.specs.declared.request.Task.{Task}
+use Rattle.std.specs.Option.{option_map_or}
 use Rattle.agc_plan.specs.Seats.{places_acted}
 use Rattle.agc_plan.specs.Base.{Base}
-use Rattle.agc_plan.specs.Steps.{acted, alarm_of, begins}
+use Rattle.agc_plan.specs.Steps.{acted, alarm_of, begins, fired_in}
 use Rattle.agc_phase.specs.Image.{base_of}
 use Rattle.agc_machine.specs.declared.answer.Refusal.{Refusal}
-use Rattle.agc_machine.specs.Machines.{Machined, refusal_of, result_of, answer_of, stepped, after, plain_of, places_of}
+use Rattle.agc_machine.specs.Machines.{Machined, refusal_of, result_of, answer_of, fired_of, stepped, after, plain_of, places_of}
 use Rattle.agc_machine.specs.Moments.{Acting, IsMoment}
 use Rattle.agc_plan.specs.declared.reply.Reply.{Reply}
 use Rattle.agc_trace.specs.Lines.{line_text}
@@ -23,6 +25,7 @@ shown_served m asked moment none is = record {
   cores = is.cores;
   scene = scene_is moment.words (acted m.plan asked (plain_of m)).plain (places_acted m.plan asked (plain_of m) (places_of m)) is.cores is.stands is.placed;
   answer = ap (result_of None) is.reply ∙ ap (λ (r : Option Refusal). result_of r (stepped m asked).reply) none;
+  fired = is.fired ∙ ap (λ (r : Option Refusal). option_map_or (λ refusal. []) r (fired_in m.plan asked (plain_of m))) none;
   phases = is.phases;
   base = λ e. is.stands.base;
   reply = λ e. is.reply;
@@ -35,6 +38,7 @@ shown_refused m asked refusal moment some is = record {
   cores = is.cores;
   scene = scene_is moment.words (plain_of m) (places_of m) is.cores is.stands is.placed;
   answer = ap (λ (r : Option Refusal). result_of r (stepped m asked).reply) some;
+  fired = is.fired ∙ ap (λ (r : Option Refusal). option_map_or (λ refusal. []) r (fired_in m.plan asked (plain_of m))) some;
   phases = is.phases;
   base = λ e. absurd (cc);
   reply = λ e. absurd (cc);
@@ -54,29 +58,31 @@ traced_is t asked refusal moment machine number time next refusal_is shown machi
     (next_is ∙ ap (λ (n : ℕ). if begins_unless refusal moment.reply then 0 else n) time_is ∙ next_time_is t asked refusal moment shown ∙ ap (λ (r : Option Refusal). time_after r t asked) refusal_is)
 
 -- its line
-pub line_is : (t : Traced) (asked : Request) (refusal : Option Refusal) (moment : Acting) (number time : ℕ) → refusal ≡ refusal_of t.machine asked → IsShown t.machine asked refusal moment → number ≡ one_more t.asked → time ≡ time_unless refusal asked t.time → line_text number time asked (result_of refusal moment.reply) (scene_in moment.words) ≡ traced_line t asked
+pub line_is : (t : Traced) (asked : Request) (refusal : Option Refusal) (moment : Acting) (number time : ℕ) → refusal ≡ refusal_of t.machine asked → IsShown t.machine asked refusal moment → number ≡ one_more t.asked → time ≡ time_unless refusal asked t.time → line_text number time asked moment.fired (result_of refusal moment.reply) (scene_in moment.words) ≡ traced_line t asked
 unfolding traced_line
 line_is t asked refusal moment number time refusal_is shown number_is time_is =
-    ap (λ (n : ℕ). line_text n time asked (result_of refusal moment.reply) (scene_in moment.words)) number_is
-    ∙ ap (λ (n : ℕ). line_text (one_more t.asked) n asked (result_of refusal moment.reply) (scene_in moment.words)) time_is
-    ∙ ap (λ (a : Result Reply Refusal). line_text (one_more t.asked) (time_unless refusal asked t.time) asked a (scene_in moment.words)) shown.answer
-    ∙ ap (λ (s : Scene). line_text (one_more t.asked) (time_unless refusal asked t.time) asked (answer_of t.machine asked) s) shown.scene
-    ∙ ap (λ (r : Option Refusal). line_text (one_more t.asked) (time_unless r asked t.time) asked (answer_of t.machine asked) (scene_unless r t.machine asked)) refusal_is
+    ap (λ (n : ℕ). line_text n time asked moment.fired (result_of refusal moment.reply) (scene_in moment.words)) number_is
+    ∙ ap (λ (n : ℕ). line_text (one_more t.asked) n asked moment.fired (result_of refusal moment.reply) (scene_in moment.words)) time_is
+    ∙ ap (λ (f : List Task). line_text (one_more t.asked) (time_unless refusal asked t.time) asked f (result_of refusal moment.reply) (scene_in moment.words)) shown.fired
+    ∙ ap (λ (a : Result Reply Refusal). line_text (one_more t.asked) (time_unless refusal asked t.time) asked (fired_of t.machine asked) a (scene_in moment.words)) shown.answer
+    ∙ ap (λ (s : Scene). line_text (one_more t.asked) (time_unless refusal asked t.time) asked (fired_of t.machine asked) (answer_of t.machine asked) s) shown.scene
+    ∙ ap (λ (r : Option Refusal). line_text (one_more t.asked) (time_unless r asked t.time) asked (fired_of t.machine asked) (answer_of t.machine asked) (scene_unless r t.machine asked)) refusal_is
 
 -- what is told of its alarm
-told_is : (t : Traced) (asked : Request) (refusal : Option Refusal) (moment : Acting) → IsShown t.machine asked refusal moment → account_by (told_alarm refusal moment.reply) (after t.machine asked) moment.reply (scene_in moment.words) (base_of moment.words).phases ≡ account_by (told_alarm refusal (acted t.machine.plan asked (plain_of t.machine)).reply) (after t.machine asked) (acted t.machine.plan asked (plain_of t.machine)).reply (scene_unless refusal t.machine asked) (acted t.machine.plan asked (plain_of t.machine)).plain.base.phases
+told_is : (t : Traced) (asked : Request) (refusal : Option Refusal) (moment : Acting) → IsShown t.machine asked refusal moment → account_by (told_alarm refusal moment.reply) (after t.machine asked) moment.fired (scene_in moment.words) (base_of moment.words).phases ≡ account_by (told_alarm refusal (acted t.machine.plan asked (plain_of t.machine)).reply) (after t.machine asked) (fired_of t.machine asked) (scene_unless refusal t.machine asked) (acted t.machine.plan asked (plain_of t.machine)).plain.base.phases
 told_is t asked (Some refusal) moment shown = refl
 told_is t asked None moment shown =
-    ap (λ (r : Reply). account_by (alarm_of r) (after t.machine asked) r (scene_in moment.words) (base_of moment.words).phases) (shown.reply refl)
-    ∙ ap (λ (s : Scene). account_by (alarm_of (acted t.machine.plan asked (plain_of t.machine)).reply) (after t.machine asked) (acted t.machine.plan asked (plain_of t.machine)).reply s (base_of moment.words).phases) shown.scene
-    ∙ ap (λ (b : Base). account_by (alarm_of (acted t.machine.plan asked (plain_of t.machine)).reply) (after t.machine asked) (acted t.machine.plan asked (plain_of t.machine)).reply (scene_unless None t.machine asked) b.phases) (shown.base refl)
+    ap (λ (r : Reply). account_by (alarm_of r) (after t.machine asked) moment.fired (scene_in moment.words) (base_of moment.words).phases) (shown.reply refl)
+    ∙ ap (λ (f : List Task). account_by (alarm_of (acted t.machine.plan asked (plain_of t.machine)).reply) (after t.machine asked) f (scene_in moment.words) (base_of moment.words).phases) shown.fired
+    ∙ ap (λ (s : Scene). account_by (alarm_of (acted t.machine.plan asked (plain_of t.machine)).reply) (after t.machine asked) (fired_of t.machine asked) s (base_of moment.words).phases) shown.scene
+    ∙ ap (λ (b : Base). account_by (alarm_of (acted t.machine.plan asked (plain_of t.machine)).reply) (after t.machine asked) (fired_of t.machine asked) (scene_unless None t.machine asked) b.phases) (shown.base refl)
 
-pub account_is : (t : Traced) (asked : Request) (refusal : Option Refusal) (moment : Acting) (now : Machined) → refusal ≡ refusal_of t.machine asked → IsShown t.machine asked refusal moment → now ≡ after t.machine asked → account_by (told_alarm refusal moment.reply) now moment.reply (scene_in moment.words) (base_of moment.words).phases ≡ traced_account t asked
+pub account_is : (t : Traced) (asked : Request) (refusal : Option Refusal) (moment : Acting) (now : Machined) → refusal ≡ refusal_of t.machine asked → IsShown t.machine asked refusal moment → now ≡ after t.machine asked → account_by (told_alarm refusal moment.reply) now moment.fired (scene_in moment.words) (base_of moment.words).phases ≡ traced_account t asked
 unfolding traced_account
 account_is t asked refusal moment now refusal_is shown now_is =
-    ap (λ (m : Machined). account_by (told_alarm refusal moment.reply) m moment.reply (scene_in moment.words) (base_of moment.words).phases) now_is
+    ap (λ (m : Machined). account_by (told_alarm refusal moment.reply) m moment.fired (scene_in moment.words) (base_of moment.words).phases) now_is
     ∙ told_is t asked refusal moment shown
-    ∙ ap (λ (r : Option Refusal). account_by (told_alarm r (acted t.machine.plan asked (plain_of t.machine)).reply) (after t.machine asked) (acted t.machine.plan asked (plain_of t.machine)).reply (scene_unless r t.machine asked) (acted t.machine.plan asked (plain_of t.machine)).plain.base.phases) refusal_is
+    ∙ ap (λ (r : Option Refusal). account_by (told_alarm r (acted t.machine.plan asked (plain_of t.machine)).reply) (after t.machine asked) (fired_of t.machine asked) (scene_unless r t.machine asked) (acted t.machine.plan asked (plain_of t.machine)).plain.base.phases) refusal_is
 
 -- a restart's moment is the state as it is
 pub scene_now : (m : Machined) (moment : Acting) → IsMoment m Restart moment → scene_in moment.words ≡ scene_of (plain_of m) (places_of m)

@@ -5,8 +5,6 @@ use Rattle.std.specs.Fmt.{decimal}
 use Rattle.std.specs.List.{flat_map}
 use Rattle.agc_plan.specs.declared.reply.Alarm.{Alarm}
 use Rattle.agc_plan.specs.declared.reply.Alarm.TheVariants.{A1201, A1202, A1203}
-use Rattle.agc_plan.specs.declared.reply.Reply.{Reply}
-use Rattle.agc_plan.specs.declared.reply.Reply.TheVariants.{Ticked}
 use Rattle.agc_plan.specs.declared.request.Action.{Action}
 use Rattle.agc_plan.specs.declared.request.Task.{Task}
 use Rattle.agc_plan.specs.Plans.{action_in}
@@ -32,9 +30,8 @@ cause_by rows (Some task) =
     ++ (fired_text task ++ (codes ": " ++ (action_line_of (action_in rows task) ++ codes "\n")))
 
 -- inside a tick that is the task that fired last
-abbrev pub cause_text : List (Task × Action) → Reply → List ℕ
-cause_text rows (Ticked fired alarm) = cause_by rows (slice_get fired (length fired - 1))
-cause_text rows reply = []
+abbrev pub cause_text : List (Task × Action) → List Task → List ℕ
+cause_text rows fired = cause_by rows (slice_get fired (length fired - 1))
 
 abbrev pub at_text : Bool → List ℕ
 at_text asleep = if asleep then codes ", asleep at " else codes ", at "
@@ -75,8 +72,8 @@ again_text phases scene =
     ++ (scene_text scene ++ codes "\n")
 
 -- all of it
-unfoldable pub account_text : List (Task × Action) → Reply → Alarm → List (Option Seated) → List ℕ
+unfoldable pub account_text : List (Task × Action) → List Task → Alarm → List (Option Seated) → List ℕ
     → Scene → List ℕ
-account_text rows reply alarm seats phases after =
+account_text rows fired alarm seats phases after =
     full_text alarm
-    ++ (cause_text rows reply ++ (holders_text alarm seats ++ again_text phases after))
+    ++ (cause_text rows fired ++ (holders_text alarm seats ++ again_text phases after))

@@ -5,6 +5,7 @@ use Rattle.std.specs.Fmt.{decimal}
 use Rattle.std.specs.List.{flat_map, range_with_len}
 use Rattle.agc_plan.specs.declared.reply.Reply.{Reply}
 use Rattle.agc_plan.specs.declared.request.Request.{Request}
+use Rattle.agc_plan.specs.declared.request.Task.{Task}
 use Rattle.agc_plan.specs.Tasks.{Waiting}
 use Rattle.agc_machine.specs.declared.answer.Refusal.{Refusal}
 use Rattle.agc_text.specs.Lines.{line_of}
@@ -60,13 +61,13 @@ scene_text scene =
 
 -- the columns before the state: the request's number, the centisecond of the era, the request, and
 -- the answer
-unfoldable pub front_text : ℕ → ℕ → Request → Result Reply Refusal → List ℕ
-front_text number time asked answer =
+unfoldable pub front_text : ℕ → ℕ → Request → List Task → Result Reply Refusal → List ℕ
+front_text number time asked fired answer =
     column 6 (decimal number)
     ++ (column 6 (decimal time)
-    ++ (column 22 (line_of asked) ++ column 16 (answer_text answer)))
+    ++ (column 22 (line_of asked) ++ column 16 (answer_text fired answer)))
 
 -- the line of a request
-unfoldable pub line_text : ℕ → ℕ → Request → Result Reply Refusal → Scene → List ℕ
-line_text number time asked answer scene =
-    front_text number time asked answer ++ (scene_text scene ++ 10 ∷ [])
+unfoldable pub line_text : ℕ → ℕ → Request → List Task → Result Reply Refusal → Scene → List ℕ
+line_text number time asked fired answer scene =
+    front_text number time asked fired answer ++ (scene_text scene ++ 10 ∷ [])

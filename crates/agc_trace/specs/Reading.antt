@@ -10,7 +10,7 @@ use Rattle.agc_wait.specs.Table.{waits_of}
 use Rattle.agc_phase.specs.Image.{base_of}
 use Rattle.agc_phase.specs.Image as phases
 use Rattle.agc_machine.specs.declared.answer.Refusal.{Refusal}
-use Rattle.agc_machine.specs.Machines.{Machined, answer_of, result_of, plain_of}
+use Rattle.agc_machine.specs.Machines.{Machined, answer_of, fired_of, result_of, plain_of}
 use Rattle.agc_machine.specs.Moments.{Acting}
 use Rattle.agc_trace.specs.declared.seats.Seated.{Seated}
 use Rattle.agc_trace.specs.Scenes.{Scene}
@@ -42,6 +42,7 @@ pub record IsShown (m : Machined) (asked : Request) (refusal : Option Refusal) (
   pub cores : IsLawfulWords moment.words
   pub scene : scene_in moment.words ≡ scene_unless refusal m asked
   pub answer : result_of refusal moment.reply ≡ answer_of m asked
+  pub fired : moment.fired ≡ fired_of m asked
   pub phases : phases.IsLawfulTable moment.words
   pub base : refusal ≡ None → base_of moment.words ≡ (acted m.plan asked (plain_of m)).plain.base
   pub reply : refusal ≡ None → moment.reply ≡ (acted m.plan asked (plain_of m)).reply

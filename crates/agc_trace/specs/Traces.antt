@@ -1,12 +1,14 @@
 -- The trace of a run: a line for each request, with the state in which it was answered.
-use Rattle.std.specs.Prelude.{ℕ, ◌+◌, ◌==◌, if◌then◌else◌, List, [], ◌++◌, Option, Some, None}
+use Rattle.std.specs.Prelude.{ℕ, ◌+◌, ◌==◌, Bool, true, false, if◌then◌else◌, List, [], ◌++◌, Option, Some, None}
 use Rattle.agc_plan.specs.declared.request.Request.{Request}
+use Rattle.agc_plan.specs.declared.request.Request.TheVariants.{Tick}
+use Rattle.agc_plan.specs.declared.request.Task.{Task}
 use Rattle.agc_plan.specs.Seats.{places_acted}
 use Rattle.agc_plan.specs.declared.reply.Alarm.{Alarm}
 use Rattle.agc_plan.specs.declared.reply.Reply.{Reply}
 use Rattle.agc_plan.specs.Steps.{acted, alarm_of, begins}
-use Rattle.agc_machine.specs.Briefs.{is_tick}
-use Rattle.agc_machine.specs.Machines.{Machined, after, answer_of, refusal_of, plain_of, places_of}
+use Rattle.agc_machine.specs.Machines.{Machined, after, answer_of, fired_of, refusal_of}
+use Rattle.agc_machine.specs.Machines.{plain_of, places_of}
 use Rattle.agc_machine.specs.declared.answer.Refusal.{Refusal}
 use Rattle.agc_trace.specs.Accounts.{account_text}
 use Rattle.agc_trace.specs.Lines.{line_text}
@@ -31,6 +33,10 @@ scene_unless None m asked =
     scene_of (acted m.plan asked (plain_of m)).plain
     (places_acted m.plan asked (plain_of m) (places_of m))
 
+abbrev pub is_tick : Request → Bool
+is_tick Tick = true
+is_tick asked = false
+
 -- the time at which a request is answered
 abbrev pub time_unless : Option Refusal → Request → ℕ → ℕ
 time_unless (Some refusal) asked time = time
@@ -47,7 +53,7 @@ unfoldable pub traced_line : Traced → Request → List ℕ
 traced_line t asked =
     let refusal = refusal_of t.machine asked in
     line_text (one_more t.asked) (time_unless refusal asked t.time) asked
-    (answer_of t.machine asked) (scene_unless refusal t.machine asked)
+    (fired_of t.machine asked) (answer_of t.machine asked) (scene_unless refusal t.machine asked)
 
 -- the alarm that an answer tells
 abbrev pub told_alarm : Option Refusal → Reply → Option Alarm
@@ -55,10 +61,10 @@ told_alarm (Some refusal) reply = None
 told_alarm None reply = alarm_of reply
 
 -- what is told of it, by the state and the phases in which it came, and the machine as it is now
-abbrev pub account_by : Option Alarm → Machined → Reply → Scene → List ℕ → List ℕ
-account_by None now reply scene phases = []
-account_by (Some alarm) now reply scene phases =
-    account_text now.plan.rows reply alarm scene.seats phases
+abbrev pub account_by : Option Alarm → Machined → List Task → Scene → List ℕ → List ℕ
+account_by None now fired scene phases = []
+account_by (Some alarm) now fired scene phases =
+    account_text now.plan.rows fired alarm scene.seats phases
     (scene_of (plain_of now) (places_of now))
 
 -- the account of the next request
@@ -66,7 +72,7 @@ unfoldable pub traced_account : Traced → Request → List ℕ
 traced_account t asked =
     let did = acted t.machine.plan asked (plain_of t.machine) in
     let refusal = refusal_of t.machine asked in
-    account_by (told_alarm refusal did.reply) (after t.machine asked) did.reply
+    account_by (told_alarm refusal did.reply) (after t.machine asked) (fired_of t.machine asked)
     (scene_unless refusal t.machine asked) did.plain.base.phases
 
 -- the line of the next request, and its account

@@ -20,7 +20,7 @@ use crate::numerals::{add_number, add_priority, add_word};
 use crate::seats::{Seated, seat};
 use agc_machine::Moment;
 use agc_phase::phases;
-use agc_plan::{Action, Alarm, Phase, Plan, Reply, Request, Task};
+use agc_plan::{Action, Alarm, Fired, Phase, Plan, Request, Task};
 use agc_word::Erasable;
 use arrayvec::ArrayString;
 
@@ -71,24 +71,11 @@ fn cause_cell(plan: &Plan, task: Option<Task>) -> ArrayString<256>
 }
 
 /// What raised the alarm, where it came inside a tick.
-fn cause_of(plan: &Plan, reply: &Reply) -> ArrayString<256>
-    ensures text { result.bytes ≡ cause_text plan.now.rows reply.now }
+fn cause_of(plan: &Plan, fired: &Fired) -> ArrayString<256>
+    ensures text { result.bytes ≡ cause_text plan.now.rows fired.now }
     ensures len { length result.bytes ≤ 80 }
 {
-    match reply {
-        Reply::Ticked(fired, _) => cause_cell(plan, fired.get(fired.len().saturating_sub(1))),
-        Reply::Established(_) => ArrayString::new(),
-        Reply::Left(_) => ArrayString::new(),
-        Reply::Roused(_) => ArrayString::new(),
-        Reply::NoSleeper => ArrayString::new(),
-        Reply::NoJob => ArrayString::new(),
-        Reply::Runs(_) => ArrayString::new(),
-        Reply::Stored => ArrayString::new(),
-        Reply::Listed => ArrayString::new(),
-        Reply::Phased => ArrayString::new(),
-        Reply::Restarted => ArrayString::new(),
-        Reply::Alarmed(_) => ArrayString::new(),
-    }
+    cause_cell(plan, fired.get(fired.len().saturating_sub(1)))
 }
 
 fn at_text(asleep: bool) -> &'static str
@@ -234,12 +221,12 @@ pub(crate) fn account_of(
     requires sized_after { IsSized after.now.words }
     requires lawful { IsLawfulWords after.now.words }
     ensures { result.bytes
-        ≡ account_text plan.now.rows moment.now.reply alarm (seats_in moment.now.words)
+        ≡ account_text plan.now.rows moment.now.fired alarm (seats_in moment.now.words)
         (base_of moment.now.words).phases (scene_in after.now.words) }
 {
     let mut account = ArrayString::new();
     account.push_str(full_line(alarm));
-    account.push_str(cause_of(plan, moment.reply()).as_str());
+    account.push_str(cause_of(plan, moment.fired()).as_str());
     add_holders(&mut account, alarm, moment.words());
     add_again(&mut account, moment.words(), after.words());
     account

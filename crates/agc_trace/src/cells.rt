@@ -159,10 +159,10 @@ fn add_end(cell: &mut ArrayString<256>, alarm: Option<Alarm>)
     }
 }
 
-/// Appends a reply, as `agc` spells it.
-pub(crate) fn add_reply(cell: &mut ArrayString<256>, reply: &Reply)
+/// Appends a reply, of a tick with what fired, as `agc` spells it.
+pub(crate) fn add_reply(cell: &mut ArrayString<256>, reply: &Reply, fired: &Fired)
     requires { length cell.old.bytes + 123 ≤ 256 }
-    ensures text { cell.new.bytes ≡ cell.old.bytes ++ reply_text reply.now }
+    ensures text { cell.new.bytes ≡ cell.old.bytes ++ reply_text fired.now reply.now }
     ensures len { length cell.new.bytes ≤ length cell.old.bytes + 123 }
 {
     match reply {
@@ -174,7 +174,7 @@ pub(crate) fn add_reply(cell: &mut ArrayString<256>, reply: &Reply)
         Reply::Runs(number) => add_numbered(cell, "runs ", *number),
         Reply::Stored => cell.push_str("stored"),
         Reply::Listed => cell.push_str("listed"),
-        Reply::Ticked(fired, alarm) => {
+        Reply::Ticked(alarm) => {
             cell.push_str("tick");
             add_tasks(cell, fired);
             add_end(cell, *alarm);

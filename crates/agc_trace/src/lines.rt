@@ -44,12 +44,13 @@ fn request_cell(request: &Request) -> ArrayString<256>
 
 /// A reply, or why there is none.
 fn answer_cell(moment: &Moment, refusal: Option<Refusal>) -> ArrayString<256>
-    ensures text { result.bytes ≡ answer_text (result_of refusal moment.now.reply) }
+    ensures text { result.bytes ≡ answer_text moment.now.fired
+        (result_of refusal moment.now.reply) }
     ensures len { length result.bytes ≤ 123 }
 {
     let mut cell = ArrayString::new();
     match refusal {
-        None => add_reply(&mut cell, moment.reply()),
+        None => add_reply(&mut cell, moment.reply(), moment.fired()),
         Some(refusal) => cell.push_str(refusal_text(refusal)),
     }
     cell
@@ -125,7 +126,8 @@ fn add_front(
 )
     requires { length line.old.bytes + 261 ≤ 2048 }
     ensures text { line.new.bytes ≡ line.old.bytes
-        ++ front_text number time request.now (result_of refusal moment.now.reply) }
+        ++ front_text number time request.now moment.now.fired
+        (result_of refusal moment.now.reply) }
     ensures len { length line.new.bytes ≤ length line.old.bytes + 261 }
 {
     add_column(line, 6, number_cell(number).as_str());
@@ -146,8 +148,8 @@ pub(crate) fn line_of(
     requires sized { IsSized moment.now.words }
     requires lawful { IsLawfulWords moment.now.words }
     ensures { result.bytes
-        ≡ line_text number time request.now (result_of refusal moment.now.reply)
-        (scene_in moment.now.words) }
+        ≡ line_text number time request.now moment.now.fired
+        (result_of refusal moment.now.reply) (scene_in moment.now.words) }
 {
     let mut line = ArrayString::new();
     add_front(&mut line, number, time, request, refusal, moment);

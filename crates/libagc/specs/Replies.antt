@@ -30,7 +30,7 @@ told reply.Stored = said 8 0
 told reply.Listed = said 9 0
 told (reply.Alarmed alarm) = said 10 (alarm_code alarm)
 told reply.Phased = said 0 0
-told (reply.Ticked fired alarm) = said 0 0
+told (reply.Ticked alarm) = said 0 0
 told reply.Restarted = said 0 0
 
 -- a task was listed, or there was no room

@@ -59,7 +59,7 @@ impl AgcReply {
             Reply::Listed => AgcReply::said(9, 0),
             Reply::Alarmed(alarm) => AgcReply::said(10, alarm_code(*alarm)),
             Reply::Phased => AgcReply::said(0, 0),
-            Reply::Ticked(_, _) => AgcReply::said(0, 0),
+            Reply::Ticked(_) => AgcReply::said(0, 0),
             Reply::Restarted => AgcReply::said(0, 0),
         }
     }

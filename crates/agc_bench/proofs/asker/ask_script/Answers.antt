@@ -12,8 +12,8 @@ loop-request-preserved g c =
     let r = c.request-item.result in
     rw (c.serve.ensures.desk, c.serve.ensures.heard) (record {
       rest = after_next _ m script at r c.loop-request-test.true c.request-item.is i.rest;
-      history = calls_next _ _ m script at r _ c.serve.result c.loop-request-test.true c.request-item.is (i.number ∙ c.requires) c.serve.ensures.request c.serve.ensures.outcome i.history;
-      heard = calls_next _ _ m script at r _ c.serve.result c.loop-request-test.true c.request-item.is (i.number ∙ c.requires) c.serve.ensures.request c.serve.ensures.outcome i.heard;
+      history = calls_next _ _ m script at r _ c.serve.result c.loop-request-test.true c.request-item.is (i.number ∙ c.requires) c.serve.ensures.answer i.history;
+      heard = calls_next _ _ m script at r _ c.serve.result c.loop-request-test.true c.request-item.is (i.number ∙ c.requires) c.serve.ensures.answer i.heard;
       number = i.number;
       drains = i.drains;
       given = i.given;

@@ -2,7 +2,8 @@ use Rattle.std.proofs.Common.{rules, ◌≡◌, ap, sym, subst, ◌∙◌, ◌�
 use Rattle.agc_latch.specs.Lines.{on}
 use Rattle.agc_plan.specs.declared.request.Request.{Request}
 use Rattle.agc_plan.specs.Plans.{Planned}
-use Rattle.agc_machine.specs.Machines.{after, answer_of}
+use Rattle.agc_machine.specs.Machines.{after, answer_of, said_of}
+use Rattle.agc_machine.specs.Said.{Said}
 use Rattle.agc_machine.specs.Told.{add, told}
 use Rattle.agc_desk.specs.declared.book.Call.{Call}
 use Rattle.agc_desk.specs.Accounts.{told_in}
@@ -17,10 +18,10 @@ use Rattle.agc_desk.proofs.desk.Desk.ask_for.Goals as goal
 pub invariant_of-self : goal.invariant_of-self
 invariant_of-self g c =
     let call : Call = record { by = c.share.inside.own.number; answer = c.apply-answer.result; pulse = c.args.pulse } in
-    let asked = c.apply-answer.ensures.request in
+    let asked = ap (λ (x : Said). x.request) c.apply-answer.ensures.answer in
     let calls = c.self.inside.history.calls in
     let machine = c.self.inside.machine in
-    let led = leads_on g.N.Names.first calls machine call c.self.invariant.leads (c.apply-answer.ensures.outcome ∙ ap (λ q. answer_of machine q) (sym asked)) in
+    let led = leads_on g.N.Names.first calls machine call c.self.invariant.leads (c.apply-answer.ensures.answer ∙ ap (λ q. said_of machine q) (sym asked)) in
     let there = ap (λ q. after machine q) asked ∙ sym c.apply-answer.ensures.after in
     let plan = same_setting g.N.Names.first calls machine c.self.invariant.leads in
     let asks : IfSome c.args.pulse (λ line. pulse_request g.N.Names.first.plan line ≡ Some c.apply-answer.result.request) =
@@ -55,7 +56,7 @@ invariant_of-share g c =
     let same : c.growth-told.result ≡ told c.apply-answer.result.outcome =
     same_growth c.totals-before.result c.growth-told.result (told c.apply-answer.result.outcome)
     (c.growth-told.ensures ∙ (c.totals.ensures.totals ∙ (ap (λ m. m.totals) c.apply-answer.ensures.after ∙ (told_after c.self.inside.machine c.args.request
-    ∙ (ap (λ t. add t (told (answer_of c.self.inside.machine c.args.request))) (sym c.totals-before.ensures.totals) ∙ ap (λ o. add c.totals-before.result (told o)) (sym c.apply-answer.ensures.outcome)))))) in
+    ∙ (ap (λ t. add t (told (answer_of c.self.inside.machine c.args.request))) (sym c.totals-before.ensures.totals) ∙ ap (λ o. add c.totals-before.result (told o)) (ap (λ (x : Said). x.outcome) (sym c.apply-answer.ensures.answer))))))) in
     let grew : c.add.new.amounts ≡ add (told_in heard) (told c.apply-answer.result.outcome) =
     c.add.ensures.told ∙ (ap (λ t. add t c.growth-told.result) c.share.invariant ∙ ap (λ t. add (told_in heard) t) same) in
     grew ∙ (sym (told_push heard call) ∙ sym (ap (λ o. told_in o.heard) c.note.ensures.own))
@@ -68,5 +69,5 @@ returns-clause-given g c =
       machine = machine;
       leads = c.self.invariant.leads;
       lawful = c.apply-answer.ensures.lawful;
-      answer = c.apply-answer.ensures.outcome ∙ ap (λ q. answer_of machine q) (sym c.apply-answer.ensures.request);
+      answer = c.apply-answer.ensures.answer ∙ ap (λ (x : Said). said_of machine x.request) (sym c.apply-answer.ensures.answer);
     }

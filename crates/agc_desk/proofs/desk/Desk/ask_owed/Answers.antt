@@ -16,14 +16,14 @@ ask_for-answer-requires-clause-owed g c =
 pub loop-applied-preserved : goal.loop-applied-preserved
 loop-applied-preserved g c =
     applied_more _ _ _ _ _ c.loop-applied.self c.loop-applied.share c.ask_for-answer.result c.ask_for-answer.new.self c.ask_for-answer.new.share c.in-Ok._reply
-    c.loop-applied.invariant c.ask_for-answer.ensures.request c.ask_for-answer.ensures.outcome c.ask_for-answer.ensures.desk c.ask_for-answer.ensures.heard
+    c.loop-applied.invariant c.ask_for-answer.ensures.answer c.ask_for-answer.ensures.desk c.ask_for-answer.ensures.heard
     (sym c.result.ensures ∙ c.in-Ok.is) c.ask_for-answer.ensures.lines
 
 pub returns-in-Err : goal.returns-in-Err
 returns-in-Err g c =
     line_refused _ _ c.args.request.now _ _ _ c.loop-applied.self c.loop-applied.share c.ask_for-answer.result _ _ c.in-Err.refusal
     c.requires c.loop-applied.invariant (search rules)
-    c.ask_for-answer.ensures.request c.ask_for-answer.ensures.outcome c.ask_for-answer.ensures.desk c.ask_for-answer.ensures.heard
+    c.ask_for-answer.ensures.answer c.ask_for-answer.ensures.desk c.ask_for-answer.ensures.heard
     (sym c.result.ensures ∙ c.in-Err.is) c.ask_for-answer.ensures.lines
 
 pub returns : goal.returns
