@@ -76,7 +76,8 @@ answer_of m asked = result_of (refusal_of m asked) (stepped m asked).reply
 
 -- the tasks that fire in it, in order: none where it is refused
 abbrev pub fired_of : Machined → Request → List Task
-fired_of m asked = option_map_or (λ refusal. []) (refusal_of m asked) (fired_in m.plan asked (plain_of m))
+fired_of m asked =
+    option_map_or (λ refusal. []) (refusal_of m asked) (fired_in m.plan asked (plain_of m))
 
 -- all that is said to it
 abbrev pub said_of : Machined → Request → Said

@@ -1,5 +1,5 @@
--- The definitions on worked examples: what was asked, the replies, and what fired. Addresses and priorities are
--- octal, as in the listings.
+-- The definitions on worked examples: what was asked, the replies, and what fired. Addresses and
+-- priorities are octal, as in the listings.
 use Rattle.std.specs.Prelude.{◌≡◌, ℕ, List, [], ◌∷◌, ◌++◌, Some, None, option_map, replicate}
 use Rattle.agc_plan.specs.declared.reply.Alarm.TheVariants.{A1201, A1202, A1203}
 use Rattle.agc_plan.specs.declared.reply.Code.TheVariants.{C1201, C1202, C1203}
@@ -104,7 +104,7 @@ abbrev pub three_due : List Request
 three_due = request.List 5 (task 0o2000) ∷ request.List 10 (task 0o2010) ∷ request.List 5
     (task 0o2020) ∷ replicate 5 Tick
 
--- a plan in which a task establishes a job; seven jobs, and three tasks due at once, that one second
+-- a plan in which a task establishes a job; seven jobs, and three tasks due at once, it second
 abbrev pub an_eighth_job : Planned
 an_eighth_job = planned ((task 0o2010, action.Novac 0o10 (entry 0o3000)) ∷ []) []
 

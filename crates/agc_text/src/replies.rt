@@ -162,7 +162,7 @@ fn add_tasks(line: &mut ArrayVec<u8, 128>, fired: &Fired)
     }
 }
 
-/// Writes the line of a tick. It stands apart so that other replies don't pay for the line's buffer.
+/// Writes the line of a tick. It stands apart so that others don't pay for the line's buffer.
 ///
 /// # Errors
 ///

@@ -72,8 +72,8 @@ again_text phases scene =
     ++ (scene_text scene ++ codes "\n")
 
 -- all of it
-unfoldable pub account_text : List (Task × Action) → List Task → Alarm → List (Option Seated) → List ℕ
-    → Scene → List ℕ
+unfoldable pub account_text : List (Task × Action) → List Task → Alarm → List (Option Seated)
+    → List ℕ → Scene → List ℕ
 account_text rows fired alarm seats phases after =
     full_text alarm
     ++ (cause_text rows fired ++ (holders_text alarm seats ++ again_text phases after))
