@@ -21,7 +21,7 @@ pub store-requires : goal.store-requires
 store-requires c =
     let e = subst (λ (m : Machined). refusal_of m c.args.request.now ≡ None) (sym c.self.view_is) c.requires.served in
     record {
-      lawful = c.step-reply.ensures.steps.steps.ready.sound.phases;
+      lawful = c.step-reply.ensures.steps.ready.sound.phases;
       space = λ goes.
           store_room _ c.args.request.now c.step-reply.result _ c.self.invariant.image.machine c.self.invariant.reserved e (c.step-reply.ensures.steps.steps _ _ (stands_of _ c.self.inside.erasable c.self.invariant.image)).reply_is (sym c.begins-over.ensures ∙ goes);
     }
@@ -31,7 +31,7 @@ invariant_of-self c =
     let e = subst (λ (m : Machined). refusal_of m c.args.request.now ≡ None) (sym c.self.view_is) c.requires.served in
     let same : sets_in c.step-reply.new.e ≡ sets_in c.self.inside.erasable = same_sets c.self.inside.erasable c.step-reply.new.e c.step-reply.ensures.steps.same_length in
     subst (λ (n : ℕ). IsKept (record { plan = planned_with c.self.inside.plan n; limit = c.self.inside.limit; allowance = c.self.inside.allowance; base = c.store.new.base; log = c.store.new.log.items; totals = c.count.new.self }) c.step-reply.new.e (vec_capacity c.store.new.log)) (sym same)
-    (kept_stored _ c.args.request.now c.step-reply.new.e c.step-reply.result _ c.begins-over.result c.store.new.base c.store.new.log.items c.count.new.self c.self.invariant.image.machine (c.store.ensures.room ∙ c.self.invariant.reserved) e same c.step-reply.ensures.steps.steps.ready (c.step-reply.ensures.steps.steps _ _ (stands_of _ c.self.inside.erasable c.self.invariant.image)) c.begins-over.ensures c.store.ensures.base c.store.ensures.log c.count.ensures).0
+    (kept_stored _ c.args.request.now c.step-reply.new.e c.step-reply.result _ c.begins-over.result c.store.new.base c.store.new.log.items c.count.new.self c.self.invariant.image.machine (c.store.ensures.room ∙ c.self.invariant.reserved) e same c.step-reply.ensures.steps.ready (c.step-reply.ensures.steps.steps _ _ (stands_of _ c.self.inside.erasable c.self.invariant.image)) c.begins-over.ensures c.store.ensures.base c.store.ensures.log c.count.ensures).0
 
 pub returns-clause-reply : goal.returns-clause-reply
 returns-clause-reply c =
@@ -46,5 +46,5 @@ returns-clause-after c =
     let e = subst (λ (m : Machined). refusal_of m c.args.request.now ≡ None) (sym c.self.view_is) c.requires.served in
     let same : sets_in c.step-reply.new.e ≡ sets_in c.self.inside.erasable = same_sets c.self.inside.erasable c.step-reply.new.e c.step-reply.ensures.steps.same_length in
     view_with c.self.inside.plan c.self.inside.limit c.self.inside.allowance c.store.new.base c.store.new.log.items c.count.new.self same
-    ∙ (kept_stored _ c.args.request.now c.step-reply.new.e c.step-reply.result _ c.begins-over.result c.store.new.base c.store.new.log.items c.count.new.self c.self.invariant.image.machine (c.store.ensures.room ∙ c.self.invariant.reserved) e same c.step-reply.ensures.steps.steps.ready (c.step-reply.ensures.steps.steps _ _ (stands_of _ c.self.inside.erasable c.self.invariant.image)) c.begins-over.ensures c.store.ensures.base c.store.ensures.log c.count.ensures).1
+    ∙ (kept_stored _ c.args.request.now c.step-reply.new.e c.step-reply.result _ c.begins-over.result c.store.new.base c.store.new.log.items c.count.new.self c.self.invariant.image.machine (c.store.ensures.room ∙ c.self.invariant.reserved) e same c.step-reply.ensures.steps.ready (c.step-reply.ensures.steps.steps _ _ (stands_of _ c.self.inside.erasable c.self.invariant.image)) c.begins-over.ensures c.store.ensures.base c.store.ensures.log c.count.ensures).1
     ∙ ap (λ (m : Machined). served (stepped m c.args.request.now) c.args.request.now m) c.self.view_is
