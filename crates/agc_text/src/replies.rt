@@ -6,7 +6,7 @@ ghost use Rattle.agc_plan.specs.declared.reply.Reply.TheVariants.{Ticked};
 ghost use Rattle.agc_plan.specs.declared.request.Task.{Task};
 ghost use Rattle.agc_plan.specs.Steps.{alarm_of};
 ghost use Rattle.agc_text.specs.Writing.{Writes};
-ghost use Rattle.agc_text.specs.Replies.{alarm_text, fired_text, end_text, reply_text};
+ghost use Rattle.agc_text.specs.Replies.{alarm_text, fired_text, end_text, reply_text, runner_text};
 ghost use Rattle.agc_text.specs.Replies.{refusal_text};
 
 use crate::fault::Output;
@@ -179,26 +179,35 @@ fn put_tick<W: Write>(writer: &mut W, fired: &Fired, alarm: Option<Alarm>) -> Re
     put(writer, line.as_slice())
 }
 
+/// The line of a job that ended or sleeps, by who runs now.
+fn runner_line(runner: Option<JobNo>) -> &'static str
+    ensures { result.now ≡ codes "left " ++ runner_text runner ++ 10 ∷ [] }
+{
+    match runner {
+        Some(number) => left_line(number),
+        None => "left idle\n",
+    }
+}
+
 /// The line of a reply, which is one of a few. None for a tick's.
-fn reply_line(reply: Reply) -> Option<&'static str>
+fn reply_line(reply: &Reply) -> Option<&'static str>
     ensures line { (fired : List Task) → IfSome result (λ line. line.now
-        ≡ reply_text fired reply ++ 10 ∷ []) }
-    ensures tick { IfNone result (reply ≡ Ticked (alarm_of reply)) }
+        ≡ reply_text fired reply.now ++ 10 ∷ []) }
+    ensures tick { IfNone result (reply.now ≡ Ticked (alarm_of reply.now)) }
 {
     match reply {
-        Reply::Established(number) => Some(established_line(number)),
-        Reply::Left(Some(number)) => Some(left_line(number)),
-        Reply::Left(None) => Some("left idle\n"),
-        Reply::Roused(number) => Some(roused_line(number)),
+        Reply::Established(number) => Some(established_line(*number)),
+        Reply::Left(runner) => Some(runner_line(*runner)),
+        Reply::Roused(number) => Some(roused_line(*number)),
         Reply::NoSleeper => Some("no sleeper\n"),
         Reply::NoJob => Some("no job\n"),
-        Reply::Runs(number) => Some(runs_line(number)),
+        Reply::Runs(number) => Some(runs_line(*number)),
         Reply::Stored => Some("stored\n"),
         Reply::Listed => Some("listed\n"),
         Reply::Ticked(_) => None,
         Reply::Phased => Some("phased\n"),
         Reply::Restarted => Some("restarted\n"),
-        Reply::Alarmed(alarm) => Some(alarm_line(alarm)),
+        Reply::Alarmed(alarm) => Some(alarm_line(*alarm)),
     }
 }
 
@@ -211,7 +220,7 @@ pub(crate) fn put_reply<W: Write>(writer: &mut W, reply: Reply, fired: &Fired) -
     ensures { Writes (W.contents writer.old) (W.contents writer.new)
         (reply_text fired.now reply ++ 10 ∷ []) result }
 {
-    match reply_line(reply) {
+    match reply_line(&reply) {
         Some(line) => put(writer, line.as_bytes()),
         None => put_tick(writer, fired, reply.alarm()),
     }
