@@ -7,14 +7,14 @@ ghost use Rattle.agc_text.specs.Replies.{word_text, words_text};
 use agc_word::Word;
 use arrayvec::ArrayString;
 
-/// Appends a digit.
-fn add_digit<const N: usize>(text: &mut ArrayString<N>, digit: u8)
+/// Appends a digit to those of a number.
+fn add_digit(digits: &mut ArrayString<20>, digit: u8)
     requires digit { digit < 10 }
-    requires room { length text.old.bytes < N }
-    ensures text { text.new.bytes ≡ text.old.bytes ++ (48 + digit) ∷ [] }
-    ensures len { length text.new.bytes ≡ length text.old.bytes + 1 }
+    requires room { length digits.old.bytes < 20 }
+    ensures text { digits.new.bytes ≡ digits.old.bytes ++ (48 + digit) ∷ [] }
+    ensures len { length digits.new.bytes ≡ length digits.old.bytes + 1 }
 {
-    text.push(char::from(b'0' + digit));
+    digits.push(char::from(b'0' + digit));
 }
 
 /// The last octal digit of a number.
@@ -30,19 +30,19 @@ pub fn add_octal_digit<const N: usize>(text: &mut ArrayString<N>, number: u16)
     ensures text { text.new.bytes ≡ text.old.bytes ++ (48 + number % 8) ∷ [] }
     ensures len { length text.new.bytes ≡ length text.old.bytes + 1 }
 {
-    add_digit(text, (number % 8) as u8);
+    text.push(char::from(octal_digit(number)));
 }
 
-/// Appends a number in decimal.
-fn add_digits<const N: usize>(text: &mut ArrayString<N>, number: u64)
-    requires { length text.old.bytes + length (decimal number) ≤ N }
-    ensures text { text.new.bytes ≡ text.old.bytes ++ decimal number }
-    ensures len { length text.new.bytes ≡ length text.old.bytes + length (decimal number) }
+/// Appends a number in decimal to the digits of one.
+fn add_digits(digits: &mut ArrayString<20>, number: u64)
+    requires { length digits.old.bytes + length (decimal number) ≤ 20 }
+    ensures text { digits.new.bytes ≡ digits.old.bytes ++ decimal number }
+    ensures len { length digits.new.bytes ≡ length digits.old.bytes + length (decimal number) }
 {
     if number >= 10 {
-        add_digits(text, number / 10);
+        add_digits(digits, number / 10);
     }
-    add_digit(text, (number % 10) as u8);
+    add_digit(digits, (number % 10) as u8);
 }
 
 /// Appends a number in decimal, of at most twenty digits. Source: profile.
@@ -52,7 +52,9 @@ pub fn add_number<const N: usize>(text: &mut ArrayString<N>, number: u64)
     ensures text { text.new.bytes ≡ text.old.bytes ++ decimal number }
     ensures len { length text.new.bytes ≤ length text.old.bytes + 20 }
 {
-    add_digits(text, number);
+    let mut digits = ArrayString::new();
+    add_digits(&mut digits, number);
+    text.push_str(digits.as_str());
 }
 
 /// Appends a priority's two octal digits. Source: profile.
