@@ -18,7 +18,6 @@ pub use fault::{Output, ReadFault, ScriptFault};
 pub use input::read_all;
 pub use line::{parse_action, parse_line};
 pub use numbers::{parse_address, parse_word};
-pub use numerals::{add_number, add_octal_digit, add_priority, add_word};
 pub use pulses::report_pulses;
 pub use reporting::report;
 pub use script::read_script;

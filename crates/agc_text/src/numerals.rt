@@ -1,4 +1,4 @@
-//! Numbers as text, at the end of a text of at most so many bytes.
+//! The parts of a line, which is a text of at most 128 bytes.
 ghost use Rattle.std.specs.Prelude.{◌≡◌, ◌+◌, ◌*◌, ◌%◌, ◌<◌, ◌≤◌, ◌^◌, [], ◌∷◌, ◌++◌, length};
 ghost use Rattle.std.specs.Fmt.{decimal};
 ghost use Rattle.agc_text.specs.Numbers.{octal};
@@ -8,13 +8,13 @@ use agc_word::Word;
 use arrayvec::ArrayString;
 
 /// Appends a digit.
-fn add_digit<const N: usize>(text: &mut ArrayString<N>, digit: u8)
+fn add_digit(line: &mut ArrayString<128>, digit: u8)
     requires digit { digit < 10 }
-    requires room { length text.old.bytes < N }
-    ensures text { text.new.bytes ≡ text.old.bytes ++ (48 + digit) ∷ [] }
-    ensures len { length text.new.bytes ≡ length text.old.bytes + 1 }
+    requires room { length line.old.bytes < 128 }
+    ensures text { line.new.bytes ≡ line.old.bytes ++ (48 + digit) ∷ [] }
+    ensures len { length line.new.bytes ≡ length line.old.bytes + 1 }
 {
-    text.push(char::from(b'0' + digit));
+    line.push(char::from(b'0' + digit));
 }
 
 /// The last octal digit of a number.
@@ -24,59 +24,49 @@ pub(crate) fn octal_digit(number: u16) -> u8
     b'0' + (number % 8) as u8
 }
 
-/// Appends the last octal digit of a number. Source: profile.
-pub fn add_octal_digit<const N: usize>(text: &mut ArrayString<N>, number: u16)
-    requires { length text.old.bytes < N }
-    ensures text { text.new.bytes ≡ text.old.bytes ++ (48 + number % 8) ∷ [] }
-    ensures len { length text.new.bytes ≡ length text.old.bytes + 1 }
+/// Appends the last octal digit of a number.
+fn add_octal_digit(line: &mut ArrayString<128>, number: u16)
+    requires { length line.old.bytes < 128 }
+    ensures text { line.new.bytes ≡ line.old.bytes ++ (48 + number % 8) ∷ [] }
+    ensures len { length line.new.bytes ≡ length line.old.bytes + 1 }
 {
-    add_digit(text, (number % 8) as u8);
+    add_digit(line, (number % 8) as u8);
 }
 
 /// Appends a number in decimal.
-fn add_digits<const N: usize>(text: &mut ArrayString<N>, number: u64)
-    requires { length text.old.bytes + length (decimal number) ≤ N }
-    ensures text { text.new.bytes ≡ text.old.bytes ++ decimal number }
-    ensures len { length text.new.bytes ≡ length text.old.bytes + length (decimal number) }
+fn add_digits(line: &mut ArrayString<128>, number: u64)
+    requires { length line.old.bytes + length (decimal number) ≤ 128 }
+    ensures text { line.new.bytes ≡ line.old.bytes ++ decimal number }
+    ensures len { length line.new.bytes ≡ length line.old.bytes + length (decimal number) }
 {
     if number >= 10 {
-        add_digits(text, number / 10);
+        add_digits(line, number / 10);
     }
-    add_digit(text, (number % 10) as u8);
+    add_digit(line, (number % 10) as u8);
 }
 
-/// Appends a number in decimal, of at most twenty digits. Source: profile.
+/// Appends a number in decimal, of at most twenty digits.
 #[tactic(auto, using(crate::proofs::Digits::decimal_short))]
-pub fn add_number<const N: usize>(text: &mut ArrayString<N>, number: u64)
-    requires { length text.old.bytes + 20 ≤ N }
-    ensures text { text.new.bytes ≡ text.old.bytes ++ decimal number }
-    ensures len { length text.new.bytes ≤ length text.old.bytes + 20 }
+pub(crate) fn add_number(line: &mut ArrayString<128>, number: u64)
+    requires { length line.old.bytes + 20 ≤ 128 }
+    ensures text { line.new.bytes ≡ line.old.bytes ++ decimal number }
+    ensures len { length line.new.bytes ≤ length line.old.bytes + 20 }
 {
-    add_digits(text, number);
+    add_digits(line, number);
 }
 
-/// Appends a priority's two octal digits. Source: profile.
-pub fn add_priority<const N: usize>(text: &mut ArrayString<N>, priority: u16)
-    requires { length text.old.bytes + 2 ≤ N }
-    ensures text { text.new.bytes ≡ text.old.bytes ++ octal 2 priority }
-    ensures len { length text.new.bytes ≡ length text.old.bytes + 2 }
-{
-    add_octal_digit(text, priority / 8);
-    add_octal_digit(text, priority);
-}
-
-/// Appends a word's five octal digits. Source: profile.
-pub fn add_word<const N: usize>(text: &mut ArrayString<N>, word: u16)
-    requires { length text.old.bytes + 5 ≤ N }
-    ensures text { text.new.bytes ≡ text.old.bytes ++ octal 5 word }
-    ensures len { length text.new.bytes ≡ length text.old.bytes + 5 }
+/// Appends a word's five octal digits.
+pub(crate) fn add_word(line: &mut ArrayString<128>, word: u16)
+    requires { length line.old.bytes + 5 ≤ 128 }
+    ensures text { line.new.bytes ≡ line.old.bytes ++ octal 5 word }
+    ensures len { length line.new.bytes ≡ length line.old.bytes + 5 }
 {
     // one after the other, and no recursion, which would cost as much again
-    add_octal_digit(text, word / 8 / 8 / 8 / 8);
-    add_octal_digit(text, word / 8 / 8 / 8);
-    add_octal_digit(text, word / 8 / 8);
-    add_octal_digit(text, word / 8);
-    add_octal_digit(text, word);
+    add_octal_digit(line, word / 8 / 8 / 8 / 8);
+    add_octal_digit(line, word / 8 / 8 / 8);
+    add_octal_digit(line, word / 8 / 8);
+    add_octal_digit(line, word / 8);
+    add_octal_digit(line, word);
 }
 
 /// Appends words, each after a space.
