@@ -3,7 +3,7 @@ use Rattle.std.proofs.Common.{◌≡◌, ℕ, ◌<◌, ◌≤◌, List, length, 
 use Rattle.std.proofs.lemmas.List.{ext_get_or, get_or-take, length-take-le}
 use Rattle.agc_word.specs.declared.sets.Sets.{Sets}
 use Rattle.agc_word.specs.declared.sets.Sets.TheVariants.{Seven, Eight}
-use Rattle.agc_word.specs.Layout.{IsSized, sets_in, places_in}
+use Rattle.agc_word.specs.Layout.{IsSized, sets_in}
 use Rattle.agc_word.specs.Profiles.{count_of, size_of}
 use Rattle.agc_image.specs.Images.{size_with, image_of, AreWords}
 
