@@ -77,15 +77,15 @@ def packed(room):
     return found
 
 
-def run(hostile, room):
+def run(hostile, room, *words):
     hostile.runs += 1
-    return subprocess.run([sys.executable, f"{room}/tools/release"], capture_output=True, text=True, check=False)
+    return subprocess.run([sys.executable, f"{room}/tools/release", *words], capture_output=True, text=True, check=False)
 
 
-def refuse(hostile, room, why):
+def refuse(hostile, room, why, *words):
     """It writes one line with this in it, and nothing else."""
     before = packed(room)
-    ran = run(hostile, room)
+    ran = run(hostile, room, *words)
     is_right = (ran.returncode, ran.stdout, ran.stderr.count("\n")) == (1, "", 1) and why in ran.stderr
     hostile.expect(f"release, {why}: {ran}", is_right and packed(room) == before)
 
@@ -110,6 +110,7 @@ def release(hostile):
         run(hostile, f"{place}/clone")
         hostile.expect("a release of a clone has the same bytes", packed(f"{place}/clone") == first)
         unpacked(hostile, room, place)
+        gates(hostile, room, f"{place}/log")
         refusals(hostile, room)
 
 
@@ -133,6 +134,28 @@ def unpacked(hostile, room, place):
     hostile.expect(f"make uninstall from a release leaves {left}", not left)
     said = read(f"{top}/PROVED-BY.txt")
     hostile.expect(f"PROVED-BY.txt: {said}", f"no kit logic {LOGIC}" in said and git(room, "rev-parse", "HEAD") in said)
+
+
+def gates(hostile, room, log):
+    """What rt ci said last is in PROVED-BY.txt; a log of no gate, of one that failed, or of another commit is refused."""
+    ended = "rt: ok; every proof was done in this run\n3 passed, 0 failed\n"
+    refuse(hostile, room, "can't be read", "--gate", log)
+    for text, why in (
+        ("", "has no line `rt: ok`"),
+        ("rt: FAILED: agc\n2 passed, 1 failed\n", "has no line `rt: ok`"),
+        ("rt: ok; every proof was done in this run\n", "has no line `rt: ok`"),
+        (f"{ended}gate: FAILED at cases/run\n", "of a gate that failed"),
+        (f"gate: commit {'0' * 40}\n{ended}", "of another commit"),
+    ):
+        write(log, text)
+        refuse(hostile, room, why, "--gate", log)
+    write(log, f"gate: commit {git(room, 'rev-parse', 'HEAD')}\nrt: agc proved\n{ended}gate: 2 passed, 0 failed\n")
+    ran = run(hostile, room, "--gate", log)
+    name = next(iter(packed(room)))
+    with tarfile.open(f"{room}/out/{name}") as tape:
+        said = tape.extractfile(f"{name.removesuffix('.tar.gz')}/PROVED-BY.txt").read().decode()
+    wanted = "Gate:      rt: ok; every proof was done in this run\n           3 passed, 0 failed\n"
+    hostile.expect(f"release, with a log: {ran}, {said}", ran.returncode == 0 and wanted in said)
 
 
 def refusals(hostile, room):

@@ -1,9 +1,11 @@
-"""Compares the exports as crates/libagc has them with agc.h, agc.py and agc.rs: each call's name, what it takes and
-answers, each struct's fields, each code, and the texts of codes and replies. Prints what differs, and fails then.
+"""Compares the exports as crates/libagc has them with agc.h, agc.py and agc.rs: each call's name, what it takes, by
+which names and in which order, what it answers, each struct's fields, each code, and the texts of codes and replies.
+Prints what differs, and fails then.
 """
 
 import ctypes
 import glob
+import inspect
 import os
 import re
 import sys
@@ -20,16 +22,18 @@ def text_of(path):
         return file.read()
 
 
-def rust_type(text):
-    text = text.replace("Words", "[u16; 144]") if "Phase" not in text else text.replace("PhaseWords", "[u16; 12]")
-    return text.strip()
+def parameter(text):
+    """A parameter of Rattle or Rust, as `name: type`."""
+    name, kind = (it.strip() for it in text.split(":", 1))
+    kind = kind.replace("Words", "[u16; 144]") if "Phase" not in kind else kind.replace("PhaseWords", "[u16; 12]")
+    return f"{name}: {kind}"
 
 
 def of_rust(text, keyword):
     """Returns calls and structs of Rattle or Rust: the exports or the safe and unsafe declarations."""
     calls = {}
     for name, takes, answers in re.findall(keyword + r"fn (agc_\w+)\(([^)]*)\)\s*->\s*(\w+)", text):
-        takes = [rust_type(it.split(":", 1)[1]) for it in takes.split(",") if ":" in it]
+        takes = [parameter(it) for it in takes.split(",") if ":" in it]
         calls[name] = (takes, answers)
     structs = {}
     for name, body in re.findall(r"pub struct (Agc\w+) \{(.*?)\n\}", text, re.S):
@@ -45,7 +49,8 @@ def of_c(text):
             array = re.search(r"\[(\w+)\]", it)
             size = {"AGC_WORDS": 144, "AGC_PHASE_WORDS": 12}[array.group(1)] if array else 0
             by = "&" if it.startswith("const ") else "&mut "
-            shown.append(f"{by}[u16; {size}]" if array else NUMBERS[it.split()[0]])
+            named = re.search(r"(\w+)(?:\[\w+\])?$", it)[1]
+            shown.append(f"{named}: {f'{by}[u16; {size}]' if array else NUMBERS[it.split()[0]]}")
         calls[name] = (shown, NUMBERS.get(answers, answers))
     structs = {}
     for body, name in re.findall(r"(?:typedef|AGC_TYPE) struct \{ (.*?) \} (Agc\w+);", text):
@@ -63,7 +68,7 @@ PYTHON = {ctypes.c_uint32: "u32", ctypes.c_int32: "i32", ctypes.c_bool: "bool", 
 
 
 def of_python():
-    """Python says of an array neither its size nor whether it is written to."""
+    """The types alone. Python says of an array neither its size nor whether it is written to."""
     calls, structs = {}, {}
     for name, (takes, answers) in agc.signatures().items():
         calls[name] = ([PYTHON.get(it, "array") for it in takes], PYTHON.get(answers, answers.__name__))
@@ -72,8 +77,31 @@ def of_python():
     return calls, structs
 
 
-def without_arrays(calls):
-    return {name: (["array" if "[" in it else it for it in takes], answers) for name, (takes, answers) in calls.items()}
+def types_without_arrays(calls):
+    types = {name: [it.split(": ")[1] for it in takes] for name, (takes, _) in calls.items()}
+    return {name: (["array" if "[" in it else it for it in types[name]], calls[name][1]) for name in calls}
+
+
+def names_of_python(calls):
+    """What the methods of an image, and the functions beside it, name their numbers, by the calls of the same name."""
+    found = {}
+    for name in calls:
+        call = getattr(agc.Image, name[len("agc_") :], None) or getattr(agc, name[len("agc_") :], None)
+        if call:
+            found[name] = [it for it in inspect.signature(call).parameters if it != "self"]
+    return found
+
+
+def compared_names(calls):
+    """An image has its array and its sets."""
+    named = {name: [it.split(":")[0] for it in takes] for name, (takes, _) in calls.items()}
+    wanted = {name: [it for it in names if it not in ("words", "sets") or name == "agc_recover"] for name, names in named.items()}
+    found = names_of_python(calls)
+    if len(found) < 20:
+        yield f"signatures: agc.py has {len(found)} calls by their names"
+    for name, names in found.items():
+        if names != wanted[name]:
+            yield f"signatures: {name} of agc.py takes {names}, and not {wanted[name]}"
 
 
 def texts_of(text, row):
@@ -113,7 +141,8 @@ def main():
     for name, found in [("agc.h", of_c(header)), ("agc.rs", rust)]:
         faults += compared(name, calls, found[0])
         faults += compared(name, structs, found[1])
-    faults += compared("agc.py", without_arrays(calls), of_python()[0])
+    faults += compared("agc.py", types_without_arrays(calls), of_python()[0])
+    faults += compared_names(calls)
     faults += compared("agc.py", structs, of_python()[1])
     faults += compared_texts(header, module)
     constants = {name: int(n, 8 if n[0] == "0" else 10) for name, n in re.findall(r"AGC_(\w+) = (\d+)", header)}

@@ -3,7 +3,7 @@ use Rattle.std.proofs.Common.{◌≡◌, ℕ, ◌<◌, ◌≤◌, List, length, 
 use Rattle.std.proofs.lemmas.List.{ext_get_or, get_or-take, length-take-le}
 use Rattle.agc_word.specs.declared.sets.Sets.{Sets}
 use Rattle.agc_word.specs.declared.sets.Sets.TheVariants.{Seven, Eight}
-use Rattle.agc_word.specs.Layout.{IsSized, sets_in, places_in}
+use Rattle.agc_word.specs.Layout.{IsSized, sets_in}
 use Rattle.agc_word.specs.Profiles.{count_of, size_of}
 use Rattle.agc_image.specs.Images.{size_with, image_of, AreWords}
 
@@ -11,24 +11,11 @@ pub size_most : (sets : Sets) → size_of sets ≤ 144
 size_most Seven = omega arith
 size_most Eight = omega arith
 
-pub places_of : (sets : Sets) (words : List ℕ) → length words ≡ size_of sets → places_in words ≡ size_of sets
-places_of Seven words long = omega arith
-places_of Eight words long = omega arith
-
 pub length-image : (sets : Sets) (array : List ℕ) → length array ≡ 144 → length (image_of (count_of sets) array) ≡ size_of sets
 length-image sets array long = let most : size_of sets ≤ 144 = size_most sets in length-take-le (size_of sets) array (omega arith)
 
 pub at_image : (sets : Sets) (array : List ℕ) (place : ℕ) → place < size_of sets → slice_index (image_of (count_of sets) array) place ≡ slice_index array place
 at_image sets array place lt = get_or-take (size_of sets) array place 0 lt
-
--- all places are words
-pub words_from : (sets : Sets) (array : List ℕ) → length array ≡ 144 → ((place : ℕ) → place < size_of sets → slice_index array place < 32768) → AreWords (image_of (count_of sets) array)
-words_from sets array long each place lt =
-    let size : length (image_of (count_of sets) array) ≡ size_of sets = length-image sets array long in
-    let within : place < size_of sets = omega arith in
-    let same : slice_index (image_of (count_of sets) array) place ≡ slice_index array place = at_image sets array place within in
-    let word : slice_index array place < 32768 = each place within in
-    omega arith
 
 pub word_at : (sets : Sets) (array : List ℕ) (place : ℕ) → length array ≡ 144 → AreWords (image_of (count_of sets) array) → place < size_of sets → slice_index array place < 32768
 word_at sets array place long words within =

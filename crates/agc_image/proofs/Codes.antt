@@ -58,30 +58,6 @@ coded_unlawful sets array R W T count words lacks = record {
   no_other = omega arith;
 }
 
-pub coded_out_of_range : (sets : ℕ) (array : List ℕ) (R W T : Type 0) → IsImage sets array → ¬ R → Coded 4 sets array R W T
-coded_out_of_range sets array R W T image lacks = record {
-  served = neither 4 0 _ (λ e. omega arith) (λ p. lacks p.1);
-  no_such_sets = neither 4 1 _ (λ e. omega arith) (λ lacks. lacks image.count);
-  not_words = neither 4 2 _ (λ e. omega arith) (λ p. p.1 image.words);
-  unlawful = neither 4 3 _ (λ e. omega arith) (λ p. p.2 image.lawful);
-  out_of_range = both 4 _ (image, lacks);
-  not_a_word = neither 4 5 _ (λ e. omega arith) (λ p. lacks p.1);
-  not_now = neither 4 6 _ (λ e. omega arith) (λ p. lacks p.1);
-  no_other = omega arith;
-}
-
-pub coded_not_a_word : (sets : ℕ) (array : List ℕ) (R W T : Type 0) → IsImage sets array → R → ¬ W → Coded 5 sets array R W T
-coded_not_a_word sets array R W T image r lacks = record {
-  served = neither 5 0 _ (λ e. omega arith) (λ p. lacks p.2);
-  no_such_sets = neither 5 1 _ (λ e. omega arith) (λ lacks. lacks image.count);
-  not_words = neither 5 2 _ (λ e. omega arith) (λ p. p.1 image.words);
-  unlawful = neither 5 3 _ (λ e. omega arith) (λ p. p.2 image.lawful);
-  out_of_range = neither 5 4 _ (λ e. omega arith) (λ p. p.1 r);
-  not_a_word = both 5 _ (image, r, lacks);
-  not_now = neither 5 6 _ (λ e. omega arith) (λ p. lacks p.2);
-  no_other = omega arith;
-}
-
 pub coded_not_now : (sets : ℕ) (array : List ℕ) (R W T : Type 0) → IsImage sets array → R → W → ¬ T → Coded 6 sets array R W T
 coded_not_now sets array R W T image r w lacks = record {
   served = neither 6 0 _ (λ e. omega arith) (λ p. lacks p.3);
