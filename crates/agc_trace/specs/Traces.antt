@@ -1,5 +1,6 @@
 -- The trace of a run: a line for each request, with the state in which it was answered.
-use Rattle.std.specs.Prelude.{ℕ, ◌+◌, ◌==◌, if◌then◌else◌, List, [], ◌++◌, Option, Some, None}
+use Rattle.std.specs.Prelude.{ℕ, ◌+◌, ◌==◌, Bool, true, false, if◌then◌else◌, List, [], ◌++◌}
+use Rattle.std.specs.Prelude.{Option, Some, None}
 use Rattle.agc_plan.specs.declared.request.Request.{Request}
 use Rattle.agc_plan.specs.Seats.{places_acted}
 use Rattle.agc_plan.specs.declared.reply.Alarm.{Alarm}
@@ -8,6 +9,7 @@ use Rattle.agc_plan.specs.Steps.{acted, alarm_of, begins}
 use Rattle.agc_machine.specs.Briefs.{is_tick}
 use Rattle.agc_machine.specs.Machines.{Machined, after, answer_of, refusal_of, plain_of, places_of}
 use Rattle.agc_machine.specs.declared.answer.Refusal.{Refusal}
+use Rattle.agc_machine.specs.declared.answer.Refusal.TheVariants.{Spent, LogFull}
 use Rattle.agc_trace.specs.Accounts.{account_text}
 use Rattle.agc_trace.specs.Lines.{line_text}
 use Rattle.agc_trace.specs.Scenes.{Scene, scene_of}
@@ -80,4 +82,35 @@ traced t asked =
       machine = after t.machine asked;
       asked = one_more t.asked;
       time = time_after (refusal_of t.machine asked) t asked;
+    }
+
+-- whether a request was refused because all of the allowance was served, or because the log is full
+abbrev pub is_spent : Option Refusal → Bool
+is_spent None = false
+is_spent (Some Spent) = true
+is_spent (Some LogFull) = false
+
+abbrev pub is_log_full : Option Refusal → Bool
+is_log_full None = false
+is_log_full (Some Spent) = false
+is_log_full (Some LogFull) = true
+
+-- one more, where this is so
+abbrev pub counted_if : Bool → ℕ → ℕ
+counted_if is n = if is then one_more n else n
+
+-- a run that is traced, and how many of its requests were refused for each reason
+pub record Counted : Type 0 where
+  pub run : Traced
+  pub spent : ℕ
+  pub log_full : ℕ
+
+-- the same after the next request
+abbrev pub counted : Counted → Request → Counted
+counted c asked =
+    let refusal = refusal_of c.run.machine asked in
+    record {
+      run = traced c.run asked;
+      spent = counted_if (is_spent refusal) c.spent;
+      log_full = counted_if (is_log_full refusal) c.log_full;
     }
