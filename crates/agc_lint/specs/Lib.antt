@@ -5,3 +5,6 @@ pub mod Faults
 pub mod Findings
 pub mod Sentences
 pub mod Scripts
+pub mod Keys
+pub mod Documents
+pub mod Tellings

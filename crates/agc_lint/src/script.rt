@@ -10,9 +10,9 @@ use crate::line::fault_of;
 use agc_text::parse_line;
 use std::alloc::{AllocError, Global};
 
-const MOST_TOLD: usize = 20;
+pub(crate) const MOST_TOLD: usize = 20;
 
-const REQUESTS: [Kind; 13] = [
+pub(crate) const REQUESTS: [Kind; 13] = [
     Kind::Novac,
     Kind::Findvac,
     Kind::EndOfJob,

@@ -41,7 +41,7 @@ fn room_after(most: u8, byte: u8) -> Option<u8>
 
 /// The front of a text that is shown: at most sixty letters, none of which moves the cursor.
 #[tactic(auto, unfolding(crate::specs::Sentences::shown))]
-fn shown(text: &[u8]) -> &[u8]
+pub(crate) fn shown(text: &[u8]) -> &[u8]
     ensures { result.now ≡ shown text.now }
 {
     let mut left = 60u8;
@@ -95,7 +95,7 @@ pub(crate) fn sentence(fault: LineFault) -> [&'static str; 3]
 }
 
 /// Writes pieces, one after the other.
-fn put_all<W: Write>(writer: &mut W, pieces: &[&str]) -> Result<(), Output>
+pub(crate) fn put_all<W: Write>(writer: &mut W, pieces: &[&str]) -> Result<(), Output>
     ensures { Writes (W.contents writer.old) (W.contents writer.new)
         (flat_map (λ piece. piece.now) pieces.now) result }
 {

@@ -1,4 +1,5 @@
 pub mod Scenes
+pub mod Naming
 pub mod Moments
 pub mod Words
 pub mod Pieces

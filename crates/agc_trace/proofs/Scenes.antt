@@ -14,10 +14,10 @@ use Rattle.agc_wait.proofs.Orders.{set_in, InOrder-append, InOrder-one}
 use Rattle.agc_machine.specs.Image.{WordsStandFor}
 use Rattle.agc_trace.specs.declared.seats.Seated.{Seated}
 use Rattle.agc_trace.specs.Reading.{seen, seats_in, scene_in}
-use Rattle.agc_trace.specs.Scenes.{Scene, seated, seat_of, put_in, by_due, time_left, waits_in, scene_of}
+use Rattle.agc_trace.specs.Scenes.{Scene, named_of, seated, seat_of, put_in, by_due, time_left, waits_in, scene_of}
 
 -- the job of a core set, found by its number
-numbered : (sets : List (Option Held)) (i : ℕ) (r : Held) → IsLawful sets → Holds sets i r → job_in (slots_of sets) r.number ≡ Some (job_of r)
+pub numbered : (sets : List (Option Held)) (i : ℕ) (r : Held) → IsLawful sets → Holds sets i r → job_in (slots_of sets) r.number ≡ Some (job_of r)
 numbered sets i r lawful at =
     let low : 1 ≤ r.number = lawful.low i r at in
     let high : r.number ≤ length sets = lawful.high i r at in
@@ -74,11 +74,11 @@ waits_are waits agenda stands =
 
 -- of jobs, a placement and tasks
 abbrev scene_with : Jobs → List ℕ → List Waiting → Scene
-scene_with jobs places waits = record { running = jobs.running; seats = map (seat_of jobs) places; waits = waits }
+scene_with jobs places waits = record { running = jobs.running; named = named_of jobs; seats = map (seat_of jobs) places; waits = waits }
 
 pub scene_is : (words : List ℕ) (plain : Plain) (places : List ℕ) → IsLawfulWords words → WordsStandFor words plain → entries_in words ≡ places → scene_in words ≡ scene_of plain places
 scene_is words plain places lawful stands placed =
-    ap (λ (s : List (Option Seated)). record { running = (jobs_in words).running; seats = s; waits = waits_of words }) (seats_of_words words lawful)
+    ap (λ (s : List (Option Seated)). record { running = (jobs_in words).running; named = named_of (jobs_in words); seats = s; waits = waits_of words }) (seats_of_words words lawful)
     ∙ ap (λ (j : Jobs). scene_with j (entries_in words) (waits_of words)) stands.jobs
     ∙ ap (λ (p : List ℕ). scene_with plain.work.jobs p (waits_of words)) placed
     ∙ ap (scene_with plain.work.jobs places) (waits_are (waits_of words) plain.work.agenda stands.tasks)

@@ -65,11 +65,13 @@ abbrev pub holders_text : Alarm → List (Option Seated) → List ℕ
 holders_text A1203 seats = []
 holders_text alarm seats = jobs_text 0 seats
 
--- the phases with which the era begins, and below the columns the state with which it does
+-- the phases with which the era begins
+abbrev pub phases_text : List ℕ → List ℕ
+phases_text phases = codes "        restart by phases" ++ flat_map count_text phases
+
+-- and below the columns the state with which it does
 unfoldable pub again_text : List ℕ → Scene → List ℕ
-again_text phases scene =
-    column 56 (codes "        restart by phases" ++ flat_map count_text phases)
-    ++ (scene_text scene ++ codes "\n")
+again_text phases scene = column 56 (phases_text phases) ++ (scene_text scene ++ codes "\n")
 
 -- all of it
 unfoldable pub account_text : List (Task × Action) → List Task → Alarm → List (Option Seated)

@@ -2,5 +2,6 @@ pub mod Scenes
 pub mod Lines
 pub mod Accounts
 pub mod Traces
+pub mod Openings
 pub mod Reading
 pub mod Runs

@@ -1,6 +1,6 @@
 -- The line of one request.
 use Rattle.std.specs.Prelude.{ℕ, ◌-◌, ◌==◌, if◌then◌else◌, List, [], ◌∷◌, ◌++◌, codes, length}
-use Rattle.std.specs.Prelude.{replicate, Option, Some, None, Result}
+use Rattle.std.specs.Prelude.{replicate, Bool, false, Option, Some, None, Result}
 use Rattle.std.specs.Fmt.{decimal}
 use Rattle.std.specs.List.{flat_map, range_with_len}
 use Rattle.agc_plan.specs.declared.reply.Reply.{Reply}
@@ -23,11 +23,22 @@ abbrev pub running_text : Option ℕ → List ℕ
 running_text None = codes "-"
 running_text (Some number) = decimal number
 
--- what a core set holds: a job's number, in brackets where it sleeps
-abbrev pub seat_text : Option Seated → List ℕ
-seat_text None = codes " ."
-seat_text (Some seat) = if seat.asleep then codes " (" ++ decimal seat.number ++ codes ")"
-    else codes " " ++ decimal seat.number
+-- whether this is the job that NEWJOB names
+abbrev pub is_named : Option ℕ → ℕ → Bool
+is_named None number = false
+is_named (Some other) number = other == number
+
+-- a job's number and its priority
+abbrev pub job_priority_text : Seated → List ℕ
+job_priority_text seat = decimal seat.number ++ (codes "/" ++ octal 2 seat.priority)
+
+-- what a core set holds: a job, in brackets where it sleeps, and behind > where NEWJOB names it
+abbrev pub seat_text : Option ℕ → Option Seated → List ℕ
+seat_text named None = codes " ."
+seat_text named (Some seat) =
+    if seat.asleep then codes " (" ++ (job_priority_text seat ++ codes ")")
+    else if is_named named seat.number then codes " >" ++ job_priority_text seat
+    else codes " " ++ job_priority_text seat
 
 -- the number of the job that owns an area, if one does
 abbrev pub owner_of : ℕ → List (Option Seated) → Option ℕ
@@ -56,7 +67,7 @@ waits_text (wait ∷ waits) = flat_map wait_text (wait ∷ waits)
 unfoldable pub scene_text : Scene → List ℕ
 scene_text scene =
     column 7 (running_text scene.running)
-    ++ (column 16 (flat_map seat_text scene.seats)
+    ++ (column 45 (flat_map (seat_text scene.named) scene.seats)
     ++ (column 10 (owners_text scene.seats) ++ waits_text scene.waits))
 
 -- the columns before the state: the request's number, the centisecond of the era, the request, and

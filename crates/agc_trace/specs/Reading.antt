@@ -5,7 +5,7 @@ use Rattle.agc_plan.specs.declared.request.Request.{Request}
 use Rattle.agc_plan.specs.declared.reply.Reply.{Reply}
 use Rattle.agc_plan.specs.Steps.{acted, begins}
 use Rattle.agc_exec.specs.Held.{Held}
-use Rattle.agc_exec.specs.Image.{sets_of, runner_in, IsLawfulWords}
+use Rattle.agc_exec.specs.Image.{sets_of, jobs_in, runner_in, IsLawfulWords}
 use Rattle.agc_wait.specs.Table.{waits_of}
 use Rattle.agc_phase.specs.Image.{base_of}
 use Rattle.agc_phase.specs.Image as phases
@@ -13,7 +13,7 @@ use Rattle.agc_machine.specs.declared.answer.Refusal.{Refusal}
 use Rattle.agc_machine.specs.Machines.{Machined, answer_of, fired_of, result_of, plain_of}
 use Rattle.agc_machine.specs.Moments.{Acting}
 use Rattle.agc_trace.specs.declared.seats.Seated.{Seated}
-use Rattle.agc_trace.specs.Scenes.{Scene}
+use Rattle.agc_trace.specs.Scenes.{Scene, named_of}
 use Rattle.agc_trace.specs.Traces.{scene_unless}
 
 -- a core set's job, as a trace shows it
@@ -32,7 +32,12 @@ seats_in words = map (option_map seen) (sets_of words)
 
 abbrev pub scene_in : List ℕ → Scene
 scene_in words =
-    record { running = runner_in words; seats = seats_in words; waits = waits_of words }
+    record {
+      running = runner_in words;
+      named = named_of (jobs_in words);
+      seats = seats_in words;
+      waits = waits_of words;
+    }
 
 -- these words and this reply are what is shown of a request
 pub record IsShown (m : Machined) (asked : Request) (refusal : Option Refusal) (moment : Acting) :

@@ -1,8 +1,9 @@
--- What a trace shows of a state: who runs, what each core set holds, and the tasks in order.
+-- What a trace shows of a state: who runs, whom NEWJOB names, what each core set holds, and the
+-- tasks in order.
 use Rattle.std.specs.Prelude.{ℕ, ◌-◌, ◌==◌, nat_lt, if◌then◌else◌, List, [], ◌∷◌, map, Option, None}
-use Rattle.std.specs.Prelude.{option_map}
+use Rattle.std.specs.Prelude.{Some, option_map}
 use Rattle.std.specs.List.{fold}
-use Rattle.agc_plan.specs.Jobs.{Job, Jobs, job_in}
+use Rattle.agc_plan.specs.Jobs.{Job, Jobs, Ready, best_from, job_in}
 use Rattle.agc_plan.specs.Tasks.{Pending, Agenda, Waiting}
 use Rattle.agc_plan.specs.Steps.{Plain}
 use Rattle.agc_trace.specs.declared.seats.Seated.{Seated}
@@ -23,6 +24,21 @@ abbrev pub seat_of : Jobs → ℕ → Option Seated
 seat_of jobs number = if number == 0 then None
     else option_map (seated number) (job_in jobs.slots number)
 
+-- the best job, where it is strictly more urgent than this one, which runs
+abbrev pub named_before : Option Ready → Option Job → Option ℕ
+named_before None job = None
+named_before (Some first) None = None
+named_before (Some first) (Some job) =
+    if nat_lt job.priority first.priority then Some first.number else None
+
+abbrev pub named_by : Option ℕ → List (Option Job) → Option ℕ
+named_by None slots = None
+named_by (Some number) slots = named_before (best_from 1 slots) (job_in slots number)
+
+-- whom NEWJOB names: the job that a change of job would let run in place of the one that runs
+unfoldable pub named_of : Jobs → Option ℕ
+named_of jobs = named_by jobs.running jobs.slots
+
 -- a task, behind all that are due no later
 abbrev pub put_in : Pending → List Pending → List Pending
 put_in task [] = task ∷ []
@@ -40,9 +56,10 @@ time_left time task = record { task = task.task; distance = task.due - time }
 abbrev pub waits_in : Agenda → List Waiting
 waits_in agenda = map (time_left agenda.time) (by_due agenda.tasks)
 
--- who runs, what each core set holds, and the tasks
+-- who runs, whom NEWJOB names, what each core set holds, and the tasks
 pub record Scene : Type 0 where
   pub running : Option ℕ
+  pub named : Option ℕ
   pub seats : List (Option Seated)
   pub waits : List Waiting
 
@@ -51,6 +68,7 @@ abbrev pub scene_of : Plain → List ℕ → Scene
 scene_of plain places =
     record {
       running = plain.work.jobs.running;
+      named = named_of plain.work.jobs;
       seats = map (seat_of plain.work.jobs) places;
       waits = waits_in plain.work.agenda;
     }

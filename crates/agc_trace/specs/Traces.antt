@@ -11,6 +11,7 @@ use Rattle.agc_plan.specs.Steps.{acted, alarm_of, begins}
 use Rattle.agc_machine.specs.Machines.{Machined, after, answer_of, fired_of, refusal_of}
 use Rattle.agc_machine.specs.Machines.{plain_of, places_of}
 use Rattle.agc_machine.specs.declared.answer.Refusal.{Refusal}
+use Rattle.agc_machine.specs.declared.answer.Refusal.TheVariants.{Spent, LogFull}
 use Rattle.agc_trace.specs.Accounts.{account_text}
 use Rattle.agc_trace.specs.Lines.{line_text}
 use Rattle.agc_trace.specs.Scenes.{Scene, scene_of}
@@ -87,4 +88,35 @@ traced t asked =
       machine = after t.machine asked;
       asked = one_more t.asked;
       time = time_after (refusal_of t.machine asked) t asked;
+    }
+
+-- whether a request was refused because all of the allowance was served, or because the log is full
+abbrev pub is_spent : Option Refusal → Bool
+is_spent None = false
+is_spent (Some Spent) = true
+is_spent (Some LogFull) = false
+
+abbrev pub is_log_full : Option Refusal → Bool
+is_log_full None = false
+is_log_full (Some Spent) = false
+is_log_full (Some LogFull) = true
+
+-- one more, where this is so
+abbrev pub counted_if : Bool → ℕ → ℕ
+counted_if is n = if is then one_more n else n
+
+-- a run that is traced, and how many of its requests were refused for each reason
+pub record Counted : Type 0 where
+  pub run : Traced
+  pub spent : ℕ
+  pub log_full : ℕ
+
+-- the same after the next request
+abbrev pub counted : Counted → Request → Counted
+counted c asked =
+    let refusal = refusal_of c.run.machine asked in
+    record {
+      run = traced c.run asked;
+      spent = counted_if (is_spent refusal) c.spent;
+      log_full = counted_if (is_log_full refusal) c.log_full;
     }

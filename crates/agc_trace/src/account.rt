@@ -1,6 +1,6 @@
 // What is told of an alarm: which table was full, what raised it, who held it, and what begins
 // again.
-ghost use Rattle.std.specs.Prelude.{◌≡◌, ◌+◌, ◌*◌, ◌≤◌, ◌++◌, codes, length};
+ghost use Rattle.std.specs.Prelude.{◌≡◌, ◌+◌, ◌*◌, ◌≤◌, ◌++◌, length};
 ghost use Rattle.std.specs.List.{flat_map};
 ghost use Rattle.agc_word.specs.Layout.{IsSized};
 ghost use Rattle.agc_exec.specs.Image.{IsLawfulWords};
@@ -10,7 +10,7 @@ ghost use Rattle.agc_text.specs.Lines.{action_line_of};
 ghost use Rattle.agc_text.specs.Report.{count_text};
 ghost use Rattle.agc_trace.specs.Accounts.{full_text, cause_by, cause_text, at_text, area_text};
 ghost use Rattle.agc_trace.specs.Accounts.{who_text, where_text, job_text, jobs_text, holders_text};
-ghost use Rattle.agc_trace.specs.Accounts.{again_text, account_text};
+ghost use Rattle.agc_trace.specs.Accounts.{phases_text, again_text, account_text};
 ghost use Rattle.agc_trace.specs.Reading.{seats_in, scene_in};
 
 use crate::cells::{add_fired, add_request};
@@ -166,10 +166,9 @@ fn add_holders(line: &mut ArrayString<2048>, alarm: Alarm, e: &Erasable)
 }
 
 /// The phases with which an era begins.
-fn phases_cell(e: &Erasable) -> ArrayString<256>
+pub(crate) fn phases_cell(e: &Erasable) -> ArrayString<256>
     requires { IsLawfulTable e.now }
-    ensures text { result.bytes ≡ codes "        restart by phases"
-        ++ flat_map count_text (base_of e.now).phases }
+    ensures text { result.bytes ≡ phases_text (base_of e.now).phases }
     ensures len { length result.bytes ≤ 151 }
 {
     let mut cell = ArrayString::new();
@@ -197,10 +196,10 @@ fn add_again(line: &mut ArrayString<2048>, e: &Erasable, after: &Erasable)
     requires phases { IsLawfulTable e.now }
     requires sized { IsSized after.now }
     requires lawful { IsLawfulWords after.now }
-    requires room { length line.old.bytes + 801 ≤ 2048 }
+    requires room { length line.old.bytes + 854 ≤ 2048 }
     ensures text { line.new.bytes ≡ line.old.bytes
         ++ again_text (base_of e.now).phases (scene_in after.now) }
-    ensures len { length line.new.bytes ≤ length line.old.bytes + 801 }
+    ensures len { length line.new.bytes ≤ length line.old.bytes + 854 }
 {
     add_column(line, 56, phases_cell(e).as_str());
     add_scene(line, after);

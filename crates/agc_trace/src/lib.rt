@@ -5,13 +5,17 @@
 mod account;
 mod cells;
 mod columns;
+mod ending;
 mod lines;
+mod newjob;
 mod numerals;
+mod opening;
 mod runs;
 mod seats;
 mod waits;
 
 pub use lines::number_cell;
+pub use newjob::named;
 pub use numerals::{add_number, add_priority, add_word};
 pub use runs::{alarm_of, begins, next_time, one_more, shown, time_at, trace};
 pub use seats::{Seated, owner, seat};

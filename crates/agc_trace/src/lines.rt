@@ -3,7 +3,7 @@ ghost use Rattle.std.specs.Prelude.{◌≡◌, ◌+◌, ◌≤◌, ◌++◌, len
 ghost use Rattle.std.specs.Fmt.{decimal};
 ghost use Rattle.std.specs.List.{flat_map};
 ghost use Rattle.agc_word.specs.Layout.{IsSized};
-ghost use Rattle.agc_exec.specs.Image.{IsLawfulWords, runner_in};
+ghost use Rattle.agc_exec.specs.Image.{IsLawfulWords, jobs_in, runner_in};
 ghost use Rattle.agc_wait.specs.Table.{waits_of};
 ghost use Rattle.agc_machine.specs.Machines.{result_of};
 ghost use Rattle.agc_text.specs.Lines.{line_of};
@@ -11,9 +11,11 @@ ghost use Rattle.agc_text.specs.Replies.{answer_text};
 ghost use Rattle.agc_trace.specs.Lines.{running_text, seat_text, owners_text, waits_text};
 ghost use Rattle.agc_trace.specs.Lines.{scene_text, front_text, line_text};
 ghost use Rattle.agc_trace.specs.Reading.{seats_in, scene_in};
+ghost use Rattle.agc_trace.specs.Scenes.{named_of};
 
 use crate::cells::{add_reply, add_request, refusal_text};
 use crate::columns::add_column;
+use crate::newjob::named;
 use crate::numerals::add_number;
 use crate::seats::{add_owners, add_seats};
 use crate::waits::add_waits;
@@ -70,12 +72,14 @@ fn running_cell(e: &Erasable) -> ArrayString<256>
 }
 
 fn seats_cell(e: &Erasable) -> ArrayString<256>
-    requires { IsSized e.now }
-    ensures text { result.bytes ≡ flat_map seat_text (seats_in e.now) }
-    ensures len { length result.bytes ≤ 184 }
+    requires sized { IsSized e.now }
+    requires lawful { IsLawfulWords e.now }
+    ensures text { result.bytes
+        ≡ flat_map (seat_text (named_of (jobs_in e.now))) (seats_in e.now) }
+    ensures len { length result.bytes ≤ 208 }
 {
     let mut cell = ArrayString::new();
-    add_seats(&mut cell, e);
+    add_seats(&mut cell, e, named(e));
     cell
 }
 
@@ -104,12 +108,12 @@ fn waits_cell(e: &Erasable) -> ArrayString<256>
 pub(crate) fn add_scene(line: &mut ArrayString<2048>, e: &Erasable)
     requires sized { IsSized e.now }
     requires lawful { IsLawfulWords e.now }
-    requires room { length line.old.bytes + 591 ≤ 2048 }
+    requires room { length line.old.bytes + 644 ≤ 2048 }
     ensures text { line.new.bytes ≡ line.old.bytes ++ scene_text (scene_in e.now) }
-    ensures len { length line.new.bytes ≤ length line.old.bytes + 591 }
+    ensures len { length line.new.bytes ≤ length line.old.bytes + 644 }
 {
     add_column(line, 7, running_cell(e).as_str());
-    add_column(line, 16, seats_cell(e).as_str());
+    add_column(line, 45, seats_cell(e).as_str());
     add_column(line, 10, owners_cell(e).as_str());
     line.push_str(waits_cell(e).as_str());
 }

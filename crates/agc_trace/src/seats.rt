@@ -4,10 +4,11 @@ ghost use Rattle.std.specs.Prelude.{slice_get, Some};
 ghost use Rattle.std.specs.List.{flat_map};
 ghost use Rattle.agc_word.specs.Layout as layout;
 ghost use Rattle.agc_word.specs.Layout.{IsSized, sets_in, set_place};
-ghost use Rattle.agc_trace.specs.Lines.{seat_text, owner_of, owner_text, owners_text};
+ghost use Rattle.agc_trace.specs.Lines.{is_named, job_priority_text, seat_text};
+ghost use Rattle.agc_trace.specs.Lines.{owner_of, owner_text, owners_text};
 ghost use Rattle.agc_trace.specs.Reading.{seats_in};
 
-use crate::numerals::add_number;
+use crate::numerals::{add_number, add_priority};
 use agc_word::Erasable;
 use agc_word::layout::{area_of, set_place};
 use arrayvec::ArrayString;
@@ -83,36 +84,61 @@ pub fn seat(e: &Erasable, k: usize) -> Option<Seated>
     }
 }
 
-/// Appends what a core set holds: a job's number, in brackets where it sleeps.
-fn add_seat(cell: &mut ArrayString<256>, seat: Option<Seated>)
+/// Whether this is the job that NEWJOB names.
+fn is_named(named: Option<u16>, number: u16) -> bool
+    ensures { result ≡ is_named named number }
+{
+    match named {
+        None => false,
+        Some(other) => other == number,
+    }
+}
+
+/// Appends a job's number and priority.
+fn add_job(cell: &mut ArrayString<256>, seat: Seated)
     requires { length cell.old.bytes + 23 ≤ 256 }
-    ensures text { cell.new.bytes ≡ cell.old.bytes ++ seat_text seat }
+    ensures text { cell.new.bytes ≡ cell.old.bytes ++ job_priority_text seat }
     ensures len { length cell.new.bytes ≤ length cell.old.bytes + 23 }
+{
+    add_number(cell, seat.number as u64);
+    cell.push_str("/");
+    add_priority(cell, seat.priority);
+}
+
+/// Appends what a core set holds: a job, in brackets where it sleeps, and behind `>` where NEWJOB
+/// names it.
+fn add_seat(cell: &mut ArrayString<256>, named: Option<u16>, seat: Option<Seated>)
+    requires { length cell.old.bytes + 26 ≤ 256 }
+    ensures text { cell.new.bytes ≡ cell.old.bytes ++ seat_text named seat }
+    ensures len { length cell.new.bytes ≤ length cell.old.bytes + 26 }
 {
     match seat {
         None => cell.push_str(" ."),
         Some(seat) => {
             if seat.asleep {
                 cell.push_str(" (");
-                add_number(cell, seat.number as u64);
+                add_job(cell, seat);
                 cell.push_str(")");
+            } else if is_named(named, seat.number) {
+                cell.push_str(" >");
+                add_job(cell, seat);
             } else {
                 cell.push_str(" ");
-                add_number(cell, seat.number as u64);
+                add_job(cell, seat);
             }
         }
     }
 }
 
-/// Appends what each core set holds.
-pub(crate) fn add_seats(cell: &mut ArrayString<256>, e: &Erasable)
+/// Appends what each core set holds, where NEWJOB names this job.
+pub(crate) fn add_seats(cell: &mut ArrayString<256>, e: &Erasable, named: Option<u16>)
     requires sized { IsSized e.now }
-    requires room { length cell.old.bytes + 184 ≤ 256 }
-    ensures text { cell.new.bytes ≡ cell.old.bytes ++ flat_map seat_text (seats_in e.now) }
-    ensures len { length cell.new.bytes ≤ length cell.old.bytes + 184 }
+    requires room { length cell.old.bytes + 208 ≤ 256 }
+    ensures text { cell.new.bytes ≡ cell.old.bytes ++ flat_map (seat_text named) (seats_in e.now) }
+    ensures len { length cell.new.bytes ≤ length cell.old.bytes + 208 }
 {
     for k in 0..e.sets().count() {
-        add_seat(cell, seat(e, k));
+        add_seat(cell, named, seat(e, k));
     }
 }
 

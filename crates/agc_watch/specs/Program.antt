@@ -1,7 +1,7 @@
 -- What the program makes of its input.
 use Rattle.std.specs.Prelude.{◌≡◌, ℕ, ◌⊎◌, List, [], ◌∷◌, Option, Result, Ok, Err}
-use Rattle.std.specs.Prelude.{Bool, true, false}
-use Rattle.std.specs.List.{flat_map}
+use Rattle.std.specs.Prelude.{Bool, true, false, ◌≤◌, length}
+use Rattle.std.specs.List.{flat_map, AllByRecursion}
 use Rattle.std.specs.Io.KnownBytes.{Appends}
 use Rattle.toml.specs.Parse.{parse_document}
 use Rattle.agc_document.specs.Benches.{Benched}
@@ -18,6 +18,8 @@ use Rattle.agc_program.specs.Statuses.{status_of}
 use Rattle.agc_lint.specs.Findings.{Found}
 use Rattle.agc_lint.specs.Scripts.{script_findings}
 use Rattle.agc_lint.specs.Sentences.{told}
+use Rattle.agc_lint.specs.Documents.{BenchFound, IsFoundInDocument, IsToldOf}
+use Rattle.agc_lint.specs.Tellings.{told_of_bench}
 use Rattle.agc_trace.specs.Runs.{WritesTrace}
 use Rattle.agc_picture.specs.Pictures.{WritesPicture}
 
@@ -47,7 +49,7 @@ DrawsText text old new (Err (fault.Bench why)) =
 DrawsText text old new (Err why) = ⊥
 
 -- whether nothing was found
-abbrev pub is_nothing : List Found → Bool
+abbrev pub is_nothing : {F : Type 0} → List F → Bool
 is_nothing [] = true
 is_nothing (f ∷ fs) = false
 
@@ -64,13 +66,32 @@ ChecksScript text old new (Err fault.Output) = AppendsFront old new (script_told
 ChecksScript text old new (Err fault.NoMemory) = new ≡ old
 ChecksScript text old new (Err why) = ⊥
 
+-- some are found in this text, at most twenty, each in a line of it: the first why it is no bench;
+-- none where it is one
+pub record IsFoundOf (text : List ℕ) (fs : List BenchFound) : Type 0 where
+  pub told : IsToldOf text fs
+  pub lines : AllByRecursion (IsFoundInDocument text) fs
+  pub few : length fs ≤ 20
+
+-- what comes of checking this text as a bench: what is found is told, and the answer is whether
+-- that is nothing; or a write failed, or there was no memory
+abbrev pub ChecksBench : List ℕ → Option (List ℕ) → Option (List ℕ) → Result Bool Fault → Type 0
+ChecksBench text old new (Ok well) = (fs : List BenchFound) × IsFoundOf text fs
+    × Appends old new (flat_map told_of_bench fs) × (well ≡ is_nothing fs)
+ChecksBench text old new (Err fault.Output) = (fs : List BenchFound) × IsFoundOf text fs
+    × AppendsFront old new (flat_map told_of_bench fs)
+ChecksBench text old new (Err fault.NoMemory) = new ≡ old
+ChecksBench text old new (Err why) = ⊥
+
 -- what comes of checking input: it can't be read, or all of it was read, and checked
-abbrev pub ChecksInput : Option (List ℕ) → Option (List ℕ) → Option (List ℕ) → Option (List ℕ)
+abbrev pub ChecksInput
+    : (List ℕ → Option (List ℕ) → Option (List ℕ) → Result Bool Fault → Type 0)
+    → Option (List ℕ) → Option (List ℕ) → Option (List ℕ) → Option (List ℕ)
     → Result Bool Fault → Type 0
-ChecksInput unread rest old new outcome =
+ChecksInput checks unread rest old new outcome =
     ((why : ReadFault) × (outcome ≡ Err (fault.Read why)) × RefusesInput unread rest why
     × (new ≡ old))
-    ⊎ ((text : List ℕ) × ReadsAll unread rest text × ChecksScript text old new outcome)
+    ⊎ ((text : List ℕ) × ReadsAll unread rest text × checks text old new outcome)
 
 -- the exit status: 2 where the input isn't what it should be
 abbrev pub status_by : Result Bool Fault → ℕ

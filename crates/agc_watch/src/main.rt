@@ -1,5 +1,6 @@
 //! `agc_watch trace` and `agc_watch picture`: tell and draw what the requests of a bench, from
-//! standard input, do to the tables. `agc_watch check --script`: tells what is wrong with a script.
+//! standard input, do to the tables. `agc_watch check`: tells what is wrong with a bench, or with
+//! `--script` what is wrong with a script.
 #![tactic(auto)]
 
 mod mode;
@@ -16,11 +17,11 @@ use std::process::ExitCode;
 /// What the program is called, and which words it takes.
 fn this_program() -> Program
     ensures name { result.name.now ≡ codes "agc_watch" }
-    ensures usage { result.usage.now ≡ codes "use trace, picture or check --script" }
+    ensures usage { result.usage.now ≡ codes "use trace, picture or check" }
 {
     Program {
         name: "agc_watch",
-        usage: "use trace, picture or check --script",
+        usage: "use trace, picture or check",
     }
 }
 

@@ -4,8 +4,8 @@ ghost use Rattle.std.specs.Prelude.{length, true};
 ghost use Rattle.clap.specs.Values.{kind_of};
 ghost use Rattle.clap.specs.declared.error.kind.ErrorKind.TheVariants as kind;
 ghost use Rattle.agc_program.specs.declared.fault.Fault.TheVariants.{NoMemory, Words};
-ghost use Rattle.agc_watch.specs.declared.mode.Asked.TheVariants.{CheckScript, Picture, Text};
-ghost use Rattle.agc_watch.specs.declared.mode.Asked.TheVariants.{Trace};
+ghost use Rattle.agc_watch.specs.declared.mode.Asked.TheVariants.{CheckBench, CheckScript};
+ghost use Rattle.agc_watch.specs.declared.mode.Asked.TheVariants.{Picture, Text, Trace};
 
 use agc_program::{Fault, only_word};
 use clap::error::ErrorKind;
@@ -19,6 +19,8 @@ pub enum Asked {
     Trace,
     /// The picture of a bench.
     Picture,
+    /// What is wrong with a bench.
+    CheckBench,
     /// What is wrong with a script.
     CheckScript,
     /// The help, or the version.
@@ -28,14 +30,17 @@ pub enum Asked {
 /// What a subcommand asks for.
 fn asked_by(name: &str) -> Option<Asked>
     ensures named { IsSome result
-        ↔ ((name.now ≡ codes "trace") ⊎ (name.now ≡ codes "picture")) }
+        ↔ ((name.now ≡ codes "trace") ⊎ (name.now ≡ codes "picture")
+        ⊎ (name.now ≡ codes "check")) }
     ensures trace { name.now ≡ codes "trace" → result ≡ Some Trace }
     ensures picture { name.now ≡ codes "picture" → result ≡ Some Picture }
+    ensures check { name.now ≡ codes "check" → result ≡ Some CheckBench }
     ensures no_script { IfSome result (λ asked. asked ≡ CheckScript → ⊥) }
 {
     match name {
         "trace" => Some(Asked::Trace),
         "picture" => Some(Asked::Picture),
+        "check" => Some(Asked::CheckBench),
         _ => None,
     }
 }
@@ -43,6 +48,7 @@ fn asked_by(name: &str) -> Option<Asked>
 /// What the only word after the program's own name asks for.
 fn asked_alone(matches: &ArgMatches<'_>, words: &[String]) -> Result<Asked, Fault>
     ensures trace { IfOk result (λ asked. asked ≡ Trace → length words.now ≡ 2) }
+    ensures bench { IfOk result (λ asked. asked ≡ CheckBench → length words.now ≡ 2) }
     ensures script { IfOk result (λ asked. asked ≡ CheckScript → length words.now ≡ 3) }
 {
     asked_by(only_word(matches, words)?).ok_or(Fault::Words)
@@ -88,6 +94,7 @@ fn check_command<'a>(alloc: Global) -> Result<Command<'a>, AllocError> {
 /// `Words` for any other words, and `NoMemory`.
 pub fn asked_for(alloc: Global, words: &[String]) -> Result<Asked, Fault>
     ensures trace { IfOk result (λ asked. asked ≡ Trace → length words.now ≡ 2) }
+    ensures bench { IfOk result (λ asked. asked ≡ CheckBench → length words.now ≡ 2) }
     ensures script { IfOk result (λ asked. asked ≡ CheckScript → length words.now ≡ 3) }
 {
     let command = Command::new(alloc, "agc_watch")

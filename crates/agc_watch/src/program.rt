@@ -2,11 +2,11 @@
 ghost use Rattle.std.specs.Prelude.{◌≡◌};
 ghost use Rattle.agc_program.specs.Inputs.{EndsBy};
 ghost use Rattle.agc_watch.specs.Program.{DrawsText, TracesText, is_nothing, ChecksScript};
-ghost use Rattle.agc_watch.specs.Program.{ChecksInput};
+ghost use Rattle.agc_watch.specs.Program.{ChecksInput, ChecksBench};
 
 use crate::mode::{Asked, asked_for};
 use agc_document::read_bench;
-use agc_lint::{Finding, script_findings, tell_all};
+use agc_lint::{bench_findings, script_findings, tell_all, tell_bench};
 use agc_picture::picture;
 use agc_program::{Fault, buffered, flushed, given_words};
 use agc_text::read_all;
@@ -75,7 +75,7 @@ fn run_picture<R: AllocGlobal + Input + Print>(rt: &R) -> Result<(), Fault> {
 }
 
 /// Whether nothing was found.
-fn is_nothing(findings: &[Finding<'_>]) -> bool
+fn is_nothing<T>(findings: &[T]) -> bool
     ensures { result ≡ is_nothing findings.now }
 {
     match findings {
@@ -95,13 +95,37 @@ fn check_script<W: Write>(alloc: Global, text: &str, writer: &mut W) -> Result<b
     }
 }
 
+/// Writes what is wrong with a bench, and answers whether that is nothing.
+fn check_bench<W: Write>(alloc: Global, text: &str, writer: &mut W) -> Result<bool, Fault>
+    ensures { ChecksBench text.now (W.contents writer.old) (W.contents writer.new) result }
+{
+    let found = bench_findings(alloc, text)?;
+    match tell_bench(found.as_slice(), writer) {
+        Ok(()) => Ok(is_nothing(found.as_slice())),
+        Err(_failed) => Err(Fault::Output),
+    }
+}
+
+/// Reads the input whole, and writes what is wrong with its bench.
+fn check_bench_input<R: Read, W: Write>(
+    alloc: Global,
+    reader: &mut R,
+    writer: &mut W,
+) -> Result<bool, Fault>
+    ensures { ChecksInput ChecksBench (R.remaining reader.old) (R.remaining reader.new)
+        (W.contents writer.old) (W.contents writer.new) result }
+{
+    let text = read_all(alloc, reader)?;
+    check_bench(alloc, text.as_str(), writer)
+}
+
 /// Reads the input whole, and writes what is wrong with its script.
 fn check_input<R: Read, W: Write>(
     alloc: Global,
     reader: &mut R,
     writer: &mut W,
 ) -> Result<bool, Fault>
-    ensures { ChecksInput (R.remaining reader.old) (R.remaining reader.new)
+    ensures { ChecksInput ChecksScript (R.remaining reader.old) (R.remaining reader.new)
         (W.contents writer.old) (W.contents writer.new) result }
 {
     let text = read_all(alloc, reader)?;
@@ -116,10 +140,19 @@ fn run_check<R: AllocGlobal + Input + Print>(rt: &R) -> Result<bool, Fault> {
     Ok(is_well)
 }
 
+/// Reads a bench from standard input, and writes what is wrong with it.
+fn run_check_bench<R: AllocGlobal + Input + Print>(rt: &R) -> Result<bool, Fault> {
+    let mut output = buffered(rt)?;
+    let is_well = check_bench_input(rt.alloc(), &mut rt.reader(), &mut output)?;
+    flushed(&mut output)?;
+    Ok(is_well)
+}
+
 /// Runs the program. False where it was asked what is wrong with its input, and something is.
 pub fn run(rt: &(impl Env + AllocGlobal + Input + Print + Eprint)) -> Result<bool, Fault> {
     let given = given_words(rt)?;
     match asked_for(rt.alloc(), given.as_slice())? {
+        Asked::CheckBench => return run_check_bench(rt),
         Asked::CheckScript => return run_check(rt),
         Asked::Trace => run_trace(rt)?,
         Asked::Picture => run_picture(rt)?,

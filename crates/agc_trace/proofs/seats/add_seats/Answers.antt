@@ -10,7 +10,7 @@ use Rattle.agc_trace.proofs.seats.add_seats.Goals as goal
 
 pub loop-k-preserved : goal.loop-k-preserved
 loop-k-preserved c = record {
-  text = one_more seat_text _ _ _ (seats_in c.args.e.now) c.loop-k.k c.seat.result c.seat.ensures c.loop-k.invariant.text c.add_seat.ensures.text;
+  text = one_more (seat_text c.args.named) _ _ _ (seats_in c.args.e.now) c.loop-k.k c.seat.result c.seat.ensures c.loop-k.invariant.text c.add_seat.ensures.text;
   len = omega arith;
   end = c.loop-k.invariant.end;
   eight = c.loop-k.invariant.eight;
@@ -19,4 +19,4 @@ loop-k-preserved c = record {
 pub returns-clause-text : goal.returns-clause-text
 returns-clause-text c =
     let past : length (seats_in c.args.e.now) ≤ c.loop-k.k = rw (length-seats c.args.e.now) (omega arith) in
-    c.loop-k.invariant.text ∙ ap (λ (l : List (Option Seated)). c.args.cell.now.bytes ++ flat_map seat_text l) (take_all c.loop-k.k (seats_in c.args.e.now) past)
+    c.loop-k.invariant.text ∙ ap (λ (l : List (Option Seated)). c.args.cell.now.bytes ++ flat_map (seat_text c.args.named) l) (take_all c.loop-k.k (seats_in c.args.e.now) past)

@@ -7,8 +7,8 @@ use Rattle.agc_trace.proofs.seats.add_seats.Given as goal
 
 abbrev pub invariant-loop-k : goal.invariant-loop-k
 invariant-loop-k l = record {
-  text : l.cell.bytes ≡ l.initial.cell.bytes ++ flat_map seat_text (take l.k (seats_in l.e));
-  len : length l.cell.bytes ≤ length l.initial.cell.bytes + 23 * l.k;
+  text : l.cell.bytes ≡ l.initial.cell.bytes ++ flat_map (seat_text l.named) (take l.k (seats_in l.e));
+  len : length l.cell.bytes ≤ length l.initial.cell.bytes + 26 * l.k;
   end : l.k-end ≡ sets_in l.e;
   eight : l.k-end ≤ 8;
 }

@@ -1,0 +1,77 @@
+// What a trace tells behind the last request: how many were refused.
+ghost use Rattle.std.specs.Prelude.{◌≡◌, ◌+◌, ◌≤◌, ◌++◌, codes, length, if◌then◌else◌};
+ghost use Rattle.agc_trace.specs.Openings.{ending_text, refused_text, requests_text};
+
+use crate::numerals::add_number;
+use crate::runs::Tracer;
+use agc_document::Bench;
+use arrayvec::ArrayString;
+
+/// Appends so many requests.
+fn add_requests(cell: &mut ArrayString<256>, count: u64)
+    requires { length cell.old.bytes + 29 ≤ 256 }
+    ensures text { cell.new.bytes ≡ cell.old.bytes ++ requests_text count }
+    ensures len { length cell.new.bytes ≤ length cell.old.bytes + 29 }
+{
+    add_number(cell, count);
+    if count == 1 {
+        cell.push_str(" request");
+    } else {
+        cell.push_str(" requests");
+    }
+}
+
+/// How many requests were refused for a reason, if any were: the reason, with a number in it.
+fn refused_cell(count: u64, before: &str, number: u64, behind: &str) -> ArrayString<256>
+    requires { length before.now + length behind.now ≤ 190 }
+    ensures text { result.bytes ≡ refused_text count before.now number behind.now }
+    ensures len { length result.bytes ≤ 57 + (length before.now + length behind.now) }
+{
+    let mut cell = ArrayString::new();
+    if count > 0 {
+        cell.push_str("        ");
+        add_requests(&mut cell, count);
+        cell.push_str(before);
+        add_number(&mut cell, number);
+        cell.push_str(behind);
+    }
+    cell
+}
+
+/// How many requests were refused for a full log.
+fn log_full_cell(bench: &Bench, count: u64) -> ArrayString<256>
+    ensures text { result.bytes ≡ refused_text count (codes " refused: log full (limit ")
+        bench.now.limit (codes ")\n") }
+    ensures len { length result.bytes ≤ 120 }
+{
+    refused_cell(
+        count,
+        " refused: log full (limit ",
+        bench.limit().get() as u64,
+        ")\n",
+    )
+}
+
+/// How many requests were refused because all of the allowance was served.
+fn spent_cell(bench: &Bench, count: u64) -> ArrayString<256>
+    ensures text { result.bytes ≡ refused_text count (codes " refused: spent (allowance ")
+        bench.now.allowance (codes ", all served)\n") }
+    ensures len { length result.bytes ≤ 120 }
+{
+    refused_cell(
+        count,
+        " refused: spent (allowance ",
+        bench.allowance(),
+        ", all served)\n",
+    )
+}
+
+/// How many requests of a bench were refused, for each reason.
+#[tactic(auto, unfolding(crate::specs::Openings::ending_text))]
+pub(crate) fn ending_of(bench: &Bench, tracer: &Tracer) -> ArrayString<256>
+    ensures { result.bytes ≡ ending_text bench.now.limit bench.now.allowance tracer.now }
+{
+    let mut ending = log_full_cell(bench, tracer.log_full);
+    ending.push_str(spent_cell(bench, tracer.spent).as_str());
+    ending
+}
