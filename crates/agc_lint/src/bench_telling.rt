@@ -10,11 +10,10 @@ ghost use Rattle.agc_lint.specs.Tellings.{points, front_pieces, told_of_bench};
 
 use crate::bench::BenchFinding;
 use crate::key::Key;
-use crate::numerals::add_number;
 use crate::place::Place;
 use crate::telling::{put_all, sentence, shown};
 use crate::wrong::{KeyFault, TextFault, Wrong};
-use agc_text::{Output, put};
+use agc_text::{Output, add_number, put};
 use arrayvec::ArrayString;
 use std::io::Write;
 

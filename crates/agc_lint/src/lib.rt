@@ -10,7 +10,6 @@ mod kind;
 mod line;
 mod locate;
 mod names;
-mod numerals;
 mod part;
 mod place;
 mod script;

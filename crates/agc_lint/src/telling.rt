@@ -7,8 +7,7 @@ ghost use Rattle.agc_lint.specs.Sentences.{shown, before_text, after_text, told}
 
 use crate::finding::Finding;
 use crate::line::LineFault;
-use crate::numerals::add_number;
-use agc_text::{Output, put};
+use agc_text::{Output, add_number, put};
 use arrayvec::ArrayString;
 use std::io::Write;
 

@@ -10,7 +10,8 @@ ghost use Rattle.agc_picture.specs.Lanes.{set_block, seat_change, set_change, se
 use crate::columns::Column;
 use crate::looks::Look;
 use crate::pieces::{add_from, add_label, add_open};
-use agc_trace::{Seated, add_number, add_priority, add_word, seat};
+use agc_text::{add_number, add_priority, add_word};
+use agc_trace::{Seated, seat};
 use agc_word::Erasable;
 use arrayvec::ArrayString;
 

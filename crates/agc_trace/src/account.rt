@@ -16,11 +16,11 @@ ghost use Rattle.agc_trace.specs.Reading.{seats_in, scene_in};
 use crate::cells::{add_fired, add_request};
 use crate::columns::add_column;
 use crate::lines::add_scene;
-use crate::numerals::{add_number, add_priority, add_word};
 use crate::seats::{Seated, seat};
 use agc_machine::Moment;
 use agc_phase::phases;
 use agc_plan::{Action, Alarm, Fired, Phase, Plan, Request, Task};
+use agc_text::{add_number, add_priority, add_word};
 use agc_word::Erasable;
 use arrayvec::ArrayString;
 

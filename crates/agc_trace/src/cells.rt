@@ -6,9 +6,9 @@ ghost use Rattle.agc_text.specs.Lines.{entry_text, task_text, line_of};
 ghost use Rattle.agc_text.specs.Replies.{alarm_text, runner_text, fired_text, end_text, reply_text};
 ghost use Rattle.agc_text.specs.Replies.{refusal_text};
 
-use crate::numerals::{add_number, add_octal_digit, add_priority, add_word};
 use agc_machine::Refusal;
 use agc_plan::{Alarm, Delay, Entry, Fired, JobNo, Priority, Reply, Request, Task};
+use agc_text::{add_number, add_octal_digit, add_priority, add_word};
 use arrayvec::ArrayString;
 
 fn add_entry(cell: &mut ArrayString<256>, priority: Priority, entry: Entry)

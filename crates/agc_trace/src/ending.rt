@@ -2,9 +2,9 @@
 ghost use Rattle.std.specs.Prelude.{◌≡◌, ◌+◌, ◌≤◌, ◌++◌, codes, length, if◌then◌else◌};
 ghost use Rattle.agc_trace.specs.Openings.{ending_text, refused_text, requests_text};
 
-use crate::numerals::add_number;
 use crate::runs::Tracer;
 use agc_document::Bench;
+use agc_text::add_number;
 use arrayvec::ArrayString;
 
 /// Appends so many requests.

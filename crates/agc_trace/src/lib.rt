@@ -8,7 +8,6 @@ mod columns;
 mod ending;
 mod lines;
 mod newjob;
-mod numerals;
 mod opening;
 mod runs;
 mod seats;
@@ -16,7 +15,6 @@ mod waits;
 
 pub use lines::number_cell;
 pub use newjob::named;
-pub use numerals::{add_number, add_priority, add_word};
 pub use runs::{alarm_of, begins, next_time, one_more, shown, time_at, trace};
 pub use seats::{Seated, owner, seat};
 pub use waits::waiting;

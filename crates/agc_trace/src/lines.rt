@@ -16,12 +16,12 @@ ghost use Rattle.agc_trace.specs.Scenes.{named_of};
 use crate::cells::{add_reply, add_request, refusal_text};
 use crate::columns::add_column;
 use crate::newjob::named;
-use crate::numerals::add_number;
 use crate::seats::{add_owners, add_seats};
 use crate::waits::add_waits;
 use agc_exec::running;
 use agc_machine::{Moment, Refusal};
 use agc_plan::Request;
+use agc_text::add_number;
 use agc_word::Erasable;
 use arrayvec::ArrayString;
 

@@ -15,11 +15,11 @@ ghost use Rattle.agc_word.specs.Layout.{IsSized};
 use crate::account::phases_cell;
 use crate::columns::add_column;
 use crate::lines::{add_scene, number_cell};
-use crate::numerals::{add_number, add_word};
 use agc_document::Bench;
 use agc_machine::{Machine, Moment};
 use agc_phase::recover;
 use agc_plan::Request;
+use agc_text::{add_number, add_word};
 use agc_word::{Erasable, Word};
 use arrayvec::ArrayString;
 

@@ -8,7 +8,7 @@ ghost use Rattle.agc_trace.specs.Lines.{is_named, job_priority_text, seat_text};
 ghost use Rattle.agc_trace.specs.Lines.{owner_of, owner_text, owners_text};
 ghost use Rattle.agc_trace.specs.Reading.{seats_in};
 
-use crate::numerals::{add_number, add_priority};
+use agc_text::{add_number, add_priority};
 use agc_word::Erasable;
 use agc_word::layout::{area_of, set_place};
 use arrayvec::ArrayString;

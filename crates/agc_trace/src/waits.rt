@@ -8,7 +8,7 @@ ghost use Rattle.agc_wait.specs.Table as table;
 ghost use Rattle.agc_wait.specs.Table.{waits_from, waits_of, lst1};
 ghost use Rattle.agc_trace.specs.Lines.{wait_text, waits_text};
 
-use crate::numerals::{add_number, add_word};
+use agc_text::{add_number, add_word};
 use agc_word::Erasable;
 use agc_word::layout::{LST1, LST2, TIME3};
 use arrayvec::ArrayString;

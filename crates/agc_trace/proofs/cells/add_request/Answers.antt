@@ -17,16 +17,16 @@ returns-in-Findvac-clause-text c =
 
 pub returns-in-Sleep-clause-text : goal.returns-in-Sleep-clause-text
 returns-in-Sleep-clause-text c =
-    two c.args.cell.now.bytes c.push_str-in-Sleep.new.self.bytes c.add_word.new.cell.bytes (codes "sleep ") (octal 5 c.in-Sleep.at) c.push_str-in-Sleep.ensures.bytes (rw c.get.ensures.value at c.add_word.ensures.text)
+    two c.args.cell.now.bytes c.push_str-in-Sleep.new.self.bytes c.add_word.new.text.bytes (codes "sleep ") (octal 5 c.in-Sleep.at) c.push_str-in-Sleep.ensures.bytes (rw c.get.ensures.value at c.add_word.ensures.text)
     ∙ ap (λ (r : Request). c.args.cell.now.bytes ++ line_of r) (sym c.in-Sleep.is)
 
 pub returns-in-Rouse-clause-text : goal.returns-in-Rouse-clause-text
 returns-in-Rouse-clause-text c =
-    two c.args.cell.now.bytes c.push_str-in-Rouse.new.self.bytes c.add_word-in-Rouse.new.cell.bytes (codes "rouse ") (octal 5 c.in-Rouse.at) c.push_str-in-Rouse.ensures.bytes (rw c.get-in-Rouse.ensures.value at c.add_word-in-Rouse.ensures.text)
+    two c.args.cell.now.bytes c.push_str-in-Rouse.new.self.bytes c.add_word-in-Rouse.new.text.bytes (codes "rouse ") (octal 5 c.in-Rouse.at) c.push_str-in-Rouse.ensures.bytes (rw c.get-in-Rouse.ensures.value at c.add_word-in-Rouse.ensures.text)
     ∙ ap (λ (r : Request). c.args.cell.now.bytes ++ line_of r) (sym c.in-Rouse.is)
 
 pub returns-in-Store-clause-text : goal.returns-in-Store-clause-text
 returns-in-Store-clause-text c =
-    four c.args.cell.now.bytes c.push_str-in-Store.new.self.bytes c.add_octal_digit.new.cell.bytes c.push_str-in-Store-2.new.self.bytes c.add_word-in-Store.new.cell.bytes (codes "store ") (octal 1 c.in-Store.place) (codes " ") (octal 5 c.in-Store.word)
+    four c.args.cell.now.bytes c.push_str-in-Store.new.self.bytes c.add_octal_digit.new.text.bytes c.push_str-in-Store-2.new.self.bytes c.add_word-in-Store.new.text.bytes (codes "store ") (octal 1 c.in-Store.place) (codes " ") (octal 5 c.in-Store.word)
     c.push_str-in-Store.ensures.bytes (rw c.get-in-Store.ensures.value at c.add_octal_digit.ensures.text) c.push_str-in-Store-2.ensures.bytes (rw c.bits.ensures.value at c.add_word-in-Store.ensures.text)
     ∙ ap (λ (r : Request). c.args.cell.now.bytes ++ line_of r) (sym c.in-Store.is)
