@@ -8,7 +8,7 @@ use Rattle.agc_session.specs.declared.run_fault.RunFault.{RunFault}
 use Rattle.agc_session.specs.declared.run_fault.RunFault.TheVariants.{NoMemory, Output, NoThread}
 use Rattle.agc_session.specs.declared.run_fault.RunFault.TheVariants.{Lost}
 use Rattle.agc_session.specs.Walks.{texts}
-use Rattle.agc_trace.specs.Traces.{Traced, traced, traced_text}
+use Rattle.agc_trace.specs.Traces.{Traced, traced, traced_new, traced_text}
 
 -- what stands above the columns
 abbrev pub heading : List ℕ
@@ -16,7 +16,7 @@ heading = codes "no      time    request                 reply             runni
 
 -- the bench's machine, and nothing was asked
 abbrev pub traced_from : Benched → Traced
-traced_from bench = record { machine = bench_machine bench; asked = 0; time = 0 }
+traced_from bench = traced_new (bench_machine bench)
 
 -- the heading, and the lines of all requests of a bench, in order
 unfoldable pub trace_text : Benched → List ℕ

@@ -23,6 +23,10 @@ pub record Traced : Type 0 where
   pub asked : ℕ
   pub time : ℕ
 
+-- nothing was asked of this machine
+abbrev pub traced_new : Machined → Traced
+traced_new m = record { machine = m; asked = 0; time = 0 }
+
 -- the state in which a request is answered: what it did, before an era begins with it; a refused
 -- one did nothing
 abbrev pub scene_unless : Option Refusal → Machined → Request → Scene

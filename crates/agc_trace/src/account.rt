@@ -191,8 +191,8 @@ fn phases_cell(e: &Erasable) -> ArrayString<256>
     cell
 }
 
-/// Appends phases.
-fn add_phases(cell: &mut ArrayString<256>, phases: &[Phase])
+/// Appends six phases. Source: profile.
+pub fn add_phases(cell: &mut ArrayString<256>, phases: &[Phase])
     requires six { length phases.now ≡ 6 }
     requires room { length cell.old.bytes + 126 ≤ 256 }
     ensures text { cell.new.bytes ≡ cell.old.bytes ++ flat_map count_text phases.now }

@@ -11,8 +11,9 @@ mod runs;
 mod seats;
 mod waits;
 
+pub use account::add_phases;
 pub use lines::number_cell;
 pub use numerals::{add_number, add_priority, add_word};
-pub use runs::{alarm_of, begins, next_time, one_more, shown, time_at, trace};
+pub use runs::{Tracer, alarm_of, begins, next_time, one_more, shown, time_at, trace, tracer_of};
 pub use seats::{Seated, owner, seat};
 pub use waits::waiting;
