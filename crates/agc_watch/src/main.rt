@@ -1,5 +1,5 @@
-//! `agc_watch trace` and `agc_watch picture`: tell and draw what the requests of a bench, from
-//! standard input, do to the tables. `agc_watch check --script`: tells what is wrong with a script.
+//! `agc_watch trace`, `picture` and `page`: tell and draw what the requests of a bench do to the
+//! tables. `agc_watch check --script`: tells what is wrong with a script. Both from standard input.
 #![tactic(auto)]
 
 mod mode;
@@ -16,11 +16,11 @@ use std::process::ExitCode;
 /// What the program is called, and which words it takes.
 fn this_program() -> Program
     ensures name { result.name.now ≡ codes "agc_watch" }
-    ensures usage { result.usage.now ≡ codes "use trace, picture or check --script" }
+    ensures usage { result.usage.now ≡ codes "use trace, picture, page or check --script" }
 {
     Program {
         name: "agc_watch",
-        usage: "use trace, picture or check --script",
+        usage: "use trace, picture, page or check --script",
     }
 }
 
