@@ -1,12 +1,12 @@
 # Completes agc_watch's words in bash.
 _agc_watch() {
-    local commands='trace picture check'
+    local commands='trace picture page check'
     COMPREPLY=()
     case $COMP_CWORD:${COMP_WORDS[1]} in
         1:*) mapfile -t COMPREPLY < <(compgen -W "$commands help --help --version" -- "$2") ;;
         2:help) mapfile -t COMPREPLY < <(compgen -W "$commands" -- "$2") ;;
         2:check) mapfile -t COMPREPLY < <(compgen -W '--script --help' -- "$2") ;;
-        2:trace | 2:picture) mapfile -t COMPREPLY < <(compgen -W '--help' -- "$2") ;;
+        2:trace | 2:picture | 2:page) mapfile -t COMPREPLY < <(compgen -W '--help' -- "$2") ;;
     esac
 }
 complete -o default -F _agc_watch agc_watch

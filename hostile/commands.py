@@ -268,8 +268,8 @@ def starter_of_watch(clone, ended_with):
     clone.expect("before it is built", (0, "tried\n", "takes a minute or two"), "trace", name="agc_watch")
     status, text, _ = clone.run([sys.executable, f"{clone.room}/tools/prove"], "agc_watch")
     clone.hostile.expect(f"tools/prove agc_watch: status {status}, {text}", status == 0)
-    explained = "docs/FORMATS.md says what trace, picture and check read and write"
-    for words in ("trace", "picture", "check", "check --script", "--help", "-V", "help check", "trace --help"):
+    explained = "docs/FORMATS.md says what trace, picture, page and check read and write"
+    for words in ("trace", "picture", "page", "check", "check --script", "--help", "-V", "help check", "trace --help"):
         clone.expect("when it is built", (ended_with, f"ran {words}\n", ""), *words.split(), name="agc_watch")
     for words in ("", "serial", "trace trace"):
         wanted = (ended_with, f"ran {words}".strip() + "\n", explained)

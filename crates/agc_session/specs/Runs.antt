@@ -47,10 +47,14 @@ plan_of bench = record
 abbrev pub bench_plan : Benched → Planned
 bench_plan bench = planned_with (plan_of bench) bench.sets
 
--- the machine of a bench
-unfoldable pub bench_machine : Benched → Machined
-bench_machine bench = begun_with (bench_plan bench) bench.limit bench.allowance
+-- the machine of a bench, on so many core sets
+abbrev pub machine_on : ℕ → Benched → Machined
+machine_on sets bench = begun_with (planned_with (plan_of bench) sets) bench.limit bench.allowance
     (bench_base bench.power)
+
+-- and on as many as the bench says
+unfoldable pub bench_machine : Benched → Machined
+bench_machine bench = machine_on bench.sets bench
 
 -- the requests of a device, one for each of its pulses
 abbrev pub device_requests : Benched → Line × ℕ → List Request

@@ -22,6 +22,7 @@ use Rattle.agc_lint.specs.Documents.{BenchFound, IsFoundInDocument, IsToldOf}
 use Rattle.agc_lint.specs.Tellings.{told_of_bench}
 use Rattle.agc_trace.specs.Runs.{WritesTrace}
 use Rattle.agc_picture.specs.Pictures.{WritesPicture}
+use Rattle.agc_page.specs.Pages.{WritesPage}
 
 -- what was written of this text: the trace of its bench
 abbrev pub TraceOf : List ℕ → Option (List ℕ) → Option (List ℕ) → Result Unit RunFault → Type 0
@@ -47,6 +48,18 @@ DrawsText text old new (Err (fault.Run why)) = PictureOf text old new (Err why)
 DrawsText text old new (Err (fault.Bench why)) =
     RefusesBench (parse_document text) why × (new ≡ old)
 DrawsText text old new (Err why) = ⊥
+
+-- the same of its page
+abbrev pub PageOf : List ℕ → Option (List ℕ) → Option (List ℕ) → Result Unit RunFault → Type 0
+PageOf text old new outcome =
+    (bench : Benched) × IsDocument text bench × WritesPage old new bench outcome
+
+abbrev pub PagesText : List ℕ → Option (List ℕ) → Option (List ℕ) → Result Unit Fault → Type 0
+PagesText text old new (Ok done) = PageOf text old new (Ok done)
+PagesText text old new (Err (fault.Run why)) = PageOf text old new (Err why)
+PagesText text old new (Err (fault.Bench why)) =
+    RefusesBench (parse_document text) why × (new ≡ old)
+PagesText text old new (Err why) = ⊥
 
 -- whether nothing was found
 abbrev pub is_nothing : {F : Type 0} → List F → Bool

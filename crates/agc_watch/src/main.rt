@@ -1,6 +1,6 @@
-//! `agc_watch trace` and `agc_watch picture`: tell and draw what the requests of a bench, from
-//! standard input, do to the tables. `agc_watch check`: tells what is wrong with a bench, or with
-//! `--script` what is wrong with a script.
+//! `agc_watch trace`, `picture` and `page`: tell and draw what the requests of a bench do to the
+//! tables. `agc_watch check`: tells what is wrong with a bench, or with `--script` what is wrong with
+//! a script. All from standard input.
 #![tactic(auto)]
 
 mod mode;
@@ -17,11 +17,11 @@ use std::process::ExitCode;
 /// What the program is called, and which words it takes.
 fn this_program() -> Program
     ensures name { result.name.now ≡ codes "agc_watch" }
-    ensures usage { result.usage.now ≡ codes "use trace, picture or check" }
+    ensures usage { result.usage.now ≡ codes "use trace, picture, page or check" }
 {
     Program {
         name: "agc_watch",
-        usage: "use trace, picture or check",
+        usage: "use trace, picture, page or check",
     }
 }
 

@@ -4,7 +4,7 @@ ghost use Rattle.std.specs.Prelude.{length, true};
 ghost use Rattle.clap.specs.Values.{kind_of};
 ghost use Rattle.clap.specs.declared.error.kind.ErrorKind.TheVariants as kind;
 ghost use Rattle.agc_program.specs.declared.fault.Fault.TheVariants.{NoMemory, Words};
-ghost use Rattle.agc_watch.specs.declared.mode.Asked.TheVariants.{CheckBench, CheckScript};
+ghost use Rattle.agc_watch.specs.declared.mode.Asked.TheVariants.{CheckBench, CheckScript, Page};
 ghost use Rattle.agc_watch.specs.declared.mode.Asked.TheVariants.{Picture, Text, Trace};
 
 use agc_program::{Fault, only_word};
@@ -19,6 +19,8 @@ pub enum Asked {
     Trace,
     /// The picture of a bench.
     Picture,
+    /// The page of a bench.
+    Page,
     /// What is wrong with a bench.
     CheckBench,
     /// What is wrong with a script.
@@ -30,16 +32,18 @@ pub enum Asked {
 /// What a subcommand asks for.
 fn asked_by(name: &str) -> Option<Asked>
     ensures named { IsSome result
-        ↔ ((name.now ≡ codes "trace") ⊎ (name.now ≡ codes "picture")
-        ⊎ (name.now ≡ codes "check")) }
+        ↔ ((name.now ≡ codes "trace") ⊎ ((name.now ≡ codes "picture")
+        ⊎ ((name.now ≡ codes "page") ⊎ (name.now ≡ codes "check")))) }
     ensures trace { name.now ≡ codes "trace" → result ≡ Some Trace }
     ensures picture { name.now ≡ codes "picture" → result ≡ Some Picture }
+    ensures page { name.now ≡ codes "page" → result ≡ Some Page }
     ensures check { name.now ≡ codes "check" → result ≡ Some CheckBench }
     ensures no_script { IfSome result (λ asked. asked ≡ CheckScript → ⊥) }
 {
     match name {
         "trace" => Some(Asked::Trace),
         "picture" => Some(Asked::Picture),
+        "page" => Some(Asked::Page),
         "check" => Some(Asked::CheckBench),
         _ => None,
     }
@@ -105,6 +109,9 @@ pub fn asked_for(alloc: Global, words: &[String]) -> Result<Asked, Fault>
         ))?
         .subcommand(Command::new(alloc, "picture").about(
             "Draws the tables, request by request, as an SVG",
+        ))?
+        .subcommand(Command::new(alloc, "page").about(
+            "Writes a page that steps through the requests in a browser",
         ))?
         .subcommand(check_command(alloc)?)?;
     match command.try_get_matches_from(words) {

@@ -1,12 +1,14 @@
-//! What the program does: the words, the reading, the bench, its trace or picture, in this order.
+//! What the program does: the words, the reading, the bench, its trace, picture or page, in this
+//! order.
 ghost use Rattle.std.specs.Prelude.{◌≡◌};
 ghost use Rattle.agc_program.specs.Inputs.{EndsBy};
-ghost use Rattle.agc_watch.specs.Program.{DrawsText, TracesText, is_nothing, ChecksScript};
-ghost use Rattle.agc_watch.specs.Program.{ChecksInput, ChecksBench};
+ghost use Rattle.agc_watch.specs.Program.{DrawsText, PagesText, TracesText, is_nothing};
+ghost use Rattle.agc_watch.specs.Program.{ChecksScript, ChecksInput, ChecksBench};
 
 use crate::mode::{Asked, asked_for};
 use agc_document::read_bench;
 use agc_lint::{bench_findings, script_findings, tell_all, tell_bench};
+use agc_page::page;
 use agc_picture::picture;
 use agc_program::{Fault, buffered, flushed, given_words};
 use agc_text::read_all;
@@ -59,6 +61,24 @@ fn picture_input<R: Read, W: Write>(
     picture_text(alloc, text.as_str(), writer)
 }
 
+/// Writes the page of a text's bench.
+fn page_text<W: Write>(alloc: Global, text: &str, writer: &mut W) -> Result<(), Fault>
+    ensures { PagesText text.now (W.contents writer.old) (W.contents writer.new) result }
+{
+    let paged = read_bench(alloc, text)?;
+    page(alloc, &paged, writer)?;
+    Ok(())
+}
+
+/// Reads the input whole, and writes the page of its bench.
+fn page_input<R: Read, W: Write>(alloc: Global, reader: &mut R, writer: &mut W) -> Result<(), Fault>
+    ensures { EndsBy PagesText (R.remaining reader.old) (R.remaining reader.new)
+        (W.contents writer.old) (W.contents writer.new) result }
+{
+    let text = read_all(alloc, reader)?;
+    page_text(alloc, text.as_str(), writer)
+}
+
 /// Reads a bench from standard input, and writes its trace through a buffer that is flushed at the
 /// end.
 fn run_trace<R: AllocGlobal + Input + Print>(rt: &R) -> Result<(), Fault> {
@@ -71,6 +91,13 @@ fn run_trace<R: AllocGlobal + Input + Print>(rt: &R) -> Result<(), Fault> {
 fn run_picture<R: AllocGlobal + Input + Print>(rt: &R) -> Result<(), Fault> {
     let mut output = buffered(rt)?;
     picture_input(rt.alloc(), &mut rt.reader(), &mut output)?;
+    flushed(&mut output)
+}
+
+/// Reads a bench from standard input, and writes its page in the same way.
+fn run_page<R: AllocGlobal + Input + Print>(rt: &R) -> Result<(), Fault> {
+    let mut output = buffered(rt)?;
+    page_input(rt.alloc(), &mut rt.reader(), &mut output)?;
     flushed(&mut output)
 }
 
@@ -156,6 +183,7 @@ pub fn run(rt: &(impl Env + AllocGlobal + Input + Print + Eprint)) -> Result<boo
         Asked::CheckScript => return run_check(rt),
         Asked::Trace => run_trace(rt)?,
         Asked::Picture => run_picture(rt)?,
+        Asked::Page => run_page(rt)?,
         Asked::Text(text) => text.print(rt).map_err(|_| Fault::Output)?,
     }
     Ok(true)

@@ -1,0 +1,346 @@
+// The constant parts of a page. Its head names the hashes of its script and style, which
+// tools/page compares and writes anew.
+
+/// What stands before the data: the markup, the style and the script.
+pub(crate) const FRONT: &str = r#"<!DOCTYPE html>
+<html lang="en">
+<head>
+<meta charset="utf-8">
+<meta http-equiv="Content-Security-Policy" content="default-src 'none';
+base-uri 'none'; form-action 'none';
+script-src 'sha256-gJ78bhCbg45iL+fVocLQqQw+C5ZPg2tRofcFZKX4thk=';
+style-src 'sha256-otYAaq+KyfETWw22dQ363biu3BCVFkWSPvMzZDcBfGE='">
+<meta name="viewport" content="width=device-width, initial-scale=1">
+<title>A run, request by request</title>
+<style>
+html{font:100%/1.4 system-ui,sans-serif;color:#000;background:#fff}
+body{margin:0 auto;max-width:80rem;padding:.5rem 1rem}
+h1{font-size:1.2rem;margin:.2rem 0}
+h2{font-size:1rem;margin:1rem 0 .2rem}
+[hidden]{display:none}
+.bar{display:flex;flex-wrap:wrap;gap:.5rem;align-items:center;padding:.4rem 0;background:#fff}
+@media (min-width:60rem){.bar{position:sticky;top:0}}
+button,input{font:inherit;min-height:2.6rem;vertical-align:middle}
+input[type=checkbox]{min-height:0;width:1.5rem;height:1.5rem}
+button{padding:0 .8rem}
+input[type=range]{flex:1 1 12rem;min-width:8rem}
+input[type=search]{width:7rem}
+:focus-visible{outline:3px solid #d55e00;outline-offset:2px}
+.row{font-size:1.4rem;font-weight:bold;margin:.4rem 0;min-height:2.8em}
+.row.alarm{border-left:.6rem solid #c00;padding-left:.6rem}
+.boxes{list-style:none;display:grid;gap:.4rem;padding:0;margin:0;
+grid-template-columns:repeat(auto-fit,minmax(5.4rem,1fr))}
+.boxes li{border:2px solid #555;border-radius:.3rem;padding:.3rem .5rem;background:#eee}
+.boxes b{display:block;font-size:1.3rem}
+.boxes li.runs{border:4px solid #000;padding:calc(.3rem - 2px) calc(.5rem - 2px)}
+.boxes li.asleep{border-style:dashed}
+.free b{font-weight:normal;color:#555}
+progress{width:100%}
+.j1{background:#0072b2!important;color:#fff}.j2{background:#e69f00!important}
+.j3{background:#009e73!important}.j4{background:#cc79a7!important}
+.j5{background:#56b4e9!important}.j6{background:#d55e00!important}
+.j7{background:#f0e442!important}.j8{background:#000!important;color:#fff}
+.s1{background:#a6cee4!important}.s2{background:#f6dda6!important}
+.s3{background:#a6ddce!important}.s4{background:#edd0e0!important}
+.s5{background:#c4e5f7!important}.s6{background:#f0c7a6!important}
+.s7{background:#faf6bd!important}.s8{background:#a6a6a6!important}
+pre{overflow-x:auto;border-left:.6rem solid #c00;padding-left:.6rem}
+.wide{overflow-x:auto}
+table{border-collapse:collapse;font-family:ui-monospace,monospace}
+caption{text-align:left}
+th,td{text-align:left;padding:.1rem .6rem .1rem 0;white-space:nowrap}
+tbody tr{cursor:pointer}
+tr[aria-current]{background:#ff9;font-weight:bold}
+td.alarm{color:#a00;font-weight:bold}
+@media print{.bar,.now{display:none}table{font-size:7pt}th,td{white-space:normal}
+thead{display:table-header-group}tr[aria-current]{background:none;font-weight:normal}}
+</style>
+<script>
+(function () {
+'use strict';
+var runs = [], run, at = 0, around = 6;
+
+function by(id) { return document.getElementById(id); }
+
+// A run: its lines, the places of the requests' lines among them, and those of the words that hold
+// at each.
+function read(id) {
+  var lines = by(id).textContent.split('\n'), rows = [], bases = [], base = -1, i;
+  for (i = 0; i < lines.length; i += 1) {
+    if (/^base /.test(lines[i])) { base = i; }
+    if (/^[0-9]/.test(lines[i])) { rows.push(i); bases.push(base); }
+  }
+  return { lines: lines, rows: rows, bases: bases };
+}
+
+function words(cell) { return cell.split(' ').filter(function (word) { return word !== ''; }); }
+
+// The cells of a request's line, between which stand two spaces or more.
+function cells(i) {
+  var c = run.lines[run.rows[i]].split(/ {2,}/);
+  return { number: c[0], time: c[1], request: c[2], reply: c[3], runs: c[4],
+    sets: words(c[5]), areas: words(c[6]), tasks: words(c[7]), all: c };
+}
+
+// What is told of an alarm, below its line.
+function account(i) {
+  var lines = [], next = run.rows[i] + 1;
+  while (/^ /.test(run.lines[next] || '')) {
+    lines.push(run.lines[next].slice(8).replace(/(\S) {3,}/g, '$1   '));
+    next += 1;
+  }
+  return lines.join('\n');
+}
+
+function is_alarm(c) { return /alarm/.test(c.reply); }
+
+// A core set's job: 7/20 is job 7 with priority 20; in brackets it sleeps, behind a mark NEWJOB
+// names it.
+function job_of(word) {
+  var m = /^([>(]?)([0-9]+)(?:[^0-9)]([0-9]+))?/.exec(word);
+  return m && { number: m[2], priority: m[3], sleeps: m[1] === '(', named: m[1] === '>' };
+}
+
+function element(name, text, style) {
+  var e = document.createElement(name);
+  e.textContent = text;
+  if (style) { e.className = style; }
+  return e;
+}
+
+function fill(id, elements) {
+  var parent = by(id);
+  while (parent.firstChild) { parent.removeChild(parent.firstChild); }
+  elements.forEach(function (e) { parent.appendChild(e); });
+}
+
+function box(name, strong, more, style) {
+  var e = element('li', name, style);
+  e.appendChild(element('b', strong));
+  e.appendChild(element('span', more));
+  return e;
+}
+
+function set_box(word, k, c) {
+  var job = job_of(word), more = [];
+  if (!job) { return box('set ' + k, 'free', '', 'free'); }
+  if (job.priority) { more.push('priority ' + job.priority); }
+  if (k === 0 && job.number === c.runs) { more.push('runs'); }
+  if (job.sleeps) { more.push('asleep'); }
+  if (job.named) { more.push('NEWJOB'); }
+  return box('set ' + k, 'job ' + job.number, more.join(', '),
+    (job.sleeps ? 'asleep s' : 'j') + job.number
+    + (k === 0 && job.number === c.runs ? ' runs' : ''));
+}
+
+function area_box(word, k) {
+  if (word === '.') { return box('area ' + (k + 1), 'free', '', 'free'); }
+  return box('area ' + (k + 1), 'job ' + word, '', 'j' + word);
+}
+
+// The centiseconds that a task still has.
+function left_of(word) { return Number(word.split('+')[1] || 0); }
+
+function task_box(word, k, most) {
+  var m = /^([0-7]+)\+([0-9]+)$/.exec(word || ''), e, bar;
+  if (!m) { return box('place ' + (k + 1), 'free', '', 'free'); }
+  e = box('place ' + (k + 1), m[1], 'in ' + m[2] + ' cs ', '');
+  bar = element('progress', '');
+  bar.max = most;
+  bar.value = left_of(word);
+  bar.setAttribute('aria-hidden', 'true');
+  e.appendChild(bar);
+  return e;
+}
+
+function task_boxes(tasks) {
+  var boxes = [], most = Math.max(1, left_of(tasks[tasks.length - 1])), k;
+  for (k = 0; k < 9; k += 1) { boxes.push(task_box(tasks[k], k, most)); }
+  return boxes;
+}
+
+// The six phases and the three words of FAILREG.
+function draw_base(i) {
+  var w = words(run.lines[run.bases[i]] || '').slice(1);
+  by('base').hidden = w.length === 0;
+  fill('phases', w.slice(0, 6).map(function (word, k) {
+    return box('group ' + (k + 1), word, word === '0' ? 'inactive' : '', '');
+  }));
+  fill('failreg', w.slice(6).map(function (word, k) {
+    return box(['first', 'second', 'latest'][k], word, '', '');
+  }));
+}
+
+function sentence(c) {
+  return 'Request ' + c.number + ' of ' + run.rows.length + ', at ' + c.time + ' cs: '
+    + c.request + '. Reply: ' + c.reply + '. '
+    + (c.runs === '-' ? 'Nobody runs.' : 'Job ' + c.runs + ' runs.');
+}
+
+function line(i) {
+  var c = cells(i), row = element('tr', ''), alarm = is_alarm(c);
+  c.all.forEach(function (cell, k) {
+    row.appendChild(element('td', cell, k === 3 && alarm ? 'alarm' : ''));
+  });
+  if (i === at) { row.setAttribute('aria-current', 'true'); }
+  row.addEventListener('click', function () { go(i); });
+  return row;
+}
+
+// The lines of some requests, made anew each time.
+function table(first, past) {
+  var rows = [], i;
+  for (i = Math.max(first, 0); i < Math.min(past, run.rows.length); i += 1) { rows.push(line(i)); }
+  fill('lines', rows);
+}
+
+function draw() {
+  var c, why;
+  if (run.rows.length === 0) { by('row').textContent = 'The bench asks for nothing.'; return; }
+  c = cells(at);
+  why = account(at);
+  by('row').textContent = sentence(c);
+  by('row').className = is_alarm(c) ? 'row alarm' : 'row';
+  by('slider').value = String(at + 1);
+  by('why').hidden = why === '';
+  by('account').textContent = why;
+  fill('sets', c.sets.map(function (word, k) { return set_box(word, k, c); }));
+  fill('areas', c.areas.map(area_box));
+  fill('tasks', task_boxes(c.tasks));
+  draw_base(at);
+  table(at - around, at + around + 1);
+}
+
+function say(text) { by('said').textContent = text; }
+
+// To request i, counted from 0, or to the first or the last.
+function go(i) {
+  at = Math.max(0, Math.min(i, run.rows.length - 1));
+  say('');
+  draw();
+  try { history.replaceState(null, '', '#' + (at + 1)); } catch (refused) { at = at; }
+}
+
+// To the next request of which this holds, behind the last from the first on.
+function seek(holds, otherwise) {
+  var count = run.rows.length, k, i;
+  for (k = 1; k <= count; k += 1) {
+    i = (at + k) % count;
+    if (holds(cells(i))) { go(i); return; }
+  }
+  say(otherwise);
+}
+
+function next_alarm() { seek(is_alarm, 'There is no alarm.'); }
+
+// A job is found in replies, an address in requests and replies.
+function find() {
+  var text = by('find').value.trim(), sought;
+  if (/^[0-9]{1,2}$/.test(text)) {
+    sought = new RegExp('(job|left|runs|roused) ' + Number(text) + '$');
+    seek(function (c) { return sought.test(c.reply); }, 'No reply names job ' + text + '.');
+  } else if (/^[0-7]{5}$/.test(text)) {
+    sought = new RegExp('[ /]' + text + '([ /]|$)');
+    seek(function (c) { return sought.test(c.request + ' ' + c.reply); },
+      'No request or reply has ' + text + '.');
+  } else {
+    say('Find a job by its number, or an address by its five octal digits.');
+  }
+}
+
+function key(e) {
+  var to = { ArrowLeft: at - 1, ArrowRight: at + 1, Home: 0, End: run.rows.length - 1 };
+  if (e.ctrlKey || e.altKey || e.metaKey) { return; }
+  if (e.target === by('find')) {
+    if (e.key === 'Enter') { find(); }
+    if (e.key === 'Escape') { by('find').blur(); }
+    return;
+  }
+  if (to.hasOwnProperty(e.key)) { go(to[e.key]); }
+  else if (e.key === 'a') { next_alarm(); }
+  else if (e.key === '/') { by('find').focus(); by('find').select(); }
+  else { return; }
+  e.preventDefault();
+}
+
+// The request that the address names, 1 where it names none.
+function from_address() {
+  var number = parseInt(location.hash.slice(1), 10);
+  go(number >= 1 ? number - 1 : 0);
+}
+
+function start() {
+  runs = [read('own'), read('other')];
+  run = runs[0];
+  by('slider').max = String(Math.max(run.rows.length, 1));
+  by('slider').addEventListener('input', function () { go(Number(by('slider').value) - 1); });
+  by('back').addEventListener('click', function () { go(at - 1); });
+  by('on').addEventListener('click', function () { go(at + 1); });
+  by('alarm').addEventListener('click', next_alarm);
+  by('seek').addEventListener('click', find);
+  by('switch').addEventListener('change', function () {
+    run = runs[by('switch').checked ? 1 : 0];
+    draw();
+  });
+  document.addEventListener('keydown', key);
+  window.addEventListener('hashchange', from_address);
+  window.addEventListener('beforeprint', function () { table(0, run.rows.length); });
+  window.addEventListener('afterprint', draw);
+  if (run.rows.length !== 0) {
+    run = runs[1];
+    by('sets-other').textContent = String(cells(0).sets.length);
+    run = runs[0];
+    by('choice').hidden = false;
+    from_address();
+  } else { draw(); }
+}
+
+document.addEventListener('DOMContentLoaded', start);
+}());
+</script>
+</head>
+<body>
+<h1>A run, request by request</h1>
+<noscript><p>The script of this page draws the run. Its lines stand at the end of its source.</p>
+</noscript>
+<div class="bar">
+<button type="button" id="back">&#9664; Back</button>
+<button type="button" id="on">Next &#9654;</button>
+<input type="range" id="slider" min="1" max="1" value="1" aria-label="Request">
+<button type="button" id="alarm">Next alarm</button>
+<label>Find <input type="search" id="find" autocomplete="off"></label>
+<button type="button" id="seek">Find</button>
+<label id="choice" hidden><input type="checkbox" id="switch">
+with <span id="sets-other"></span> core sets</label>
+<span id="said" role="status"></span>
+</div>
+<main class="now">
+<p class="row" id="row" role="status" aria-live="polite"></p>
+<section id="why" hidden><h2>Why the alarm came</h2><pre id="account" tabindex="0"></pre></section>
+<h2>Core sets</h2><ol class="boxes" id="sets"></ol>
+<h2>VAC areas</h2><ol class="boxes" id="areas"></ol>
+<h2>Waitlist</h2><ol class="boxes" id="tasks"></ol>
+<section id="base" hidden>
+<h2>Phases</h2><ol class="boxes" id="phases"></ol>
+<h2>FAILREG</h2><ol class="boxes" id="failreg"></ol>
+</section>
+</main>
+<h2>Lines</h2>
+<div class="wide"><table><thead><tr><th>no</th><th>time</th><th>request</th><th>reply</th>
+<th>running</th><th>sets</th><th>areas</th><th>tasks</th></tr></thead><tbody id="lines"></tbody>
+</table></div>
+<p class="now">Keys: arrows step, Home and End jump, a goes to the next alarm, / finds a job by its
+number or an address.</p>
+<script type="text/plain" id="own">
+"#;
+
+/// What stands between the data of two runs.
+pub(crate) const BETWEEN: &str = r#"</script>
+<script type="text/plain" id="other">
+"#;
+
+/// What stands after the data.
+pub(crate) const END: &str = r#"</script>
+</body>
+</html>
+"#;

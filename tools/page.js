@@ -1,0 +1,178 @@
+// Runs a page's script with a small document, and steps through the page as a reader would:
+// node tools/page.js FILE. It says what isn't as it should be, and ends with status 1 then.
+'use strict';
+const fs = require('fs');
+const vm = require('vm');
+
+const page = fs.readFileSync(process.argv[2], 'utf8');
+const faults = [];
+const expect = (what, holds) => { if (!holds) { faults.push(what); } };
+
+class Element {
+  constructor(name) {
+    this.name = name;
+    this.children = [];
+    this.text = '';
+    this.attributes = {};
+    this.heard = {};
+    this.hidden = false;
+    this.className = '';
+    this.value = '';
+  }
+  get textContent() { return this.text + this.children.map((c) => c.textContent).join(''); }
+  set textContent(text) { this.text = String(text); this.children = []; }
+  get firstChild() { return this.children[0] || null; }
+  appendChild(child) { this.children.push(child); return child; }
+  removeChild(child) { this.children.splice(this.children.indexOf(child), 1); return child; }
+  setAttribute(name, value) { this.attributes[name] = value; }
+  addEventListener(name, hear) { (this.heard[name] = this.heard[name] || []).push(hear); }
+  fire(name, event) { (this.heard[name] || []).forEach((hear) => hear(event || {})); }
+  focus() { world.focused = this; }
+  blur() { world.focused = null; }
+  select() {}
+}
+
+// The elements that the markup names; each text that the script may read is in it.
+const named = {};
+for (const found of page.matchAll(/<(\w+)[^>]*? id="(\w[\w-]*)"[^>]*>/g)) {
+  named[found[2]] = new Element(found[1]);
+  named[found[2]].hidden = / hidden[ >]/.test(found[0]);
+}
+for (const found of page.matchAll(/<script type="text\/plain" id="(\w+)">\n([^<]*)<\/script>/g)) {
+  named[found[1]].textContent = found[2];
+}
+
+const world = { focused: null, address: '' };
+const document = new Element('document');
+document.getElementById = (id) => {
+  if (!named[id]) { throw new Error('no element ' + id); }
+  return named[id];
+};
+document.createElement = (name) => new Element(name);
+const window = new Element('window');
+const location = { hash: '' };
+const history = { replaceState: (state, title, address) => { world.address = address; } };
+const script = /<script>([\s\S]*?)<\/script>/.exec(page)[1];
+
+const begin = (hash) => {
+  document.heard = {};
+  window.heard = {};
+  location.hash = hash;
+  vm.runInNewContext(script, { document, window, location, history });
+  document.fire('DOMContentLoaded');
+};
+const press = (key, target) => {
+  let taken = false;
+  document.fire('keydown', { key, target, preventDefault: () => { taken = true; } });
+  return taken;
+};
+const shown = (id) => named[id].textContent;
+const lines = (id) => shown(id).split('\n').filter((line) => /^[0-9]/.test(line));
+const at = () => Number(world.address.slice(1));
+
+// The phases and FAILREG at each request: told first, and behind a request that changed them; of an
+// alarm, they hold from the next request on.
+const bases_of = (id) => {
+  const bases = [];
+  let base = '';
+  let row = '';
+  shown(id).split('\n').forEach((line) => {
+    if (/^[0-9]/.test(line)) { row = line; bases.push(base); }
+    if (/^base /.test(line)) { base = line; }
+    if (/^base /.test(line) && row && !/alarm/.test(row)) { bases[bases.length - 1] = base; }
+  });
+  return bases;
+};
+const bases = { own: bases_of('own'), other: bases_of('other') };
+
+const own = lines('own');
+const other = lines('other');
+const alarms = own.filter((line) => / {2}(tick[^A-Z]*?)?alarm/.test(line)).map((line) => parseInt(line, 10));
+const count = own.length;
+
+const cells = (line) => line.split(/ {2,}/);
+const is_drawn = (line, id = 'own') => {
+  const [number, time, request, reply, runs, sets, areas, tasks] = cells(line);
+  const row = shown('row');
+  expect(`${number}: the row is ${row}`, row.startsWith(`Request ${number} of ${count}, at ${time} cs: `
+    + `${request}. Reply: ${reply}. `) && row.includes(runs === '-' ? 'Nobody runs' : `Job ${runs} runs`));
+  const seats = sets.trim().split(' ');
+  expect(`${number}: ${seats.length} core sets`, named.sets.children.length === seats.length);
+  seats.forEach((seat, k) => {
+    const job = /[0-9]+/.exec(seat);
+    const text = named.sets.children[k].textContent;
+    expect(`${number}: set ${k} is ${text}`, text.includes(job ? `job ${job[0]}` : 'free')
+      && text.includes('asleep') === seat.startsWith('('));
+  });
+  areas.trim().split(' ').forEach((owner, k) => {
+    const text = named.areas.children[k].textContent;
+    expect(`${number}: area ${text}`, text.includes(owner === '.' ? 'free' : `job ${owner}`));
+  });
+  const waits = tasks.trim() === '-' ? [] : tasks.trim().split(' ');
+  expect(`${number}: nine places`, named.tasks.children.length === 9);
+  named.tasks.children.forEach((place, k) => {
+    const [address, left] = (waits[k] || '').split('+');
+    expect(`${number}: place ${place.textContent}`,
+      place.textContent.includes(waits[k] ? `${address}in ${left} cs` : 'free'));
+  });
+  const words = bases[id][Number(number) - 1].split(' ').slice(1);
+  const told = [...named.phases.children, ...named.failreg.children].map((box) => box.children[0].textContent);
+  expect(`${number}: phases and FAILREG ${told}, not ${words}`, told.join(' ') === words.join(' '));
+  expect(`${number}: an account`, named.why.hidden !== /alarm/.test(reply));
+  const current = named.lines.children.filter((row) => row.attributes['aria-current']);
+  expect(`${number}: one line is current`, current.length === 1
+    && current[0].children.map((cell) => cell.textContent).join('  ') === cells(line).join('  '));
+};
+
+begin('');
+if (count === 0) {
+  expect('an empty bench', /asks for nothing/.test(shown('row')));
+} else {
+  is_drawn(own[0]);
+  press('End', document);
+  is_drawn(own[count - 1]);
+  press('ArrowRight', document);
+  expect('the last request stays', at() === count);
+  press('Home', document);
+  const most = Math.min(count, 300);
+  for (let i = 1; i < most; i += 1) {
+    press('ArrowRight', document);
+    is_drawn(own[i]);
+    expect(`the address is ${world.address}`, at() === i + 1);
+  }
+  press('ArrowLeft', document);
+  expect('back', at() === Math.max(most - 1, 1));
+  press('Home', document);
+  const first = alarms.length === 0 ? 1 : alarms.find((number) => number > 1) || alarms[0];
+  expect('a is taken', press('a', document));
+  expect(`a goes to ${at()}`, at() === first);
+  begin(`#${count}`);
+  is_drawn(own[count - 1]);
+  named.switch.checked = true;
+  named.switch.fire('change');
+  is_drawn(other[count - 1], 'other');
+  named.switch.checked = false;
+  named.switch.fire('change');
+  named.slider.value = '1';
+  named.slider.fire('input');
+  is_drawn(own[0]);
+  expect('/ is taken', press('/', document));
+  expect('/ goes to the field', world.focused === named.find);
+  expect('a letter in the field is a letter', !press('a', named.find) && at() === 1);
+  named.find.value = '99';
+  press('Enter', named.find);
+  expect('no such job', /No reply names job 99/.test(shown('said')));
+  const address = own.findIndex((line) => /\b[0-7]{5}\b/.test(cells(line)[2]));
+  if (address !== -1) {
+    press('End', document);
+    named.find.value = /\b[0-7]{5}\b/.exec(cells(own[address])[2])[0];
+    press('Enter', named.find);
+    expect(`the address is found at ${at()}`, at() === address + 1);
+  }
+  window.fire('beforeprint');
+  expect('all lines are printed', named.lines.children.length === count);
+  window.fire('afterprint');
+  expect('few lines are drawn', named.lines.children.length <= 13);
+}
+faults.slice(0, 20).forEach((fault) => console.log(fault));
+process.exitCode = faults.length === 0 ? 0 : 1;
