@@ -1,6 +1,6 @@
 //! `agc_watch trace`, `picture` and `page`: tell and draw what the requests of a bench do to the
-//! tables. `agc_watch check`: tells what is wrong with a bench, or with `--script` what is wrong with
-//! a script. All from standard input.
+//! tables. `agc_watch check`: tells what is wrong with a bench, or with `--script` what is wrong
+//! with a script. All from standard input.
 #![tactic(auto)]
 
 mod mode;
