@@ -24,42 +24,34 @@ use Rattle.agc_trace.specs.Runs.{WritesTrace}
 use Rattle.agc_picture.specs.Pictures.{WritesPicture}
 use Rattle.agc_page.specs.Pages.{WritesPage}
 
--- what was written of this text: the trace of its bench
-abbrev pub TraceOf : List ℕ → Option (List ℕ) → Option (List ℕ) → Result Unit RunFault → Type 0
-TraceOf text old new outcome =
-    (bench : Benched) × IsDocument text bench × WritesTrace old new bench outcome
+-- what was written of a bench, by what is there before and after, and how it ended
+abbrev pub Writing : Type 1
+Writing = Option (List ℕ) → Option (List ℕ) → Benched → Result Unit RunFault → Type 0
 
--- what comes of this text: its trace is written, or it is no bench, and nothing was written
-abbrev pub TracesText : List ℕ → Option (List ℕ) → Option (List ℕ) → Result Unit Fault → Type 0
-TracesText text old new (Ok done) = TraceOf text old new (Ok done)
-TracesText text old new (Err (fault.Run why)) = TraceOf text old new (Err why)
-TracesText text old new (Err (fault.Bench why)) =
+-- it was written of the bench of this text
+abbrev pub WrittenOf : Writing → List ℕ → Option (List ℕ) → Option (List ℕ) → Result Unit RunFault
+    → Type 0
+WrittenOf writes text old new outcome =
+    (bench : Benched) × IsDocument text bench × writes old new bench outcome
+
+-- what comes of this text: it is written of its bench; or it is no bench, and nothing was written
+abbrev pub ComesOf : Writing → List ℕ → Option (List ℕ) → Option (List ℕ) → Result Unit Fault
+    → Type 0
+ComesOf writes text old new (Ok done) = WrittenOf writes text old new (Ok done)
+ComesOf writes text old new (Err (fault.Run why)) = WrittenOf writes text old new (Err why)
+ComesOf writes text old new (Err (fault.Bench why)) =
     RefusesBench (parse_document text) why × (new ≡ old)
-TracesText text old new (Err why) = ⊥
+ComesOf writes text old new (Err why) = ⊥
 
--- the same of its picture
-abbrev pub PictureOf : List ℕ → Option (List ℕ) → Option (List ℕ) → Result Unit RunFault → Type 0
-PictureOf text old new outcome =
-    (bench : Benched) × IsDocument text bench × WritesPicture old new bench outcome
+-- its bench is traced, drawn, or made a page
+abbrev pub TracesText : List ℕ → Option (List ℕ) → Option (List ℕ) → Result Unit Fault → Type 0
+TracesText = ComesOf WritesTrace
 
 abbrev pub DrawsText : List ℕ → Option (List ℕ) → Option (List ℕ) → Result Unit Fault → Type 0
-DrawsText text old new (Ok done) = PictureOf text old new (Ok done)
-DrawsText text old new (Err (fault.Run why)) = PictureOf text old new (Err why)
-DrawsText text old new (Err (fault.Bench why)) =
-    RefusesBench (parse_document text) why × (new ≡ old)
-DrawsText text old new (Err why) = ⊥
-
--- the same of its page
-abbrev pub PageOf : List ℕ → Option (List ℕ) → Option (List ℕ) → Result Unit RunFault → Type 0
-PageOf text old new outcome =
-    (bench : Benched) × IsDocument text bench × WritesPage old new bench outcome
+DrawsText = ComesOf WritesPicture
 
 abbrev pub PagesText : List ℕ → Option (List ℕ) → Option (List ℕ) → Result Unit Fault → Type 0
-PagesText text old new (Ok done) = PageOf text old new (Ok done)
-PagesText text old new (Err (fault.Run why)) = PageOf text old new (Err why)
-PagesText text old new (Err (fault.Bench why)) =
-    RefusesBench (parse_document text) why × (new ≡ old)
-PagesText text old new (Err why) = ⊥
+PagesText = ComesOf WritesPage
 
 -- whether nothing was found
 abbrev pub is_nothing : {F : Type 0} → List F → Bool
