@@ -8,8 +8,8 @@ ghost use Rattle.agc_picture.specs.Lanes.{areas_change};
 
 use crate::columns::Column;
 use crate::looks::Look;
-use crate::numerals::add_number;
 use crate::pieces::{add_from, add_open};
+use agc_text::add_number;
 use agc_trace::owner;
 use agc_word::Erasable;
 use arrayvec::ArrayString;

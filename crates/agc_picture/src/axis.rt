@@ -4,8 +4,8 @@ ghost use Rattle.std.specs.Fmt.{decimal};
 ghost use Rattle.agc_picture.specs.Marks.{above_text, axis_text};
 
 use crate::columns::Column;
-use crate::numerals::add_number;
 use crate::pieces::add_place;
+use agc_text::add_number;
 use arrayvec::ArrayString;
 
 /// Appends a number above the lanes.

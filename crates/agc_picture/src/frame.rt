@@ -6,7 +6,7 @@ ghost use Rattle.agc_picture.specs.Frames.{width_of, height_of, view_text, size_
 ghost use Rattle.agc_picture.specs.Frames.{ground, strong, pale, style, name_text, set_name};
 ghost use Rattle.agc_picture.specs.Frames.{upper_names, legend, lower_names, names_text, head_text};
 
-use crate::numerals::add_number;
+use agc_text::add_number;
 use arrayvec::ArrayString;
 
 /// How wide the columns of so many requests are, in points.

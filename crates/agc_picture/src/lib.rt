@@ -11,7 +11,6 @@ mod drawing;
 mod frame;
 mod looks;
 mod marks;
-mod numerals;
 mod pieces;
 mod runner;
 mod sets;

@@ -3,9 +3,9 @@ ghost use Rattle.std.specs.Prelude.{◌≡◌, ◌+◌, ◌≤◌, ◌++◌, len
 ghost use Rattle.agc_picture.specs.Marks.{mark_look, mark_name, line_text, name_text};
 ghost use Rattle.agc_picture.specs.Marks.{mark_text};
 
-use crate::numerals::add_number;
 use crate::pieces::add_place;
 use agc_plan::Alarm;
+use agc_text::add_number;
 use arrayvec::ArrayString;
 
 fn alarm_look(alarm: Alarm) -> &'static str

@@ -6,7 +6,7 @@ ghost use Rattle.agc_picture.specs.Pieces.{open_text, from_text};
 
 use crate::columns::Column;
 use crate::looks::Look;
-use crate::numerals::add_number;
+use agc_text::add_number;
 use arrayvec::ArrayString;
 
 /// Appends where something stands.

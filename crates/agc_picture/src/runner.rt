@@ -7,9 +7,9 @@ ghost use Rattle.agc_picture.specs.Lanes.{runs_change};
 use crate::areas::is_same_number;
 use crate::columns::Column;
 use crate::looks::Look;
-use crate::numerals::add_number;
 use crate::pieces::{add_from, add_open};
 use agc_exec::running;
+use agc_text::add_number;
 use agc_word::Erasable;
 use arrayvec::ArrayString;
 

@@ -5,8 +5,8 @@ ghost use Rattle.agc_picture.specs.Lanes.{tasks_change};
 
 use crate::columns::Column;
 use crate::looks::Look;
-use crate::numerals::add_number;
 use crate::pieces::{add_from, add_label, add_open};
+use agc_text::add_number;
 use arrayvec::ArrayString;
 
 /// Appends how many tasks wait.

@@ -13,7 +13,6 @@ mod runs;
 mod seats;
 mod waits;
 
-pub use lines::number_cell;
 pub use newjob::named;
 pub use runs::{Tracer, alarm_of, begins, next_time, one_more, shown, time_at, trace, tracer_of};
 pub use seats::{Seated, owner, seat};

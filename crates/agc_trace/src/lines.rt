@@ -25,8 +25,8 @@ use agc_text::add_number;
 use agc_word::Erasable;
 use arrayvec::ArrayString;
 
-/// A number in decimal. Source: profile.
-pub fn number_cell(number: u64) -> ArrayString<256>
+/// A number in decimal.
+pub(crate) fn number_cell(number: u64) -> ArrayString<256>
     ensures text { result.bytes ≡ decimal number }
     ensures len { length result.bytes ≤ 20 }
 {
