@@ -1,9 +1,11 @@
 //! The words of the command line.
-ghost use Rattle.std.specs.Prelude.{◌≡◌, ◌⊎◌, ◌↔◌, IfErr, IfOk, IfSome, IsSome, Some, codes};
+ghost use Rattle.std.specs.Prelude.{◌≡◌, ◌⊎◌, ◌↔◌, IfErr, IfOk, IfSome, IsSome, Ok, Some, codes};
 ghost use Rattle.std.specs.Prelude.{length, true};
+ghost use Rattle.clap.specs.Matches.{subcommand_name_of};
 ghost use Rattle.clap.specs.Values.{kind_of};
 ghost use Rattle.clap.specs.declared.error.kind.ErrorKind.TheVariants as kind;
 ghost use Rattle.agc_program.specs.declared.fault.Fault.TheVariants.{NoMemory, Words};
+ghost use Rattle.agc_watch.specs.Words.{IsOneWord};
 ghost use Rattle.agc_watch.specs.declared.mode.Asked.TheVariants.{CheckBench, CheckScript, Page};
 ghost use Rattle.agc_watch.specs.declared.mode.Asked.TheVariants.{Picture, Text, Trace};
 
@@ -51,9 +53,16 @@ fn asked_by(name: &str) -> Option<Asked>
 
 /// What the only word after the program's own name asks for.
 fn asked_alone(matches: &ArgMatches<'_>, words: &[String]) -> Result<Asked, Fault>
-    ensures trace { IfOk result (λ asked. asked ≡ Trace → length words.now ≡ 2) }
-    ensures bench { IfOk result (λ asked. asked ≡ CheckBench → length words.now ≡ 2) }
+    ensures alone { IfOk result (λ asked. IsOneWord asked → length words.now ≡ 2) }
     ensures script { IfOk result (λ asked. asked ≡ CheckScript → length words.now ≡ 3) }
+    ensures trace { length words.now ≡ 2
+        → subcommand_name_of matches.now ≡ Some (codes "trace") → result ≡ Ok Trace }
+    ensures picture { length words.now ≡ 2
+        → subcommand_name_of matches.now ≡ Some (codes "picture") → result ≡ Ok Picture }
+    ensures page { length words.now ≡ 2
+        → subcommand_name_of matches.now ≡ Some (codes "page") → result ≡ Ok Page }
+    ensures check { length words.now ≡ 2
+        → subcommand_name_of matches.now ≡ Some (codes "check") → result ≡ Ok CheckBench }
 {
     asked_by(only_word(matches, words)?).ok_or(Fault::Words)
 }
@@ -69,6 +78,8 @@ fn is_check_of_script(words: &[String]) -> bool
 fn asked_of(error: Error) -> Result<Asked, Fault>
     ensures text { IfOk result (λ asked. (asked ≡ Text error)
         × ((kind_of error ≡ kind.DisplayHelp) ⊎ (kind_of error ≡ kind.DisplayVersion))) }
+    ensures help { kind_of error ≡ kind.DisplayHelp → result ≡ Ok (Text error) }
+    ensures version { kind_of error ≡ kind.DisplayVersion → result ≡ Ok (Text error) }
     ensures refused { IfErr result (λ e. (e ≡ Words) ⊎ (e ≡ NoMemory)) }
 {
     match error.kind() {
@@ -97,8 +108,7 @@ fn check_command<'a>(alloc: Global) -> Result<Command<'a>, AllocError> {
 ///
 /// `Words` for any other words, and `NoMemory`.
 pub fn asked_for(alloc: Global, words: &[String]) -> Result<Asked, Fault>
-    ensures trace { IfOk result (λ asked. asked ≡ Trace → length words.now ≡ 2) }
-    ensures bench { IfOk result (λ asked. asked ≡ CheckBench → length words.now ≡ 2) }
+    ensures alone { IfOk result (λ asked. IsOneWord asked → length words.now ≡ 2) }
     ensures script { IfOk result (λ asked. asked ≡ CheckScript → length words.now ≡ 3) }
 {
     let command = Command::new(alloc, "agc_watch")
