@@ -130,6 +130,7 @@ impl<N: Names> Desk<N> {
         ensures kept { IsKept self.now.lines }
         ensures pulses { ArePulses N.first.plan self.now.history self.now.lines.applied }
     {
+        // Reading a field brings what its type always says into the proof.
         let _ = self.machine.totals();
         let _ = self.lines.owed();
     }

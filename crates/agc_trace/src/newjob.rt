@@ -27,8 +27,8 @@ fn number_behind(e: &Erasable, k: usize) -> Option<u16>
     }
 }
 
-/// The number of the job that NEWJOB names: the best, where it is strictly more urgent than the one
-/// that runs. Source: the listings' EXECUTIVE section; numbers: profile.
+/// The number, 1 to 8, of the job that NEWJOB names: the best, where it is strictly more urgent
+/// than the one that runs; else none. Source: the listings' EXECUTIVE section; numbers: profile.
 pub fn named(e: &Erasable) -> Option<u16>
     requires sized { IsSized e.now }
     requires lawful { IsLawfulWords e.now }
