@@ -79,9 +79,6 @@ cleared-lawful words sized free uses newjob =
       newjob = newjob ∙ sym (newjob_of-none (sets_of words) (empty-standing (sets_of words) e).lawful (λ j s lt at. absurd (e j s at)));
     }
 
-pub AllFree-same : (old new : List ℕ) → blocks_of new ≡ blocks_of old → AllFree old → AllFree new
-AllFree-same old new e free = rw e free
-
 -- one more set
 pub AllFree-more : (old new : List ℕ) (k : ℕ) (block : List ℕ) → k < length (blocks_of old) → blocks_of new ≡ slice_set (blocks_of old) k block → held_of block ≡ None → ((j : ℕ) → j < k → held_of (slice_index_or (blocks_of old) j []) ≡ None) → (j : ℕ) → j < k + 1 → held_of (slice_index_or (blocks_of new) j []) ≡ None
 AllFree-more old new k block lt blocks here free j lt_j = rw blocks (elim (cases_eq j k) [
