@@ -1,5 +1,5 @@
 -- What is told of a line is what was asked for it.
-use Rattle.std.proofs.Common.{◌≡◌, ◌≢◌, ◌⊎◌, ◌&&◌, ◌==◌, ℕ, ◌+◌, Bool, true, false, cond, true≢false, is_ok, is_some, List, [], ◌∷◌, ◌++◌, length, Option, None, Some, Result, Ok, Err, IfSome, IsSome, refl, sym, ap, ◌∙◌, subst, ⊎_elim, inl, inr, arith}
+use Rattle.std.proofs.Common.{◌≡◌, ◌≢◌, ◌⊎◌, ◌&&◌, ◌==◌, ℕ, ◌+◌, Bool, true, false, cond, true≢false, is_ok, is_some, List, [], ◌∷◌, ◌++◌, length, Option, None, Some, Result, Ok, Err, IfSome, refl, sym, ap, ◌∙◌, subst, ⊎_elim, inl, inr, arith}
 use Rattle.std.specs.List.{filter}
 use Rattle.std.proofs.lemmas.Bool.Decides.{nat_tests}
 use Rattle.std.proofs.lemmas.List.{length-append}
@@ -8,7 +8,7 @@ use Rattle.std.proofs.lemmas.List.Sums.{length-filter}
 use Rattle.agc_latch.specs.declared.line.Line.{Line}
 use Rattle.agc_latch.specs.declared.line.Line.TheVariants.{Timer, Key, Radar}
 use Rattle.agc_latch.specs.Accounts.{Applies, LineAccounts}
-use Rattle.agc_latch.specs.Lines.{on, word_of, zeros}
+use Rattle.agc_latch.specs.Lines.{on, word_of}
 use Rattle.agc_plan.specs.declared.reply.Reply.{Reply}
 use Rattle.agc_plan.specs.declared.request.Request.{Request}
 use Rattle.agc_plan.specs.declared.request.Task.{Task}
@@ -109,12 +109,3 @@ unasked plan calls line n old now before idle applies = record {
       (λ (far : word_of other ≢ word_of line). applies.other_applied other (λ e. far (ap word_of e)) ∙ before.counted other some)
       (which other line);
 }
-
--- nothing was asked, and nothing applied
-pub none_asked : (plan : Planned) → ArePulses plan [] zeros
-none_asked plan = record { each = λ k d below. absurd (omega (arith, below)); counted = none }
-  where
-    none : (line : Line) → IsSome (pulse_request plan line) → on line zeros ≡ applied_in line []
-    none Timer some = refl
-    none Key some = refl
-    none Radar some = refl

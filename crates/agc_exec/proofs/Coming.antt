@@ -10,7 +10,7 @@ use Rattle.std.proofs.lemmas.Grind.{common_steps}
 use Rattle.agc_plan.specs.declared.request.Entry.{Entry}
 use Rattle.agc_plan.specs.declared.reply.Reply.{Reply}
 use Rattle.agc_plan.specs.declared.reply.Reply.TheVariants.{Established}
-use Rattle.agc_plan.specs.Jobs.{Jobs, Outcome, least_unused, establish_at, new_job, best, novac, is_owned, established}
+use Rattle.agc_plan.specs.Jobs.{Jobs, Outcome, least_unused, establish_at, new_job, best, is_owned, established}
 use Rattle.agc_plan.specs.Places.{place_of, with_new, placed_new}
 use Rattle.agc_exec.specs.Held.{Held}
 use Rattle.agc_exec.specs.Blocks.{blocks_of}
@@ -20,7 +20,7 @@ use Rattle.agc_exec.proofs.Bests.{place_of_number, running_in-awake}
 use Rattle.agc_exec.proofs.Arriving.{Arrives, Arrives-made, arrived-lawful, Gives-busy, Gives-idle, running_in-found, written-entries, least_unused-fits}
 use Rattle.agc_exec.proofs.Decoding.{job_with, held_of-new, sets_of-set, swap-same, Each-new, Each-fronted, Each-set}
 use Rattle.agc_exec.proofs.Finishing.{Near, sets_of-same}
-use Rattle.agc_exec.proofs.Owners.{SameOwners-set, is_owned-new}
+use Rattle.agc_exec.proofs.Owners.{is_owned-new}
 use Rattle.std.proofs.lemmas.Bool.{cases_eq}
 
 -- who runs already stands in set 0
@@ -73,29 +73,9 @@ pub words-busy : (old mid : List ℕ) (k number priority : ℕ) (entry : Entry) 
 words-busy old mid k number priority entry area c =
     rw (← came-entries old mid k number priority entry area c, ← came-blocks old mid k number priority entry area c) (sym (fronted-stays (sets_of mid) (blocks_of mid) (came-lawful old mid k number priority entry area c)))
 
--- a job without an area owns none
-owners-new : (o : Option ℕ) (priority : ℕ) (entry : Entry) (jobs : Jobs) → o ≡ least_unused 1 jobs.slots → SameOwners jobs.slots (establish_at o (new_job priority entry 0) jobs).jobs.slots
-owners-new None priority entry jobs e area low = refl
-owners-new (Some number) priority entry jobs e area low =
-    let (least, most, free) = least_unused-fits 1 jobs.slots number (sym e) in
-    SameOwners-set jobs.slots (number - 1) (Some (new_job priority entry 0)) (rw free) area low
-
 pub uses-kept : (old new : List ℕ) → UsesAgree old (slots_of (sets_of old)) → SameOwners (slots_of (sets_of old)) (slots_of (sets_of new)) → Keeps OutsideSets old new → UsesAgree new (slots_of (sets_of new))
 uses-kept old new uses same others area low high =
     others.words (use_place area) (omega arith, omega arith) ∙ uses area low high ∙ rw (same area low)
-
-pub Near-novac : (old mid : List ℕ) (priority : ℕ) (entry : Entry) (reply : Reply) → IsLawfulWords old → Gives (novac priority entry (jobs_in old)) (placed_new (established reply) (running_in (sets_of mid)) (entries_in old)) (sets_of mid) reply → blocks_of mid ≡ blocks_new (established reply) priority entry 0 (running_in (sets_of mid)) (entries_in old) (blocks_of old) → Each IsLawfulBlock (blocks_of mid) → Keeps OutsideSets old mid → Near (novac priority entry (jobs_in old)) (placed_new (established reply) (running_in (sets_of mid)) (entries_in old)) (blocks_new (established reply) priority entry 0 (running_in (sets_of mid)) (entries_in old) (blocks_of old)) old mid reply
-Near-novac old mid priority entry reply lawful gives words coded others =
-    let slots : slots_of (sets_of mid) ≡ (novac priority entry (jobs_in old)).jobs.slots = ap (λ (o : Outcome). o.jobs.slots) gives.outcome_is in
-    let owners : SameOwners (slots_of (sets_of old)) (slots_of (sets_of mid)) = rw slots (owners-new (least_unused 1 (slots_of (sets_of old))) priority entry (jobs_in old) refl) in
-    record {
-      gives = gives;
-      words = words;
-      coded = coded;
-      uses = uses-kept old mid lawful.uses owners others;
-      tidy = λ t. rw words (Each-new IsTidyBlock (established reply) priority entry 0 (running_in (sets_of mid)) (entries_in old) (blocks_of old) t (λ number e r is. (refl, refl)));
-      others = sets_kept old mid others;
-    }
 
 pub coded-new : (number priority : ℕ) (entry : Entry) (area : ℕ) (running : Option ℕ) (entries : List ℕ) (blocks : List (List ℕ)) (block : List ℕ) → Each IsLawfulBlock blocks → block ≡ new_block number priority entry area → IsLawfulBlock block → Each IsLawfulBlock (blocks_new (Some number) priority entry area running entries blocks)
 coded-new number priority entry area running entries blocks block each is here =

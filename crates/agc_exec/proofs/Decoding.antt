@@ -11,7 +11,7 @@ use Rattle.agc_plan.specs.Places.{place_of, with_new}
 use Rattle.agc_exec.specs.Held.{Held}
 use Rattle.agc_exec.specs.Blocks.{block_in, blocks_of}
 use Rattle.agc_exec.specs.Sets.{Holds}
-use Rattle.agc_exec.specs.Image.{record_of, held_by, held_of, sets_of, urgency_word, priority_word, IsSet, Each}
+use Rattle.agc_exec.specs.Image.{record_of, held_by, held_of, sets_of, urgency_word, priority_word, Each}
 use Rattle.agc_exec.proofs.Reading.{length-blocks_of, get-blocks_of, get-block_in}
 use Rattle.agc_exec.proofs.Swaps.{map-swap, Holds-within}
 
@@ -148,9 +148,3 @@ number_word words k r at =
     let held : held_of (block_in words k) ≡ Some r = held_at words k None lt ∙ at in
     let zero_is : set_place k + 0 ≡ set_place k = omega arith in
     ap (slice_index words) (sym zero_is) ∙ sym (get-block_in words k 0 0 (omega arith)) ∙ sym (ap (λ h. h.number) (held_of-fields (block_in words k) r held))
-
-pub job_numbers : (words : List ℕ) (k : ℕ) (r : Held) → IsSet words → Holds (sets_of words) k r → (1 ≤ r.number) × (r.number ≤ 8)
-job_numbers words k r set at =
-    let (least, most) = IsSet-lengths words set.sized in
-    let high : r.number ≤ length (sets_of words) = set.standing.lawful.high k r at in
-    (set.standing.lawful.low k r at, omega arith)

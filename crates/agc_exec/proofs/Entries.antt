@@ -1,16 +1,8 @@
-use Rattle.std.proofs.Common.{◌≡◌, ◌≢◌, ℕ, zero, suc, ◌+◌, ◌<◌, ◌≤◌, ◌==◌, false, List, [], ◌∷◌, Option, Some, None, length, slice_index_or, drop, ap, ◌∙◌, arith}
-use Rattle.std.proofs.lemmas.List.{drop_more}
+use Rattle.std.proofs.Common.{◌≡◌, ◌≢◌, ℕ, zero, suc, ◌<◌, List, [], ◌∷◌, Option, None, length, slice_index_or, arith}
 use Rattle.std.proofs.lemmas.Grind.{common_steps}
 use Rattle.agc_plan.specs.Places.{place_of}
 use Rattle.agc_exec.specs.Held.{Held}
-use Rattle.agc_exec.specs.Sets.{number_in, entries_of, Holds}
-
--- a job's set isn't the first free one
-pub place_of-further : (sets : List (Option Held)) (k : ℕ) (r : Held) → k < length sets → Holds sets k r → 1 ≤ r.number → place_of 0 (entries_of (drop k sets)) ≡ suc (place_of 0 (entries_of (drop (k + 1) sets)))
-place_of-further sets k r lt at low =
-    let d : drop k sets ≡ Some r ∷ drop (k + 1) sets = drop_more sets k None lt ∙ ap (λ x. x ∷ drop (k + 1) sets) at in
-    let no : (r.number == 0) ≡ false = grind (arith, common_steps) in
-    rw (d, no)
+use Rattle.agc_exec.specs.Sets.{number_in, entries_of}
 
 -- set k is the first with this number
 pub place_of-at : (sets : List (Option Held)) (n k : ℕ) → k < length sets → number_in (slice_index_or sets k None) ≡ n → ((j : ℕ) → j < k → number_in (slice_index_or sets j None) ≢ n) → place_of n (entries_of sets) ≡ k

@@ -9,7 +9,7 @@ use Rattle.agc_exec.specs.Held.{Held}
 use Rattle.agc_exec.specs.Blocks.{block_in, blocks_of}
 use Rattle.agc_exec.specs.Image.{minus_zero, sign, record_of, held_by, sets_of, IsCoded, IsSet}
 use Rattle.agc_exec.specs.Sets.{number_in, Holds, IsFronted, running_in}
-use Rattle.agc_exec.specs.Stages.{unsigned, AreSound, IsSoundAt, AreSoundSets, area_held, Differs, AllApart, NobodyAwake, FrontRuns, owned_in}
+use Rattle.agc_exec.specs.Stages.{unsigned, AreSound, IsSoundAt, AreSoundSets, area_held, AllApart, NobodyAwake, FrontRuns, owned_in}
 use Rattle.agc_exec.proofs.Bests.{running_in-awake}
 use Rattle.agc_exec.proofs.Decoding.{held_at, length-sets, urgency_word-parts}
 use Rattle.agc_exec.proofs.Ranks.{at_words, held_by-free, held_by-awake, held_by-asleep, held_asleep}
@@ -115,9 +115,6 @@ set_sound words all set k lt =
     job_sound words k (omega arith) (λ r here.
     let high : r.number ≤ length (sets_of words) = set.standing.lawful.high k r here in
     record { coded = (block_held words k r set here).1; low = set.standing.lawful.low k r here; high = omega arith })
-
-differs_by : (x y : ℕ) → (0 < x → x ≡ y → ⊥) → Differs x y
-differs_by x y h = h
 
 -- and share nothing
 pub set_apart : (words : List ℕ) → IsSet words → AllApart (sets_of words)

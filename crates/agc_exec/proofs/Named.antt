@@ -130,12 +130,6 @@ named sets job standing here awake =
               inl (is ∙ rw no, GivesWay-none sets b.0 job b.1 standing here awake h no)
         ]
 
-pub named-none : (sets : List (Option Held)) (job : Held) (w : ℕ) → IsStanding sets → Holds sets 0 job → job.asleep ≡ false → w ≡ newjob_of sets → w ≡ 0 → GivesWay job.number sets sets job.number
-named-none sets job w standing here awake e z = elim (named sets job standing here awake) [
-  | inl both ↦ both.1
-  | inr some ↦ absurd (omega arith)
-]
-
 pub named-some : (sets : List (Option Held)) (job : Held) (w : ℕ) → IsStanding sets → Holds sets 0 job → job.asleep ≡ false → w ≡ newjob_of sets → w ≢ 0 → Waits sets job (w / 12)
 named-some sets job w standing here awake e z = elim (named sets job standing here awake) [
   | inl both ↦ absurd (z (e ∙ both.0))

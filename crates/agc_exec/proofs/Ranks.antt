@@ -85,9 +85,6 @@ IsMost-more f n most next e h = elim (cases_lt most next) [
       })
 ]
 
-pub IsMost-none : (f : ℕ → ℕ) → IsMost f 0 0
-IsMost-none f = record { bound = λ j lt. absurd (omega arith); found = inl refl }
-
 bool_cases : (b : Bool) → (b ≡ true) ⊎ (b ≡ false)
 bool_cases true = inl refl
 bool_cases false = inr refl

@@ -1,9 +1,8 @@
 -- What the searches in the plain list of jobs find.
 use Rattle.std.proofs.Common.{◌≡◌, ◌⊎◌, ℕ, zero, suc, ◌+◌, ◌<◌, ◌≤◌, Bool, true, false, List, [], ◌∷◌, Option, Some, None, length, slice_index_or, refl, inl, inr, is_some, nat_lt, arith}
-use Rattle.std.proofs.lemmas.Bool.{cases_eq}
 use Rattle.std.proofs.lemmas.Option.{same_Some}
 use Rattle.std.proofs.lemmas.Grind.{common_steps}
-use Rattle.agc_plan.specs.Jobs.{Job, least_unused, Ready, best_from, more_urgent, is_owned, least_unowned, is_sleeper, sleeper_from}
+use Rattle.agc_plan.specs.Jobs.{Job, least_unused, Ready, best_from, more_urgent, is_sleeper, sleeper_from}
 
 -- the least unused number: its slot is empty, and each one before it isn't
 pub least_unused-at : (from : ℕ) (slots : List (Option Job)) (i : ℕ) → i < length slots → slice_index_or slots i None ≡ None → ((j : ℕ) → j < i → is_some (slice_index_or slots j None) ≡ true) → least_unused from slots ≡ Some (from + i)
@@ -82,23 +81,6 @@ best_from-is from (Some job ∷ slots) (suc i) best at awake first =
           let lt : job.priority < best.priority = elim (first 0 job refl ready) [ inl lt ↦ lt | inr both ↦ absurd (omega arith) ] in
           rw (z, ready, rest) (more_urgent-second (record { number = from; priority = job.priority }) (record { number = from + 1 + i; priority = best.priority }) lt)
     ]
-
--- the least unowned area: nobody owns it, and each one before it is owned
-pub least_unowned-at : (more area : ℕ) (slots : List (Option Job)) (free : ℕ) → area ≤ free → free < area + more → is_owned free slots ≡ false → ((m : ℕ) → area ≤ m → m < free → is_owned m slots ≡ true) → least_unowned more area slots ≡ Some free
-least_unowned-at zero area slots free low high unowned before = absurd (omega arith)
-least_unowned-at (suc more) area slots free low high unowned before = elim (cases_eq area free) [
-  | inl same ↦ rw (same, unowned)
-  | inr ne ↦
-      let owned : is_owned area slots ≡ true = before area (omega arith) (omega arith) in
-      rw owned (least_unowned-at more (area + 1) slots free (omega arith) (omega arith) unowned (λ m le. before m (omega arith)))
-]
-
--- with each area owned there is none
-pub least_unowned-none : (more area : ℕ) (slots : List (Option Job)) → ((m : ℕ) → area ≤ m → m < area + more → is_owned m slots ≡ true) → least_unowned more area slots ≡ None
-least_unowned-none zero area slots all = refl
-least_unowned-none (suc more) area slots all =
-    let owned : is_owned area slots ≡ true = all area (omega arith) (omega arith) in
-    rw owned (least_unowned-none more (area + 1) slots (λ m le lt. all m (omega arith) (omega arith)))
 
 -- the sleeper of an address: it sleeps there, and no job of a lower number does
 pub sleeper_from-is : (number at : ℕ) (slots : List (Option Job)) (i : ℕ) (job : Job) → slice_index_or slots i None ≡ Some job → is_sleeper at job ≡ true → ((j : ℕ) (other : Job) → j < i → slice_index_or slots j None ≡ Some other → is_sleeper at other ≡ false) → sleeper_from number at slots ≡ Some (number + i)

@@ -1,11 +1,10 @@
 -- What a change of the running job does to the plain list of jobs.
-use Rattle.std.proofs.Common.{◌≡◌, ℕ, true, false, nat_lt, List, Option, Some, None, length, slice_set, swap, refl, ap, subst, sym, ◌∙◌}
+use Rattle.std.proofs.Common.{◌≡◌, ℕ, true, false, nat_lt, List, Option, Some, None, length, slice_set, swap, refl, ap, sym, ◌∙◌}
 use Rattle.agc_exec.specs.Stages.{Gives, BringsBest, GivesWay, IsBestBelow}
 use Rattle.std.proofs.lemmas.List.{get_or-set_same}
-use Rattle.agc_plan.specs.Jobs.{Job, Jobs, job_in, with_job, best, best_from, change, Outcome, prio, with_priority, store, with_word}
-use Rattle.agc_plan.proofs.Running.{with_running, prio_is, store_is}
+use Rattle.agc_plan.specs.Jobs.{Job, job_in, with_job, best, best_from, change, store, with_word}
+use Rattle.agc_plan.proofs.Running.{with_running, store_is}
 use Rattle.agc_plan.specs.Places.{place_of, fronted}
-use Rattle.agc_plan.specs.declared.reply.Reply.{Reply}
 use Rattle.agc_plan.specs.declared.reply.Reply.TheVariants.{Runs, Stored}
 use Rattle.agc_exec.specs.Held.{Held}
 use Rattle.agc_exec.specs.Sets.{job_of, slots_of, running_in, entries_of, jobs_of, Holds, IsStanding}
@@ -70,12 +69,6 @@ jobs_of-changed sets r new made standing at awake number job awake' =
     let runs : running_in (slice_set sets 0 (Some new)) ≡ Some r.number = running_in-awake (slice_set sets 0 (Some new)) new there awake' ∙ ap Some number in
     let slots : slots_of (slice_set sets 0 (Some new)) ≡ with_job (slots_of sets) r.number (Some (made (job_of r))) = slots_of-changed sets 0 r new standing.lawful at number ∙ ap (λ j. with_job (slots_of sets) r.number (Some j)) job in
     rw (ran, slot, slots, runs)
-
-pub Gives-prio : (sets new : List (Option Held)) (r changed : Held) (priority : ℕ) (reply : Reply) → IsStanding sets → Holds sets 0 r → r.asleep ≡ false → changed.number ≡ r.number → job_of changed ≡ with_priority priority (job_of r) → Gives (change (jobs_of (slice_set sets 0 (Some changed)))) (fronted (running_in new) (entries_of (slice_set sets 0 (Some changed)))) new reply → Gives (prio priority (jobs_of sets)) (fronted (running_in new) (entries_of sets)) new reply
-Gives-prio sets new r changed priority reply standing at awake number job gives =
-    let awake' : changed.asleep ≡ false = ap (λ j. j.asleep) job ∙ awake in
-    let P : Jobs → Type 0 = λ j. Gives (change j) (fronted (running_in new) (entries_of sets)) new reply in
-    subst (λ (o : Outcome). Gives o (fronted (running_in new) (entries_of sets)) new reply) (sym (prio_is priority (jobs_of sets))) (subst P (jobs_of-changed sets r changed (with_priority priority) standing at awake number job awake') (rw (changed-entries sets 0 r changed at number) at gives))
 
 pub Gives-store : (sets : List (Option Held)) (r changed : Held) (place word : ℕ) → IsStanding sets → Holds sets 0 r → r.asleep ≡ false → changed.number ≡ r.number → job_of changed ≡ with_word place word (job_of r) → Gives (store place word (jobs_of sets)) (entries_of sets) (slice_set sets 0 (Some changed)) Stored
 Gives-store sets r changed place word standing at awake number job =

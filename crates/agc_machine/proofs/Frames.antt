@@ -1,5 +1,5 @@
 -- What one crate's calls keep of the other tables, and what they do to jobs and tasks.
-use Rattle.std.proofs.Common.{◌≡◌, ℕ, if◌then◌else◌, Bool, false, nat_lt, List, refl, ap, sym, subst, ◌∙◌, inl, inr, arith}
+use Rattle.std.proofs.Common.{◌≡◌, ℕ, if◌then◌else◌, Bool, false, nat_lt, List, ap, sym, subst, ◌∙◌, inl, inr, arith}
 use Rattle.std.proofs.lemmas.Grind.{common_steps}
 use Rattle.agc_word.specs.Layout.{Keeps, OutsideCores, OutsideWaitlist, OutsidePhases}
 use Rattle.agc_word.proofs.Keeping.{kept_also}
@@ -186,7 +186,3 @@ changes_twice f g s t old mid new first second = record {
   same_base = second.same_base ∙ first.same_base;
   stands = λ work places stands. second.stands (f work) (s work places) (first.stands work places stands);
 }
-
--- nothing changes
-pub changes_nothing : (words : List ℕ) → IsSound words → Changes (λ work. work) same_places words words
-changes_nothing words sound = record { sound = sound; same_length = refl; same_base = refl; stands = λ work places stands. stands }

@@ -4,7 +4,6 @@ pub mod Acting
 pub mod Beginning
 pub mod Stepping
 pub mod Serving
-pub mod Leading
 pub mod Alarms
 pub mod Roomier
 pub mod Migrating

@@ -1,15 +1,11 @@
 ghost use Rattle.std.specs.Prelude.{◌≡◌, Some};
-ghost use Rattle.agc_session.specs.declared.run_fault.RunFault.TheVariants.{};
-ghost use Rattle.agc_session.specs.declared.run_fault.RunFault.TheVariants.{
-  NoMemory as
-      WantOfMemory,
-};
-ghost use Rattle.agc_session.specs.declared.run_fault.RunFault.TheVariants.{Output as OutputFailed};
+ghost use Rattle.agc_session.specs.declared.run_fault.RunFault.TheVariants as run;
 
 use agc_machine::NoMemory;
 use agc_text::Output;
 use std::alloc::{AllocError, AllocFailed};
 use std::fmt;
+use std::thread::SpawnError;
 
 /// Why a run did not come to its end. Source: profile.
 #[derive(Clone, Copy, PartialEq, Eq, Debug)]
@@ -26,7 +22,7 @@ pub enum RunFault {
 }
 
 impl From<NoMemory> for RunFault {
-    ghost from_gives = { λ _ e. e ≡ WantOfMemory };
+    ghost from_gives = { λ _ e. e ≡ run.NoMemory };
 
     fn from(_error: NoMemory) -> RunFault {
         RunFault::NoMemory
@@ -34,7 +30,7 @@ impl From<NoMemory> for RunFault {
 }
 
 impl From<Output> for RunFault {
-    ghost from_gives = { λ _ e. e ≡ OutputFailed };
+    ghost from_gives = { λ _ e. e ≡ run.Output };
 
     fn from(_error: Output) -> RunFault {
         RunFault::Output
@@ -42,7 +38,7 @@ impl From<Output> for RunFault {
 }
 
 impl From<AllocError> for RunFault {
-    ghost from_gives = { λ _ e. e ≡ WantOfMemory };
+    ghost from_gives = { λ _ e. e ≡ run.NoMemory };
 
     fn from(_error: AllocError) -> RunFault {
         RunFault::NoMemory
@@ -50,10 +46,18 @@ impl From<AllocError> for RunFault {
 }
 
 impl<T: Drop> From<AllocFailed<T>> for RunFault {
-    ghost from_gives = { λ _ e. e ≡ WantOfMemory };
+    ghost from_gives = { λ _ e. e ≡ run.NoMemory };
 
     fn from(_error: AllocFailed<T>) -> RunFault {
         RunFault::NoMemory
+    }
+}
+
+impl<F: Drop> From<SpawnError<F>> for RunFault {
+    ghost from_gives = { λ _ e. e ≡ run.NoThread };
+
+    fn from(_error: SpawnError<F>) -> RunFault {
+        Self::NoThread
     }
 }
 

@@ -27,11 +27,3 @@ pub first_refused : (rs : List Request) (l : List ℕ) (ls : List (List ℕ)) �
 first_refused [] l ls h never = never
 first_refused (r ∷ []) l ls h never = ((r, h.0, refl), never)
 first_refused (r ∷ q ∷ rs) l ls h never = ((r, h.0, refl), first_refused (q ∷ rs) l ls h.1 never)
-
-pub all_push : (rs : List Request) (r : Request) → AllByRecursion IsRequest rs → IsRequest r → AllByRecursion IsRequest (rs ++ r ∷ [])
-all_push [] r h k = (k, tt)
-all_push (q ∷ rs) r h k = (h.0, all_push rs r h.1 k)
-
-pub map_push : (rs : List Request) (r : Request) (ls : List (List ℕ)) → map line_of (rs ++ r ∷ []) ++ ls ≡ map line_of rs ++ line_of r ∷ ls
-map_push [] r ls = refl
-map_push (q ∷ rs) r ls = ap (λ (t : List (List ℕ)). line_of q ∷ t) (map_push rs r ls)

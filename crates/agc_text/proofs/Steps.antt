@@ -6,7 +6,7 @@ use Rattle.std.proofs.lemmas.List.FromFn.{get_or-range_with_len, length-range_wi
 use Rattle.std.proofs.lemmas.List.Concat.{flat_map-cons}
 use Rattle.std.proofs.lemmas.Grind.{flat_map-append}
 use Rattle.std.proofs.lemmas.Option.{get_or_from_slice_get, slice_get_within}
-use Rattle.std.specs.Prelude.{OnOk, IsErr}
+use Rattle.std.specs.Prelude.{IsErr}
 use Rattle.std.proofs.lemmas.List.{append-nil, take-append-drop, take_more, nil_from_length}
 use Rattle.std.specs.Io.KnownBytes.{Appends, Keeps}
 use Rattle.agc_text.specs.Writing.{AppendsUpTo, AppendsFront, Writes}
@@ -20,11 +20,6 @@ appends_both None m n a b h k = tt
 appends_both (Some x) (Some y) None a b h k = k
 appends_both (Some x) (Some y) (Some z) a b h k = k ∙ ap (λ (s : List ℕ). s ++ b) h ∙ append_assoc x a b
 appends_both (Some x) None n a b h k = absurd h
-
-pub keeps_appends : (o n : Option (List ℕ)) → Keeps o n → Appends o n []
-keeps_appends None n h = tt
-keeps_appends (Some x) None h = h
-keeps_appends (Some x) (Some y) h = h ∙ sym (append-nil x)
 
 -- nothing of the text is written yet
 pub up_to_start : (o : Option (List ℕ)) (text : List ℕ) → AppendsUpTo o o text text
@@ -51,11 +46,6 @@ up_to_front o m n text a rest h k =
 pub up_to_drop : (o m n : Option (List ℕ)) (text rest : List ℕ) (k : ℕ) → AppendsUpTo o m text rest → Appends m n (take k rest) → AppendsUpTo o n text (drop k rest)
 up_to_drop o m n text rest k h w = up_to_more o m n text (take k rest) (drop k rest) (rw take-append-drop h) w
 
--- a step that may fail, after one that did not
-pub two_steps : {T E : Type 0} → (r : Result T E) (o m n a b whole : List ℕ) → m ≡ o ++ a → OnOk r (n ≡ m ++ b) → whole ≡ a ++ b → OnOk r (n ≡ o ++ whole)
-two_steps (Ok x) o m n a b whole e f g = f ∙ ap (λ (s : List ℕ). s ++ b) e ∙ append_assoc o a b ∙ ap (λ (s : List ℕ). o ++ s) (sym g)
-two_steps (Err x) o m n a b whole e f g = tt
-
 -- where the next piece failed
 pub fails_next : {U D : Type 0} → (o m n : Option (List ℕ)) (text a rest : List ℕ) (r : Result U D) → AppendsUpTo o m text (a ++ rest) → AppendsFront m n a → IsErr r → Writes o n text r
 fails_next o m n text a rest (Ok x) h k is = absurd cc
@@ -66,14 +56,6 @@ pub up_to_item : {X : Type 0} → (f : X → List ℕ) (o m : Option (List ℕ))
 up_to_item f o m text xs i d l h =
     let e : flat_map f (drop i xs) ≡ f (get_or xs i d) ++ flat_map f (drop (i + 1) xs) = rw (drop-cons xs i d l, add-one i) (flat_map-cons f (get_or xs i d) (drop (suc i) xs)) in
     subst (λ (t : List ℕ). AppendsUpTo o m text t) e h
-
--- four pieces, one after another
-pub four_pieces : (line a b c d p q r s : List ℕ) → a ≡ line ++ p → b ≡ a ++ q → c ≡ b ++ r → d ≡ c ++ s → d ≡ line ++ (p ++ (q ++ (r ++ s)))
-four_pieces line a b c d p q r s e f g h =
-    let e2 : b ≡ line ++ (p ++ q) = f ∙ ap (λ (t : List ℕ). t ++ q) e ∙ append_assoc line p q in
-    let e3 : c ≡ line ++ (p ++ q ++ r) = g ∙ ap (λ (t : List ℕ). t ++ r) e2 ∙ append_assoc line (p ++ q) r in
-    let e4 : d ≡ line ++ (p ++ q ++ r ++ s) = h ∙ ap (λ (t : List ℕ). t ++ s) e3 ∙ append_assoc line (p ++ q ++ r) s in
-    e4 ∙ ap (λ (t : List ℕ). line ++ t) (simp append_assoc)
 
 -- the pieces of one more item
 pub one_more : {X : Type 0} → (f : X → List ℕ) (line a b : List ℕ) (xs : List X) (i : ℕ) (x : X) → slice_get xs i ≡ Some x → a ≡ line ++ flat_map f (take i xs) → b ≡ a ++ f x → b ≡ line ++ flat_map f (take (i + 1) xs)

@@ -15,7 +15,7 @@ use Rattle.agc_plan.specs.declared.reply.Reply.{Reply}
 use Rattle.agc_trace.specs.Lines.{line_text}
 use Rattle.agc_trace.specs.Reading.{IsShown, begins_unless, scene_in}
 use Rattle.agc_trace.specs.Scenes.{Scene, scene_of}
-use Rattle.agc_trace.specs.Traces.{Traced, Counted, one_more, scene_unless, time_unless, time_after, told_alarm, account_by, traced, traced_line, traced_account, is_spent, is_log_full, counted_if, counted}
+use Rattle.agc_trace.specs.Traces.{Traced, one_more, scene_unless, time_unless, time_after, told_alarm, account_by, traced, traced_line, traced_account}
 use Rattle.agc_trace.specs.Openings.{heading, power_text, opening_text}
 use Rattle.agc_trace.proofs.Scenes.{scene_is}
 
@@ -100,10 +100,3 @@ opening_is m power words moment some is =
 pub opening_fresh : (m : Machined) (power : Option (List ℕ)) → power ≡ None → heading ≡ opening_text power m
 unfolding opening_text
 opening_fresh m power none = ap (λ (p : Option (List ℕ)). opening_text p m) (sym none)
-
--- the run, and the counts of what was refused
-pub counted_is : (c : Counted) (asked : Request) (run : Traced) (spent log_full : ℕ) (refusal : Option Refusal) → refusal ≡ refusal_of c.run.machine asked → run ≡ traced c.run asked → spent ≡ counted_if (is_spent refusal) c.spent → log_full ≡ counted_if (is_log_full refusal) c.log_full → record { run = run; spent = spent; log_full = log_full } ≡ counted c asked
-counted_is c asked run spent log_full refusal refusal_is run_is spent_is full_is =
-    ap (λ (r : Traced). record { run = r; spent = spent; log_full = log_full }) run_is
-    ∙ ap (λ (n : ℕ). record { run = traced c.run asked; spent = n; log_full = log_full }) (spent_is ∙ ap (λ (r : Option Refusal). counted_if (is_spent r) c.spent) refusal_is)
-    ∙ ap (λ (n : ℕ). record { run = traced c.run asked; spent = counted_if (is_spent (refusal_of c.run.machine asked)) c.spent; log_full = n }) (full_is ∙ ap (λ (r : Option Refusal). counted_if (is_log_full r) c.log_full) refusal_is)

@@ -1,12 +1,8 @@
 -- Laws of values, complements and sums of words.
-use Rattle.std.proofs.Common.{◌≡◌, ℕ, ℤ, pos, negsuc, neg_ℤ, ◌+◌, ◌<◌, ◌≤◌, ◌+ℤ◌, ◌-ℤ◌, ◌≤ℤ◌, ◌<ℤ◌, ◌⊎◌, true, ◌∙◌, ap, arith, inl, inr}
+use Rattle.std.proofs.Common.{◌≡◌, ℕ, ℤ, pos, neg_ℤ, ◌+◌, ◌<◌, ◌≤◌, ◌+ℤ◌, ◌-ℤ◌, ◌≤ℤ◌, ◌<ℤ◌, ◌⊎◌, true, ◌∙◌, ap, arith, inl, inr}
 use Rattle.std.proofs.lemmas.Bool.{cases_lt}
 use Rattle.std.proofs.lemmas.Int.{ints}
-use Rattle.agc_word.specs.Words.{value_of, complement, word_of, sum_of, carried_round}
-
--- to turn each bit twice changes nothing
-pub complement_twice : (bits : ℕ) → bits < 32768 → complement (complement bits) ≡ bits
-complement_twice bits h = omega arith
+use Rattle.agc_word.specs.Words.{value_of, complement, sum_of, carried_round}
 
 -- a word whose first bit is clear has its bits as its value
 pub value_of-low : (bits : ℕ) → bits < 16384 → value_of bits ≡ pos bits
@@ -19,11 +15,6 @@ value_of-high bits h = grind (arith, ints)
 -- the complement has the negative value
 pub value_of-complement : (bits : ℕ) → bits < 32768 → value_of (complement bits) ≡ neg_ℤ (value_of bits)
 value_of-complement bits h = grind (arith, ints)
-
--- the word of a value has this value
-pub value_of-word_of : (v : ℤ) → neg_ℤ (pos 16383) ≤ℤ v → v ≤ℤ pos 16383 → value_of (word_of v) ≡ v
-value_of-word_of (pos amount) low high = grind (arith, ints)
-value_of-word_of (negsuc less) low high = grind (arith, ints)
 
 -- where the exact sum is above the range
 pub sum_of-above : (a b r : ℕ) (x y : ℤ) → x ≡ value_of a → y ≡ value_of b → pos 16384 ≤ℤ (x +ℤ y) → pos r ≡ x +ℤ y -ℤ pos 16384 → (r, true) ≡ sum_of a b
