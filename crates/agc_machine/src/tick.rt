@@ -13,6 +13,8 @@ use agc_wait::{count_time3, dispatch, due};
 use agc_word::Erasable;
 
 /// Lists a task, if there is room.
+// In line in its callers no reply is handed on, and an action's is only looked at for its alarm.
+#[inline(always)]
 pub(crate) fn list(e: &mut Erasable, delay: Delay, task: Task) -> Reply
     requires { IsSound e.old }
     ensures works { Works (with_listed delay task) same_places e.old result e.new }
