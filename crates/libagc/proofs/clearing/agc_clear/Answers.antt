@@ -1,4 +1,6 @@
-use Rattle.std.proofs.Common.{refl}
+use Rattle.std.proofs.Common.{refl, length, ap, ◌∙◌}
+use Rattle.std.proofs.lemmas.List.{length-replicate}
+use Rattle.agc_word.specs.Profiles.{size_of}
 use Rattle.libagc.proofs.Emptying.{fresh}
 use Rattle.libagc.proofs.clearing.agc_clear.Goals as goal
 
