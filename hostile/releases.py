@@ -10,8 +10,11 @@ import tempfile
 TOP = os.path.join(os.path.dirname(os.path.realpath(__file__)), "..")
 LEFT_OUT = [f":!{it}" for it in ("crates/*/src", "crates/*/specs", "crates/*/proofs", "edits", "cases", "tests")]
 MODE = "crates/agc_watch/src/mode.rt"
+WATCHED = {"trace": "trace", "picture": "svg", "page": "html"}
 BUILT = ["crates/agc/out/agc", "crates/agc_watch/out/agc_watch", "crates/libagc/out/liblibagc.a"]
+HEADER = "libagc/include/agc.h"
 LOGIC = "0123456789abcdef"
+MAIN = b"int main(int count, char **words) { return count == 2 && puts(words[1]) < 0; }\n"
 WHO = {"GIT_AUTHOR_NAME": "who", "GIT_AUTHOR_EMAIL": "who@where", "GIT_AUTHOR_DATE": "2019-07-20T20:17:40Z"}
 WHO |= {name.replace("AUTHOR", "COMMITTER"): text for name, text in WHO.items()}
 
@@ -30,12 +33,13 @@ def commit(room):
 
 
 def copy_of_repository(room):
-    """All files that git lists or would, but for what isn't packed and is large."""
+    """All files that git lists or would, but for what isn't packed and is large; and a bench with nothing beside it."""
     listed = ["git", "ls-files", "-z", "-c", "-o", "--exclude-standard", "--"]
     names = [*printed([*listed, ".", *LEFT_OUT], TOP).rstrip("\0").split("\0"), MODE]
     for name in names:
         os.makedirs(os.path.dirname(f"{room}/{name}"), exist_ok=True)
         shutil.copy(f"{TOP}/{name}", f"{room}/{name}")
+    write(f"{room}/examples/bare.toml", "")
     git(room, "init", "-q")
     commit(room)
 
@@ -46,7 +50,7 @@ def build(room):
         os.makedirs(os.path.dirname(f"{room}/{path}"), exist_ok=True)
     mark = f'__asm__(".ident \\"rattle logic={LOGIC}aa\\"");\n'.encode()
     for path in BUILT[:2]:
-        printed(["cc", "-g", "-x", "c", "-", "-o", path], room, input=mark + b"int main(void) { return 0; }\n")
+        printed(["cc", "-g", "-x", "c", "-", "-o", path], room, input=b"#include <stdio.h>\n" + mark + MAIN)
     call = b"int agc_clear(void) { return 0; }\n"
     printed(["cc", "-fPIC", "-c", "-x", "c", "-", "-o", "out.o"], room, input=mark + call)
     printed(["ar", "rcD", BUILT[2], "out.o"], room)
@@ -132,29 +136,39 @@ def unpacked(hostile, room, place):
     printed(["make", "-s", "uninstall", f"PREFIX={place}/usr"], top)
     left = [f"{at}/{it}" for at, _, names in os.walk(f"{place}/usr") for it in names]
     hostile.expect(f"make uninstall from a release leaves {left}", not left)
+    benches = [it.removesuffix("toml") for it in names if "/examples/" in it and it.endswith(".toml")]
+    lacking = [f"{it}{end}" for it in benches for end in WATCHED.values() if f"{it}{end}" not in names]
+    hostile.expect(f"a release of {len(benches)} examples has no {lacking}", len(benches) > 10 and not lacking)
+    for what, end in WATCHED.items():
+        hostile.expect(f"the {what} of an example", read(f"{top}/examples/bare.{end}") == f"{what}\n")
     said = read(f"{top}/PROVED-BY.txt")
-    hostile.expect(f"PROVED-BY.txt: {said}", f"no kit logic {LOGIC}" in said and git(room, "rev-parse", "HEAD") in said)
+    wanted = (f"no kit logic {LOGIC}", git(room, "rev-parse", "HEAD"), "Gate:      not told")
+    hostile.expect(f"PROVED-BY.txt: {said}", all(it in said for it in wanted))
 
 
 def gates(hostile, room, log):
-    """What rt ci said last is in PROVED-BY.txt; a log of no gate, of one that failed, or of another commit is refused."""
+    """What rt ci and the gate said last is in PROVED-BY.txt. A log of no gate is refused, of one that failed or hasn't
+    ended, of another commit, or of none."""
     ended = "rt: ok; every proof was done in this run\n3 passed, 0 failed\n"
+    whole = f"{ended}gate: 2 passed, 0 failed\n"
     refuse(hostile, room, "can't be read", "--gate", log)
     for text, why in (
         ("", "has no line `rt: ok`"),
         ("rt: FAILED: agc\n2 passed, 1 failed\n", "has no line `rt: ok`"),
         ("rt: ok; every proof was done in this run\n", "has no line `rt: ok`"),
         (f"{ended}gate: FAILED at cases/run\n", "of a gate that failed"),
-        (f"gate: commit {'0' * 40}\n{ended}", "of another commit"),
+        (f"gate: commit {git(room, 'rev-parse', 'HEAD')}\n{ended}", "of a gate that hasn't ended"),
+        (f"gate: commit {'0' * 40}\n{whole}", "of another commit"),
+        (whole, "of another commit, and names none"),
     ):
         write(log, text)
         refuse(hostile, room, why, "--gate", log)
-    write(log, f"gate: commit {git(room, 'rev-parse', 'HEAD')}\nrt: agc proved\n{ended}gate: 2 passed, 0 failed\n")
+    write(log, f"gate: commit {git(room, 'rev-parse', 'HEAD')}\nrt: agc proved\n{whole}")
     ran = run(hostile, room, "--gate", log)
     name = next(iter(packed(room)))
     with tarfile.open(f"{room}/out/{name}") as tape:
         said = tape.extractfile(f"{name.removesuffix('.tar.gz')}/PROVED-BY.txt").read().decode()
-    wanted = "Gate:      rt: ok; every proof was done in this run\n           3 passed, 0 failed\n"
+    wanted = "Gate:      " + whole.rstrip("\n").replace("\n", "\n" + 11 * " ") + "\n"
     hostile.expect(f"release, with a log: {ran}, {said}", ran.returncode == 0 and wanted in said)
 
 
@@ -171,6 +185,11 @@ def refusals(hostile, room):
     commit(room)
     refuse(hostile, room, "crates/agc/out/agc was built from other sources")
     write(f"{room}/{MODE}", mode)
+    header = read(f"{room}/{HEADER}")
+    write(f"{room}/{HEADER}", header.replace("_MINOR ", "_MINOR 7"))
+    commit(room)
+    refuse(hostile, room, f"and {HEADER} has no line #define AGC_VERSION_MINOR")
+    write(f"{room}/{HEADER}", header)
     version = read(f"{room}/VERSION").strip()
     write(f"{room}/VERSION", "77.7.7\n")
     commit(room)

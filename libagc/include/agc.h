@@ -42,8 +42,11 @@
 extern "C" {
 #endif
 
-/* The release that this header is of. */
+/* The release that this header is of, as a text and by its numbers. */
 #define AGC_VERSION "1.0.0"
+#define AGC_VERSION_MAJOR 1
+#define AGC_VERSION_MINOR 0
+#define AGC_VERSION_PATCH 0
 
 /* How many numbers an array has, how many agc_recover wants, and the place of -PHASE1, their first. */
 enum { AGC_WORDS = 144, AGC_PHASE_WORDS = 12, AGC_PHASE_PLACE = 117 };
