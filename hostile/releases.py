@@ -9,7 +9,7 @@ import tempfile
 
 TOP = os.path.join(os.path.dirname(os.path.realpath(__file__)), "..")
 LEFT_OUT = [f":!{it}" for it in ("crates/*/src", "crates/*/specs", "crates/*/proofs", "edits", "cases", "tests")]
-MODE = "crates/agc_watch/src/mode.rt"
+COMMANDS = "crates/agc_words/src/commands.rt"
 WATCHED = {"trace": "trace", "picture": "svg", "page": "html"}
 BUILT = ["crates/agc/out/agc", "crates/agc_watch/out/agc_watch", "crates/libagc/out/liblibagc.a"]
 HEADER = "libagc/include/agc.h"
@@ -35,7 +35,7 @@ def commit(room):
 def copy_of_repository(room):
     """All files that git lists or would, but for what isn't packed and is large; and a bench with nothing beside it."""
     listed = ["git", "ls-files", "-z", "-c", "-o", "--exclude-standard", "--"]
-    names = [*printed([*listed, ".", *LEFT_OUT], TOP).rstrip("\0").split("\0"), MODE]
+    names = [*printed([*listed, ".", *LEFT_OUT], TOP).rstrip("\0").split("\0"), COMMANDS]
     for name in names:
         os.makedirs(os.path.dirname(f"{room}/{name}"), exist_ok=True)
         shutil.copy(f"{TOP}/{name}", f"{room}/{name}")
@@ -180,11 +180,11 @@ def refusals(hostile, room):
     write(f"{room}/new", "")
     refuse(hostile, room, "the tree isn't as its commit has it: new")
     os.remove(f"{room}/new")
-    mode = read(f"{room}/{MODE}")
-    write(f"{room}/{MODE}", f"{mode}//\n")
+    source = read(f"{room}/{COMMANDS}")
+    write(f"{room}/{COMMANDS}", f"{source}//\n")
     commit(room)
     refuse(hostile, room, "crates/agc/out/agc was built from other sources")
-    write(f"{room}/{MODE}", mode)
+    write(f"{room}/{COMMANDS}", source)
     header = read(f"{room}/{HEADER}")
     write(f"{room}/{HEADER}", header.replace("_MINOR ", "_MINOR 7"))
     commit(room)
@@ -197,4 +197,4 @@ def refusals(hostile, room):
     changes = read(f"{room}/CHANGELOG.md")
     write(f"{room}/CHANGELOG.md", changes.replace(f"## {version}", f"## 77.7.7\n\n## {version}"))
     commit(room)
-    refuse(hostile, room, f"VERSION says 77.7.7, and {MODE} {version}")
+    refuse(hostile, room, f"VERSION says 77.7.7, and {COMMANDS} {version}")

@@ -23,6 +23,13 @@ use Rattle.agc_lint.specs.Tellings.{told_of_bench}
 use Rattle.agc_trace.specs.Runs.{WritesTrace}
 use Rattle.agc_picture.specs.Pictures.{WritesPicture}
 use Rattle.agc_page.specs.Pages.{WritesPage}
+use Rattle.agc_words.specs.declared.words.WordsFault.{WordsFault}
+use Rattle.agc_words.specs.declared.words.WordsFault.TheVariants as words
+
+-- the fault of words that are refused
+abbrev pub fault_for : WordsFault → Fault
+fault_for words.Words = fault.Words
+fault_for words.NoMemory = fault.NoMemory
 
 -- what was written of a bench, by what is there before and after, and how it ended
 abbrev pub Writing : Type 1

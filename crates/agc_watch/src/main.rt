@@ -3,7 +3,6 @@
 //! with a script. All from standard input.
 #![tactic(auto)]
 
-mod mode;
 mod program;
 
 ghost use Rattle.std.specs.Prelude.{◌≡◌, codes};

@@ -2,10 +2,10 @@
 //! order.
 ghost use Rattle.std.specs.Prelude.{◌≡◌};
 ghost use Rattle.agc_program.specs.Inputs.{EndsBy};
+ghost use Rattle.agc_watch.specs.Program.{fault_for};
 ghost use Rattle.agc_watch.specs.Program.{DrawsText, PagesText, TracesText, is_nothing};
 ghost use Rattle.agc_watch.specs.Program.{ChecksScript, ChecksInput, ChecksBench};
 
-use crate::mode::{Asked, asked_for};
 use agc_document::read_bench;
 use agc_lint::{bench_findings, script_findings, tell_all, tell_bench};
 use agc_page::page;
@@ -13,6 +13,7 @@ use agc_picture::picture;
 use agc_program::{Fault, buffered, flushed, given_words};
 use agc_text::read_all;
 use agc_trace::trace;
+use agc_words::{Asked, WordsFault, Work, asked_for};
 use std::alloc::Global;
 use std::io::{Read, Write};
 use std::rt::Env;
@@ -175,16 +176,37 @@ fn run_check_bench<R: AllocGlobal + Input + Print>(rt: &R) -> Result<bool, Fault
     Ok(is_well)
 }
 
+/// Does what the words ask for. False where that is a check, and something is wrong.
+fn run_work<R: AllocGlobal + Input + Print>(rt: &R, work: Work) -> Result<bool, Fault> {
+    match work {
+        Work::Trace => run_trace(rt)?,
+        Work::Picture => run_picture(rt)?,
+        Work::Page => run_page(rt)?,
+        Work::CheckBench => return run_check_bench(rt),
+        Work::CheckScript => return run_check(rt),
+    }
+    Ok(true)
+}
+
+/// The program's fault where its words are refused.
+fn fault_for(refused: WordsFault) -> Fault
+    ensures { result ≡ fault_for refused }
+{
+    match refused {
+        WordsFault::Words => Fault::Words,
+        WordsFault::NoMemory => Fault::NoMemory,
+    }
+}
+
 /// Runs the program. False where it was asked what is wrong with its input, and something is.
 pub fn run(rt: &(impl Env + AllocGlobal + Input + Print + Eprint)) -> Result<bool, Fault> {
     let given = given_words(rt)?;
-    match asked_for(rt.alloc(), given.as_slice())? {
-        Asked::CheckBench => return run_check_bench(rt),
-        Asked::CheckScript => return run_check(rt),
-        Asked::Trace => run_trace(rt)?,
-        Asked::Picture => run_picture(rt)?,
-        Asked::Page => run_page(rt)?,
-        Asked::Text(text) => text.print(rt).map_err(|_| Fault::Output)?,
+    match asked_for(rt.alloc(), given.as_slice()) {
+        Ok(Asked::Work(work)) => run_work(rt, work),
+        Ok(Asked::Text(text)) => {
+            text.print(rt).map_err(|_| Fault::Output)?;
+            Ok(true)
+        }
+        Err(refused) => Err(fault_for(refused)),
     }
-    Ok(true)
 }

@@ -1,0 +1,8 @@
+//! The words of `agc_watch`'s command line: what they ask to be done, and the texts of its help and
+//! its version. Source: profile.
+#![tactic(auto)]
+
+mod commands;
+mod words;
+
+pub use words::{Asked, WordsFault, Work, asked_for};

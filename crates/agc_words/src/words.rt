@@ -1,0 +1,96 @@
+//! What the words ask for.
+ghost use Rattle.std.specs.Prelude.{◌≡◌, [], ◌∷◌, IfOk, IfSome, Ok, Some, map};
+ghost use Rattle.std.specs.String.{string_bytes};
+ghost use Rattle.agc_words.specs.Words.{AskFor, IsAskedBy, words_for};
+ghost use Rattle.agc_words.specs.declared.words.Asked.TheVariants as asked;
+ghost use Rattle.agc_words.specs.declared.words.Work.{Work};
+
+use crate::commands::text_asked;
+use clap::Error;
+use std::alloc::Global;
+
+/// What the program is to do with its input.
+#[derive(Clone, Copy, Debug, PartialEq, Eq)]
+pub enum Work {
+    /// The trace of a bench.
+    Trace,
+    /// The picture of a bench.
+    Picture,
+    /// The page of a bench.
+    Page,
+    /// What is wrong with a bench.
+    CheckBench,
+    /// What is wrong with a script.
+    CheckScript,
+}
+
+/// What the program is asked for.
+#[derive(Drop)]
+pub enum Asked {
+    Work(Work),
+    /// The help, or the version.
+    Text(Error),
+}
+
+/// Why words are refused. Source: profile.
+#[derive(Clone, Copy, Debug, PartialEq, Eq)]
+pub enum WordsFault {
+    /// They ask for nothing.
+    Words,
+    NoMemory,
+}
+
+/// What a word alone asks to be done.
+fn asked_alone(word: &str) -> Option<Work>
+    ensures found { IfSome result (λ work. words_for work ≡ word.now ∷ []) }
+    ensures only { (work : Work) → words_for work ≡ word.now ∷ [] → result ≡ Some work }
+{
+    match word {
+        "trace" => Some(Work::Trace),
+        "picture" => Some(Work::Picture),
+        "page" => Some(Work::Page),
+        "check" => Some(Work::CheckBench),
+        _ => None,
+    }
+}
+
+/// What a word with an option behind it asks to be done.
+fn asked_with(word: &str, option: &str) -> Option<Work>
+    ensures found { IfSome result (λ work. words_for work ≡ word.now ∷ option.now ∷ []) }
+    ensures only { (work : Work) → words_for work ≡ word.now ∷ option.now ∷ []
+        → result ≡ Some work }
+{
+    match (word, option) {
+        ("check", "--script") => Some(Work::CheckScript),
+        _ => None,
+    }
+}
+
+/// What these words ask to be done.
+fn work_of(words: &[String]) -> Option<Work>
+    ensures found { IfSome result (AskFor (map string_bytes words.now)) }
+    ensures only { (work : Work) → AskFor (map string_bytes words.now) work
+        → result ≡ Some work }
+{
+    match words {
+        [_, word] => asked_alone(word.as_str()),
+        [_, word, option] => asked_with(word.as_str(), option.as_str()),
+        _ => None,
+    }
+}
+
+/// What the words of a command line ask for, of which the first is the program's own name.
+///
+/// # Errors
+///
+/// `Words` for those that ask for nothing, and `NoMemory`.
+pub fn asked_for(alloc: Global, words: &[String]) -> Result<Asked, WordsFault>
+    ensures work { (work : Work) → AskFor (map string_bytes words.now) work
+        → result ≡ Ok (asked.Work work) }
+    ensures asked { IfOk result (IsAskedBy (map string_bytes words.now)) }
+{
+    match work_of(words) {
+        Some(work) => Ok(Asked::Work(work)),
+        None => text_asked(alloc, words),
+    }
+}
