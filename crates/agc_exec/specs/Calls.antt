@@ -1,6 +1,6 @@
 -- What each call does to the words.
 use Rattle.std.specs.Prelude.{◌≡◌, ℕ, ◌+◌, ◌*◌, ◌%◌, List, [], ◌∷◌, Option, Some, None, slice_index}
-use Rattle.std.specs.Prelude.{slice_index_or, slice_set, swap, replicate}
+use Rattle.std.specs.Prelude.{slice_index_or, slice_set, swap, replicate, map}
 use Rattle.agc_word.specs.Layout.{OutsideCores, Keeps, sets_in}
 use Rattle.agc_word.specs.Words.{complement}
 use Rattle.agc_plan.specs.declared.request.Entry.{Entry}
@@ -178,5 +178,7 @@ pub record Clears (old new : List ℕ) : Type 0 where
   pub lawful : IsLawfulWords new
   pub jobs : jobs_in new ≡ no_jobs (sets_in new)
   pub placed : entries_in new ≡ replicate (sets_in new) 0
+  -- of the twelve words of each set PRIORITY alone changed
+  pub words : blocks_of new ≡ map freed_block (blocks_of old)
   pub tidy : IsTidy new
   pub others : Keeps OutsideCores old new

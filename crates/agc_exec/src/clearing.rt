@@ -1,11 +1,10 @@
 // All sets and areas free.
-ghost use Rattle.std.specs.Prelude.{◌≡◌, ◌≤◌, ℕ, length, slice_index};
+ghost use Rattle.std.specs.Prelude.{◌≡◌, ◌≤◌, ℕ, length, map, slice_index};
 ghost use Rattle.agc_word.specs.Layout.{address_of, IsSized, OutsideCores, use_place};
 ghost use Rattle.agc_exec.specs.Frames.{OutsideSets};
 ghost use Rattle.agc_word.specs.Layout.{Keeps};
 ghost use Rattle.agc_exec.specs.Blocks.{blocks_of};
-ghost use Rattle.agc_exec.specs.Calls.{Clears};
-ghost use Rattle.agc_exec.specs.Stages.{AllFree};
+ghost use Rattle.agc_exec.specs.Calls.{Clears, freed_block};
 
 use crate::area::release_area;
 use crate::core_set::{MINUS_ZERO, PRIORITY, set_word};
@@ -15,7 +14,7 @@ use agc_word::{Erasable, Word};
 /// Frees all sets.
 fn clear_sets(e: &mut Erasable)
     requires { IsSized e.old }
-    ensures free { AllFree e.new }
+    ensures words { blocks_of e.new ≡ map freed_block (blocks_of e.old) }
     ensures others { Keeps OutsideSets e.old e.new }
 {
     for k in 0..e.sets().count() {
@@ -35,8 +34,8 @@ fn clear_areas(e: &mut Erasable)
     }
 }
 
-/// Frees all core sets and VAC areas, so nobody runs, from any words. Source: the listings'
-/// EXECUTIVE section.
+/// Frees all core sets and VAC areas, so nobody runs, from any words. Of a core set's words
+/// PRIORITY alone changes. Source: the listings' EXECUTIVE section.
 pub fn clear(e: &mut Erasable)
     ensures clears { Clears e.old e.new }
     ensures all { IsSized e.new }

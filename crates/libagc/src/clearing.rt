@@ -7,7 +7,8 @@ use agc_image::{Fault, write_back};
 use agc_word::Erasable;
 
 /// Writes the image of a fresh start, whatever stood there: no jobs, no tasks, all groups inactive,
-/// and no codes. Answers the code, 0 or 1. Source: the listings' FRESH START AND RESTART section.
+/// and no codes. All words of a core set are 00000 but PRIORITY, which is 77777. Answers the code,
+/// 0 or 1. Source: the listings' FRESH START AND RESTART section.
 #[unsafe(no_mangle)]
 pub extern "C" fn agc_clear(words: &mut [u16; 144], sets: u32) -> u32
     ensures code { (result ≡ 0) ↔ IsSets sets }

@@ -32,7 +32,8 @@ pub extern "C" fn agc_check(words: &[u16; 144], sets: u32) -> AgcTruth
 }
 
 /// The software restart, without what the phases begin again: all jobs and tasks are gone, phases
-/// and codes stay. Answers the code. Source: the listings' FRESH START AND RESTART section.
+/// and codes stay; of a core set PRIORITY alone changes. Answers the code. Source: the listings'
+/// FRESH START AND RESTART section.
 #[unsafe(no_mangle)]
 pub extern "C" fn agc_restart(words: &mut [u16; 144], sets: u32) -> u32
     ensures code { Coded result sets words.old (Unit {0}) (Unit {0}) (Unit {0}) }
