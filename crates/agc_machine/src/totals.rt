@@ -1,5 +1,4 @@
 ghost use Rattle.std.specs.Prelude.{◌≡◌, ◌+◌, ◌<◌, ◌^◌};
-ghost use Rattle.agc_plan.specs.declared.reply.Reply.TheVariants.{NoJob, Restarted};
 ghost use Rattle.agc_machine.specs.Told.{nothing, add, reply_told};
 
 use agc_plan::{Alarm, Reply};
@@ -21,7 +20,7 @@ pub struct Totals {
 }
 
 impl Totals {
-    ghost use Rattle.agc_machine.specs.Told.{alarm_told};
+    ghost use Rattle.agc_machine.specs.Stands.{era_told};
 
     /// All 0.
     pub(crate) fn zero() -> Totals
@@ -36,37 +35,21 @@ impl Totals {
         }
     }
 
-    /// One more request was served, which raised this alarm.
-    fn count_alarm(&mut self, alarm: Alarm)
-        requires { (self.old.served + 1 < 2 ^ 64) × (self.old.a1201 + 1 < 2 ^ 64)
-            × (self.old.a1202 + 1 < 2 ^ 64) × (self.old.a1203 + 1 < 2 ^ 64)
-            × (self.old.restarts + 1 < 2 ^ 64) }
-        ensures { self.new ≡ add self.old (alarm_told alarm) }
+    /// An era began, with this alarm, if one was raised. It is rare, and stands apart so that other
+    /// requests don't pay for it.
+    #[inline(never)]
+    fn count_era(&mut self, alarm: Option<Alarm>)
+        requires { (self.old.a1201 + 1 < 2 ^ 64) × (self.old.a1202 + 1 < 2 ^ 64)
+            × (self.old.a1203 + 1 < 2 ^ 64) × (self.old.restarts + 1 < 2 ^ 64) }
+        ensures { self.new ≡ add self.old (era_told alarm) }
     {
-        self.served += 1;
         self.restarts += 1;
         match alarm {
-            Alarm::A1201 => self.a1201 += 1,
-            Alarm::A1202 => self.a1202 += 1,
-            Alarm::A1203 => self.a1203 += 1,
+            Some(Alarm::A1201) => self.a1201 += 1,
+            Some(Alarm::A1202) => self.a1202 += 1,
+            Some(Alarm::A1203) => self.a1203 += 1,
+            None => {}
         }
-    }
-
-    /// One more request was served, and an era began.
-    fn count_restart(&mut self)
-        requires { (self.old.served + 1 < 2 ^ 64) × (self.old.restarts + 1 < 2 ^ 64) }
-        ensures { self.new ≡ add self.old (reply_told Restarted) }
-    {
-        self.served += 1;
-        self.restarts += 1;
-    }
-
-    /// One more request was served, with no alarm, and no era began.
-    fn count_served(&mut self)
-        requires { self.old.served + 1 < 2 ^ 64 }
-        ensures { self.new ≡ add self.old (reply_told NoJob) }
-    {
-        self.served += 1;
     }
 
     /// One more request was served, which got this reply. Counts are changed where they stand,
@@ -77,20 +60,9 @@ impl Totals {
             × (self.old.restarts + 1 < 2 ^ 64) }
         ensures { self.new ≡ add self.old (reply_told reply.now) }
     {
-        match reply {
-            Reply::Alarmed(alarm) => self.count_alarm(*alarm),
-            Reply::Ticked(Some(alarm)) => self.count_alarm(*alarm),
-            Reply::Ticked(None) => self.count_served(),
-            Reply::Restarted => self.count_restart(),
-            Reply::Established(_) => self.count_served(),
-            Reply::Left(_) => self.count_served(),
-            Reply::Roused(_) => self.count_served(),
-            Reply::NoSleeper => self.count_served(),
-            Reply::NoJob => self.count_served(),
-            Reply::Runs(_) => self.count_served(),
-            Reply::Stored => self.count_served(),
-            Reply::Listed => self.count_served(),
-            Reply::Phased => self.count_served(),
+        self.served += 1;
+        if reply.begins() {
+            self.count_era(reply.alarm());
         }
     }
 }
