@@ -27,8 +27,6 @@ use Rattle.agc_wait.specs.Table as table
 use Rattle.agc_wait.specs.Waits.{due_now}
 use Rattle.agc_phase.specs.Image.{base_of}
 use Rattle.agc_phase.specs.Image as phases
-use Rattle.agc_machine.specs.declared.totals.Totals.{Totals}
-use Rattle.agc_machine.specs.Told.{alarm_told}
 
 -- lawful and tidy words, also where a task is due
 pub record IsSound (words : List ℕ) : Type 0 where
@@ -80,11 +78,6 @@ pub record Works (change : Work → Acted) (seat : Work → List ℕ → List �
 abbrev pub listing_told : Option Alarm → Reply
 listing_told None = Listed
 listing_told (Some alarm) = Alarmed alarm
-
--- what an era tells besides the request with which it began: one restart, and one of the alarm
-abbrev pub era_told : Option Alarm → Totals
-era_told None = record { served = 0; a1201 = 0; a1202 = 0; a1203 = 0; restarts = 1 }
-era_told (Some alarm) = record (alarm_told alarm) { served = 0 }
 
 -- every job stays in its core set
 abbrev pub same_places : Work → List ℕ → List ℕ

@@ -1,7 +1,7 @@
 ghost use Rattle.std.specs.Prelude.{◌≡◌, ◌+◌, ◌<◌, ◌^◌};
 ghost use Rattle.agc_machine.specs.Told.{nothing, add, reply_told};
 
-use agc_plan::{Alarm, Reply};
+use agc_plan::Alarm;
 
 /// Counts of served requests: a machine's since it was made, or those whose answers the holder of a
 /// share was told; each at most the allowance. Source: profile.
@@ -20,7 +20,9 @@ pub struct Totals {
 }
 
 impl Totals {
-    ghost use Rattle.agc_machine.specs.Stands.{era_told};
+    ghost use Rattle.std.specs.Option.{option_map_or};
+    ghost use Rattle.agc_plan.specs.declared.reply.Reply.TheVariants.{NoJob, Restarted};
+    ghost use Rattle.agc_machine.specs.Told.{alarm_told};
 
     /// All 0.
     pub(crate) fn zero() -> Totals
@@ -35,14 +37,17 @@ impl Totals {
         }
     }
 
-    /// An era began, with this alarm, if one was raised. It is rare, and stands apart so that other
-    /// requests don't pay for it.
+    /// One more request was served, and an era began with it, after this alarm, if one was raised.
+    /// It is rare, and stands apart so that other requests don't pay for it.
     #[inline(never)]
-    fn count_era(&mut self, alarm: Option<Alarm>)
-        requires { (self.old.a1201 + 1 < 2 ^ 64) × (self.old.a1202 + 1 < 2 ^ 64)
-            × (self.old.a1203 + 1 < 2 ^ 64) × (self.old.restarts + 1 < 2 ^ 64) }
-        ensures { self.new ≡ add self.old (era_told alarm) }
+    pub(crate) fn count_era(&mut self, alarm: Option<Alarm>)
+        requires { (self.old.served + 1 < 2 ^ 64) × (self.old.a1201 + 1 < 2 ^ 64)
+            × (self.old.a1202 + 1 < 2 ^ 64) × (self.old.a1203 + 1 < 2 ^ 64)
+            × (self.old.restarts + 1 < 2 ^ 64) }
+        ensures { self.new ≡ add self.old
+            (option_map_or alarm_told alarm (reply_told Restarted)) }
     {
+        self.served += 1;
         self.restarts += 1;
         match alarm {
             Some(Alarm::A1201) => self.a1201 += 1,
@@ -52,17 +57,11 @@ impl Totals {
         }
     }
 
-    /// One more request was served, which got this reply. Counts are changed where they stand,
-    /// which is cheaper than totals handed on.
-    pub(crate) fn count(&mut self, reply: &Reply)
-        requires { (self.old.served + 1 < 2 ^ 64) × (self.old.a1201 + 1 < 2 ^ 64)
-            × (self.old.a1202 + 1 < 2 ^ 64) × (self.old.a1203 + 1 < 2 ^ 64)
-            × (self.old.restarts + 1 < 2 ^ 64) }
-        ensures { self.new ≡ add self.old (reply_told reply.now) }
+    /// One more request was served, with no alarm, and no era began.
+    pub(crate) fn count_served(&mut self)
+        requires { self.old.served + 1 < 2 ^ 64 }
+        ensures { self.new ≡ add self.old (reply_told NoJob) }
     {
         self.served += 1;
-        if reply.begins() {
-            self.count_era(reply.alarm());
-        }
     }
 }
