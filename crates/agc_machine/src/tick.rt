@@ -12,8 +12,8 @@ use agc_plan::{Action, Alarm, Delay, Fired, Plan, Task};
 use agc_wait::{count_time3, dispatch, due};
 use agc_word::Erasable;
 
-/// Lists a task, if there is room; else answers the alarm. That is shorter than a reply, which would
-/// be handed on through memory.
+/// Lists a task, if there is room; else answers the alarm. That is shorter than a reply, which
+/// would be handed on through memory.
 pub(crate) fn list(e: &mut Erasable, delay: Delay, task: Task) -> Option<Alarm>
     requires { IsSound e.old }
     ensures works { Works (with_listed delay task) same_places e.old (listing_told result) e.new }
