@@ -4,6 +4,7 @@ use Rattle.std.specs.Option.{option_map_or}
 use Rattle.agc_word.specs.Layout.{IsSized}
 use Rattle.agc_plan.specs.declared.reply.Alarm.{Alarm}
 use Rattle.agc_plan.specs.declared.reply.Reply.{Reply}
+use Rattle.agc_plan.specs.declared.reply.Reply.TheVariants.{Listed, Alarmed}
 use Rattle.agc_plan.specs.declared.request.Action.{Action}
 use Rattle.agc_plan.specs.declared.request.JobStart.{JobStart}
 use Rattle.agc_plan.specs.declared.request.Request.{Request}
@@ -72,6 +73,11 @@ pub record Works (change : Work → Acted) (seat : Work → List ℕ → List �
   pub changes : Changes (λ work. (change work).work) seat old new
   pub reply_is : (work : Work) (places : List ℕ) → Stands old work places → reply
       ≡ (change work).reply
+
+-- the reply to a listing, which raised this alarm, if any
+abbrev pub listing_told : Option Alarm → Reply
+listing_told None = Listed
+listing_told (Some alarm) = Alarmed alarm
 
 -- every job stays in its core set
 abbrev pub same_places : Work → List ℕ → List ℕ

@@ -5,24 +5,23 @@ ghost use Rattle.agc_plan.specs.Steps.{with_listed, ticked};
 ghost use Rattle.agc_wait.specs.Table.{waits_of};
 ghost use Rattle.agc_wait.specs.Waits.{due_now};
 ghost use Rattle.agc_machine.specs.Stands.{IsSound, IsReady, Works, SameDue, same_places, Performs};
-ghost use Rattle.agc_machine.specs.Stands.{FiresDue, FiresTick, places_ticked};
+ghost use Rattle.agc_machine.specs.Stands.{FiresDue, FiresTick, places_ticked, listing_told};
 
 use agc_exec::{findvac, job_wake, novac};
-use agc_plan::{Action, Alarm, Delay, Fired, Plan, Reply, Task};
+use agc_plan::{Action, Alarm, Delay, Fired, Plan, Task};
 use agc_wait::{count_time3, dispatch, due};
 use agc_word::Erasable;
 
-/// Lists a task, if there is room.
-// In line in its callers no reply is handed on, and an action's is only looked at for its alarm.
-#[inline(always)]
-pub(crate) fn list(e: &mut Erasable, delay: Delay, task: Task) -> Reply
+/// Lists a task, if there is room; else answers the alarm. That is shorter than a reply, which
+/// would be handed on through memory.
+pub(crate) fn list(e: &mut Erasable, delay: Delay, task: Task) -> Option<Alarm>
     requires { IsSound e.old }
-    ensures works { Works (with_listed delay task) same_places e.old result e.new }
+    ensures works { Works (with_listed delay task) same_places e.old (listing_told result) e.new }
     ensures due { SameDue e.old e.new }
 {
     match agc_wait::list(e, delay, task) {
-        Ok(()) => Reply::Listed,
-        Err(_full) => Reply::Alarmed(Alarm::A1203),
+        Ok(()) => None,
+        Err(_full) => Some(Alarm::A1203),
     }
 }
 
@@ -36,7 +35,7 @@ fn perform(action: Action, e: &mut Erasable) -> Option<Alarm>
         Action::Novac(priority, entry) => novac(e, priority, entry).alarm(),
         Action::Findvac(priority, entry) => findvac(e, priority, entry).alarm(),
         Action::Rouse(at) => job_wake(e, at).alarm(),
-        Action::List(delay, task) => list(e, delay, task).alarm(),
+        Action::List(delay, task) => list(e, delay, task),
     }
 }
 

@@ -1,8 +1,7 @@
 ghost use Rattle.std.specs.Prelude.{◌≡◌, ◌+◌, ◌<◌, ◌^◌};
-ghost use Rattle.agc_plan.specs.declared.reply.Reply.TheVariants.{NoJob, Restarted};
 ghost use Rattle.agc_machine.specs.Told.{nothing, add, reply_told};
 
-use agc_plan::{Alarm, Reply};
+use agc_plan::Alarm;
 
 /// Counts of served requests: a machine's since it was made, or those whose answers the holder of a
 /// share was told; each at most the allowance. Source: profile.
@@ -21,6 +20,8 @@ pub struct Totals {
 }
 
 impl Totals {
+    ghost use Rattle.std.specs.Option.{option_map_or};
+    ghost use Rattle.agc_plan.specs.declared.reply.Reply.TheVariants.{NoJob, Restarted};
     ghost use Rattle.agc_machine.specs.Told.{alarm_told};
 
     /// All 0.
@@ -36,61 +37,31 @@ impl Totals {
         }
     }
 
-    /// One more request was served, which raised this alarm.
-    fn count_alarm(&mut self, alarm: Alarm)
+    /// One more request was served, and an era began with it, after this alarm, if one was raised.
+    /// It is rare, and stands apart so that other requests don't pay for it.
+    #[inline(never)]
+    pub(crate) fn count_era(&mut self, alarm: Option<Alarm>)
         requires { (self.old.served + 1 < 2 ^ 64) × (self.old.a1201 + 1 < 2 ^ 64)
             × (self.old.a1202 + 1 < 2 ^ 64) × (self.old.a1203 + 1 < 2 ^ 64)
             × (self.old.restarts + 1 < 2 ^ 64) }
-        ensures { self.new ≡ add self.old (alarm_told alarm) }
+        ensures { self.new ≡ add self.old
+            (option_map_or alarm_told alarm (reply_told Restarted)) }
     {
         self.served += 1;
         self.restarts += 1;
         match alarm {
-            Alarm::A1201 => self.a1201 += 1,
-            Alarm::A1202 => self.a1202 += 1,
-            Alarm::A1203 => self.a1203 += 1,
+            Some(Alarm::A1201) => self.a1201 += 1,
+            Some(Alarm::A1202) => self.a1202 += 1,
+            Some(Alarm::A1203) => self.a1203 += 1,
+            None => {}
         }
     }
 
-    /// One more request was served, and an era began.
-    fn count_restart(&mut self)
-        requires { (self.old.served + 1 < 2 ^ 64) × (self.old.restarts + 1 < 2 ^ 64) }
-        ensures { self.new ≡ add self.old (reply_told Restarted) }
-    {
-        self.served += 1;
-        self.restarts += 1;
-    }
-
     /// One more request was served, with no alarm, and no era began.
-    fn count_served(&mut self)
+    pub(crate) fn count_served(&mut self)
         requires { self.old.served + 1 < 2 ^ 64 }
         ensures { self.new ≡ add self.old (reply_told NoJob) }
     {
         self.served += 1;
-    }
-
-    /// One more request was served, which got this reply. Counts are changed where they stand,
-    /// which is cheaper than totals handed on.
-    pub(crate) fn count(&mut self, reply: &Reply)
-        requires { (self.old.served + 1 < 2 ^ 64) × (self.old.a1201 + 1 < 2 ^ 64)
-            × (self.old.a1202 + 1 < 2 ^ 64) × (self.old.a1203 + 1 < 2 ^ 64)
-            × (self.old.restarts + 1 < 2 ^ 64) }
-        ensures { self.new ≡ add self.old (reply_told reply.now) }
-    {
-        match reply {
-            Reply::Alarmed(alarm) => self.count_alarm(*alarm),
-            Reply::Ticked(Some(alarm)) => self.count_alarm(*alarm),
-            Reply::Ticked(None) => self.count_served(),
-            Reply::Restarted => self.count_restart(),
-            Reply::Established(_) => self.count_served(),
-            Reply::Left(_) => self.count_served(),
-            Reply::Roused(_) => self.count_served(),
-            Reply::NoSleeper => self.count_served(),
-            Reply::NoJob => self.count_served(),
-            Reply::Runs(_) => self.count_served(),
-            Reply::Stored => self.count_served(),
-            Reply::Listed => self.count_served(),
-            Reply::Phased => self.count_served(),
-        }
     }
 }

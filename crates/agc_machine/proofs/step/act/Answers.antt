@@ -1,4 +1,5 @@
 use Rattle.std.proofs.Common.{refl, sym, subst, ◌∙◌}
+use Rattle.agc_plan.specs.declared.reply.Reply.{Reply}
 use Rattle.agc_plan.specs.declared.reply.Reply.TheVariants.{Phased, Restarted, Ticked}
 use Rattle.agc_plan.specs.declared.request.Request.{Request}
 use Rattle.agc_plan.specs.declared.request.Request.TheVariants as request
@@ -9,7 +10,7 @@ use Rattle.agc_plan.specs.Places.{placed_end, fronted}
 use Rattle.agc_plan.specs.Plans.{planned_with}
 use Rattle.agc_plan.specs.Seats.{seated_new}
 use Rattle.agc_plan.specs.Steps.{with_jobs, with_listed, ticked}
-use Rattle.agc_machine.specs.Stands.{Acts, places_ticked, same_places}
+use Rattle.agc_machine.specs.Stands.{Acts, Works, places_ticked, same_places}
 use Rattle.agc_machine.proofs.Acting.{acts_work, acts_base}
 use Rattle.agc_machine.proofs.Alarms.{no_alarm}
 use Rattle.agc_machine.proofs.Frames.{works_new, works_end, works_front, works_still, due_by_cores, due_by_phases}
@@ -106,8 +107,8 @@ returns-in-Store-clause-none_due c = λ goes. due_by_cores c.args.e.now c.store.
 pub returns-in-List-clause-acts : goal.returns-in-List-clause-acts
 returns-in-List-clause-acts c =
     let plan = planned_with c.args.plan.now (sets_in c.args.e.now) in
-    subst (λ (r : Request). Acts plan r c.args.e.now c.list.result c.list.new.e) (sym c.in-List.is)
-    (acts_work plan (request.List c.in-List.delay c.in-List.task) (with_listed c.in-List.delay c.in-List.task) same_places c.args.e.now c.list.result c.list.new.e c.list.ensures.works (λ p. refl) (λ p places. refl))
+    subst (λ (r : Request). Acts plan r c.args.e.now c.listing_reply.result c.list.new.e) (sym c.in-List.is)
+    (acts_work plan (request.List c.in-List.delay c.in-List.task) (with_listed c.in-List.delay c.in-List.task) same_places c.args.e.now c.listing_reply.result c.list.new.e (subst (λ (r : Reply). Works (with_listed c.in-List.delay c.in-List.task) same_places c.args.e.now r c.list.new.e) (sym c.listing_reply.ensures) c.list.ensures.works) (λ p. refl) (λ p places. refl))
 
 pub returns-in-SetPhase-clause-acts : goal.returns-in-SetPhase-clause-acts
 returns-in-SetPhase-clause-acts c =

@@ -5,8 +5,9 @@ use Rattle.agc_plan.specs.Jobs as plain
 use Rattle.agc_plan.specs.Places.{fronted}
 use Rattle.agc_plan.specs.Seats.{seated_new}
 use Rattle.agc_plan.specs.Steps.{with_jobs, with_listed}
-use Rattle.agc_machine.specs.Stands.{Performs, same_places}
+use Rattle.agc_machine.specs.Stands.{Performs, same_places, listing_told}
 use Rattle.agc_machine.proofs.Acting.{performs_work}
+use Rattle.agc_machine.proofs.Alarms.{listing_alarm}
 use Rattle.agc_machine.proofs.Frames.{works_new, works_front, due_by_cores}
 use Rattle.agc_machine.proofs.tick.perform.Goals as goal
 
@@ -36,5 +37,5 @@ returns-in-Rouse c =
 
 pub returns-in-List : goal.returns-in-List
 returns-in-List c =
-    subst (λ (a : Action). Performs a c.args.e.now c.alarm-in-List.result c.list.new.e) (sym c.in-List.is)
-    (performs_work (action.List c.in-List.delay c.in-List.task) (with_listed c.in-List.delay c.in-List.task) same_places c.args.e.now c.list.result c.alarm-in-List.result c.list.new.e c.list.ensures.works c.list.ensures.due c.alarm-in-List.ensures (λ work. refl) (λ work places. refl))
+    subst (λ (a : Action). Performs a c.args.e.now c.list.result c.list.new.e) (sym c.in-List.is)
+    (performs_work (action.List c.in-List.delay c.in-List.task) (with_listed c.in-List.delay c.in-List.task) same_places c.args.e.now (listing_told c.list.result) c.list.result c.list.new.e c.list.ensures.works c.list.ensures.due (listing_alarm c.list.result) (λ work. refl) (λ work places. refl))

@@ -1,8 +1,8 @@
-use Rattle.std.proofs.Common.{◌≡◌, ℕ, None, sym, ◌∙◌, subst, ap}
+use Rattle.std.proofs.Common.{◌≡◌, ℕ, None, refl, sym, ◌∙◌, subst, ap}
 use Rattle.std.specs.Vec.{vec_capacity}
 use Rattle.agc_word.specs.Layout.{sets_in}
 use Rattle.agc_plan.specs.Plans.{planned_with}
-use Rattle.agc_plan.specs.Steps.{fired_in}
+use Rattle.agc_plan.specs.Steps.{begins, fired_in}
 use Rattle.agc_machine.specs.Image.{IsKept}
 use Rattle.agc_machine.proofs.Beginning.{same_sets}
 use Rattle.agc_machine.specs.Machines.{Machined, plain_of, refusal_of, stepped, served}
@@ -12,26 +12,22 @@ use Rattle.agc_machine.proofs.machine.Machine.serve.Goals as goal
 pub step-reply-requires-clause-ready : goal.step-reply-requires-clause-ready
 step-reply-requires-clause-ready c = ready_of _ c.self.inside.erasable c.self.invariant.image
 
-pub count-requires : goal.count-requires
-count-requires c =
-    let e = subst (λ (m : Machined). refusal_of m c.args.request.now ≡ None) (sym c.self.view_is) c.requires.served in
-    counts_fit _ c.args.request.now c.self.invariant.image.machine e
-
 pub store-requires : goal.store-requires
 store-requires c =
     let e = subst (λ (m : Machined). refusal_of m c.args.request.now ≡ None) (sym c.self.view_is) c.requires.served in
     record {
       lawful = c.step-reply.ensures.steps.ready.sound.phases;
+      counts = counts_fit _ c.args.request.now c.self.invariant.image.machine e;
       space = λ goes.
-          store_room _ c.args.request.now c.step-reply.result _ c.self.invariant.image.machine c.self.invariant.reserved e (c.step-reply.ensures.steps.steps _ _ (stands_of _ c.self.inside.erasable c.self.invariant.image)).reply_is (sym c.begins-over.ensures ∙ goes);
+          store_room _ c.args.request.now c.step-reply.result _ c.self.invariant.image.machine c.self.invariant.reserved e (c.step-reply.ensures.steps.steps _ _ (stands_of _ c.self.inside.erasable c.self.invariant.image)).reply_is goes;
     }
 
 pub invariant_of-self : goal.invariant_of-self
 invariant_of-self c =
     let e = subst (λ (m : Machined). refusal_of m c.args.request.now ≡ None) (sym c.self.view_is) c.requires.served in
     let same : sets_in c.step-reply.new.e ≡ sets_in c.self.inside.erasable = same_sets c.self.inside.erasable c.step-reply.new.e c.step-reply.ensures.steps.same_length in
-    subst (λ (n : ℕ). IsKept (record { plan = planned_with c.self.inside.plan n; limit = c.self.inside.limit; allowance = c.self.inside.allowance; base = c.store.new.base; log = c.store.new.log.items; totals = c.count.new.self }) c.step-reply.new.e (vec_capacity c.store.new.log)) (sym same)
-    (kept_stored _ c.args.request.now c.step-reply.new.e c.step-reply.result _ c.begins-over.result c.store.new.base c.store.new.log.items c.count.new.self c.self.invariant.image.machine (c.store.ensures.room ∙ c.self.invariant.reserved) e same c.step-reply.ensures.steps.ready (c.step-reply.ensures.steps.steps _ _ (stands_of _ c.self.inside.erasable c.self.invariant.image)) c.begins-over.ensures c.store.ensures.base c.store.ensures.log c.count.ensures).0
+    subst (λ (n : ℕ). IsKept (record { plan = planned_with c.self.inside.plan n; limit = c.self.inside.limit; allowance = c.self.inside.allowance; base = c.store.new.base; log = c.store.new.log.items; totals = c.store.new.totals }) c.step-reply.new.e (vec_capacity c.store.new.log)) (sym same)
+    (kept_stored _ c.args.request.now c.step-reply.new.e c.step-reply.result _ (begins c.step-reply.result) c.store.new.base c.store.new.log.items c.store.new.totals c.self.invariant.image.machine (c.store.ensures.room ∙ c.self.invariant.reserved) e same c.step-reply.ensures.steps.ready (c.step-reply.ensures.steps.steps _ _ (stands_of _ c.self.inside.erasable c.self.invariant.image)) refl c.store.ensures.base c.store.ensures.log c.store.ensures.totals).0
 
 pub returns-clause-reply : goal.returns-clause-reply
 returns-clause-reply c =
@@ -45,6 +41,6 @@ pub returns-clause-after : goal.returns-clause-after
 returns-clause-after c =
     let e = subst (λ (m : Machined). refusal_of m c.args.request.now ≡ None) (sym c.self.view_is) c.requires.served in
     let same : sets_in c.step-reply.new.e ≡ sets_in c.self.inside.erasable = same_sets c.self.inside.erasable c.step-reply.new.e c.step-reply.ensures.steps.same_length in
-    view_with c.self.inside.plan c.self.inside.limit c.self.inside.allowance c.store.new.base c.store.new.log.items c.count.new.self same
-    ∙ (kept_stored _ c.args.request.now c.step-reply.new.e c.step-reply.result _ c.begins-over.result c.store.new.base c.store.new.log.items c.count.new.self c.self.invariant.image.machine (c.store.ensures.room ∙ c.self.invariant.reserved) e same c.step-reply.ensures.steps.ready (c.step-reply.ensures.steps.steps _ _ (stands_of _ c.self.inside.erasable c.self.invariant.image)) c.begins-over.ensures c.store.ensures.base c.store.ensures.log c.count.ensures).1
+    view_with c.self.inside.plan c.self.inside.limit c.self.inside.allowance c.store.new.base c.store.new.log.items c.store.new.totals same
+    ∙ (kept_stored _ c.args.request.now c.step-reply.new.e c.step-reply.result _ (begins c.step-reply.result) c.store.new.base c.store.new.log.items c.store.new.totals c.self.invariant.image.machine (c.store.ensures.room ∙ c.self.invariant.reserved) e same c.step-reply.ensures.steps.ready (c.step-reply.ensures.steps.steps _ _ (stands_of _ c.self.inside.erasable c.self.invariant.image)) refl c.store.ensures.base c.store.ensures.log c.store.ensures.totals).1
     ∙ ap (λ (m : Machined). served (stepped m c.args.request.now) c.args.request.now m) c.self.view_is
