@@ -58,7 +58,8 @@ const begin = (hash) => {
   document.heard = {};
   window.heard = {};
   location.hash = hash;
-  vm.runInNewContext(script, { document, window, location, history });
+  vm.runInNewContext(script, { document, window, location, history, setTimeout: (run) => run(),
+    clearTimeout: () => {} });
   document.fire('DOMContentLoaded');
 };
 const press = (key, target) => {
@@ -67,61 +68,58 @@ const press = (key, target) => {
   return taken;
 };
 const shown = (id) => named[id].textContent;
-const lines = (id) => shown(id).split('\n').filter((line) => /^[0-9]/.test(line));
 const at = () => Number(world.address.slice(1));
 
-// The phases and FAILREG at each request: told first, and behind a request that changed them; of an
-// alarm, they hold from the next request on.
-const bases_of = (id) => {
-  const bases = [];
-  let base = '';
-  let row = '';
-  shown(id).split('\n').forEach((line) => {
-    if (/^[0-9]/.test(line)) { row = line; bases.push(base); }
-    if (/^base /.test(line)) { base = line; }
-    if (/^base /.test(line) && row && !/alarm/.test(row)) { bases[bases.length - 1] = base; }
+// The rows of a run: a cell that is empty is that of the row above.
+const rows_of = (id) => {
+  let above = [];
+  return shown(id).split('\n').filter((line) => /^[0-9]/.test(line)).map((line) => {
+    above = line.split('\t').map((cell, k) => cell.trim() || above[k]);
+    return above;
   });
-  return bases;
 };
-const bases = { own: bases_of('own'), other: bases_of('other') };
 
-const own = lines('own');
-const other = lines('other');
-const alarms = own.filter((line) => / {2}(tick[^A-Z]*?)?alarm/.test(line)).map((line) => parseInt(line, 10));
+const own = rows_of('own');
+const other = rows_of('other');
 const count = own.length;
+const first = count === 0 ? 1 : Number(own[0][0]);
+const last = first + count - 1;
+const alarms = own.filter((row) => /alarm/.test(row[3])).map((row) => Number(row[0]));
 
-const cells = (line) => line.split(/ {2,}/);
-const is_drawn = (line, id = 'own') => {
-  const [number, time, request, reply, runs, sets, areas, tasks] = cells(line);
+const is_drawn = (cells) => {
+  const [number, time, request, reply, runs, sets, areas, tasks, base] = cells;
   const row = shown('row');
-  expect(`${number}: the row is ${row}`, row.startsWith(`Request ${number} of ${count}, at ${time} cs: `
-    + `${request}. Reply: ${reply}. `) && row.includes(runs === '-' ? 'Nobody runs' : `Job ${runs} runs`));
-  const seats = sets.trim().split(' ');
+  expect(`${number}: the row is ${row}`, row.startsWith(
+    (number === '0' ? 'Before request 1' : `Request ${number} of ${last}`)
+    + `, at ${time} cs: ${request}. Reply: ${reply}. `)
+    && row.includes(runs === '-' ? 'Nobody runs' : `Job ${runs} runs`));
+  const seats = sets.split(' ');
   expect(`${number}: ${seats.length} core sets`, named.sets.children.length === seats.length);
   seats.forEach((seat, k) => {
     const job = /[0-9]+/.exec(seat);
     const text = named.sets.children[k].textContent;
     expect(`${number}: set ${k} is ${text}`, text.includes(job ? `job ${job[0]}` : 'free')
-      && text.includes('asleep') === seat.startsWith('('));
+      && text.includes('asleep') === seat.startsWith('(')
+      && text.includes('NEWJOB') === seat.startsWith('>'));
   });
-  areas.trim().split(' ').forEach((owner, k) => {
+  areas.split(' ').forEach((owner, k) => {
     const text = named.areas.children[k].textContent;
     expect(`${number}: area ${text}`, text.includes(owner === '.' ? 'free' : `job ${owner}`));
   });
-  const waits = tasks.trim() === '-' ? [] : tasks.trim().split(' ');
+  const waits = tasks === '-' ? [] : tasks.split(' ');
   expect(`${number}: nine places`, named.tasks.children.length === 9);
   named.tasks.children.forEach((place, k) => {
     const [address, left] = (waits[k] || '').split('+');
     expect(`${number}: place ${place.textContent}`,
       place.textContent.includes(waits[k] ? `${address}in ${left} cs` : 'free'));
   });
-  const words = bases[id][Number(number) - 1].split(' ').slice(1);
-  const told = [...named.phases.children, ...named.failreg.children].map((box) => box.children[0].textContent);
-  expect(`${number}: phases and FAILREG ${told}, not ${words}`, told.join(' ') === words.join(' '));
+  const told = [...named.phases.children, ...named.failreg.children]
+    .map((box) => box.children[0].textContent.replace('phase ', ''));
+  expect(`${number}: phases and FAILREG ${told}, not ${base}`, told.join(' ') === base);
   expect(`${number}: an account`, named.why.hidden !== /alarm/.test(reply));
-  const current = named.lines.children.filter((row) => row.attributes['aria-current']);
+  const current = named.lines.children.filter((line) => line.attributes['aria-current']);
   expect(`${number}: one line is current`, current.length === 1
-    && current[0].children.map((cell) => cell.textContent).join('  ') === cells(line).join('  '));
+    && current[0].children.map((cell) => cell.textContent).join('|') === cells.join('|'));
 };
 
 begin('');
@@ -132,42 +130,42 @@ if (count === 0) {
   press('End', document);
   is_drawn(own[count - 1]);
   press('ArrowRight', document);
-  expect('the last request stays', at() === count);
+  expect('the last request stays', at() === last);
   press('Home', document);
   const most = Math.min(count, 300);
   for (let i = 1; i < most; i += 1) {
     press('ArrowRight', document);
     is_drawn(own[i]);
-    expect(`the address is ${world.address}`, at() === i + 1);
+    expect(`the address is ${world.address}`, at() === i + first);
   }
   press('ArrowLeft', document);
-  expect('back', at() === Math.max(most - 1, 1));
+  expect('back', at() === Math.max(most - 2, 0) + first);
   press('Home', document);
-  const first = alarms.length === 0 ? 1 : alarms.find((number) => number > 1) || alarms[0];
+  const next = alarms.find((number) => number > first);
   expect('a is taken', press('a', document));
-  expect(`a goes to ${at()}`, at() === first);
-  begin(`#${count}`);
+  expect(`a goes to ${at()}`, at() === (next === undefined ? first : next));
+  begin(`#${last}`);
   is_drawn(own[count - 1]);
   named.switch.checked = true;
   named.switch.fire('change');
-  is_drawn(other[count - 1], 'other');
+  is_drawn(other[count - 1]);
   named.switch.checked = false;
   named.switch.fire('change');
-  named.slider.value = '1';
+  named.slider.value = String(first);
   named.slider.fire('input');
   is_drawn(own[0]);
   expect('/ is taken', press('/', document));
   expect('/ goes to the field', world.focused === named.find);
-  expect('a letter in the field is a letter', !press('a', named.find) && at() === 1);
+  expect('a letter in the field is a letter', !press('a', named.find) && at() === first);
   named.find.value = '99';
   press('Enter', named.find);
   expect('no such job', /No reply names job 99/.test(shown('said')));
-  const address = own.findIndex((line) => /\b[0-7]{5}\b/.test(cells(line)[2]));
+  const address = own.findIndex((row) => /\b[0-7]{5}\b/.test(row[2]));
   if (address !== -1) {
     press('End', document);
-    named.find.value = /\b[0-7]{5}\b/.exec(cells(own[address])[2])[0];
+    named.find.value = /\b[0-7]{5}\b/.exec(own[address][2])[0];
     press('Enter', named.find);
-    expect(`the address is found at ${at()}`, at() === address + 1);
+    expect(`the address is found at ${at()}`, at() === address + first);
   }
   window.fire('beforeprint');
   expect('all lines are printed', named.lines.children.length === count);

@@ -10,7 +10,6 @@ ghost use Rattle.agc_desk.specs.Keeping.{lent_of};
 ghost use Rattle.agc_desk.specs.Opening.{names_of};
 ghost use Rattle.agc_bench.specs.Sharing.{AreFresh, AreReady, first_calls};
 ghost use Rattle.agc_bench.specs.Threads.{askers_of, threads_of};
-ghost use Rattle.agc_bench.specs.Steps.{IsEarly};
 
 use crate::asker::{ask_script, count_threads};
 use crate::poster::devices_of;
@@ -123,7 +122,7 @@ pub(crate) fn open<N: Sharing>(
     } }
     ensures ready { IfOk result (λ p. AreReady N.first bench.now latch.now p.first p.shares.items
         p.devices.items) }
-    ensures early { IfErr result (λ fault. IsEarly fault) }
+    ensures early { IfErr result (λ fault. fault ≡ RunFault.NoMemory) }
 {
     let (mut desk, mut first) = desk_of::<N>(machine, blanks, taker);
     let (shares, devices) = threads_and_devices(alloc, &mut desk, latch, bench)?;

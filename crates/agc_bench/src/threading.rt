@@ -96,15 +96,11 @@ fn ask_at_once<N: Sharing + Send + Sync, G: Gate + Sync, W: Threads + Wait + Syn
                     ensures { AsksOwn (λ n call answer. G.may_answer gate.entry.now n call answer)
                         (thread_at bench.entry.now thread) share result }
                 { ask_own(rt, shared, latch, share, bench, thread, gate) };
-                match scope.spawn_with(pledge, own) {
-                    Ok(thread) => running.push(thread)?,
-                    Err(_refused) => return Err(RunFault::NoThread),
-                }
+                let asking = scope.spawn_with(pledge, own)?;
+                running.push(asking)?;
             }
-            match thread::join_promised(rt, running) {
-                Ok(back) => Ok(back),
-                Err(_failed) => Err(RunFault::NoMemory),
-            }
+            let back = thread::join_promised(rt, running)?;
+            Ok(back)
         },
     )
 }
@@ -153,16 +149,12 @@ fn run_at_once<N: Sharing + Send + Sync, G: Gate + Sync, W: Threads + Wait + Syn
                     requires { device ≡ new_device latch.now planned.1 }
                     ensures { result ≡ spent_device latch.entry.now planned }
                 { post_all(latch, device, planned) };
-                match scope.spawn_with(pledge, own) {
-                    Ok(thread) => posting.push(thread)?,
-                    Err(_unstarted) => return Err(RunFault::NoThread),
-                }
+                let poster = scope.spawn_with(pledge, own)?;
+                posting.push(poster)?;
             }
             let back = ask_at_once(rt, alloc, shared, latch, shares, bench, gate)?;
-            match thread::join_promised(rt, posting) {
-                Ok(devices) => Ok((back, devices)),
-                Err(_failed) => Err(RunFault::NoMemory),
-            }
+            let devices = thread::join_promised(rt, posting)?;
+            Ok((back, devices))
         },
     )
 }

@@ -9,14 +9,14 @@ use Rattle.agc_session.specs.Runs.{machine_on, bench_machine, bench_requests}
 use Rattle.agc_session.specs.declared.run_fault.RunFault.{RunFault}
 use Rattle.agc_session.specs.declared.run_fault.RunFault.TheVariants.{NoMemory, Output, NoThread}
 use Rattle.agc_session.specs.declared.run_fault.RunFault.TheVariants.{Lost}
-use Rattle.agc_trace.specs.Runs.{lines_of}
 use Rattle.agc_page.specs.declared.front.TheConstants.{FRONT, BETWEEN, END}
+use Rattle.agc_page.specs.Rows.{data_of}
 
--- the lines of a run, and of the same requests asked of another machine
-unfoldable pub page_of : Machined → Machined → List Request → List ℕ
-page_of own other requests =
-    (FRONT.now ++ lines_of own requests)
-    ++ ((BETWEEN.now ++ lines_of other requests) ++ END.now)
+-- the data of a run, and of the same requests asked of another machine
+unfoldable pub page_of : Option (List ℕ) → Machined → Machined → List Request → List ℕ
+page_of power own other requests =
+    (FRONT.now ++ data_of power own requests)
+    ++ ((BETWEEN.now ++ data_of power other requests) ++ END.now)
 
 -- seven core sets where there are eight, and eight where there are seven
 abbrev pub other_sets : ℕ → ℕ
@@ -24,7 +24,8 @@ other_sets sets = if sets == 7 then 8 else 7
 
 abbrev pub page_text : Benched → List ℕ
 page_text bench =
-    page_of (bench_machine bench) (machine_on (other_sets bench.sets) bench) (bench_requests bench)
+    page_of bench.power (bench_machine bench) (machine_on (other_sets bench.sets) bench)
+    (bench_requests bench)
 
 -- the page was written and nothing else; a front of it where a write failed; nothing where there
 -- was no memory; no other fault comes

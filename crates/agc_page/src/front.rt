@@ -8,8 +8,8 @@ pub(crate) const FRONT: &str = r#"<!DOCTYPE html>
 <meta charset="utf-8">
 <meta http-equiv="Content-Security-Policy" content="default-src 'none';
 base-uri 'none'; form-action 'none';
-script-src 'sha256-gJ78bhCbg45iL+fVocLQqQw+C5ZPg2tRofcFZKX4thk=';
-style-src 'sha256-otYAaq+KyfETWw22dQ363biu3BCVFkWSPvMzZDcBfGE='">
+script-src 'sha256-flfGSRAd3dpXtl7lXEfJmCH2CMae73gFKaZGc2BsUj0=';
+style-src 'sha256-LNvPzA/2in7Wkjkal5gS2Jb/J1Eza1quCy/W0ckmAc8='">
 <meta name="viewport" content="width=device-width, initial-scale=1">
 <title>A run, request by request</title>
 <style>
@@ -19,22 +19,26 @@ h1{font-size:1.2rem;margin:.2rem 0}
 h2{font-size:1rem;margin:1rem 0 .2rem}
 [hidden]{display:none}
 .bar{display:flex;flex-wrap:wrap;gap:.5rem;align-items:center;padding:.4rem 0;background:#fff}
-@media (min-width:60rem){.bar{position:sticky;top:0}}
+@media (min-width:60rem){.bar{position:sticky;top:0}
+.state{display:flex;gap:1.5rem;align-items:flex-start}.tables{flex:1}.why{flex:0 0 23rem;order:2}}
 button,input{font:inherit;min-height:2.6rem;vertical-align:middle}
 input[type=checkbox]{min-height:0;width:1.5rem;height:1.5rem}
 button{padding:0 .8rem}
 input[type=range]{flex:1 1 12rem;min-width:8rem}
 input[type=search]{width:7rem}
 :focus-visible{outline:3px solid #d55e00;outline-offset:2px}
-.row{font-size:1.4rem;font-weight:bold;margin:.4rem 0;min-height:2.8em}
+.row{font-size:1.4rem;font-weight:bold;margin:.4rem 0;min-height:1.4em}
 .row.alarm{border-left:.6rem solid #c00;padding-left:.6rem}
 .boxes{list-style:none;display:grid;gap:.4rem;padding:0;margin:0;
-grid-template-columns:repeat(auto-fit,minmax(5.4rem,1fr))}
+grid-template-columns:repeat(auto-fit,minmax(5.2rem,1fr))}
 .boxes li{border:2px solid #555;border-radius:.3rem;padding:.3rem .5rem;background:#eee}
-.boxes b{display:block;font-size:1.3rem}
+.boxes b{display:block;font-size:1.2rem}
 .boxes li.runs{border:4px solid #000;padding:calc(.3rem - 2px) calc(.5rem - 2px)}
 .boxes li.asleep{border-style:dashed}
 .free b{font-weight:normal;color:#555}
+.set{background:#ffd!important;border-width:3px!important}
+.pair{display:flex;flex-wrap:wrap;gap:0 1.5rem}
+.pair section{flex:2 1 min(34rem,100%)}.pair section+section{flex:1 1 18rem}
 progress{width:100%}
 .j1{background:#0072b2!important;color:#fff}.j2{background:#e69f00!important}
 .j3{background:#009e73!important}.j4{background:#cc79a7!important}
@@ -44,11 +48,12 @@ progress{width:100%}
 .s3{background:#a6ddce!important}.s4{background:#edd0e0!important}
 .s5{background:#c4e5f7!important}.s6{background:#f0c7a6!important}
 .s7{background:#faf6bd!important}.s8{background:#a6a6a6!important}
-pre{overflow-x:auto;border-left:.6rem solid #c00;padding-left:.6rem}
+pre{white-space:pre-wrap;border-left:.6rem solid #c00;padding-left:.6rem;margin:.2rem 0}
+.full{outline:.3rem solid #c00;outline-offset:.2rem}
 .wide{overflow-x:auto}
 table{border-collapse:collapse;font-family:ui-monospace,monospace}
 caption{text-align:left}
-th,td{text-align:left;padding:.1rem .6rem .1rem 0;white-space:nowrap}
+th,td{text-align:left;padding:.1rem 1rem .1rem 0;white-space:nowrap}
 tbody tr{cursor:pointer}
 tr[aria-current]{background:#ff9;font-weight:bold}
 td.alarm{color:#a00;font-weight:bold}
@@ -58,39 +63,46 @@ thead{display:table-header-group}tr[aria-current]{background:none;font-weight:no
 <script>
 (function () {
 'use strict';
-var runs = [], run, at = 0, around = 6;
+var runs = [], run, at = 0, first = 1, last = 0, around = 6, later;
 
 function by(id) { return document.getElementById(id); }
 
-// A run: its lines, the places of the requests' lines among them, and those of the words that hold
-// at each.
+// A run: of each request the cells, and at an alarm its account. A cell that is empty is that of
+// the row above; an alarm below whose row no account stands has the account of the one before it.
 function read(id) {
-  var lines = by(id).textContent.split('\n'), rows = [], bases = [], base = -1, i;
-  for (i = 0; i < lines.length; i += 1) {
-    if (/^base /.test(lines[i])) { base = i; }
-    if (/^[0-9]/.test(lines[i])) { rows.push(i); bases.push(base); }
-  }
-  return { lines: lines, rows: rows, bases: bases };
+  var rows = [], cells = [], why = [], told = false;
+  by(id).textContent.split('\n').forEach(function (line) {
+    if (/^[0-9]/.test(line)) {
+      cells = line.split('\t').map(function (cell, k) { return cell || cells[k]; });
+      rows.push({ cells: cells, why: /alarm/.test(cells[3]) ? why : [] });
+      told = false;
+    } else if (line !== '') {
+      if (!told) { why = []; rows[rows.length - 1].why = why; }
+      why.push(line);
+      told = true;
+    }
+  });
+  return rows;
 }
 
 function words(cell) { return cell.split(' ').filter(function (word) { return word !== ''; }); }
 
-// The cells of a request's line, between which stand two spaces or more.
+// The cells of a request.
 function cells(i) {
-  var c = run.lines[run.rows[i]].split(/ {2,}/);
+  var c = run[i].cells;
   return { number: c[0], time: c[1], request: c[2], reply: c[3], runs: c[4],
-    sets: words(c[5]), areas: words(c[6]), tasks: words(c[7]), all: c };
+    sets: words(c[5]), areas: words(c[6]), tasks: words(c[7]), base: words(c[8]), all: c };
 }
 
-// What is told of an alarm, below its line.
-function account(i) {
-  var lines = [], next = run.rows[i] + 1;
-  while (/^ /.test(run.lines[next] || '')) {
-    lines.push(run.lines[next].slice(8).replace(/(\S) {3,}/g, '$1   '));
-    next += 1;
-  }
-  return lines.join('\n');
+// A line of an account. Behind the phases of a restart stands the state with which the era begins.
+function told_line(line) {
+  var c = line.slice(8).split(/ {2,}/);
+  if (c.length < 5) { return line.slice(8); }
+  return c[0] + '\n  then runs: ' + c[1] + '\n  core sets: ' + c[2] + '\n  VAC areas: ' + c[3]
+    + '\n  tasks: ' + c[4];
 }
+
+function account(i) { return run[i].why.map(told_line).join('\n'); }
 
 function is_alarm(c) { return /alarm/.test(c.reply); }
 
@@ -160,27 +172,28 @@ function task_boxes(tasks) {
 }
 
 // The six phases and the three words of FAILREG.
-function draw_base(i) {
-  var w = words(run.lines[run.bases[i]] || '').slice(1);
-  by('base').hidden = w.length === 0;
-  fill('phases', w.slice(0, 6).map(function (word, k) {
-    return box('group ' + (k + 1), word, word === '0' ? 'inactive' : '', '');
+function draw_base(base) {
+  fill('phases', base.slice(0, 6).map(function (word, k) {
+    return box('group ' + (k + 1), word === '0' ? '0' : 'phase ' + word,
+      word === '0' ? 'inactive' : '', word === '0' ? 'free' : 'set');
   }));
-  fill('failreg', w.slice(6).map(function (word, k) {
-    return box(['first', 'second', 'latest'][k], word, '', '');
+  fill('failreg', base.slice(6).map(function (word, k) {
+    var none = word === '00000';
+    return box(['first', 'second', 'latest'][k], word, none ? 'no code' : 'alarm ' + Number(word),
+      none ? 'free' : 'set');
   }));
 }
 
 function sentence(c) {
-  return 'Request ' + c.number + ' of ' + run.rows.length + ', at ' + c.time + ' cs: '
-    + c.request + '. Reply: ' + c.reply + '. '
+  return (c.number === '0' ? 'Before request 1' : 'Request ' + c.number + ' of ' + last)
+    + ', at ' + c.time + ' cs: ' + c.request + '. Reply: ' + c.reply + '. '
     + (c.runs === '-' ? 'Nobody runs.' : 'Job ' + c.runs + ' runs.');
 }
 
 function line(i) {
   var c = cells(i), row = element('tr', ''), alarm = is_alarm(c);
   c.all.forEach(function (cell, k) {
-    row.appendChild(element('td', cell, k === 3 && alarm ? 'alarm' : ''));
+    row.appendChild(element('td', cell.trim(), k === 3 && alarm ? 'alarm' : ''));
   });
   if (i === at) { row.setAttribute('aria-current', 'true'); }
   row.addEventListener('click', function () { go(i); });
@@ -188,42 +201,54 @@ function line(i) {
 }
 
 // The lines of some requests, made anew each time.
-function table(first, past) {
+function table(from, past) {
   var rows = [], i;
-  for (i = Math.max(first, 0); i < Math.min(past, run.rows.length); i += 1) { rows.push(line(i)); }
+  for (i = Math.max(from, 0); i < Math.min(past, run.length); i += 1) { rows.push(line(i)); }
   fill('lines', rows);
+}
+
+// The table that was full, by the alarm's code.
+function mark_full(id, code, c) {
+  by(id).className = c.reply.indexOf('alarm ' + code) < 0 ? 'boxes' : 'boxes full';
 }
 
 function draw() {
   var c, why;
-  if (run.rows.length === 0) { by('row').textContent = 'The bench asks for nothing.'; return; }
+  if (run.length === 0) { by('row').textContent = 'The bench asks for nothing.'; return; }
   c = cells(at);
   why = account(at);
   by('row').textContent = sentence(c);
   by('row').className = is_alarm(c) ? 'row alarm' : 'row';
-  by('slider').value = String(at + 1);
+  by('slider').value = c.number;
   by('why').hidden = why === '';
   by('account').textContent = why;
   fill('sets', c.sets.map(function (word, k) { return set_box(word, k, c); }));
   fill('areas', c.areas.map(area_box));
   fill('tasks', task_boxes(c.tasks));
-  draw_base(at);
+  draw_base(c.base);
+  mark_full('areas', '1201', c);
+  mark_full('sets', '1202', c);
+  mark_full('tasks', '1203', c);
   table(at - around, at + around + 1);
 }
 
 function say(text) { by('said').textContent = text; }
 
-// To request i, counted from 0, or to the first or the last.
+// Browsers let the address change some 200 times in half a minute: so a while after the last step.
+function write_address() { history.replaceState(null, '', '#' + (at + first)); }
+
+// To row i, counted from 0, or to the first or the last.
 function go(i) {
-  at = Math.max(0, Math.min(i, run.rows.length - 1));
+  at = Math.max(0, Math.min(i, run.length - 1));
   say('');
   draw();
-  try { history.replaceState(null, '', '#' + (at + 1)); } catch (refused) { at = at; }
+  clearTimeout(later);
+  later = setTimeout(write_address, 150);
 }
 
 // To the next request of which this holds, behind the last from the first on.
 function seek(holds, otherwise) {
-  var count = run.rows.length, k, i;
+  var count = run.length, k, i;
   for (k = 1; k <= count; k += 1) {
     i = (at + k) % count;
     if (holds(cells(i))) { go(i); return; }
@@ -249,7 +274,7 @@ function find() {
 }
 
 function key(e) {
-  var to = { ArrowLeft: at - 1, ArrowRight: at + 1, Home: 0, End: run.rows.length - 1 };
+  var to = { ArrowLeft: at - 1, ArrowRight: at + 1, Home: 0, End: run.length - 1 };
   if (e.ctrlKey || e.altKey || e.metaKey) { return; }
   if (e.target === by('find')) {
     if (e.key === 'Enter') { find(); }
@@ -263,17 +288,14 @@ function key(e) {
   e.preventDefault();
 }
 
-// The request that the address names, 1 where it names none.
+// The request that the address names, else the first row.
 function from_address() {
   var number = parseInt(location.hash.slice(1), 10);
-  go(number >= 1 ? number - 1 : 0);
+  go(number >= first ? number - first : 0);
 }
 
-function start() {
-  runs = [read('own'), read('other')];
-  run = runs[0];
-  by('slider').max = String(Math.max(run.rows.length, 1));
-  by('slider').addEventListener('input', function () { go(Number(by('slider').value) - 1); });
+function hear() {
+  by('slider').addEventListener('input', function () { go(Number(by('slider').value) - first); });
   by('back').addEventListener('click', function () { go(at - 1); });
   by('on').addEventListener('click', function () { go(at + 1); });
   by('alarm').addEventListener('click', next_alarm);
@@ -284,15 +306,23 @@ function start() {
   });
   document.addEventListener('keydown', key);
   window.addEventListener('hashchange', from_address);
-  window.addEventListener('beforeprint', function () { table(0, run.rows.length); });
+  window.addEventListener('beforeprint', function () { table(0, run.length); });
   window.addEventListener('afterprint', draw);
-  if (run.rows.length !== 0) {
-    run = runs[1];
-    by('sets-other').textContent = String(cells(0).sets.length);
-    run = runs[0];
-    by('choice').hidden = false;
-    from_address();
-  } else { draw(); }
+}
+
+function start() {
+  runs = [read('own'), read('other')];
+  run = runs[0];
+  hear();
+  if (run.length === 0) { draw(); return; }
+  first = Number(run[0].cells[0]);
+  last = first + run.length - 1;
+  by('slider').min = String(first);
+  by('slider').max = String(last);
+  by('sets-other').textContent = String(words(runs[1][0].cells[5]).length);
+  by('choice').hidden = false;
+  by('now').hidden = false;
+  from_address();
 }
 
 document.addEventListener('DOMContentLoaded', start);
@@ -308,27 +338,33 @@ document.addEventListener('DOMContentLoaded', start);
 <button type="button" id="on">Next &#9654;</button>
 <input type="range" id="slider" min="1" max="1" value="1" aria-label="Request">
 <button type="button" id="alarm">Next alarm</button>
-<label>Find <input type="search" id="find" autocomplete="off"></label>
+<label>Job or address <input type="search" id="find" autocomplete="off"></label>
 <button type="button" id="seek">Find</button>
 <label id="choice" hidden><input type="checkbox" id="switch">
 with <span id="sets-other"></span> core sets</label>
 <span id="said" role="status"></span>
 </div>
-<main class="now">
-<p class="row" id="row" role="status" aria-live="polite"></p>
-<section id="why" hidden><h2>Why the alarm came</h2><pre id="account" tabindex="0"></pre></section>
+<main>
+<p class="row now" id="row" role="status" aria-live="polite"></p>
+<div class="now" id="now" hidden><div class="state">
+<section class="why" id="why" hidden><h2>Why the alarm came</h2>
+<pre id="account" tabindex="0"></pre></section>
+<div class="tables">
 <h2>Core sets</h2><ol class="boxes" id="sets"></ol>
 <h2>VAC areas</h2><ol class="boxes" id="areas"></ol>
 <h2>Waitlist</h2><ol class="boxes" id="tasks"></ol>
-<section id="base" hidden>
-<h2>Phases</h2><ol class="boxes" id="phases"></ol>
-<h2>FAILREG</h2><ol class="boxes" id="failreg"></ol>
-</section>
-</main>
+<div class="pair">
+<section><h2>Phases</h2><ol class="boxes" id="phases"></ol></section>
+<section><h2>FAILREG</h2><ol class="boxes" id="failreg"></ol></section>
+</div>
+</div>
+</div></div>
 <h2>Lines</h2>
 <div class="wide"><table><thead><tr><th>no</th><th>time</th><th>request</th><th>reply</th>
-<th>running</th><th>sets</th><th>areas</th><th>tasks</th></tr></thead><tbody id="lines"></tbody>
+<th>running</th><th>sets</th><th>areas</th><th>tasks</th><th>phases, FAILREG</th></tr></thead>
+<tbody id="lines"></tbody>
 </table></div>
+</main>
 <p class="now">Keys: arrows step, Home and End jump, a goes to the next alarm, / finds a job by its
 number or an address.</p>
 <script type="text/plain" id="own">

@@ -1,7 +1,11 @@
 //! A run as a page for a browser, which steps through its requests. Source: profile.
 #![tactic(auto)]
 
+mod cells;
 mod front;
+pub mod laws;
 mod pages;
+mod power;
+mod stepper;
 
 pub use pages::page;

@@ -3,15 +3,16 @@ ghost use Rattle.std.specs.Prelude.{◌≡◌, ◌++◌};
 ghost use Rattle.agc_word.specs.Profiles.{count_of};
 ghost use Rattle.agc_text.specs.Writing.{Writes};
 ghost use Rattle.agc_session.specs.Runs.{bench_requests};
-ghost use Rattle.agc_trace.specs.Runs.{lines_of};
 ghost use Rattle.agc_page.specs.Pages.{page_of, other_sets, WritesPage};
+ghost use Rattle.agc_page.specs.Rows.{data_of};
 
 use crate::front::{BETWEEN, END, FRONT};
+use crate::power::power_of;
+use crate::stepper::stepper_of;
 use agc_document::Bench;
 use agc_machine::Machine;
 use agc_session::{RunFault, ask_bench, machine_of, machine_on};
 use agc_text::{Output, put};
-use agc_trace::tracer_of;
 use agc_word::Sets;
 use std::alloc::Global;
 use std::io::Write;
@@ -34,11 +35,13 @@ fn put_run<W: Write>(
     writer: &mut W,
 ) -> Result<(), Output>
     ensures { Writes (W.contents writer.old) (W.contents writer.new)
-        (text.now ++ lines_of machine (bench_requests bench.now)) result }
+        (text.now ++ data_of bench.now.power machine (bench_requests bench.now)) result }
 {
-    let mut tracer = tracer_of(machine);
+    let power = power_of(bench, &machine);
+    let mut stepper = stepper_of(machine);
     put(writer, text.as_bytes())?;
-    ask_bench(&mut tracer, bench, writer)
+    put(writer, power.as_bytes())?;
+    ask_bench(&mut stepper, bench, writer)
 }
 
 /// Writes the page of a bench's requests, asked of two machines.
@@ -49,7 +52,7 @@ fn put_page<W: Write>(
     writer: &mut W,
 ) -> Result<(), Output>
     ensures { Writes (W.contents writer.old) (W.contents writer.new)
-        (page_of own other (bench_requests bench.now)) result }
+        (page_of bench.now.power own other (bench_requests bench.now)) result }
 {
     put_run(FRONT, own, bench, writer)?;
     put_run(BETWEEN, other, bench, writer)?;
@@ -58,9 +61,8 @@ fn put_page<W: Write>(
 
 /// Writes the page of a bench, one HTML file that needs no other: its machine is asked for the
 /// requests in the order of `serial`, and so is a machine of the other number of core sets. The
-/// page has the trace of both, without the heading, and draws the state in which a request was
-/// answered: at an alarm the full table, before the era begins. The writer is not flushed. Source:
-/// profile.
+/// page has the rows of both, and draws the state in which a request was answered: at an alarm the
+/// full table, before the era begins. The writer is not flushed. Source: profile.
 ///
 /// # Errors
 ///

@@ -177,8 +177,8 @@ pub(crate) fn phases_cell(e: &Erasable) -> ArrayString<256>
     cell
 }
 
-/// Appends phases.
-fn add_phases(cell: &mut ArrayString<256>, phases: &[Phase])
+/// Appends phases, each behind a space. Source: profile.
+pub fn add_phases(cell: &mut ArrayString<256>, phases: &[Phase])
     requires six { length phases.now ≡ 6 }
     requires room { length cell.old.bytes + 126 ≤ 256 }
     ensures text { cell.new.bytes ≡ cell.old.bytes ++ flat_map count_text phases.now }
@@ -207,14 +207,9 @@ fn add_again(line: &mut ArrayString<2048>, e: &Erasable, after: &Erasable)
 }
 
 /// What is told of an alarm: of the moment in which it came, and of the state with which the era
-/// began.
+/// began. Source: profile.
 #[tactic(auto, unfolding(crate::specs::Accounts::account_text))]
-pub(crate) fn account_of(
-    plan: &Plan,
-    moment: &Moment,
-    alarm: Alarm,
-    after: &Moment,
-) -> ArrayString<2048>
+pub fn account_of(plan: &Plan, moment: &Moment, alarm: Alarm, after: &Moment) -> ArrayString<2048>
     requires sized { IsSized moment.now.words }
     requires phases { IsLawfulTable moment.now.words }
     requires sized_after { IsSized after.now.words }

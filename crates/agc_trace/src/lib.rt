@@ -13,7 +13,12 @@ mod runs;
 mod seats;
 mod waits;
 
+pub use account::{account_of, add_phases};
+pub use lines::{
+    answer_cell, number_cell, owners_cell, request_cell, running_cell, seats_cell, waits_cell,
+};
 pub use newjob::named;
+pub use opening::{add_broken, add_phases_line, pairs_agree, power_reply};
 pub use runs::{Tracer, alarm_of, begins, next_time, one_more, shown, time_at, trace, tracer_of};
 pub use seats::{Seated, owner, seat};
 pub use waits::waiting;

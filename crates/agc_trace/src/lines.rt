@@ -25,8 +25,8 @@ use agc_text::add_number;
 use agc_word::Erasable;
 use arrayvec::ArrayString;
 
-/// A number in decimal.
-pub(crate) fn number_cell(number: u64) -> ArrayString<256>
+/// A number in decimal. Source: profile.
+pub fn number_cell(number: u64) -> ArrayString<256>
     ensures text { result.bytes ≡ decimal number }
     ensures len { length result.bytes ≤ 20 }
 {
@@ -35,7 +35,8 @@ pub(crate) fn number_cell(number: u64) -> ArrayString<256>
     cell
 }
 
-fn request_cell(request: &Request) -> ArrayString<256>
+/// A request's line, without its end. Source: profile.
+pub fn request_cell(request: &Request) -> ArrayString<256>
     ensures text { result.bytes ≡ line_of request.now }
     ensures len { length result.bytes ≤ 40 }
 {
@@ -44,8 +45,8 @@ fn request_cell(request: &Request) -> ArrayString<256>
     cell
 }
 
-/// A reply, or why there is none.
-fn answer_cell(moment: &Moment, refusal: Option<Refusal>) -> ArrayString<256>
+/// A reply, or why there is none. Source: profile.
+pub fn answer_cell(moment: &Moment, refusal: Option<Refusal>) -> ArrayString<256>
     ensures text { result.bytes ≡ answer_text moment.now.fired
         (result_of refusal moment.now.reply) }
     ensures len { length result.bytes ≤ 123 }
@@ -58,7 +59,8 @@ fn answer_cell(moment: &Moment, refusal: Option<Refusal>) -> ArrayString<256>
     cell
 }
 
-fn running_cell(e: &Erasable) -> ArrayString<256>
+/// Who runs, or `-` for nobody. Source: profile.
+pub fn running_cell(e: &Erasable) -> ArrayString<256>
     requires { IsLawfulWords e.now }
     ensures text { result.bytes ≡ running_text (runner_in e.now) }
     ensures len { length result.bytes ≤ 20 }
@@ -71,7 +73,9 @@ fn running_cell(e: &Erasable) -> ArrayString<256>
     cell
 }
 
-fn seats_cell(e: &Erasable) -> ArrayString<256>
+/// What each core set holds: a job and its priority, in brackets where it sleeps, and behind `>`
+/// where NEWJOB names it. Source: profile.
+pub fn seats_cell(e: &Erasable) -> ArrayString<256>
     requires sized { IsSized e.now }
     requires lawful { IsLawfulWords e.now }
     ensures text { result.bytes
@@ -83,7 +87,8 @@ fn seats_cell(e: &Erasable) -> ArrayString<256>
     cell
 }
 
-fn owners_cell(e: &Erasable) -> ArrayString<256>
+/// The numbers of the jobs that own areas 1 to 5. Source: profile.
+pub fn owners_cell(e: &Erasable) -> ArrayString<256>
     requires { IsSized e.now }
     ensures text { result.bytes ≡ owners_text (seats_in e.now) }
     ensures len { length result.bytes ≤ 105 }
@@ -93,7 +98,8 @@ fn owners_cell(e: &Erasable) -> ArrayString<256>
     cell
 }
 
-fn waits_cell(e: &Erasable) -> ArrayString<256>
+/// All tasks in order, each with the centiseconds that it still has. Source: profile.
+pub fn waits_cell(e: &Erasable) -> ArrayString<256>
     requires { IsSized e.now }
     ensures text { result.bytes ≡ waits_text (waits_of e.now) }
     ensures len { length result.bytes ≤ 243 }

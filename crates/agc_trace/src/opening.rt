@@ -37,14 +37,15 @@ fn are_pairs(words: &[Word; 12]) -> bool
     }
 }
 
-/// The same as a value.
-fn pairs_agree(words: &[Word; 12]) -> bool
+/// Whether twelve phase words are pairs that agree, as a value. Source: profile.
+pub fn pairs_agree(words: &[Word; 12]) -> bool
     ensures { result ≡ pairs_agree words.now }
 {
     are_pairs(words)
 }
 
-fn power_reply(agree: bool) -> &'static str
+/// What comes of power-up, where the phase words agree, or don't. Source: profile.
+pub fn power_reply(agree: bool) -> &'static str
     ensures text { result.now ≡ power_reply agree }
     ensures len { length result.now ≤ 10 }
 {
@@ -160,8 +161,8 @@ fn add_pairs(line: &mut ArrayString<2048>, words: &[Word; 12])
     }
 }
 
-/// Appends why it was a fresh start, if it was.
-fn add_broken(line: &mut ArrayString<2048>, agree: bool, words: &[Word; 12])
+/// Appends why power-up was a fresh start, if it was. Source: profile.
+pub fn add_broken(line: &mut ArrayString<2048>, agree: bool, words: &[Word; 12])
     requires room { length line.old.bytes + 620 ≤ 2048 }
     ensures text { line.new.bytes ≡ line.old.bytes ++ broken_text agree words.now }
     ensures len { length line.new.bytes ≤ length line.old.bytes + 620 }
@@ -173,8 +174,8 @@ fn add_broken(line: &mut ArrayString<2048>, agree: bool, words: &[Word; 12])
     add_pairs(line, words);
 }
 
-/// Appends the phases with which the first era begins.
-fn add_phases_line(line: &mut ArrayString<2048>, e: &Erasable)
+/// Appends the phases with which the first era begins. Source: profile.
+pub fn add_phases_line(line: &mut ArrayString<2048>, e: &Erasable)
     requires phases { IsLawfulTable e.now }
     requires room { length line.old.bytes + 152 ≤ 2048 }
     ensures text { line.new.bytes ≡ line.old.bytes

@@ -1,0 +1,40 @@
+use Rattle.std.proofs.Common.{◌≡◌, ℕ, List, ◌∙◌, subst}
+use Rattle.agc_text.specs.Writing.{Writes}
+use Rattle.agc_trace.specs.Traces.{Traced, traced, traced_account}
+use Rattle.agc_trace.proofs.Moments.{account_is, traced_is}
+use Rattle.agc_page.specs.Cells.{cells_of}
+use Rattle.agc_page.specs.Rows.{Stepped, stepped, stepped_text}
+use Rattle.agc_page.proofs.Steps.{cells_is, stepped_is, text_is}
+use Rattle.agc_page.proofs.stepper.StepperAsks.ask.Goals as goal
+
+pub returns-clause-after : goal.returns-clause-after
+returns-clause-after g c =
+    let t : Traced = record { machine = c.self.inside.machine; asked = c.self.inside.asked; time = c.self.inside.time } in
+    let s : Stepped = record { run = t; shown = c.self.inside.shown; told = c.self.inside.told.bytes } in
+    let run : Traced = record { machine = c.apply.new.self; asked = c.one_more-asked.result; time = c.next_time-self-inside.result } in
+    let run_is : run ≡ traced t c.args.request.now =
+    traced_is t c.args.request.now c.refusal-refusal.result c.shown-moment.result c.apply.new.self c.one_more-asked.result c.time_at-time.result c.next_time-self-inside.result
+    c.refusal-refusal.ensures.refusal c.shown-moment.ensures c.apply.ensures.after c.one_more-asked.ensures c.time_at-time.ensures c.next_time-self-inside.ensures in
+    let cells : c.cells_at-cells.result ≡ cells_of t c.args.request.now =
+    cells_is t c.args.request.now c.refusal-refusal.result c.shown-moment.result c.time_at-time.result c.cells_at-cells.result
+    c.refusal-refusal.ensures.refusal c.shown-moment.ensures c.time_at-time.ensures c.cells_at-cells.ensures in
+    let account : c.account_at-account.result.bytes ≡ traced_account t c.args.request.now =
+    c.account_at-account.ensures ∙ account_is t c.args.request.now c.refusal-refusal.result c.shown-moment.result c.apply.new.self c.refusal-refusal.ensures.refusal c.shown-moment.ensures c.apply.ensures.after in
+    subst (λ (x : Stepped). record { run = run; shown = c.cells_at-cells.result; told = c.keep.new.told.bytes } ≡ stepped x c.args.request.now) c.self.view_is
+    (stepped_is s c.args.request.now run c.cells_at-cells.result c.account_at-account.result.bytes c.keep.new.told.bytes run_is cells account c.keep.ensures)
+
+pub returns-clause-writes : goal.returns-clause-writes
+returns-clause-writes g c =
+    let t : Traced = record { machine = c.self.inside.machine; asked = c.self.inside.asked; time = c.self.inside.time } in
+    let s : Stepped = record { run = t; shown = c.self.inside.shown; told = c.self.inside.told.bytes } in
+    let cells : c.cells_at-cells.result ≡ cells_of t c.args.request.now =
+    cells_is t c.args.request.now c.refusal-refusal.result c.shown-moment.result c.time_at-time.result c.cells_at-cells.result
+    c.refusal-refusal.ensures.refusal c.shown-moment.ensures c.time_at-time.ensures c.cells_at-cells.ensures in
+    let account : c.account_at-account.result.bytes ≡ traced_account t c.args.request.now =
+    c.account_at-account.ensures ∙ account_is t c.args.request.now c.refusal-refusal.result c.shown-moment.result c.apply.new.self c.refusal-refusal.ensures.refusal c.shown-moment.ensures c.apply.ensures.after in
+    let text : c.as_bytes.result.now ≡ stepped_text s c.args.request.now =
+    c.as_bytes.ensures.value ∙ c.deref.ensures.0
+    ∙ text_is s c.args.request.now c.one_more-asked.result c.cells_at-cells.result c.row_of-text.result.bytes c.account_at-account.result.bytes c.add_account.new.text.bytes
+    c.one_more-asked.ensures cells account c.row_of-text.ensures.text c.add_account.ensures in
+    subst (λ (x : Stepped). Writes (g.W.Write.contents c.args.writer.now) (g.W.Write.contents c.put.new.writer) (stepped_text x c.args.request.now) c.put.result) c.self.view_is
+    (subst (λ (u : List ℕ). Writes (g.W.Write.contents c.args.writer.now) (g.W.Write.contents c.put.new.writer) u c.put.result) text c.put.ensures)
