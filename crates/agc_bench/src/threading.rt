@@ -99,8 +99,10 @@ fn ask_at_once<N: Sharing + Send + Sync, G: Gate + Sync, W: Threads + Wait + Syn
                 let asking = scope.spawn_with(pledge, own)?;
                 running.push(asking)?;
             }
-            let back = thread::join_promised(rt, running)?;
-            Ok(back)
+            match thread::join_promised(rt, running) {
+                Ok(back) => Ok(back),
+                Err(_failed) => Err(RunFault::NoMemory),
+            }
         },
     )
 }
@@ -153,8 +155,10 @@ fn run_at_once<N: Sharing + Send + Sync, G: Gate + Sync, W: Threads + Wait + Syn
                 posting.push(poster)?;
             }
             let back = ask_at_once(rt, alloc, shared, latch, shares, bench, gate)?;
-            let devices = thread::join_promised(rt, posting)?;
-            Ok((back, devices))
+            match thread::join_promised(rt, posting) {
+                Ok(devices) => Ok((back, devices)),
+                Err(_failed) => Err(RunFault::NoMemory),
+            }
         },
     )
 }

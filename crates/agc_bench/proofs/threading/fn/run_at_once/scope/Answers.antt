@@ -35,26 +35,26 @@ loop-device-preserved g c =
       each = λ k d below. rw c.in_ok-push.ensures.items (each_push (λ j h. IsPosts latch bench j h.promise.latch.now h.promise.planned) running c.in_ok-poster.poster (λ j h l. i.each j h (omega (arith, n, l))) here k d (omega (arith, n, length_push old device, below)));
     }
 
-pub returns-in_ok-devices : goal.returns-in_ok-devices
-returns-in_ok-devices g c =
+pub returns-in-Ok : goal.returns-in-Ok
+returns-in-Ok g c =
     let latch = c.captures.latch.now in
     let bench = c.captures.bench.now in
     let i = c.loop-device.invariant in
-    let back : List Posting = c.in_ok-devices.devices.items in
+    let back : List Posting = c.in-Ok.devices.items in
     let none : Posting = new_device no_latch 0 in
     let over : into_iter_items c.loop-device.device-iterator ≡ [] = nothing_left _ (sym i.left_over ∙ c.in-None.ensures.steps.0) in
     let all : c.loop-device.yielded ≡ map (λ d. new_device latch d.1) bench.devices =
     sym (append-nil c.loop-device.yielded) ∙ (rw over at i.rest ∙ (c.into_iter-device-iterator.ensures.into_iter_gives.0 ∙ c.requires.devices)) in
     let many : length back ≡ length bench.devices =
-    omega (arith, c.in_ok-devices.ensures.len, i.len, ap length all, length-map bench.devices (λ d. new_device latch d.1)) in
+    omega (arith, c.in-Ok.ensures.len, i.len, ap length all, length-map bench.devices (λ d. new_device latch d.1)) in
     record {
       len = c.in_ok-back.ensures.len;
       each = c.in_ok-back.ensures.each;
       devices =
           ext_get_or none back (map (spent_device latch) bench.devices) (many ∙ sym (length-map bench.devices (spent_device latch))) (λ k below.
-          let kept = (c.in_ok-devices.ensures.each k none (omega (arith, c.in_ok-devices.ensures.len, below))).1 in
+          let kept = (c.in-Ok.ensures.each k none (omega (arith, c.in-Ok.ensures.len, below))).1 in
           let posts : IsPosts latch bench k kept.handle.promise.latch.now kept.handle.promise.planned =
-          subst (λ h. IsPosts latch bench k h.promise.latch.now h.promise.planned) (sym kept.handle_is) (i.each k kept.handle (omega (arith, c.in_ok-devices.ensures.len, i.len, below))) in
+          subst (λ h. IsPosts latch bench k h.promise.latch.now h.promise.planned) (sym kept.handle_is) (i.each k kept.handle (omega (arith, c.in-Ok.ensures.len, i.len, below))) in
           spent_at latch bench back k none kept.handle.promise.latch.now kept.handle.promise.planned (omega (arith, many, below)) posts kept.kept);
       early = tt;
     }
