@@ -5,8 +5,7 @@ use Rattle.std.specs.List.{AllByRecursion}
 use Rattle.toml.specs.Parse.{parse_document}
 use Rattle.agc_document.specs.declared.fault.BenchFault.{BenchFault}
 use Rattle.agc_document.specs.declared.fault.BenchFault.TheVariants as refusal
-use Rattle.agc_document.specs.Benches.{Benched, bench_texts, IsBench}
-use Rattle.agc_document.specs.Faults.{HasTexts, RefusesBench}
+use Rattle.agc_document.specs.Faults.{RefusesBench}
 use Rattle.agc_lint.specs.declared.place.Place.{Place}
 use Rattle.agc_lint.specs.declared.wrong.Wrong.{Wrong}
 use Rattle.agc_lint.specs.declared.wrong.Wrong.TheVariants as wrong
@@ -35,15 +34,16 @@ IsFoundInDocument text f = StandsIn text f.line
 -- the fault of a bench with which this is wrong
 abbrev pub kind_of : Wrong → BenchFault
 kind_of wrong.NotToml = refusal.NotToml
+kind_of wrong.NoKeys = refusal.NotToml
 kind_of (wrong.Key fault) = refusal.Key
 kind_of (wrong.Text fault) = refusal.Line
 kind_of wrong.TaskTwice = refusal.TaskTwice
 kind_of wrong.PhaseTwice = refusal.PhaseTwice
 kind_of wrong.TooManyAreas = refusal.TooManyAreas
 
--- nothing is found where the text is a bench; else it is refused for what is found first
+-- something is found, and the text is refused for what is found first
 abbrev pub IsToldOf : List ℕ → List BenchFound → Type 0
-IsToldOf text [] = (b : Benched) × IsBench b × HasTexts (parse_document text) (bench_texts b)
+IsToldOf text [] = ⊥
 IsToldOf text (f ∷ fs) = RefusesBench (parse_document text) (kind_of f.fault)
 
 -- for proofs: the fault of what is found first

@@ -109,6 +109,9 @@ text_sentence text_fault.Somewhere = codes "a text is not of its form" ∷ [] �
 -- what is told of what is wrong
 abbrev pub wrong_sentence : Wrong → List (List ℕ)
 wrong_sentence wrong.NotToml = [] ∷ [] ∷ [] ∷ []
+wrong_sentence wrong.NoKeys =
+    codes "a bench has keys with values behind =; a script is told by check --script" ∷ []
+    ∷ [] ∷ []
 wrong_sentence (wrong.Key fault) = key_sentence fault
 wrong_sentence (wrong.Text fault) = text_sentence fault
 wrong_sentence wrong.TaskTwice = codes "an earlier task has the same at and bank" ∷ [] ∷ [] ∷ []
@@ -126,12 +129,16 @@ shown_of _ text = shown text
 abbrev pub points : Wrong → List ℕ → List ℕ
 points fault text = if length (shown_of fault text) == length text then [] else codes ".."
 
--- what is told before the text: the line's number, and the place
+-- what is told before a text: the line's number, a mark, the place, and what opens the text
+abbrev pub where_pieces : ℕ → List ℕ → Place → List ℕ → List (List ℕ)
+where_pieces line mark p front =
+    codes "line" ∷ numeral (Some line) ∷ codes ": " ∷ mark ∷ place_name p
+    ∷ numeral (table_number p) ∷ comma p ∷ second_name p ∷ numeral (item_number p) ∷ colon p
+    ∷ front ∷ []
+
+-- so it is told of a finding, without a mark
 abbrev pub front_pieces : BenchFound → List (List ℕ)
-front_pieces f =
-    codes "line" ∷ numeral (Some f.line) ∷ codes ": " ∷ place_name f.place
-    ∷ numeral (table_number f.place) ∷ comma f.place ∷ second_name f.place
-    ∷ numeral (item_number f.place) ∷ colon f.place ∷ opening f.fault ∷ []
+front_pieces f = where_pieces f.line [] f.place (opening f.fault)
 
 -- the line that tells of it
 unfoldable pub told_of_bench : BenchFound → List ℕ

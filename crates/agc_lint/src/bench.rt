@@ -1,7 +1,9 @@
 //! What is wrong with a bench.
 ghost use Rattle.std.specs.Prelude.{◌≡◌, ◌≤◌, ◌+◌, ℕ, List, IfOk, length, take};
 ghost use Rattle.std.specs.List.{AllByRecursion};
+ghost use Rattle.toml.specs.Parse.{parse_document};
 ghost use Rattle.agc_document.specs.declared.fault.BenchFault.{BenchFault as Refusal};
+ghost use Rattle.agc_document.specs.Faults.{RefusesBench};
 ghost use Rattle.agc_lint.specs.Documents.{line_ends, StandsIn, IsFoundInDocument, IsToldOf};
 ghost use Rattle.agc_lint.specs.Documents.{kind_of, AreOf};
 
@@ -11,7 +13,7 @@ use crate::script::MOST_TOLD;
 use crate::spots::{Spot, Spots, place_in};
 use crate::twice::{phase_twice, task_twice};
 use crate::wrong::{KeyFault, TextFault, Wrong};
-use agc_document::{BenchFault, read_bench};
+use agc_document::BenchFault;
 use std::alloc::{AllocError, Global};
 use std::marker::Model;
 use toml::Table;
@@ -54,6 +56,16 @@ fn line_ends(text: &[u8]) -> u64
     count
 }
 
+/// Whether a text has the sign that stands between a key and its value.
+fn has_equals(text: &[u8]) -> bool {
+    for byte in text {
+        if *byte == b'=' {
+            return true;
+        }
+    }
+    false
+}
+
 /// The number of the line in which this byte stands.
 #[tactic(auto, using(crate::proofs::Documents::ends_before))]
 fn line_at(document: &str, at: usize) -> u64
@@ -61,6 +73,14 @@ fn line_at(document: &str, at: usize) -> u64
 {
     let bytes = document.as_bytes();
     line_ends(&bytes[..at.min(bytes.len())]) + 1
+}
+
+/// The number of the line in which a document has a place, or as much of the way there as it has.
+/// Source: profile.
+pub fn line_in(document: &str, place: Place) -> u64
+    ensures { StandsIn document.now result }
+{
+    line_at(document, place_in(document, place))
 }
 
 /// What is found first.
@@ -233,16 +253,22 @@ fn findings_in(
     }
 }
 
-/// Why a document is no bench, at most twenty times, each with the number of a line of it; nothing
-/// where it is one. What is wrong with keys comes first, then what is wrong with texts, each in the
-/// order of the document; where neither is, why rows and entries make no plan. Source: profile.
+/// Why a document is no bench, which `read_bench` refuses with this fault: at most twenty times,
+/// each with the number of a line of it. What is wrong with keys comes first, then what is wrong
+/// with texts, each in the order of the document; where neither is, why rows and entries make no
+/// plan. Source: profile.
 ///
 /// # Errors
 ///
 /// Where there is no memory.
 #[tactic(auto, using(crate::proofs::Documents::told_of_refusal))]
-pub fn bench_findings(alloc: Global, text: &str) -> Result<Vec<BenchFinding>, AllocError>
-    // Nothing is found where the text is a bench; else the first is the fault of `read_bench`.
+pub fn bench_findings(
+    alloc: Global,
+    text: &str,
+    fault: BenchFault,
+) -> Result<Vec<BenchFinding>, AllocError>
+    requires { RefusesBench (parse_document text.now) fault }
+    // Something is found, and the first is the fault of `read_bench`.
     ensures told { IfOk result (λ v. IsToldOf text.now v.items) }
     ensures lines { IfOk result (λ v. AllByRecursion (IsFoundInDocument text.now) v.items) }
     ensures few { IfOk result (λ v. length v.items ≤ 20) }
@@ -252,6 +278,9 @@ pub fn bench_findings(alloc: Global, text: &str) -> Result<Vec<BenchFinding>, Al
         Err(error) => {
             if error.is_memory() {
                 return Err(AllocError);
+            }
+            if !has_equals(text.as_bytes()) {
+                return begun(alloc, text, 0, Place::Whole, "", Wrong::NoKeys);
             }
             let at = match error.span() {
                 Some(span) => span.start,
@@ -267,8 +296,5 @@ pub fn bench_findings(alloc: Global, text: &str) -> Result<Vec<BenchFinding>, Al
             );
         }
     };
-    match read_bench(alloc, text) {
-        Ok(_bench) => Ok(Vec::new(alloc)),
-        Err(fault) => findings_in(alloc, text, &table, fault),
-    }
+    findings_in(alloc, text, &table, fault)
 }

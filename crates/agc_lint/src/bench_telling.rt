@@ -6,7 +6,7 @@ ghost use Rattle.agc_lint.specs.Sentences.{joined};
 ghost use Rattle.agc_lint.specs.Tellings.{item_name, place_name, table_number, second_name, comma};
 ghost use Rattle.agc_lint.specs.Tellings.{item_number, colon, numeral, opening, closing};
 ghost use Rattle.agc_lint.specs.Tellings.{key_sentence, text_sentence, wrong_sentence, shown_of};
-ghost use Rattle.agc_lint.specs.Tellings.{points, front_pieces, told_of_bench};
+ghost use Rattle.agc_lint.specs.Tellings.{points, where_pieces, front_pieces, told_of_bench};
 
 use crate::bench::BenchFinding;
 use crate::key::Key;
@@ -175,6 +175,11 @@ fn wrong_sentence(fault: Wrong) -> [&'static str; 3]
 {
     match fault {
         Wrong::NotToml => ["", "", ""],
+        Wrong::NoKeys => [
+            "a bench has keys with values behind =; a script is told by check --script",
+            "",
+            "",
+        ],
         Wrong::Key(fault) => key_sentence(fault),
         Wrong::Text(fault) => text_sentence(fault),
         Wrong::TaskTwice => ["an earlier task has the same at and bank", "", ""],
@@ -208,13 +213,23 @@ fn points(fault: Wrong, text: &[u8]) -> &'static str
     }
 }
 
-/// Writes the line's number and the place.
-fn tell_front<W: Write>(writer: &mut W, finding: &BenchFinding) -> Result<(), Output>
+/// Writes the number of a document's line, a mark, a place, and what opens the text that follows.
+/// Source: profile.
+///
+/// # Errors
+///
+/// Where a write fails, or takes nothing of what is left. A front of that was then written.
+pub fn tell_where<W: Write>(
+    writer: &mut W,
+    line: u64,
+    mark: &'static str,
+    place: Place,
+    opening: &'static str,
+) -> Result<(), Output>
     ensures { Writes (W.contents writer.old) (W.contents writer.new)
-        (joined (front_pieces finding.now)) result }
+        (joined (where_pieces line mark.now place opening.now)) result }
 {
-    let place = finding.place;
-    let line = numeral(Some(finding.line));
+    let line = numeral(Some(line));
     let table = numeral(table_number(place));
     let item = numeral(item_number(place));
     put_all(
@@ -223,15 +238,25 @@ fn tell_front<W: Write>(writer: &mut W, finding: &BenchFinding) -> Result<(), Ou
             "line",
             line.as_str(),
             ": ",
+            mark,
             place_name(place),
             table.as_str(),
             comma(place),
             second_name(place),
             item.as_str(),
             colon(place),
-            opening(finding.fault),
+            opening,
         ],
     )
+}
+
+/// Writes the line's number and the place.
+fn tell_front<W: Write>(writer: &mut W, finding: &BenchFinding) -> Result<(), Output>
+    ensures { Writes (W.contents writer.old) (W.contents writer.new)
+        (joined (front_pieces finding.now)) result }
+{
+    let place = finding.place;
+    tell_where(writer, finding.line, "", place, opening(finding.fault))
 }
 
 /// Writes the line that tells of a finding.

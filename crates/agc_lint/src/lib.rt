@@ -19,8 +19,8 @@ mod token;
 mod twice;
 mod wrong;
 
-pub use bench::{BenchFinding, bench_findings};
-pub use bench_telling::tell_bench;
+pub use bench::{BenchFinding, bench_findings, line_in};
+pub use bench_telling::{tell_bench, tell_where};
 pub use finding::Finding;
 pub use key::Key;
 pub use kind::Kind;

@@ -7,6 +7,8 @@ use crate::line::LineFault;
 pub enum Wrong {
     /// It is no TOML document. The finding's text says why, in the words of the parser.
     NotToml,
+    /// It is no TOML document, and has no sign of a key, as a script has none.
+    NoKeys,
     /// A key, or the kind, range or length of its value.
     Key(KeyFault),
     /// A text that isn't of its form. The finding has it.

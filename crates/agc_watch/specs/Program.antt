@@ -20,6 +20,9 @@ use Rattle.agc_lint.specs.Scripts.{script_findings}
 use Rattle.agc_lint.specs.Sentences.{told}
 use Rattle.agc_lint.specs.Documents.{BenchFound, IsFoundInDocument, IsToldOf}
 use Rattle.agc_lint.specs.Tellings.{told_of_bench}
+use Rattle.agc_warn.specs.declared.warning.Located.{Located}
+use Rattle.agc_warn.specs.Warnings.{AreWarned}
+use Rattle.agc_warn.specs.Tellings.{told_warning}
 use Rattle.agc_trace.specs.Runs.{WritesTrace}
 use Rattle.agc_picture.specs.Pictures.{WritesPicture}
 use Rattle.agc_page.specs.Pages.{WritesPage}
@@ -78,20 +81,26 @@ ChecksScript text old new (Err fault.Output) = AppendsFront old new (script_told
 ChecksScript text old new (Err fault.NoMemory) = new ≡ old
 ChecksScript text old new (Err why) = ⊥
 
--- some are found in this text, at most twenty, each in a line of it: the first why it is no bench;
--- none where it is one
+-- some are found in this text, at most twenty, each in a line of it: the first why it is no bench
 pub record IsFoundOf (text : List ℕ) (fs : List BenchFound) : Type 0 where
   pub told : IsToldOf text fs
   pub lines : AllByRecursion (IsFoundInDocument text) fs
   pub few : length fs ≤ 20
 
--- what comes of checking this text as a bench: what is found is told, and the answer is whether
--- that is nothing; or a write failed, or there was no memory
+-- what is told of this text, and whether it is a bench: the warnings of one; else what is found
+abbrev pub IsToldAs : List ℕ → Bool → List ℕ → Type 0
+IsToldAs text true lines = (bench : Benched) × IsDocument text bench
+    × (all : List Located) × AreWarned text bench all × (lines ≡ flat_map told_warning all)
+IsToldAs text false lines =
+    (fs : List BenchFound) × IsFoundOf text fs × (lines ≡ flat_map told_of_bench fs)
+
+-- what comes of checking this text as a bench: all was told, and the answer is whether it is one;
+-- or a write failed, or there was no memory
 abbrev pub ChecksBench : List ℕ → Option (List ℕ) → Option (List ℕ) → Result Bool Fault → Type 0
-ChecksBench text old new (Ok well) = (fs : List BenchFound) × IsFoundOf text fs
-    × Appends old new (flat_map told_of_bench fs) × (well ≡ is_nothing fs)
-ChecksBench text old new (Err fault.Output) = (fs : List BenchFound) × IsFoundOf text fs
-    × AppendsFront old new (flat_map told_of_bench fs)
+ChecksBench text old new (Ok well) =
+    (lines : List ℕ) × IsToldAs text well lines × Appends old new lines
+ChecksBench text old new (Err fault.Output) =
+    (well : Bool) × (lines : List ℕ) × IsToldAs text well lines × AppendsFront old new lines
 ChecksBench text old new (Err fault.NoMemory) = new ≡ old
 ChecksBench text old new (Err why) = ⊥
 

@@ -1,18 +1,21 @@
 //! What the program does: the words, the reading, the bench, its trace, picture or page, in this
 //! order.
 ghost use Rattle.std.specs.Prelude.{◌≡◌};
-ghost use Rattle.agc_program.specs.Inputs.{EndsBy};
+ghost use Rattle.toml.specs.Parse.{parse_document};
+ghost use Rattle.agc_document.specs.Faults.{RefusesBench};
+ghost use Rattle.agc_program.specs.Inputs.{EndsBy, IsDocument};
 ghost use Rattle.agc_watch.specs.Program.{fault_for};
 ghost use Rattle.agc_watch.specs.Program.{DrawsText, PagesText, TracesText, is_nothing};
 ghost use Rattle.agc_watch.specs.Program.{ChecksScript, ChecksInput, ChecksBench};
 
-use agc_document::read_bench;
+use agc_document::{Bench, BenchFault, read_bench};
 use agc_lint::{bench_findings, script_findings, tell_all, tell_bench};
 use agc_page::page;
 use agc_picture::picture;
 use agc_program::{Fault, buffered, flushed, given_words};
 use agc_text::read_all;
 use agc_trace::trace;
+use agc_warn::{bench_warnings, tell_warnings};
 use agc_words::{Asked, WordsFault, Work, asked_for};
 use std::alloc::Global;
 use std::io::{Read, Write};
@@ -123,14 +126,48 @@ fn check_script<W: Write>(alloc: Global, text: &str, writer: &mut W) -> Result<b
     }
 }
 
-/// Writes what is wrong with a bench, and answers whether that is nothing.
+/// Writes what is warned of in a bench, and answers that it is one.
+fn warn_of<W: Write>(
+    alloc: Global,
+    text: &str,
+    bench: &Bench,
+    writer: &mut W,
+) -> Result<bool, Fault>
+    requires { IsDocument text.now bench.now }
+    ensures { ChecksBench text.now (W.contents writer.old) (W.contents writer.new) result }
+{
+    let warnings = bench_warnings(alloc, text, bench)?;
+    match tell_warnings(warnings.as_slice(), writer) {
+        Ok(()) => Ok(true),
+        Err(_failed) => Err(Fault::Output),
+    }
+}
+
+/// Writes why a text is no bench, which `read_bench` refuses with this fault, and answers that it
+/// is none.
+fn tell_of<W: Write>(
+    alloc: Global,
+    text: &str,
+    fault: BenchFault,
+    writer: &mut W,
+) -> Result<bool, Fault>
+    requires { RefusesBench (parse_document text.now) fault }
+    ensures { ChecksBench text.now (W.contents writer.old) (W.contents writer.new) result }
+{
+    let found = bench_findings(alloc, text, fault)?;
+    match tell_bench(found.as_slice(), writer) {
+        Ok(()) => Ok(false),
+        Err(_failed) => Err(Fault::Output),
+    }
+}
+
+/// Writes what is wrong with a bench, or else what is warned of, and answers whether it is one.
 fn check_bench<W: Write>(alloc: Global, text: &str, writer: &mut W) -> Result<bool, Fault>
     ensures { ChecksBench text.now (W.contents writer.old) (W.contents writer.new) result }
 {
-    let found = bench_findings(alloc, text)?;
-    match tell_bench(found.as_slice(), writer) {
-        Ok(()) => Ok(is_nothing(found.as_slice())),
-        Err(_failed) => Err(Fault::Output),
+    match read_bench(alloc, text) {
+        Ok(checked) => warn_of(alloc, text, &checked, writer),
+        Err(fault) => tell_of(alloc, text, fault, writer),
     }
 }
 

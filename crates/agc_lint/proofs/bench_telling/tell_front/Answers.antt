@@ -1,12 +1,11 @@
-use Rattle.std.proofs.Common.{List, ℕ, codes, refl, ap, subst, ◌∙◌}
+use Rattle.std.proofs.Common.{List, ℕ, [], ap, subst, ◌∙◌}
 use Rattle.agc_text.specs.Writing.{Writes}
 use Rattle.agc_lint.specs.Sentences.{joined}
 use Rattle.agc_lint.specs.Documents.{BenchFound}
-use Rattle.agc_lint.specs.Tellings.{numeral, front_pieces}
-use Rattle.agc_lint.proofs.Tellings.{ten_pieces}
+use Rattle.agc_lint.specs.Tellings.{where_pieces, front_pieces}
 use Rattle.agc_lint.proofs.bench_telling.tell_front.Goals as goal
 
 pub returns : goal.returns
-returns g c = subst (λ (t : List ℕ). Writes (g.W.Write.contents c.args.writer.now) (g.W.Write.contents c.put_all.new.writer) t c.put_all.result)
-    (ten_pieces (codes "line") c.as_str.result.now (codes ": ") c.place_name.result.now c.as_str-2.result.now c.comma.result.now c.second_name.result.now c.as_str-3.result.now c.colon.result.now c.opening.result.now _ _ _ _ _ _ _ _ _ _ refl (c.as_str.ensures.value ∙ c.numeral-line.ensures) refl c.place_name.ensures (c.as_str-2.ensures.value ∙ c.numeral-table.ensures ∙ ap numeral c.table_number.ensures) c.comma.ensures c.second_name.ensures (c.as_str-3.ensures.value ∙ c.numeral-item.ensures ∙ ap numeral c.item_number.ensures) c.colon.ensures c.opening.ensures
-    ∙ ap (λ (h : BenchFound). joined (front_pieces h)) c.finding.view_is) c.put_all.ensures
+returns g c = subst (λ (t : List ℕ). Writes (g.W.Write.contents c.args.writer.now) (g.W.Write.contents c.tell_where.new.writer) t c.tell_where.result)
+    (ap (λ (s : List ℕ). joined (where_pieces c.finding.inside.line [] c.finding.inside.place s)) c.opening.ensures
+    ∙ ap (λ (h : BenchFound). joined (front_pieces h)) c.finding.view_is) c.tell_where.ensures

@@ -1,0 +1,4 @@
+pub mod Listed
+pub mod Reasons
+pub mod Warnings
+pub mod Tellings

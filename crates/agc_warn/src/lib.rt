@@ -1,0 +1,14 @@
+//! What is worth a second look in a bench that can be run, and where. Source: profile.
+#![tactic(auto)]
+
+mod listed;
+mod locating;
+mod noting;
+mod reasons;
+mod telling;
+mod walk;
+mod warning;
+
+pub use locating::bench_warnings;
+pub use telling::tell_warnings;
+pub use warning::{Located, Warned, Warning};

@@ -1,0 +1,42 @@
+//! The lines of a document in which the reasons of warnings stand.
+ghost use Rattle.std.specs.Prelude.{◌≡◌, IfOk, map};
+ghost use Rattle.std.specs.List.{AllByRecursion};
+ghost use Rattle.agc_lint.specs.Documents.{StandsIn};
+ghost use Rattle.agc_warn.specs.Warnings.{AreWarned};
+
+use crate::walk::warned_of;
+use crate::warning::{Located, Warned};
+use agc_document::Bench;
+use agc_lint::line_in;
+use std::alloc::{AllocError, Global};
+
+/// These warnings, each with its line.
+fn located(alloc: Global, document: &str, warned: &[Warned]) -> Result<Vec<Located>, AllocError>
+    ensures same { IfOk result (λ v. map (λ one. one.warned) v.items ≡ warned.now) }
+    ensures lines { IfOk result (λ v.
+        AllByRecursion (λ one. StandsIn document.now one.line) v.items) }
+{
+    let mut all: Vec<Located> = Vec::new(alloc);
+    for one in warned {
+        let line = line_in(document, one.place);
+        all.push(Located { line, warned: *one })?;
+    }
+    Ok(all)
+}
+
+/// What is warned of in the bench of a document, at most twenty times, in the order of the bench's
+/// keys, each with the number of a line of the document. Source: profile.
+///
+/// # Errors
+///
+/// Where there is no memory.
+pub fn bench_warnings(
+    alloc: Global,
+    document: &str,
+    bench: &Bench,
+) -> Result<Vec<Located>, AllocError>
+    ensures { IfOk result (λ v. AreWarned document.now bench.now v.items) }
+{
+    let warned = warned_of(alloc, bench)?;
+    located(alloc, document, warned.as_slice())
+}

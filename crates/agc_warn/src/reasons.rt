@@ -1,0 +1,137 @@
+//! Why there is a warning, at one place.
+ghost use Rattle.std.specs.Prelude.{◌≡◌};
+ghost use Rattle.std.specs.Option.{option_map};
+ghost use Rattle.agc_plan.specs.Plans.{has_task, has_entry};
+ghost use Rattle.agc_warn.specs.Reasons.{bank_at, rowless, task_warning, phase_warning};
+ghost use Rattle.agc_warn.specs.Reasons.{request_warning, action_warning, entry_warning};
+ghost use Rattle.agc_warn.specs.Reasons.{row_warning, device_warning};
+
+use crate::listed::is_listed;
+use crate::warning::Warning;
+use agc_document::Bench;
+use agc_latch::Line;
+use agc_plan::{Action, Group, Phase, PhaseEntry, Request, Task};
+use agc_session::pulse_request;
+use agc_word::Word;
+
+/// Whether a task has a row.
+fn has_task(rows: &[(Task, Action)], task: &Task) -> bool
+    ensures { result ≡ has_task rows.now task.now }
+{
+    for row in rows {
+        if row.0 == *task {
+            return true;
+        }
+    }
+    false
+}
+
+/// The bank of the first row at a task's address.
+fn bank_at(rows: &[(Task, Action)], task: &Task) -> Option<Word>
+    ensures { result ≡ bank_at rows.now task.now.at }
+{
+    for row in rows {
+        if row.0.at == task.at {
+            return Some(row.0.bank);
+        }
+    }
+    None
+}
+
+/// What is warned of a task that has no row, by the bank of a row at its address.
+fn rowless(task: &Task, bank: Option<Word>) -> Warning
+    ensures { result ≡ rowless task.now bank }
+{
+    match bank {
+        None => Warning::NoRow(*task),
+        Some(bank) => Warning::OtherBank(*task, bank),
+    }
+}
+
+/// What is warned of where a task is listed.
+fn task_warning(rows: &[(Task, Action)], task: &Task) -> Option<Warning>
+    ensures { result ≡ task_warning rows.now task.now }
+{
+    if rows.is_empty() {
+        Some(Warning::NoRows)
+    } else if has_task(rows, task) {
+        None
+    } else {
+        Some(rowless(task, bank_at(rows, task)))
+    }
+}
+
+/// Whether a group's phase has an entry.
+fn has_entry(entries: &[PhaseEntry], group: Group, phase: Phase) -> bool
+    ensures { result ≡ has_entry entries.now group phase }
+{
+    for entry in entries {
+        if entry.group() == group && entry.phase() == phase {
+            return true;
+        }
+    }
+    false
+}
+
+/// What is warned of where a phase is set.
+fn phase_warning(entries: &[PhaseEntry], group: Group, phase: Phase) -> Option<Warning>
+    ensures { result ≡ phase_warning entries.now group phase }
+{
+    if phase.get() == 0 || has_entry(entries, group, phase) {
+        None
+    } else {
+        Some(Warning::NoEntry(group, phase))
+    }
+}
+
+/// What is warned of a request.
+pub(crate) fn request_warning(bench: &Bench, request: &Request) -> Option<Warning>
+    ensures { result ≡ request_warning bench.now request.now }
+{
+    match *request {
+        Request::List(_delay, task) => task_warning(bench.rows(), &task),
+        Request::SetPhase(group, phase) => phase_warning(bench.entries(), group, phase),
+        _ => None,
+    }
+}
+
+/// What is warned of an action.
+pub(crate) fn action_warning(bench: &Bench, action: Action) -> Option<Warning>
+    ensures { result ≡ action_warning bench.now action }
+{
+    match action {
+        Action::List(_delay, task) => task_warning(bench.rows(), &task),
+        _ => None,
+    }
+}
+
+/// What is warned of the task of a phase entry.
+pub(crate) fn entry_warning(bench: &Bench, entry: &PhaseEntry) -> Option<Warning>
+    ensures { result ≡ entry_warning bench.now entry.now }
+{
+    match entry.task() {
+        None => None,
+        Some((_delay, task)) => task_warning(bench.rows(), &task),
+    }
+}
+
+/// What is warned of the task of a row.
+pub(crate) fn row_warning(bench: &Bench, task: &Task) -> Option<Warning>
+    ensures { result ≡ row_warning bench.now task.now }
+{
+    if is_listed(bench, task) {
+        None
+    } else {
+        Some(Warning::NeverListed)
+    }
+}
+
+/// What is warned of a device on this line.
+pub(crate) fn device_warning(bench: &Bench, line: Line) -> Option<Warning>
+    ensures { result ≡ device_warning bench.now line }
+{
+    match pulse_request(bench, line) {
+        Some(_request) => None,
+        None => Some(Warning::NoRequest(line)),
+    }
+}

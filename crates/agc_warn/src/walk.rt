@@ -1,0 +1,151 @@
+//! What is warned of in a bench, from key to key.
+ghost use Rattle.std.specs.Prelude.{◌≡◌, [], IfOk};
+ghost use Rattle.std.specs.List.{fold};
+ghost use Rattle.agc_warn.specs.Warnings.{numbered, noted, request_place, of_requests, of_row};
+ghost use Rattle.agc_warn.specs.Warnings.{of_entry, of_worker, of_device, of_actions};
+ghost use Rattle.agc_warn.specs.Warnings.{warnings_of};
+
+use crate::noting::note;
+use crate::reasons::{action_warning, device_warning, entry_warning, request_warning, row_warning};
+use crate::warning::Warned;
+use agc_document::Bench;
+use agc_latch::Line;
+use agc_lint::{Key, Place};
+use agc_plan::{Action, PhaseEntry, Request, Task};
+use std::alloc::{AllocError, Global};
+
+/// The place of a request: of the script, or of a worker.
+fn request_place(worker: Option<u64>, number: u64) -> Place
+    ensures { result ≡ request_place worker number }
+{
+    match worker {
+        None => Place::Item(Key::Script, number),
+        Some(worker) => Place::FieldItem(Key::Workers, worker, Key::Requests, number),
+    }
+}
+
+/// Notes what is warned of the actions of the key and of the radar.
+fn note_actions(found: &mut Vec<Warned>, bench: &Bench) -> Result<(), AllocError>
+    ensures { IfOk result (λ _. found.new.items
+        ≡ fold noted found.old.items (of_actions bench.now)) }
+{
+    note(
+        found,
+        Place::Value(Key::Key),
+        action_warning(bench, bench.key()),
+    )?;
+    note(
+        found,
+        Place::Value(Key::Radar),
+        action_warning(bench, bench.radar()),
+    )
+}
+
+/// Notes what is warned of requests.
+fn note_requests(
+    found: &mut Vec<Warned>,
+    bench: &Bench,
+    worker: Option<u64>,
+    requests: &[Request],
+) -> Result<(), AllocError>
+    ensures { IfOk result (λ _. found.new.items
+        ≡ fold noted found.old.items (of_requests bench.now worker requests.now)) }
+{
+    for (k, request) in requests.iter().enumerate() {
+        let place = request_place(worker, k as u64 + 1);
+        note(found, place, request_warning(bench, request))?;
+    }
+    Ok(())
+}
+
+/// Notes what is warned of rows.
+fn note_rows(
+    found: &mut Vec<Warned>,
+    bench: &Bench,
+    rows: &[(Task, Action)],
+) -> Result<(), AllocError>
+    ensures { IfOk result (λ _. found.new.items
+        ≡ fold noted found.old.items (numbered (of_row bench.now) 1 rows.now)) }
+{
+    for (k, row) in rows.iter().enumerate() {
+        note_row(found, bench, k as u64 + 1, *row)?;
+    }
+    Ok(())
+}
+
+/// Notes what is warned of a row.
+fn note_row(
+    found: &mut Vec<Warned>,
+    bench: &Bench,
+    number: u64,
+    row: (Task, Action),
+) -> Result<(), AllocError>
+    ensures { IfOk result (λ _. found.new.items
+        ≡ fold noted found.old.items (of_row bench.now number row)) }
+{
+    let field = Place::Field(Key::Tasks, number, Key::Action);
+    note(found, field, action_warning(bench, row.1))?;
+    let table = Place::Table(Key::Tasks, number);
+    note(found, table, row_warning(bench, &row.0))
+}
+
+/// Notes what is warned of phase entries.
+fn note_entries(
+    found: &mut Vec<Warned>,
+    bench: &Bench,
+    entries: &[PhaseEntry],
+) -> Result<(), AllocError>
+    ensures { IfOk result (λ _. found.new.items
+        ≡ fold noted found.old.items (numbered (of_entry bench.now) 1 entries.now)) }
+{
+    for (k, entry) in entries.iter().enumerate() {
+        let place = Place::Field(Key::Phases, k as u64 + 1, Key::Listing);
+        note(found, place, entry_warning(bench, entry))?;
+    }
+    Ok(())
+}
+
+/// Notes what is warned of workers' requests.
+fn note_workers(
+    found: &mut Vec<Warned>,
+    bench: &Bench,
+    workers: &[Vec<Request>],
+) -> Result<(), AllocError>
+    ensures { IfOk result (λ _. found.new.items ≡ fold noted found.old.items
+        (numbered (λ n w. of_worker bench.now n w.items) 1 workers.now)) }
+{
+    for (k, worker) in workers.iter().enumerate() {
+        note_requests(found, bench, Some(k as u64 + 1), worker.as_slice())?;
+    }
+    Ok(())
+}
+
+/// Notes what is warned of devices.
+fn note_devices(
+    found: &mut Vec<Warned>,
+    bench: &Bench,
+    devices: &[(Line, u32)],
+) -> Result<(), AllocError>
+    ensures { IfOk result (λ _. found.new.items
+        ≡ fold noted found.old.items (numbered (of_device bench.now) 1 devices.now)) }
+{
+    for (k, device) in devices.iter().enumerate() {
+        let place = Place::Field(Key::Devices, k as u64 + 1, Key::Line);
+        note(found, place, device_warning(bench, device.0))?;
+    }
+    Ok(())
+}
+
+/// What is warned of in a bench, in the order of its keys.
+pub(crate) fn warned_of(alloc: Global, bench: &Bench) -> Result<Vec<Warned>, AllocError>
+    ensures { IfOk result (λ v. v.items ≡ warnings_of bench.now) }
+{
+    let mut found: Vec<Warned> = Vec::new(alloc);
+    note_actions(&mut found, bench)?;
+    note_requests(&mut found, bench, None, bench.script())?;
+    note_rows(&mut found, bench, bench.rows())?;
+    note_entries(&mut found, bench, bench.entries())?;
+    note_workers(&mut found, bench, bench.workers())?;
+    note_devices(&mut found, bench, bench.devices())?;
+    Ok(found)
+}
