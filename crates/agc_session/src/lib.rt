@@ -8,5 +8,5 @@ mod run_fault;
 
 pub use asking::{ask_all, ask_bench, pulse_request};
 pub use asks::Asks;
-pub use run::{machine_of, machine_on, run_script, serial};
+pub use run::{machine_of, machine_on, run_script, script_machine, serial};
 pub use run_fault::RunFault;

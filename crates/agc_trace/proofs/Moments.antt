@@ -1,5 +1,5 @@
 -- What is shown of a request.
-use Rattle.std.proofs.Common.{◌≡◌, ℕ, if◌then◌else◌, List, [], ◌++◌, Option, Some, None, Result, refl, sym, ap, ◌∙◌}
+use Rattle.std.proofs.Common.{◌≡◌, ℕ, Bool, true, false, if◌then◌else◌, List, [], ◌++◌, Option, Some, None, Result, refl, sym, ap, ◌∙◌}
 use Rattle.agc_plan.specs.declared.request.Request.{Request}
 use Rattle.agc_plan.specs.declared.request.Request.TheVariants.{Restart}
 use Rattle.agc_plan.specs.declared.request.Task.{Task}
@@ -12,10 +12,12 @@ use Rattle.agc_machine.specs.declared.answer.Refusal.{Refusal}
 use Rattle.agc_machine.specs.Machines.{Machined, refusal_of, result_of, answer_of, fired_of, stepped, after, plain_of, places_of}
 use Rattle.agc_machine.specs.Moments.{Acting, IsMoment}
 use Rattle.agc_plan.specs.declared.reply.Reply.{Reply}
+use Rattle.agc_plan.specs.declared.reply.Alarm.{Alarm}
+use Rattle.agc_trace.specs.Choices.{alarm_at, is_told, told_text}
 use Rattle.agc_trace.specs.Lines.{line_text}
 use Rattle.agc_trace.specs.Reading.{IsShown, begins_unless, scene_in}
 use Rattle.agc_trace.specs.Scenes.{Scene, scene_of}
-use Rattle.agc_trace.specs.Traces.{Traced, one_more, scene_unless, time_unless, time_after, told_alarm, account_by, traced, traced_line, traced_account}
+use Rattle.agc_trace.specs.Traces.{Traced, Counted, one_more, scene_unless, time_unless, time_after, told_alarm, account_by, traced, traced_line, traced_account, traced_text, is_spent, is_log_full, counted_if, counted}
 use Rattle.agc_trace.specs.Openings.{heading, power_text, opening_text}
 use Rattle.agc_trace.proofs.Scenes.{scene_is}
 
@@ -100,3 +102,29 @@ opening_is m power words moment some is =
 pub opening_fresh : (m : Machined) (power : Option (List ℕ)) → power ≡ None → heading ≡ opening_text power m
 unfolding opening_text
 opening_fresh m power none = ap (λ (p : Option (List ℕ)). opening_text p m) (sym none)
+
+-- the run, and the counts of what was refused
+pub counted_is : (c : Counted) (asked : Request) (run : Traced) (spent log_full : ℕ) (refusal : Option Refusal) → refusal ≡ refusal_of c.run.machine asked → run ≡ traced c.run asked → spent ≡ counted_if (is_spent refusal) c.spent → log_full ≡ counted_if (is_log_full refusal) c.log_full → record { run = run; spent = spent; log_full = log_full } ≡ counted c asked
+counted_is c asked run spent log_full refusal refusal_is run_is spent_is full_is =
+    ap (λ (r : Traced). record { run = r; spent = spent; log_full = log_full }) run_is
+    ∙ ap (λ (n : ℕ). record { run = traced c.run asked; spent = n; log_full = log_full }) (spent_is ∙ ap (λ (r : Option Refusal). counted_if (is_spent r) c.spent) refusal_is)
+    ∙ ap (λ (n : ℕ). record { run = traced c.run asked; spent = counted_if (is_spent (refusal_of c.run.machine asked)) c.spent; log_full = n }) (full_is ∙ ap (λ (r : Option Refusal). counted_if (is_log_full r) c.log_full) refusal_is)
+
+-- the alarm that it raises
+alarm_by : (t : Traced) (asked : Request) (refusal : Option Refusal) (moment : Acting) → IsShown t.machine asked refusal moment → told_alarm refusal moment.reply ≡ told_alarm refusal (acted t.machine.plan asked (plain_of t.machine)).reply
+alarm_by t asked (Some refusal) moment shown = refl
+alarm_by t asked None moment shown = ap (λ (r : Reply). alarm_of r) (shown.reply refl)
+
+pub alarm_is : (t : Traced) (asked : Request) (refusal : Option Refusal) (moment : Acting) → refusal ≡ refusal_of t.machine asked → IsShown t.machine asked refusal moment → told_alarm refusal moment.reply ≡ alarm_at t asked
+alarm_is t asked refusal moment refusal_is shown =
+    alarm_by t asked refusal moment shown
+    ∙ ap (λ (r : Option Refusal). told_alarm r (acted t.machine.plan asked (plain_of t.machine)).reply) refusal_is
+
+-- it is told, or left out
+pub told_yes : (alarms : Bool) (t : Traced) (asked : Request) (alarm : Option Alarm) (b : Bool) → alarm ≡ alarm_at t asked → b ≡ is_told alarms alarm → b ≡ true → traced_text t asked ≡ told_text alarms t asked
+told_yes alarms t asked alarm b alarm_at_is b_is b_true =
+    ap (λ (v : Bool). if v then traced_text t asked else []) (sym b_true ∙ b_is ∙ ap (is_told alarms) alarm_at_is)
+
+pub told_no : (alarms : Bool) (t : Traced) (asked : Request) (alarm : Option Alarm) (b : Bool) → alarm ≡ alarm_at t asked → b ≡ is_told alarms alarm → b ≡ false → [] ≡ told_text alarms t asked
+told_no alarms t asked alarm b alarm_at_is b_is b_false =
+    ap (λ (v : Bool). if v then traced_text t asked else []) (sym b_false ∙ b_is ∙ ap (is_told alarms) alarm_at_is)

@@ -3,5 +3,6 @@ pub mod Lines
 pub mod Accounts
 pub mod Traces
 pub mod Openings
+pub mod Choices
 pub mod Reading
 pub mod Runs

@@ -1,20 +1,21 @@
--- The trace of a bench.
-use Rattle.std.specs.Prelude.{◌≡◌, ℕ, List, ◌++◌, Option, Result, Ok, Err}
+-- The trace of a bench, and of a script.
+use Rattle.std.specs.Prelude.{◌≡◌, ℕ, Bool, List, ◌++◌, Option, None, Result, Ok, Err}
 use Rattle.std.specs.Io.KnownBytes.{Appends}
 use Rattle.std.specs.List.{fold}
 use Rattle.agc_plan.specs.declared.request.Request.{Request}
 use Rattle.agc_machine.specs.Machines.{Machined}
 use Rattle.agc_text.specs.Writing.{AppendsFront}
 use Rattle.agc_document.specs.Benches.{Benched}
-use Rattle.agc_session.specs.Runs.{bench_machine, bench_requests}
+use Rattle.agc_session.specs.Runs.{bench_machine, bench_requests, script_machine}
 use Rattle.agc_session.specs.declared.run_fault.RunFault.{RunFault}
 use Rattle.agc_session.specs.declared.run_fault.RunFault.TheVariants.{NoMemory, Output, NoThread}
 use Rattle.agc_session.specs.declared.run_fault.RunFault.TheVariants.{Lost}
 use Rattle.agc_session.specs.Walks.{texts}
+use Rattle.agc_trace.specs.Choices.{Telling, all_told, chosen, text_of}
 use Rattle.agc_trace.specs.Openings.{opening_text, ending_text}
 use Rattle.agc_trace.specs.Traces.{Counted, counted, traced_text}
 
--- the bench's machine, and nothing was asked, nor refused
+-- the run's machine, and nothing was asked, nor refused
 abbrev pub counted_from : Machined → Counted
 counted_from m = record {
   run = record { machine = m; asked = 0; time = 0 };
@@ -26,21 +27,34 @@ counted_from m = record {
 abbrev pub lines_of : Machined → List Request → List ℕ
 lines_of m requests = texts counted (λ c asked. traced_text c.run asked) (counted_from m) requests
 
--- the heading, and what came of power-up; the lines of all requests of a bench; and how many were
--- refused
-unfoldable pub trace_text : Benched → List ℕ
-trace_text bench =
-    opening_text bench.power (bench_machine bench)
-    ++ (lines_of (bench_machine bench) (bench_requests bench)
-    ++ ending_text bench.limit bench.allowance
-    (fold counted (counted_from (bench_machine bench)) (bench_requests bench)))
+-- what stands before the lines; the lines of the requests that are told, all or those that raised
+-- an alarm; and how many were refused
+unfoldable pub run_text : List ℕ → (alarms : Bool) → Machined → List Request → List ℕ
+run_text opening alarms m requests =
+    opening
+    ++ (text_of (chosen alarms (all_told (counted_from m).run requests))
+    ++ ending_text m.limit m.allowance (fold counted (counted_from m) requests))
 
--- the trace was written and nothing else; a front of it where a write failed; nothing where there
+-- of a bench: the heading, and what came of power-up, stand before
+abbrev pub trace_text : (alarms : Bool) → Benched → List ℕ
+trace_text alarms bench = run_text (opening_text bench.power (bench_machine bench)) alarms
+    (bench_machine bench) (bench_requests bench)
+
+-- of a script: it has no power-up
+abbrev pub script_text : (alarms : Bool) → List Request → List ℕ
+script_text alarms requests =
+    run_text (opening_text None script_machine) alarms script_machine requests
+
+-- for the proofs: with which a run begins of which these are told
+abbrev pub telling_from : Bool → Machined → Telling
+telling_from alarms m = record { counted = counted_from m; alarms = alarms }
+
+-- the text was written and nothing else; a front of it where a write failed; nothing where there
 -- was no memory; no other fault comes
-abbrev pub WritesTrace : {T : Type 0} → Option (List ℕ) → Option (List ℕ) → Benched
+abbrev pub WritesTrace : {T : Type 0} → Option (List ℕ) → Option (List ℕ) → List ℕ
     → Result T RunFault → Type 0
-WritesTrace old new bench (Ok _) = Appends old new (trace_text bench)
-WritesTrace old new bench (Err Output) = AppendsFront old new (trace_text bench)
-WritesTrace old new bench (Err NoMemory) = new ≡ old
-WritesTrace old new bench (Err NoThread) = ⊥
-WritesTrace old new bench (Err Lost) = ⊥
+WritesTrace old new text (Ok _) = Appends old new text
+WritesTrace old new text (Err Output) = AppendsFront old new text
+WritesTrace old new text (Err NoMemory) = new ≡ old
+WritesTrace old new text (Err NoThread) = ⊥
+WritesTrace old new text (Err Lost) = ⊥

@@ -3,7 +3,6 @@ ghost use Rattle.std.specs.Prelude.{◌≡◌, ◌+◌, ◌≤◌, ◌++◌, cod
 ghost use Rattle.agc_trace.specs.Openings.{ending_text, refused_text, requests_text};
 
 use crate::runs::Tracer;
-use agc_document::Bench;
 use agc_text::add_number;
 use arrayvec::ArrayString;
 
@@ -38,40 +37,35 @@ fn refused_cell(count: u64, before: &str, number: u64, behind: &str) -> ArrayStr
     cell
 }
 
-/// How many requests were refused for a full log.
-fn log_full_cell(bench: &Bench, count: u64) -> ArrayString<256>
+/// How many requests were refused for a full log of this limit.
+fn log_full_cell(limit: u32, count: u64) -> ArrayString<256>
     ensures text { result.bytes ≡ refused_text count (codes " refused: log full (limit ")
-        bench.now.limit (codes ")\n") }
+        limit (codes ")\n") }
     ensures len { length result.bytes ≤ 120 }
 {
-    refused_cell(
-        count,
-        " refused: log full (limit ",
-        bench.limit().get() as u64,
-        ")\n",
-    )
+    refused_cell(count, " refused: log full (limit ", limit as u64, ")\n")
 }
 
-/// How many requests were refused because all of the allowance was served.
-fn spent_cell(bench: &Bench, count: u64) -> ArrayString<256>
+/// How many requests were refused because all of this allowance was served.
+fn spent_cell(allowance: u64, count: u64) -> ArrayString<256>
     ensures text { result.bytes ≡ refused_text count (codes " refused: spent (allowance ")
-        bench.now.allowance (codes ", all served)\n") }
+        allowance (codes ", all served)\n") }
     ensures len { length result.bytes ≤ 120 }
 {
     refused_cell(
         count,
         " refused: spent (allowance ",
-        bench.allowance(),
+        allowance,
         ", all served)\n",
     )
 }
 
-/// How many requests of a bench were refused, for each reason.
+/// How many requests were refused, for each reason, by a machine of this limit and allowance.
 #[tactic(auto, unfolding(crate::specs::Openings::ending_text))]
-pub(crate) fn ending_of(bench: &Bench, tracer: &Tracer) -> ArrayString<256>
-    ensures { result.bytes ≡ ending_text bench.now.limit bench.now.allowance tracer.now }
+pub(crate) fn ending_of(limit: u32, allowance: u64, tracer: &Tracer) -> ArrayString<256>
+    ensures { result.bytes ≡ ending_text limit allowance tracer.now }
 {
-    let mut ending = log_full_cell(bench, tracer.log_full);
-    ending.push_str(spent_cell(bench, tracer.spent).as_str());
+    let mut ending = log_full_cell(limit, tracer.log_full);
+    ending.push_str(spent_cell(allowance, tracer.spent).as_str());
     ending
 }

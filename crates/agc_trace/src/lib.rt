@@ -11,6 +11,7 @@ mod newjob;
 mod opening;
 mod runs;
 mod seats;
+mod tracing;
 mod waits;
 
 pub use account::{account_of, add_phases};
@@ -19,6 +20,7 @@ pub use lines::{
 };
 pub use newjob::named;
 pub use opening::{add_broken, add_phases_line, pairs_agree, power_reply};
-pub use runs::{Tracer, alarm_of, begins, next_time, one_more, shown, time_at, trace, tracer_of};
+pub use runs::{Tracer, alarm_of, begins, next_time, one_more, shown, time_at, tracer_of};
 pub use seats::{Seated, owner, seat};
+pub use tracing::{trace, trace_script};
 pub use waits::waiting;

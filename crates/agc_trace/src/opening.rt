@@ -205,7 +205,7 @@ fn add_power(line: &mut ArrayString<2048>, words: &[Word; 12], moment: &Moment)
 }
 
 /// What stands above the columns.
-fn heading_of() -> ArrayString<2048>
+pub(crate) fn heading_of() -> ArrayString<2048>
     ensures text { result.bytes ≡ heading }
     ensures len { length result.bytes ≤ 200 }
 {

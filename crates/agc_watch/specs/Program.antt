@@ -1,6 +1,6 @@
 -- What the program makes of its input.
 use Rattle.std.specs.Prelude.{◌≡◌, ℕ, ◌⊎◌, List, [], ◌∷◌, Option, Result, Ok, Err}
-use Rattle.std.specs.Prelude.{Bool, true, false, ◌≤◌, length}
+use Rattle.std.specs.Prelude.{Bool, true, false, ◌≤◌, length, map}
 use Rattle.std.specs.List.{flat_map, AllByRecursion}
 use Rattle.std.specs.Io.KnownBytes.{Appends}
 use Rattle.toml.specs.Parse.{parse_document}
@@ -11,8 +11,11 @@ use Rattle.agc_program.specs.declared.fault.Fault.{Fault}
 use Rattle.agc_program.specs.declared.fault.Fault.TheVariants as fault
 use Rattle.agc_program.specs.Inputs.{IsDocument}
 use Rattle.agc_text.specs.declared.fault.ReadFault.{ReadFault}
-use Rattle.agc_text.specs.Faults.{RefusesInput}
+use Rattle.agc_plan.specs.declared.request.Request.{Request}
+use Rattle.agc_text.specs.Faults.{RefusesInput, RefusesScript}
 use Rattle.agc_text.specs.Input.{ReadsAll}
+use Rattle.agc_text.specs.Lines.{line_of}
+use Rattle.agc_text.specs.Script.{lines_of}
 use Rattle.agc_text.specs.Writing.{AppendsFront}
 use Rattle.agc_program.specs.Statuses.{status_of}
 use Rattle.agc_lint.specs.Findings.{Found}
@@ -23,7 +26,7 @@ use Rattle.agc_lint.specs.Tellings.{told_of_bench}
 use Rattle.agc_warn.specs.declared.warning.Located.{Located}
 use Rattle.agc_warn.specs.Warnings.{AreWarned}
 use Rattle.agc_warn.specs.Tellings.{told_warning}
-use Rattle.agc_trace.specs.Runs.{WritesTrace}
+use Rattle.agc_trace.specs.Runs.{WritesTrace, script_text, trace_text}
 use Rattle.agc_picture.specs.Pictures.{WritesPicture}
 use Rattle.agc_page.specs.Pages.{WritesPage}
 use Rattle.agc_words.specs.declared.words.WordsFault.{WordsFault}
@@ -53,10 +56,36 @@ ComesOf writes text old new (Err (fault.Bench why)) =
     RefusesBench (parse_document text) why × (new ≡ old)
 ComesOf writes text old new (Err why) = ⊥
 
--- its bench is traced, drawn, or made a page
-abbrev pub TracesText : List ℕ → Option (List ℕ) → Option (List ℕ) → Result Unit Fault → Type 0
-TracesText = ComesOf WritesTrace
+-- its bench is traced, all requests or those that raise an alarm
+abbrev pub TracesBench : (alarms : Bool) → List ℕ → Option (List ℕ) → Option (List ℕ)
+    → Result Unit Fault → Type 0
+TracesBench alarms =
+    ComesOf (λ old new bench outcome. WritesTrace old new (trace_text alarms bench) outcome)
 
+-- it was traced as the script that it is
+abbrev pub WrittenOfScript : (alarms : Bool) → List ℕ → Option (List ℕ) → Option (List ℕ)
+    → Result Unit RunFault → Type 0
+WrittenOfScript alarms text old new outcome = (requests : List Request)
+    × (lines_of text ≡ map line_of requests)
+    × WritesTrace old new (script_text alarms requests) outcome
+
+-- what comes of this text as a script: it is traced; or it is none, and nothing was written
+abbrev pub TracesScript : (alarms : Bool) → List ℕ → Option (List ℕ) → Option (List ℕ)
+    → Result Unit Fault → Type 0
+TracesScript alarms text old new (Ok done) = WrittenOfScript alarms text old new (Ok done)
+TracesScript alarms text old new (Err (fault.Run why)) =
+    WrittenOfScript alarms text old new (Err why)
+TracesScript alarms text old new (Err (fault.Script why)) =
+    RefusesScript (lines_of text) why × (new ≡ old)
+TracesScript alarms text old new (Err why) = ⊥
+
+-- it is traced as a script, or as a bench
+abbrev pub TracesText : (script alarms : Bool) → List ℕ → Option (List ℕ) → Option (List ℕ)
+    → Result Unit Fault → Type 0
+TracesText true = TracesScript
+TracesText false = TracesBench
+
+-- its bench is drawn, or made a page
 abbrev pub DrawsText : List ℕ → Option (List ℕ) → Option (List ℕ) → Result Unit Fault → Type 0
 DrawsText = ComesOf WritesPicture
 

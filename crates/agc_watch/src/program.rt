@@ -5,7 +5,8 @@ ghost use Rattle.toml.specs.Parse.{parse_document};
 ghost use Rattle.agc_document.specs.Faults.{RefusesBench};
 ghost use Rattle.agc_program.specs.Inputs.{EndsBy, IsDocument};
 ghost use Rattle.agc_watch.specs.Program.{fault_for};
-ghost use Rattle.agc_watch.specs.Program.{DrawsText, PagesText, TracesText, is_nothing};
+ghost use Rattle.agc_watch.specs.Program.{DrawsText, PagesText, TracesBench, is_nothing};
+ghost use Rattle.agc_watch.specs.Program.{TracesScript, TracesText};
 ghost use Rattle.agc_watch.specs.Program.{ChecksScript, ChecksInput, ChecksBench};
 
 use agc_document::{Bench, BenchFault, read_bench};
@@ -13,34 +14,58 @@ use agc_lint::{bench_findings, script_findings, tell_all, tell_bench};
 use agc_page::page;
 use agc_picture::picture;
 use agc_program::{Fault, buffered, flushed, given_words};
-use agc_text::read_all;
-use agc_trace::trace;
+use agc_text::{read_all, read_script};
+use agc_trace::{trace, trace_script};
 use agc_warn::{bench_warnings, tell_warnings};
-use agc_words::{Asked, WordsFault, Work, asked_for};
+use agc_words::{Asked, TraceOptions, WordsFault, Work, asked_for};
 use std::alloc::Global;
 use std::io::{Read, Write};
 use std::rt::Env;
 
-/// Writes the trace of a text's bench.
-fn trace_text<W: Write>(alloc: Global, text: &str, writer: &mut W) -> Result<(), Fault>
-    ensures { TracesText text.now (W.contents writer.old) (W.contents writer.new) result }
+/// Writes the trace of a text's bench, of all requests or of those that raise an alarm.
+fn trace_bench<W: Write>(
+    alloc: Global,
+    text: &str,
+    alarms: bool,
+    writer: &mut W,
+) -> Result<(), Fault>
+    ensures { TracesBench alarms text.now (W.contents writer.old) (W.contents writer.new) result }
 {
     let bench = read_bench(alloc, text)?;
-    trace(alloc, &bench, writer)?;
+    trace(alloc, &bench, alarms, writer)?;
     Ok(())
 }
 
-/// Reads the input whole, and writes the trace of its bench.
+/// Writes the trace of a text's script in the same way.
+fn trace_script_of<W: Write>(
+    alloc: Global,
+    text: &str,
+    alarms: bool,
+    writer: &mut W,
+) -> Result<(), Fault>
+    ensures { TracesScript alarms text.now (W.contents writer.old) (W.contents writer.new) result }
+{
+    let requests = read_script(alloc, text)?;
+    trace_script(alloc, requests.as_slice(), alarms, writer)?;
+    Ok(())
+}
+
+/// Reads the input whole, and writes the trace of its bench or script.
 fn trace_input<R: Read, W: Write>(
     alloc: Global,
+    options: TraceOptions,
     reader: &mut R,
     writer: &mut W,
 ) -> Result<(), Fault>
-    ensures { EndsBy TracesText (R.remaining reader.old) (R.remaining reader.new)
-        (W.contents writer.old) (W.contents writer.new) result }
+    ensures { EndsBy (TracesText options.script options.alarms) (R.remaining reader.old)
+        (R.remaining reader.new) (W.contents writer.old) (W.contents writer.new) result }
 {
     let text = read_all(alloc, reader)?;
-    trace_text(alloc, text.as_str(), writer)
+    if options.script {
+        trace_script_of(alloc, text.as_str(), options.alarms, writer)
+    } else {
+        trace_bench(alloc, text.as_str(), options.alarms, writer)
+    }
 }
 
 /// Writes the picture of a text's bench.
@@ -83,11 +108,11 @@ fn page_input<R: Read, W: Write>(alloc: Global, reader: &mut R, writer: &mut W) 
     page_text(alloc, text.as_str(), writer)
 }
 
-/// Reads a bench from standard input, and writes its trace through a buffer that is flushed at the
-/// end.
-fn run_trace<R: AllocGlobal + Input + Print>(rt: &R) -> Result<(), Fault> {
+/// Reads a bench or script from standard input, and writes its trace through a buffer that is
+/// flushed at the end.
+fn run_trace<R: AllocGlobal + Input + Print>(rt: &R, options: TraceOptions) -> Result<(), Fault> {
     let mut output = buffered(rt)?;
-    trace_input(rt.alloc(), &mut rt.reader(), &mut output)?;
+    trace_input(rt.alloc(), options, &mut rt.reader(), &mut output)?;
     flushed(&mut output)
 }
 
@@ -216,7 +241,7 @@ fn run_check_bench<R: AllocGlobal + Input + Print>(rt: &R) -> Result<bool, Fault
 /// Does what the words ask for. False where that is a check, and something is wrong.
 fn run_work<R: AllocGlobal + Input + Print>(rt: &R, work: Work) -> Result<bool, Fault> {
     match work {
-        Work::Trace => run_trace(rt)?,
+        Work::Trace(options) => run_trace(rt, options)?,
         Work::Picture => run_picture(rt)?,
         Work::Page => run_page(rt)?,
         Work::CheckBench => return run_check_bench(rt),

@@ -47,13 +47,19 @@ fn subcommand<'a>(alloc: Global, name: &'a str, about: &'a str, example: &'a str
 }
 
 /// The subcommand `trace`.
-fn trace_command<'a>(alloc: Global) -> Command<'a> {
+fn trace_command<'a>(alloc: Global) -> Result<Command<'a>, AllocError> {
     subcommand(
         alloc,
         "trace",
         "Writes a line for each request, with the tables",
-        "Example: agc_watch trace < examples/no-vac-area.toml",
+        "Example: agc_watch trace --alarms < examples/no-vac-area.toml",
     )
+    .arg(flag(alloc, "script", "Reads a script"))?
+    .arg(flag(
+        alloc,
+        "alarms",
+        "Tells only the requests that raised an alarm",
+    ))
 }
 
 /// The subcommand `picture`.
@@ -97,7 +103,7 @@ fn program<'a>(alloc: Global) -> Command<'a> {
 /// The program, with all of its subcommands.
 fn whole_command<'a>(alloc: Global) -> Result<Command<'a>, AllocError> {
     program(alloc)
-        .subcommand(trace_command(alloc))?
+        .subcommand(trace_command(alloc)?)?
         .subcommand(picture_command(alloc))?
         .subcommand(page_command(alloc))?
         .subcommand(check_command(alloc)?)

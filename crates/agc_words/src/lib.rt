@@ -3,6 +3,8 @@
 #![tactic(auto)]
 
 mod commands;
+mod options;
 mod words;
 
+pub use options::{TraceOption, TraceOptions};
 pub use words::{Asked, WordsFault, Work, asked_for};

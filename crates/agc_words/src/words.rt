@@ -1,19 +1,20 @@
 //! What the words ask for.
-ghost use Rattle.std.specs.Prelude.{◌≡◌, [], ◌∷◌, IfOk, IfSome, Ok, Some, map};
+ghost use Rattle.std.specs.Prelude.{◌≡◌, ◌≢◌, [], ◌∷◌, IfOk, IfSome, Ok, Some, codes, map};
 ghost use Rattle.std.specs.String.{string_bytes};
-ghost use Rattle.agc_words.specs.Words.{AskFor, IsAskedBy, words_for};
+ghost use Rattle.agc_words.specs.Words.{AreFor, AskFor, IsAskedBy};
 ghost use Rattle.agc_words.specs.declared.words.Asked.TheVariants as asked;
 ghost use Rattle.agc_words.specs.declared.words.Work.{Work};
 
 use crate::commands::text_asked;
+use crate::options::{TraceOptions, options_of};
 use clap::Error;
 use std::alloc::Global;
 
 /// What the program is to do with its input.
 #[derive(Clone, Copy, Debug, PartialEq, Eq)]
 pub enum Work {
-    /// The trace of a bench.
-    Trace,
+    /// The trace of a bench, or of a script.
+    Trace(TraceOptions),
     /// The picture of a bench.
     Picture,
     /// The page of a bench.
@@ -40,13 +41,13 @@ pub enum WordsFault {
     NoMemory,
 }
 
-/// What a word alone asks to be done.
+/// What a word alone asks to be done, a trace aside.
 fn asked_alone(word: &str) -> Option<Work>
-    ensures found { IfSome result (λ work. words_for work ≡ word.now ∷ []) }
-    ensures only { (work : Work) → words_for work ≡ word.now ∷ [] → result ≡ Some work }
+    ensures found { IfSome result (AreFor (word.now ∷ [])) }
+    ensures only { (work : Work) → AreFor (word.now ∷ []) work → word.now ≢ codes "trace"
+        → result ≡ Some work }
 {
     match word {
-        "trace" => Some(Work::Trace),
         "picture" => Some(Work::Picture),
         "page" => Some(Work::Page),
         "check" => Some(Work::CheckBench),
@@ -54,14 +55,33 @@ fn asked_alone(word: &str) -> Option<Work>
     }
 }
 
-/// What a word with an option behind it asks to be done.
+/// What a word with an option behind it asks to be done, a trace aside.
 fn asked_with(word: &str, option: &str) -> Option<Work>
-    ensures found { IfSome result (λ work. words_for work ≡ word.now ∷ option.now ∷ []) }
-    ensures only { (work : Work) → words_for work ≡ word.now ∷ option.now ∷ []
-        → result ≡ Some work }
+    ensures found { IfSome result (AreFor (word.now ∷ option.now ∷ [])) }
+    ensures only { (work : Work) → AreFor (word.now ∷ option.now ∷ []) work
+        → word.now ≢ codes "trace" → result ≡ Some work }
 {
     match (word, option) {
         ("check", "--script") => Some(Work::CheckScript),
+        _ => None,
+    }
+}
+
+/// What a word with other words behind it asks to be done.
+fn asked_by(word: &str, options: &[String]) -> Option<Work>
+    ensures found { IfSome result (AreFor (word.now ∷ map string_bytes options.now)) }
+    ensures only { (work : Work) → AreFor (word.now ∷ map string_bytes options.now) work
+        → result ≡ Some work }
+{
+    if word == "trace" {
+        return match options_of(options) {
+            Some(options) => Some(Work::Trace(options)),
+            None => None,
+        };
+    }
+    match options {
+        [] => asked_alone(word),
+        [option] => asked_with(word, option.as_str()),
         _ => None,
     }
 }
@@ -73,8 +93,7 @@ fn work_of(words: &[String]) -> Option<Work>
         → result ≡ Some work }
 {
     match words {
-        [_, word] => asked_alone(word.as_str()),
-        [_, word, option] => asked_with(word.as_str(), option.as_str()),
+        [_, word, options @ ..] => asked_by(word.as_str(), options),
         _ => None,
     }
 }

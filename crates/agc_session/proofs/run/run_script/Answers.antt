@@ -5,21 +5,18 @@ use Rattle.agc_session.proofs.Sessions.{session_written, session_front, lines_fr
 use Rattle.agc_session.proofs.run.run_script.Goals as goal
 
 pub returns-in_err-ask_all : goal.returns-in_err-ask_all
-unfolding script_machine
 returns-in_err-ask_all g c =
     let p = err_from_is_err_and c.from_residual-in_err-ask_all.result c.from_residual-in_err-ask_all.ensures.1 in
-    let from : c.in_ok-machine.machine ≡ script_machine = rw (c.in_ok-plan.ensures.plan, c.script_limit.ensures) at c.in_ok-machine.ensures in
+    let from : c.in_ok-machine.machine ≡ script_machine = c.in_ok-machine.ensures.machine in
     rw (p.1, p.2) (lines_front _ _ script_machine c.in_ok-machine.machine c.args.requests.now from c.in_err-ask_all.ensures.writes)
 
 pub returns-in_err-put_report : goal.returns-in_err-put_report
-unfolding script_machine
 returns-in_err-put_report g c =
     let p = err_from_is_err_and c.from_residual-in_err-put_report.result c.from_residual-in_err-put_report.ensures.1 in
-    let from : c.in_ok-machine.machine ≡ script_machine = rw (c.in_ok-plan.ensures.plan, c.script_limit.ensures) at c.in_ok-machine.ensures in
+    let from : c.in_ok-machine.machine ≡ script_machine = c.in_ok-machine.ensures.machine in
     rw (p.1, p.2) (session_front _ _ _ script_machine c.in_ok-machine.machine _ c.args.requests.now from c.in_ok-ask_all.ensures.after c.in_ok-ask_all.ensures.writes c.in_err-put_report.ensures)
 
 pub returns : goal.returns
-unfolding script_machine
 returns g c =
-    let from : c.in_ok-machine.machine ≡ script_machine = rw (c.in_ok-plan.ensures.plan, c.script_limit.ensures) at c.in_ok-machine.ensures in
+    let from : c.in_ok-machine.machine ≡ script_machine = c.in_ok-machine.ensures.machine in
     session_written _ _ _ script_machine c.in_ok-machine.machine _ c.args.requests.now from c.in_ok-ask_all.ensures.after c.in_ok-ask_all.ensures.writes c.in_ok-put_report.ensures

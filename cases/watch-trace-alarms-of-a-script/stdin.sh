@@ -1,0 +1,1 @@
+yes tick | head -1001

@@ -1,0 +1,8 @@
+use Rattle.std.proofs.Common.{◌≡◌}
+use Rattle.agc_session.specs.Runs.{script_machine}
+use Rattle.agc_session.proofs.run.script_machine.Goals as goal
+
+pub returns-clause-machine : goal.returns-clause-machine
+unfolding script_machine
+returns-clause-machine c =
+    rw (c.in_ok-plan.ensures.plan, c.script_limit.ensures) at c.in_ok-machine.ensures

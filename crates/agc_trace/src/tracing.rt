@@ -1,0 +1,109 @@
+// The trace of a bench or of a script: its machine is asked for all requests in order, and a line
+// of each that is told is written.
+ghost use Rattle.std.specs.Prelude.{◌≡◌};
+ghost use Rattle.agc_trace.specs.Runs.{WritesTrace, script_text, telling_from, trace_text};
+
+use crate::ending::ending_of;
+use crate::opening::{heading_of, opening_of};
+use crate::runs::{Tracer, tell, tracer_of};
+use agc_document::Bench;
+use agc_machine::Machine;
+use agc_plan::Request;
+use agc_session::{Asks, RunFault, ask_all, ask_bench, machine_of, script_machine};
+use agc_text::{Output, put};
+use std::alloc::Global;
+use std::io::Write;
+use std::marker::Model;
+
+/// A run that is traced, and whether only the requests are told that raise an alarm.
+#[derive(Drop)]
+struct Teller {
+    tracer: Tracer,
+    alarms: bool,
+}
+
+impl Model for Teller {
+    ghost use Rattle.agc_trace.specs.Choices.{Telling};
+
+    ghost Value = { Telling };
+
+    ghost view = { λ t. record { counted = t.tracer; alarms = t.alarms } };
+}
+
+impl Asks for Teller {
+    ghost use Rattle.agc_trace.specs.Choices.{telling, telling_text};
+
+    ghost next = { λ teller request. telling teller request };
+
+    ghost text = { λ teller request. telling_text teller request };
+
+    /// Asks for one request, and writes its line and account, where it is told.
+    fn ask<W: Write>(&mut self, request: &Request, writer: &mut W) -> Result<(), Output> {
+        tell(&mut self.tracer, self.alarms, request, writer)
+    }
+}
+
+/// A run of this machine, of which nothing was asked.
+fn teller_of(alarms: bool, machine: Machine) -> Teller
+    ensures { result ≡ telling_from alarms machine }
+{
+    Teller {
+        tracer: tracer_of(machine),
+        alarms,
+    }
+}
+
+/// Writes the trace of a bench: the heading, and what came of power-up, where it has phase words;
+/// then its machine is asked for the requests in the order of `serial`, and for each a line is
+/// written, or for those alone that raise an alarm, with the state in which it was answered: at an
+/// alarm the full table, before the era begins; and last how many requests were refused. The writer
+/// is not flushed. Source: profile.
+///
+/// # Errors
+///
+/// `NoMemory`, and nothing was written. `Output`, where a write failed, or took nothing of what was
+/// left; a front of the trace was then written.
+pub fn trace<W: Write>(
+    alloc: Global,
+    bench: &Bench,
+    alarms: bool,
+    writer: &mut W,
+) -> Result<(), RunFault>
+    ensures { WritesTrace (W.contents writer.old) (W.contents writer.new)
+        (trace_text alarms bench.now) result }
+{
+    let machine = machine_of(alloc, bench)?;
+    let opening = opening_of(bench, &machine);
+    let mut teller = teller_of(alarms, machine);
+    put(writer, opening.as_bytes())?;
+    ask_bench(&mut teller, bench, writer)?;
+    let ending = ending_of(bench.limit().get(), bench.allowance(), &teller.tracer);
+    put(writer, ending.as_bytes())?;
+    Ok(())
+}
+
+/// Writes the trace of a script in the same way: the machine is that of `run_script`. Source:
+/// profile.
+///
+/// # Errors
+///
+/// `NoMemory`, and nothing was written. `Output`, where a write failed, or took nothing of what was
+/// left; a front of the trace was then written.
+pub fn trace_script<W: Write>(
+    alloc: Global,
+    requests: &[Request],
+    alarms: bool,
+    writer: &mut W,
+) -> Result<(), RunFault>
+    ensures { WritesTrace (W.contents writer.old) (W.contents writer.new)
+        (script_text alarms requests.now) result }
+{
+    let machine = script_machine(alloc)?;
+    let heading = heading_of();
+    let mut teller = teller_of(alarms, machine);
+    put(writer, heading.as_bytes())?;
+    ask_all(&mut teller, requests, writer)?;
+    let ending = ending_of(1000, 1_000_000, &teller.tracer);
+    put(writer, ending.as_bytes())?;
+    Ok(())
+}
