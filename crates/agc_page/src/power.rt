@@ -1,4 +1,4 @@
-// What came of power-up: row 0, and its account.
+// What came of power-up: the first row, and its account.
 ghost use Rattle.std.specs.Prelude.{◌≡◌, ◌≤◌, ◌++◌, codes, length};
 ghost use Rattle.std.specs.Fmt.{decimal};
 ghost use Rattle.agc_word.specs.Layout.{IsSized};
@@ -18,7 +18,7 @@ use agc_trace::{add_broken, add_phases_line, number_cell, pairs_agree, power_rep
 use agc_word::{Erasable, Word};
 use arrayvec::ArrayString;
 
-/// What is asked for in row 0.
+/// What is asked for in the row of power-up.
 fn request_cell() -> ArrayString<256>
     ensures { result.bytes ≡ codes "power-up" }
 {
@@ -36,7 +36,7 @@ fn reply_cell(agree: bool) -> ArrayString<256>
     cell
 }
 
-/// The cells of row 0.
+/// The cells of the row of power-up.
 fn power_cells(agree: bool, e: &Erasable) -> Cells
     requires sized { IsSized e.now }
     requires lawful { IsLawfulWords e.now }
@@ -65,7 +65,7 @@ fn account_of(words: &[Word; 12], e: &Erasable) -> ArrayString<2048>
     account
 }
 
-/// Row 0 and its account.
+/// The row of power-up, and its account.
 fn power_row(words: &[Word; 12], e: &Erasable) -> ArrayString<8192>
     requires sized { IsSized e.now }
     requires lawful { IsLawfulWords e.now }
