@@ -109,4 +109,5 @@ pub record ShowSameBase (these those : List ℕ) : Type 0 where
 -- in the table, the same words
 abbrev pub SameTable : List ℕ → List ℕ → Type 0
 SameTable these those =
-    (place : ℕ) → layout.phase_words ≤ place → place < layout.last_set → slice_index these place ≡ slice_index those place
+    (place : ℕ) → layout.phase_words ≤ place → place < layout.last_set
+    → slice_index these place ≡ slice_index those place

@@ -6,4 +6,5 @@ use Rattle.agc_phase.specs.Image.{failreg_word}
 -- the first of the first two places of FAILREG that is 00000, else the third
 abbrev pub free_place : List ℕ → ℕ
 free_place words =
-    if failreg_word words 0 == 0 then failreg else if failreg_word words 1 == 0 then failreg + 1 else failreg + 2
+    if failreg_word words 0 == 0 then failreg
+    else if failreg_word words 1 == 0 then failreg + 1 else failreg + 2

@@ -41,6 +41,7 @@ abbrev pub OutsideFailreg : ℕ → Type 0
 OutsideFailreg place = (place < failreg) ⊎ (failreg + 2 < place)
 
 -- so many words of FAILREG were written with these codes, and nothing but FAILREG changed
-pub record CodesWritten (codes : List (Option Code)) (old : List ℕ) (n : ℕ) (new : List ℕ) : Type 0 where
+pub record CodesWritten (codes : List (Option Code)) (old : List ℕ) (n : ℕ) (new : List ℕ)
+    : Type 0 where
   pub word : (k : ℕ) → k < n → failreg_word new k ≡ code_word (slice_index_or codes k None)
   pub others : Keeps OutsideFailreg old new

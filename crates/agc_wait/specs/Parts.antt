@@ -29,4 +29,5 @@ AreAll words from to word = (i : ℕ) → from ≤ i → i < to → slice_index 
 -- the words of LST1 from the last of so many tasks on, and those of LST2 behind them, are blank
 abbrev pub IsBlankBehind : List ℕ → ℕ → Type 0
 IsBlankBehind words n =
-    AreAll words (layout.lst1 + (n - 1)) layout.lst2 blank_gap × AreAll words (layout.lst2 + 2 * n) layout.phase_words 0
+    AreAll words (layout.lst1 + (n - 1)) layout.lst2 blank_gap
+    × AreAll words (layout.lst2 + 2 * n) layout.phase_words 0

@@ -28,7 +28,10 @@ stamped time (task ∷ tasks) = record { task = task; due = time } ∷ stamped t
 -- one more task was listed
 abbrev pub run_listed : ℕ → Task → Run → Run
 run_listed delay task run =
-    record run { work = record run.work { agenda = listed delay task run.work.agenda }; accepted = run.accepted ++ record { task = task; due = run.work.agenda.time + delay } ∷ [] }
+    record run {
+      work = record run.work { agenda = listed delay task run.work.agenda };
+      accepted = run.accepted ++ record { task = task; due = run.work.agenda.time + delay } ∷ [];
+    }
 
 -- one more move, where no task has an action, and a tenth listing is passed over, where the machine
 -- would lose all tasks
@@ -36,7 +39,10 @@ abbrev pub moved : Run → Move → Run
 moved run (Listing delay task) = if has_room run.work.agenda then run_listed delay task run else run
 moved run Ticking =
     let fires = tick_fires [] run.work in
-    record run { work = fires.work; fired = run.fired ++ stamped fires.work.agenda.time fires.fired }
+    record run {
+      work = fires.work;
+      fired = run.fired ++ stamped fires.work.agenda.time fires.fired;
+    }
 
 -- these moves, from the beginning of an era on, with so many core sets
 abbrev pub run_of : ℕ → List Move → Run
@@ -50,9 +56,11 @@ MovesLater Ticking = Unit {0}
 -- what was due by now fired when it was due, in order of arrival, and nothing else fired; what is
 -- due later waits, and nothing else does
 pub record FiresWhenDue (run : Run) : Type 0 where
-  pub fired : (time : ℕ) → time ≤ run.work.agenda.time → due_at time run.fired ≡ due_at time run.accepted
+  pub fired : (time : ℕ) → time ≤ run.work.agenda.time
+      → due_at time run.fired ≡ due_at time run.accepted
   pub none_early : (time : ℕ) → run.work.agenda.time < time → due_at time run.fired ≡ []
-  pub waits : (time : ℕ) → run.work.agenda.time < time → due_at time run.work.agenda.tasks ≡ due_at time run.accepted
+  pub waits : (time : ℕ) → run.work.agenda.time < time
+      → due_at time run.work.agenda.tasks ≡ due_at time run.accepted
   pub none_late : (time : ℕ) → time ≤ run.work.agenda.time → due_at time run.work.agenda.tasks ≡ []
 
 -- the first task of a list

@@ -9,7 +9,8 @@ nearer w = record { task = w.task; distance = w.distance - 1 }
 -- the distances never fall, from this least one to this greatest
 abbrev pub Spreads : ℕ → ℕ → List Waiting → Type 0
 Spreads least most [] = Unit {0}
-Spreads least most (w ∷ ws) = (least ≤ w.distance) × (w.distance ≤ most) × Spreads w.distance most ws
+Spreads least most (w ∷ ws) =
+    (least ≤ w.distance) × (w.distance ≤ most) × Spreads w.distance most ws
 
 -- at most nine tasks, by distance, none further than the longest delay
 pub record IsLawful (waits : List Waiting) : Type 0 where
