@@ -23,7 +23,7 @@ fn text_of(bytes: Vec<u8>) -> Result<String, ReadFault>
 
 /// All bytes up to the end of the input. Each read but the last brings a byte at least, so that
 /// there is at most one read more than there may be bytes.
-#[tactic(auto, using(crate::proofs::Pieces::consumes_none, crate::proofs::Pieces::consumes_both, crate::proofs::Pieces::consumes_kept))]
+#[tactic(auto, using(crate::proofs::Pieces::consumes_none, crate::proofs::Pieces::consumes_both))]
 fn read_bytes<R: Read>(alloc: Global, reader: &mut R) -> Result<Vec<u8>, ReadFault>
     ensures whole { IfOk result (λ v.
         ReadsAll (R.remaining reader.old) (R.remaining reader.new) v.items) }
@@ -41,6 +41,7 @@ fn read_bytes<R: Read>(alloc: Global, reader: &mut R) -> Result<Vec<u8>, ReadFau
                 }
                 bytes.extend_from_slice(&piece[..count])?;
             }
+            #[tactic(auto, using(crate::proofs::Pieces::consumes_kept))]
             Err(_) => return Err(ReadFault::Input),
         }
     }

@@ -64,13 +64,15 @@ fn begins_with(text: &str, byte: u8) -> bool
 }
 
 /// A decimal number without leading zeros.
-#[tactic(auto, using(crate::proofs::Decimals::none_at_plus, crate::proofs::Decimals::none_at_zero, crate::proofs::Decimals::parsed_is))]
+#[tactic(auto, using(crate::proofs::Decimals::parsed_is))]
 fn decimal(text: &str) -> Option<u16>
     ensures { result ≡ decimal_of text.now }
 {
+    #[tactic(auto, using(crate::proofs::Decimals::none_at_plus))]
     if begins_with(text, b'+') {
         return None;
     }
+    #[tactic(auto, using(crate::proofs::Decimals::none_at_zero))]
     if text.len() > 1 && begins_with(text, b'0') {
         return None;
     }
