@@ -1,14 +1,14 @@
 -- Whom NEWJOB names, by its word.
-use Rattle.std.proofs.Common.{◌≡◌, ◌≢◌, ◌⊎◌, ℕ, ◌*◌, ◌/◌, ◌<◌, ◌≤◌, nat_lt, Bool, true, false, cond, if◌then◌else◌, List, [], ◌∷◌, Option, Some, None, length, slice_get, slice_index, slice_index_or, option_map, refl, sym, ap, ◌∙◌, inl, inr, arith}
+use Rattle.std.proofs.Common.{◌≡◌, ◌≢◌, ◌⊎◌, ℕ, ◌*◌, ◌/◌, ◌<◌, ◌≤◌, nat_lt, Bool, true, false, cond, List, [], ◌∷◌, Option, Some, None, length, slice_get, slice_index, slice_index_or, option_map, refl, sym, ap, ◌∙◌, inl, inr, arith}
 use Rattle.std.proofs.lemmas.Bool.{cases_lt}
 use Rattle.std.proofs.lemmas.Grind.{common_steps}
 use Rattle.std.proofs.lemmas.Option.{same_Some, slice_get-map, slice_get-get_or}
 use Rattle.agc_word.specs.Layout.{sets_in}
 use Rattle.agc_word.specs.Layout as layout
-use Rattle.agc_plan.specs.Jobs.{Job, Ready, best_from, job_in}
+use Rattle.agc_plan.specs.Jobs.{Job, Ready, job_in}
 use Rattle.agc_exec.specs.Held.{Held}
 use Rattle.agc_exec.specs.Image.{sets_of, jobs_in, runner_in, IsLawfulWords, newjob_of}
-use Rattle.agc_exec.specs.Sets.{Holds, IsStanding, awake_in, job_of, jobs_of, running_in, slots_of}
+use Rattle.agc_exec.specs.Sets.{Holds, IsStanding, awake_in, jobs_of, running_in, slots_of}
 use Rattle.agc_exec.specs.Stages.{BestBelow}
 use Rattle.agc_exec.proofs.Bests.{best_ready}
 use Rattle.agc_exec.proofs.Decoding.{length-sets}

@@ -18,6 +18,17 @@ use Rattle.agc_trace.specs.Scenes.{Scene}
 abbrev pub column : ℕ → List ℕ → List ℕ
 column width text = text ++ (replicate (width - length text) 32 ++ 32 ∷ 32 ∷ [])
 
+-- the columns before the state: the request's number, the centisecond of the era, the request, and
+-- the answer
+abbrev pub front_columns : (number time request reply : List ℕ) → List ℕ
+front_columns number time request reply =
+    column 6 number ++ (column 6 time ++ (column 22 request ++ column 16 reply))
+
+-- those of the state: who runs, the core sets, the VAC areas, and the tasks
+abbrev pub state_columns : (running sets areas tasks : List ℕ) → List ℕ
+state_columns running sets areas tasks =
+    column 7 running ++ (column 45 sets ++ (column 10 areas ++ tasks))
+
 -- who runs
 abbrev pub running_text : Option ℕ → List ℕ
 running_text None = codes "-"
@@ -66,17 +77,13 @@ waits_text (wait ∷ waits) = flat_map wait_text (wait ∷ waits)
 -- a state
 unfoldable pub scene_text : Scene → List ℕ
 scene_text scene =
-    column 7 (running_text scene.running)
-    ++ (column 45 (flat_map (seat_text scene.named) scene.seats)
-    ++ (column 10 (owners_text scene.seats) ++ waits_text scene.waits))
+    state_columns (running_text scene.running) (flat_map (seat_text scene.named) scene.seats)
+    (owners_text scene.seats) (waits_text scene.waits)
 
--- the columns before the state: the request's number, the centisecond of the era, the request, and
--- the answer
+-- what stands before it, for a request
 unfoldable pub front_text : ℕ → ℕ → Request → List Task → Result Reply Refusal → List ℕ
 front_text number time asked fired answer =
-    column 6 (decimal number)
-    ++ (column 6 (decimal time)
-    ++ (column 22 (line_of asked) ++ column 16 (answer_text fired answer)))
+    front_columns (decimal number) (decimal time) (line_of asked) (answer_text fired answer)
 
 -- the line of a request
 unfoldable pub line_text : ℕ → ℕ → Request → List Task → Result Reply Refusal → Scene → List ℕ

@@ -9,13 +9,16 @@ use Rattle.agc_machine.specs.Machines.{Machined, plain_of, places_of}
 use Rattle.agc_text.specs.Numbers.{octal}
 use Rattle.agc_session.specs.Runs.{pairs_agree}
 use Rattle.agc_trace.specs.Accounts.{phases_text}
-use Rattle.agc_trace.specs.Lines.{column, scene_text}
+use Rattle.agc_trace.specs.Lines.{front_columns, scene_text, state_columns}
 use Rattle.agc_trace.specs.Scenes.{Scene, scene_of}
 use Rattle.agc_trace.specs.Traces.{Counted}
 
 -- what stands above the columns
 abbrev pub heading : List ℕ
-heading = codes "no      time    request                 reply             running   sets                                           areas       tasks" ++ 10 ∷ []
+heading =
+    front_columns (codes "no") (codes "time") (codes "request") (codes "reply")
+    ++ (state_columns (codes "running") (codes " sets") (codes " areas") (codes " tasks")
+    ++ codes "\n")
 
 -- what comes of power-up, where the phase words agree, or don't
 abbrev pub power_reply : Bool → List ℕ
@@ -24,9 +27,7 @@ power_reply agree = if agree then codes "restarted" else codes "alarm 1107"
 -- the line of power-up, with the state with which the first era begins
 unfoldable pub power_front : Bool → List ℕ
 power_front agree =
-    column 6 (decimal 0)
-    ++ (column 6 (decimal 0)
-    ++ (column 22 (codes "power-up") ++ column 16 (power_reply agree)))
+    front_columns (decimal 0) (decimal 0) (codes "power-up") (power_reply agree)
 
 unfoldable pub power_line : Bool → Scene → List ℕ
 power_line agree scene = power_front agree ++ (scene_text scene ++ 10 ∷ [])

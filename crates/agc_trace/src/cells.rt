@@ -2,13 +2,17 @@
 ghost use Rattle.std.specs.Prelude.{◌≡◌, ◌+◌, ◌*◌, ◌≤◌, ◌∷◌, ◌++◌, length, codes};
 ghost use Rattle.std.specs.Fmt.{decimal};
 ghost use Rattle.std.specs.List.{flat_map};
+ghost use Rattle.agc_plan.specs.declared.request.Request.TheVariants.{SetPhase, Store};
 ghost use Rattle.agc_text.specs.Lines.{entry_text, task_text, line_of};
 ghost use Rattle.agc_text.specs.Replies.{alarm_text, runner_text, fired_text, end_text, reply_text};
 ghost use Rattle.agc_text.specs.Replies.{refusal_text};
 
 use agc_machine::Refusal;
-use agc_plan::{Alarm, Delay, Entry, Fired, JobNo, Priority, Reply, Request, Task};
+use agc_plan::{
+    Alarm, Delay, Entry, Fired, Group, JobNo, Phase, Place, Priority, Reply, Request, Task,
+};
 use agc_text::{add_number, add_octal_digit, add_priority, add_word};
+use agc_word::Word;
 use arrayvec::ArrayString;
 
 fn add_entry(cell: &mut ArrayString<256>, priority: Priority, entry: Entry)
@@ -33,6 +37,30 @@ fn add_listing(cell: &mut ArrayString<256>, delay: Delay, task: Task)
     add_word(cell, task.at.get());
     cell.push_str(" ");
     add_word(cell, task.bank.bits());
+}
+
+/// Appends the line that sets a work word.
+fn add_store(cell: &mut ArrayString<256>, place: Place, word: Word)
+    requires { length cell.old.bytes + 13 ≤ 256 }
+    ensures text { cell.new.bytes ≡ cell.old.bytes ++ line_of (Store place word) }
+    ensures len { length cell.new.bytes ≤ length cell.old.bytes + 13 }
+{
+    cell.push_str("store ");
+    add_octal_digit(cell, place.get() as u16);
+    cell.push_str(" ");
+    add_word(cell, word.bits());
+}
+
+/// Appends the line that sets a phase.
+fn add_phase(cell: &mut ArrayString<256>, group: Group, phase: Phase)
+    requires { length cell.old.bytes + 28 ≤ 256 }
+    ensures text { cell.new.bytes ≡ cell.old.bytes ++ line_of (SetPhase group phase) }
+    ensures len { length cell.new.bytes ≤ length cell.old.bytes + 28 }
+{
+    cell.push_str("phase ");
+    add_octal_digit(cell, group.get() as u16);
+    cell.push_str(" ");
+    add_number(cell, phase.get() as u64);
 }
 
 /// Appends a request's line, without its end.
@@ -64,23 +92,13 @@ pub(crate) fn add_request(cell: &mut ArrayString<256>, request: &Request)
             add_priority(cell, priority.get() as u16);
         }
         Request::Change => cell.push_str("change"),
-        Request::Store(place, word) => {
-            cell.push_str("store ");
-            add_octal_digit(cell, place.get() as u16);
-            cell.push_str(" ");
-            add_word(cell, word.bits());
-        }
+        Request::Store(place, word) => add_store(cell, place, word),
         Request::List(delay, task) => {
             cell.push_str("list ");
             add_listing(cell, delay, task);
         }
         Request::Tick => cell.push_str("tick"),
-        Request::SetPhase(group, phase) => {
-            cell.push_str("phase ");
-            add_octal_digit(cell, group.get() as u16);
-            cell.push_str(" ");
-            add_number(cell, phase.get() as u64);
-        }
+        Request::SetPhase(group, phase) => add_phase(cell, group, phase),
         Request::Restart => cell.push_str("restart"),
         Request::Fresh => cell.push_str("fresh"),
     }

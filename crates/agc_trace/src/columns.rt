@@ -1,6 +1,6 @@
 // Columns of a line.
 ghost use Rattle.std.specs.Prelude.{◌≡◌, ◌+◌, ◌≤◌, ◌++◌, length, replicate};
-ghost use Rattle.agc_trace.specs.Lines.{column};
+ghost use Rattle.agc_trace.specs.Lines.{column, front_columns, state_columns};
 
 use arrayvec::ArrayString;
 
@@ -24,4 +24,47 @@ pub(crate) fn add_column(line: &mut ArrayString<2048>, width: usize, text: &str)
     line.push_str(text);
     add_blanks(line, width.saturating_sub(text.len()));
     line.push_str("  ");
+}
+
+/// Appends the columns before the state: the request's number, the centisecond of the era, the
+/// request, and the answer.
+pub(crate) fn add_front_columns(
+    line: &mut ArrayString<2048>,
+    number: &str,
+    time: &str,
+    request: &str,
+    reply: &str,
+)
+    requires { length line.old.bytes + length number.now + length time.now
+        + length request.now + length reply.now + 58 ≤ 2048 }
+    ensures text { line.new.bytes ≡ line.old.bytes
+        ++ front_columns number.now time.now request.now reply.now }
+    ensures len { length line.new.bytes ≤ length line.old.bytes + length number.now
+        + length time.now + length request.now + length reply.now + 58 }
+{
+    add_column(line, 6, number);
+    add_column(line, 6, time);
+    add_column(line, 22, request);
+    add_column(line, 16, reply);
+}
+
+/// Appends those of the state: who runs, the core sets, the VAC areas, and the tasks.
+pub(crate) fn add_state_columns(
+    line: &mut ArrayString<2048>,
+    running: &str,
+    sets: &str,
+    areas: &str,
+    tasks: &str,
+)
+    requires { length line.old.bytes + length running.now + length sets.now
+        + length areas.now + length tasks.now + 68 ≤ 2048 }
+    ensures text { line.new.bytes ≡ line.old.bytes
+        ++ state_columns running.now sets.now areas.now tasks.now }
+    ensures len { length line.new.bytes ≤ length line.old.bytes + length running.now
+        + length sets.now + length areas.now + length tasks.now + 68 }
+{
+    add_column(line, 7, running);
+    add_column(line, 45, sets);
+    add_column(line, 10, areas);
+    line.push_str(tasks);
 }

@@ -14,7 +14,7 @@ ghost use Rattle.agc_trace.specs.Reading.{seats_in, scene_in};
 ghost use Rattle.agc_trace.specs.Scenes.{named_of};
 
 use crate::cells::{add_reply, add_request, refusal_text};
-use crate::columns::add_column;
+use crate::columns::{add_front_columns, add_state_columns};
 use crate::newjob::named;
 use crate::seats::{add_owners, add_seats};
 use crate::waits::add_waits;
@@ -118,10 +118,13 @@ pub(crate) fn add_scene(line: &mut ArrayString<2048>, e: &Erasable)
     ensures text { line.new.bytes ≡ line.old.bytes ++ scene_text (scene_in e.now) }
     ensures len { length line.new.bytes ≤ length line.old.bytes + 644 }
 {
-    add_column(line, 7, running_cell(e).as_str());
-    add_column(line, 45, seats_cell(e).as_str());
-    add_column(line, 10, owners_cell(e).as_str());
-    line.push_str(waits_cell(e).as_str());
+    add_state_columns(
+        line,
+        running_cell(e).as_str(),
+        seats_cell(e).as_str(),
+        owners_cell(e).as_str(),
+        waits_cell(e).as_str(),
+    );
 }
 
 /// Appends what stands before the state.
@@ -140,10 +143,13 @@ fn add_front(
         (result_of refusal moment.now.reply) }
     ensures len { length line.new.bytes ≤ length line.old.bytes + 261 }
 {
-    add_column(line, 6, number_cell(number).as_str());
-    add_column(line, 6, number_cell(time).as_str());
-    add_column(line, 22, request_cell(request).as_str());
-    add_column(line, 16, answer_cell(moment, refusal).as_str());
+    add_front_columns(
+        line,
+        number_cell(number).as_str(),
+        number_cell(time).as_str(),
+        request_cell(request).as_str(),
+        answer_cell(moment, refusal).as_str(),
+    );
 }
 
 /// The line of a request.

@@ -13,7 +13,7 @@ ghost use Rattle.agc_trace.specs.Reading.{scene_in};
 ghost use Rattle.agc_word.specs.Layout.{IsSized};
 
 use crate::account::phases_cell;
-use crate::columns::add_column;
+use crate::columns::{add_front_columns, add_state_columns};
 use crate::lines::{add_scene, number_cell};
 use agc_document::Bench;
 use agc_machine::{Machine, Moment};
@@ -22,10 +22,6 @@ use agc_plan::Request;
 use agc_text::{add_number, add_word};
 use agc_word::{Erasable, Word};
 use arrayvec::ArrayString;
-
-/// What stands above the columns.
-const HEADING: &str =
-    "no      time    request                 reply             running   sets                                           areas       tasks\n";
 
 /// Whether twelve phase words are pairs that agree.
 fn are_pairs(words: &[Word; 12]) -> bool
@@ -59,10 +55,13 @@ fn add_power_front(line: &mut ArrayString<2048>, agree: bool)
     ensures text { line.new.bytes ≡ line.old.bytes ++ power_front agree }
     ensures len { length line.new.bytes ≤ length line.old.bytes + 116 }
 {
-    add_column(line, 6, number_cell(0).as_str());
-    add_column(line, 6, number_cell(0).as_str());
-    add_column(line, 22, "power-up");
-    add_column(line, 16, power_reply(agree));
+    add_front_columns(
+        line,
+        number_cell(0).as_str(),
+        number_cell(0).as_str(),
+        "power-up",
+        power_reply(agree),
+    );
 }
 
 /// Appends the line of power-up, with this state.
@@ -210,7 +209,9 @@ pub(crate) fn heading_of() -> ArrayString<2048>
     ensures len { length result.bytes ≤ 200 }
 {
     let mut opening = ArrayString::new();
-    opening.push_str(HEADING);
+    add_front_columns(&mut opening, "no", "time", "request", "reply");
+    add_state_columns(&mut opening, "running", " sets", " areas", " tasks");
+    opening.push_str("\n");
     opening
 }
 

@@ -2,7 +2,7 @@ use Rattle.std.proofs.Common.{◌++◌, codes, ap, sym, ◌∙◌}
 use Rattle.agc_plan.specs.declared.request.Request.{Request}
 use Rattle.agc_text.specs.Lines.{entry_text, line_of}
 use Rattle.agc_text.specs.Numbers.{octal}
-use Rattle.agc_trace.proofs.Pieces.{two, four}
+use Rattle.agc_trace.proofs.Pieces.{two}
 use Rattle.agc_trace.proofs.cells.add_request.Goals as goal
 
 pub returns-in-Novac-clause-text : goal.returns-in-Novac-clause-text
@@ -24,9 +24,3 @@ pub returns-in-Rouse-clause-text : goal.returns-in-Rouse-clause-text
 returns-in-Rouse-clause-text c =
     two c.args.cell.now.bytes c.push_str-in-Rouse.new.self.bytes c.add_word-in-Rouse.new.text.bytes (codes "rouse ") (octal 5 c.in-Rouse.at) c.push_str-in-Rouse.ensures.bytes (rw c.get-in-Rouse.ensures.value at c.add_word-in-Rouse.ensures.text)
     ∙ ap (λ (r : Request). c.args.cell.now.bytes ++ line_of r) (sym c.in-Rouse.is)
-
-pub returns-in-Store-clause-text : goal.returns-in-Store-clause-text
-returns-in-Store-clause-text c =
-    four c.args.cell.now.bytes c.push_str-in-Store.new.self.bytes c.add_octal_digit.new.text.bytes c.push_str-in-Store-2.new.self.bytes c.add_word-in-Store.new.text.bytes (codes "store ") (octal 1 c.in-Store.place) (codes " ") (octal 5 c.in-Store.word)
-    c.push_str-in-Store.ensures.bytes (rw c.get-in-Store.ensures.value at c.add_octal_digit.ensures.text) c.push_str-in-Store-2.ensures.bytes (rw c.bits.ensures.value at c.add_word-in-Store.ensures.text)
-    ∙ ap (λ (r : Request). c.args.cell.now.bytes ++ line_of r) (sym c.in-Store.is)

@@ -1,4 +1,4 @@
-use Rattle.std.proofs.Common.{◌≡◌, ℕ, ◌/◌, ◌<◌, Option, None, ap, subst, sym, ◌∙◌, arith, slice_index}
+use Rattle.std.proofs.Common.{◌≡◌, sym, ◌∙◌, slice_index}
 use Rattle.agc_word.specs.Layout as layout
 use Rattle.agc_trace.proofs.Naming.{named_none, named_range, named_is}
 use Rattle.agc_trace.proofs.newjob.named.Goals as goal

@@ -1,4 +1,4 @@
-use Rattle.std.proofs.Common.{◌≡◌, ℕ, List, ◌++◌, Bool, codes, ap, ◌∙◌}
+use Rattle.std.proofs.Common.{ℕ, List, ◌++◌, Bool, codes, ap, ◌∙◌}
 use Rattle.agc_phase.specs.Image.{base_of}
 use Rattle.agc_session.specs.Runs.{pairs_agree}
 use Rattle.agc_trace.specs.Accounts.{phases_text}

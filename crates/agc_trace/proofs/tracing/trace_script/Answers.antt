@@ -1,4 +1,4 @@
-use Rattle.std.proofs.Common.{◌≡◌, ℕ, None, refl, ap, ◌∙◌}
+use Rattle.std.proofs.Common.{ℕ, None, refl, ap, ◌∙◌}
 use Rattle.std.proofs.lemmas.Result.{err_from_is_err_and}
 use Rattle.agc_trace.specs.Choices.{Telling}
 use Rattle.agc_trace.specs.Openings.{ending_text, opening_text}
