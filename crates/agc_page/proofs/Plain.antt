@@ -205,8 +205,8 @@ columns width text h = both text (replicate (width - length text) 32 ++ (32 ∷ 
 scenes : (s : Scene) → Plain (scene_text s)
 unfolding scene_text
 scenes s =
-    both (column 7 (running_text s.running)) (column 45 (flat_map (seat_text s.named) s.seats) ++ (column 10 (owners_text s.seats) ++ waits_text s.waits)) (columns 7 (running_text s.running) (running s.running))
-    (both (column 45 (flat_map (seat_text s.named) s.seats)) (column 10 (owners_text s.seats) ++ waits_text s.waits) (columns 45 (flat_map (seat_text s.named) s.seats) (each (seat_text s.named) (seat s.named) s.seats))
+    both (column 7 (running_text s.running)) (column 56 (flat_map (seat_text s.named) s.seats) ++ (column 10 (owners_text s.seats) ++ waits_text s.waits)) (columns 7 (running_text s.running) (running s.running))
+    (both (column 56 (flat_map (seat_text s.named) s.seats)) (column 10 (owners_text s.seats) ++ waits_text s.waits) (columns 56 (flat_map (seat_text s.named) s.seats) (each (seat_text s.named) (seat s.named) s.seats))
     (both (column 10 (owners_text s.seats)) (waits_text s.waits) (columns 10 (owners_text s.seats) (owners s.seats)) (waits s.waits)))
 
 -- an account
@@ -255,7 +255,7 @@ phases ns = both (codes "        restart by phases") (flat_map count_text ns) re
 
 again : (ns : List ℕ) (s : Scene) → Plain (again_text ns s)
 unfolding again_text
-again ns s = both (column 56 (phases_text ns)) (scene_text s ++ codes "\n") (columns 56 (phases_text ns) (phases ns)) (both (scene_text s) (codes "\n") (scenes s) refl)
+again ns s = both (column 72 (phases_text ns)) (scene_text s ++ codes "\n") (columns 72 (phases_text ns) (phases ns)) (both (scene_text s) (codes "\n") (scenes s) refl)
 
 pub accounts : (rows : List (Task × Action)) (tasks : List Task) (a : Alarm) (seats : List (Option Seated)) (ns : List ℕ) (s : Scene) → Plain (account_text rows tasks a seats ns s)
 unfolding account_text

@@ -71,7 +71,7 @@ phases_text phases = codes "        restart by phases" ++ flat_map count_text ph
 
 -- and below the columns the state with which it does
 unfoldable pub again_text : List ℕ → Scene → List ℕ
-again_text phases scene = column 56 (phases_text phases) ++ (scene_text scene ++ codes "\n")
+again_text phases scene = column 72 (phases_text phases) ++ (scene_text scene ++ codes "\n")
 
 -- all of it
 unfoldable pub account_text : List (Task × Action) → List Task → Alarm → List (Option Seated)

@@ -1,5 +1,5 @@
 -- The line of one request.
-use Rattle.std.specs.Prelude.{ℕ, ◌-◌, ◌==◌, if◌then◌else◌, List, [], ◌∷◌, ◌++◌, codes, length}
+use Rattle.std.specs.Prelude.{ℕ, ◌-◌, ◌==◌, nat_le, if◌then◌else◌, List, [], ◌∷◌, ◌++◌, codes, length}
 use Rattle.std.specs.Prelude.{replicate, Bool, false, Option, Some, None, Result}
 use Rattle.std.specs.Fmt.{decimal}
 use Rattle.std.specs.List.{flat_map, range_with_len}
@@ -18,16 +18,21 @@ use Rattle.agc_trace.specs.Scenes.{Scene}
 abbrev pub column : ℕ → List ℕ → List ℕ
 column width text = text ++ (replicate (width - length text) 32 ++ 32 ∷ 32 ∷ [])
 
+-- the column of an answer: behind a longer one the line ends, and the state stands below
+abbrev pub reply_column : List ℕ → List ℕ
+reply_column reply = if nat_le (length reply) 28 then column 28 reply
+    else reply ++ (codes "\n" ++ column 72 [])
+
 -- the columns before the state: the request's number, the centisecond of the era, the request, and
 -- the answer
 abbrev pub front_columns : (number time request reply : List ℕ) → List ℕ
 front_columns number time request reply =
-    column 6 number ++ (column 6 time ++ (column 22 request ++ column 16 reply))
+    column 8 number ++ (column 8 time ++ (column 22 request ++ reply_column reply))
 
 -- those of the state: who runs, the core sets, the VAC areas, and the tasks
 abbrev pub state_columns : (running sets areas tasks : List ℕ) → List ℕ
 state_columns running sets areas tasks =
-    column 7 running ++ (column 45 sets ++ (column 10 areas ++ tasks))
+    column 7 running ++ (column 56 sets ++ (column 10 areas ++ tasks))
 
 -- who runs
 abbrev pub running_text : Option ℕ → List ℕ

@@ -196,12 +196,12 @@ fn add_again(line: &mut ArrayString<2048>, e: &Erasable, after: &Erasable)
     requires phases { IsLawfulTable e.now }
     requires sized { IsSized after.now }
     requires lawful { IsLawfulWords after.now }
-    requires room { length line.old.bytes + 854 ≤ 2048 }
+    requires room { length line.old.bytes + 881 ≤ 2048 }
     ensures text { line.new.bytes ≡ line.old.bytes
         ++ again_text (base_of e.now).phases (scene_in after.now) }
-    ensures len { length line.new.bytes ≤ length line.old.bytes + 854 }
+    ensures len { length line.new.bytes ≤ length line.old.bytes + 881 }
 {
-    add_column(line, 56, phases_cell(e).as_str());
+    add_column(line, 72, phases_cell(e).as_str());
     add_scene(line, after);
     line.push_str("\n");
 }

@@ -1,6 +1,6 @@
 // Columns of a line.
 ghost use Rattle.std.specs.Prelude.{◌≡◌, ◌+◌, ◌≤◌, ◌++◌, length, replicate};
-ghost use Rattle.agc_trace.specs.Lines.{column, front_columns, state_columns};
+ghost use Rattle.agc_trace.specs.Lines.{column, front_columns, reply_column, state_columns};
 
 use arrayvec::ArrayString;
 
@@ -26,6 +26,21 @@ pub(crate) fn add_column(line: &mut ArrayString<2048>, width: usize, text: &str)
     line.push_str("  ");
 }
 
+/// Appends the column of an answer: behind a longer one the line ends, and the state stands below.
+fn add_reply_column(line: &mut ArrayString<2048>, reply: &str)
+    requires { length line.old.bytes + length reply.now + 75 ≤ 2048 }
+    ensures text { line.new.bytes ≡ line.old.bytes ++ reply_column reply.now }
+    ensures len { length line.new.bytes ≤ length line.old.bytes + length reply.now + 75 }
+{
+    if reply.len() <= 28 {
+        add_column(line, 28, reply);
+    } else {
+        line.push_str(reply);
+        line.push_str("\n");
+        add_column(line, 72, "");
+    }
+}
+
 /// Appends the columns before the state: the request's number, the centisecond of the era, the
 /// request, and the answer.
 pub(crate) fn add_front_columns(
@@ -36,16 +51,16 @@ pub(crate) fn add_front_columns(
     reply: &str,
 )
     requires { length line.old.bytes + length number.now + length time.now
-        + length request.now + length reply.now + 58 ≤ 2048 }
+        + length request.now + length reply.now + 119 ≤ 2048 }
     ensures text { line.new.bytes ≡ line.old.bytes
         ++ front_columns number.now time.now request.now reply.now }
     ensures len { length line.new.bytes ≤ length line.old.bytes + length number.now
-        + length time.now + length request.now + length reply.now + 58 }
+        + length time.now + length request.now + length reply.now + 119 }
 {
-    add_column(line, 6, number);
-    add_column(line, 6, time);
+    add_column(line, 8, number);
+    add_column(line, 8, time);
     add_column(line, 22, request);
-    add_column(line, 16, reply);
+    add_reply_column(line, reply);
 }
 
 /// Appends those of the state: who runs, the core sets, the VAC areas, and the tasks.
@@ -57,14 +72,14 @@ pub(crate) fn add_state_columns(
     tasks: &str,
 )
     requires { length line.old.bytes + length running.now + length sets.now
-        + length areas.now + length tasks.now + 68 ≤ 2048 }
+        + length areas.now + length tasks.now + 79 ≤ 2048 }
     ensures text { line.new.bytes ≡ line.old.bytes
         ++ state_columns running.now sets.now areas.now tasks.now }
     ensures len { length line.new.bytes ≤ length line.old.bytes + length running.now
-        + length sets.now + length areas.now + length tasks.now + 68 }
+        + length sets.now + length areas.now + length tasks.now + 79 }
 {
     add_column(line, 7, running);
-    add_column(line, 45, sets);
+    add_column(line, 56, sets);
     add_column(line, 10, areas);
     line.push_str(tasks);
 }

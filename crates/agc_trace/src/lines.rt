@@ -114,9 +114,9 @@ pub fn waits_cell(e: &Erasable) -> ArrayString<256>
 pub(crate) fn add_scene(line: &mut ArrayString<2048>, e: &Erasable)
     requires sized { IsSized e.now }
     requires lawful { IsLawfulWords e.now }
-    requires room { length line.old.bytes + 644 ≤ 2048 }
+    requires room { length line.old.bytes + 655 ≤ 2048 }
     ensures text { line.new.bytes ≡ line.old.bytes ++ scene_text (scene_in e.now) }
-    ensures len { length line.new.bytes ≤ length line.old.bytes + 644 }
+    ensures len { length line.new.bytes ≤ length line.old.bytes + 655 }
 {
     add_state_columns(
         line,
@@ -137,11 +137,11 @@ fn add_front(
     refusal: Option<Refusal>,
     moment: &Moment,
 )
-    requires { length line.old.bytes + 261 ≤ 2048 }
+    requires { length line.old.bytes + 322 ≤ 2048 }
     ensures text { line.new.bytes ≡ line.old.bytes
         ++ front_text number time request.now moment.now.fired
         (result_of refusal moment.now.reply) }
-    ensures len { length line.new.bytes ≤ length line.old.bytes + 261 }
+    ensures len { length line.new.bytes ≤ length line.old.bytes + 322 }
 {
     add_front_columns(
         line,

@@ -51,9 +51,9 @@ pub fn power_reply(agree: bool) -> &'static str
 /// Appends what stands before the state.
 #[tactic(auto, unfolding(crate::specs::Openings::power_front))]
 fn add_power_front(line: &mut ArrayString<2048>, agree: bool)
-    requires { length line.old.bytes + 116 ≤ 2048 }
+    requires { length line.old.bytes + 177 ≤ 2048 }
     ensures text { line.new.bytes ≡ line.old.bytes ++ power_front agree }
-    ensures len { length line.new.bytes ≤ length line.old.bytes + 116 }
+    ensures len { length line.new.bytes ≤ length line.old.bytes + 177 }
 {
     add_front_columns(
         line,
@@ -69,9 +69,9 @@ fn add_power_front(line: &mut ArrayString<2048>, agree: bool)
 fn add_power_line(line: &mut ArrayString<2048>, agree: bool, e: &Erasable)
     requires sized { IsSized e.now }
     requires lawful { IsLawfulWords e.now }
-    requires room { length line.old.bytes + 761 ≤ 2048 }
+    requires room { length line.old.bytes + 833 ≤ 2048 }
     ensures text { line.new.bytes ≡ line.old.bytes ++ power_line agree (scene_in e.now) }
-    ensures len { length line.new.bytes ≤ length line.old.bytes + 761 }
+    ensures len { length line.new.bytes ≤ length line.old.bytes + 833 }
 {
     add_power_front(line, agree);
     add_scene(line, e);
@@ -192,7 +192,7 @@ fn add_power(line: &mut ArrayString<2048>, words: &[Word; 12], moment: &Moment)
     requires sized { IsSized moment.now.words }
     requires lawful { IsLawfulWords moment.now.words }
     requires phases { IsLawfulTable moment.now.words }
-    requires room { length line.old.bytes + 1533 ≤ 2048 }
+    requires room { length line.old.bytes + 1605 ≤ 2048 }
     ensures text { line.new.bytes ≡ line.old.bytes
         ++ power_text words.now (scene_in moment.now.words) (base_of moment.now.words).phases }
 {
@@ -206,7 +206,7 @@ fn add_power(line: &mut ArrayString<2048>, words: &[Word; 12], moment: &Moment)
 /// What stands above the columns.
 pub(crate) fn heading_of() -> ArrayString<2048>
     ensures text { result.bytes ≡ heading }
-    ensures len { length result.bytes ≤ 200 }
+    ensures len { length result.bytes ≤ 250 }
 {
     let mut opening = ArrayString::new();
     add_front_columns(&mut opening, "no", "time", "request", "reply");

@@ -12,5 +12,5 @@ pub returns-clause-text : goal.returns-clause-text
 unfolding again_text
 returns-clause-text c =
     three c.args.line.now.bytes c.add_column.new.line.bytes c.add_scene.new.line.bytes c.push_str.new.self.bytes
-    (column 56 (codes "        restart by phases" ++ flat_map count_text (base_of c.args.e.now).phases)) (scene_text (scene_in c.args.after.now)) (codes "\n")
-    (c.add_column.ensures.text ∙ ap (λ (t : List ℕ). c.args.line.now.bytes ++ column 56 t) (c.as_str.ensures.value ∙ c.phases_cell.ensures.text)) c.add_scene.ensures.text c.push_str.ensures.bytes
+    (column 72 (codes "        restart by phases" ++ flat_map count_text (base_of c.args.e.now).phases)) (scene_text (scene_in c.args.after.now)) (codes "\n")
+    (c.add_column.ensures.text ∙ ap (λ (t : List ℕ). c.args.line.now.bytes ++ column 72 t) (c.as_str.ensures.value ∙ c.phases_cell.ensures.text)) c.add_scene.ensures.text c.push_str.ensures.bytes
