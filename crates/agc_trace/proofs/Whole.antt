@@ -1,5 +1,5 @@
 -- The trace of a run: its opening, the lines that are told, and its ending.
-use Rattle.std.proofs.Common.{◌≡◌, ℕ, Bool, true, false, if◌then◌else◌, List, [], ◌∷◌, ◌++◌, Option, None, refl, sym, ap, ◌∙◌, subst}
+use Rattle.std.proofs.Common.{◌≡◌, ℕ, Bool, true, false, if◌then◌else◌, List, [], ◌∷◌, ◌++◌, Option, None, Result, Err, refl, sym, ap, ◌∙◌, subst}
 use Rattle.std.proofs.lemmas.List.Concat.{flat_map-cons}
 use Rattle.std.specs.Io.KnownBytes.{Appends}
 use Rattle.std.specs.List.{fold}
@@ -11,9 +11,11 @@ use Rattle.agc_text.proofs.Steps.{appends_both, front_of_first, up_to_more_front
 use Rattle.agc_document.specs.Benches.{Benched}
 use Rattle.agc_session.specs.Runs.{bench_machine, bench_requests, script_machine}
 use Rattle.agc_session.specs.Walks.{texts}
+use Rattle.agc_session.specs.declared.run_fault.RunFault.{RunFault}
+use Rattle.agc_session.specs.declared.run_fault.RunFault.TheVariants.{NoMemory, Output, NoThread, Lost}
 use Rattle.agc_trace.specs.Choices.{Told, Telling, alarm_at, alarms_of, all_told, chosen, telling, telling_text, text_of, told_of}
 use Rattle.agc_trace.specs.Openings.{opening_text, ending_text}
-use Rattle.agc_trace.specs.Runs.{counted_from, run_text, script_text, telling_from, trace_text}
+use Rattle.agc_trace.specs.Runs.{counted_from, run_text, WritesTrace, script_text, telling_from, asked_text}
 use Rattle.agc_trace.specs.Traces.{Counted, counted, traced, traced_text}
 
 -- where only alarms are told, a request is told or not
@@ -88,10 +90,10 @@ all_written o q r n opening alarms m requests text start last end run is_end hea
     appends_both o q n opening (middle alarms m requests ++ ending m requests) here (appends_both q r n (middle alarms m requests) (ending m requests) all k)
 
 -- of a bench's machine
-pub bench_front : (o n : Option (List ℕ)) (alarms : Bool) (bench : Benched) (m : Machined) → m ≡ bench_machine bench → AppendsFront o n (run_text (opening_text bench.power m) alarms m (bench_requests bench)) → AppendsFront o n (trace_text alarms bench)
+pub bench_front : (o n : Option (List ℕ)) (alarms : Bool) (bench : Benched) (m : Machined) → m ≡ bench_machine bench → AppendsFront o n (run_text (opening_text bench.power m) alarms m (bench_requests bench)) → AppendsFront o n (asked_text alarms bench)
 bench_front o n alarms bench m e front = subst (λ (x : Machined). AppendsFront o n (run_text (opening_text bench.power x) alarms x (bench_requests bench))) e front
 
-pub bench_whole : (o n : Option (List ℕ)) (alarms : Bool) (bench : Benched) (m : Machined) → m ≡ bench_machine bench → Appends o n (run_text (opening_text bench.power m) alarms m (bench_requests bench)) → Appends o n (trace_text alarms bench)
+pub bench_whole : (o n : Option (List ℕ)) (alarms : Bool) (bench : Benched) (m : Machined) → m ≡ bench_machine bench → Appends o n (run_text (opening_text bench.power m) alarms m (bench_requests bench)) → Appends o n (asked_text alarms bench)
 bench_whole o n alarms bench m e whole = subst (λ (x : Machined). Appends o n (run_text (opening_text bench.power x) alarms x (bench_requests bench))) e whole
 
 pub bench_limit : (bench : Benched) (m : Machined) → m ≡ bench_machine bench → bench.limit ≡ m.limit
@@ -116,3 +118,13 @@ script_limit m e = sym (ap (λ (x : Machined). x.limit) e)
 pub script_allowance : (m : Machined) → m ≡ script_machine → 1000000 ≡ m.allowance
 unfolding script_machine
 script_allowance m e = sym (ap (λ (x : Machined). x.allowance) e)
+
+-- what stands behind it
+pub asked_failed : {T : Type 0} (o n : Option (List ℕ)) (a b : List ℕ) (r : Result T RunFault) (why : RunFault) → r ≡ Err why → WritesTrace {T = T} o n a (Err why) → WritesTrace o n (a ++ b) r
+asked_failed o n a b r Output e h = rw e (front_of_first o n a b h)
+asked_failed o n a b r NoMemory e h = rw e h
+asked_failed o n a b r NoThread e h = absurd h
+asked_failed o n a b r Lost e h = absurd h
+
+pub behind_front : (o m n : Option (List ℕ)) (a b : List ℕ) → Appends o m a → AppendsFront m n b → AppendsFront o n (a ++ b)
+behind_front o m n a b h k = (k.0, k.1, up_to_more_front o m n a b k.0 h k.2)

@@ -1,13 +1,17 @@
 -- What a trace tells before the first request, and behind the last.
 use Rattle.std.specs.Prelude.{ℕ, ◌+◌, ◌==◌, nat_le, Bool, if◌then◌else◌, List, [], ◌∷◌, ◌++◌, codes}
-use Rattle.std.specs.Prelude.{Option, Some, None}
+use Rattle.std.specs.Prelude.{Option, Some, None, ◌&&◌, nat_lt}
+use Rattle.std.specs.Option.{is_none}
 use Rattle.std.specs.Fmt.{decimal}
 use Rattle.std.specs.List.{flat_map, range_with_len}
 use Rattle.agc_word.specs.Words.{complement}
 use Rattle.agc_phase.specs.Image.{minus_in, phase_in}
 use Rattle.agc_machine.specs.Machines.{Machined, plain_of, places_of}
 use Rattle.agc_text.specs.Numbers.{octal}
-use Rattle.agc_session.specs.Runs.{pairs_agree}
+use Rattle.agc_latch.specs.declared.line.Line.{Line}
+use Rattle.agc_desk.specs.Pulses.{pulse_request}
+use Rattle.agc_document.specs.Benches.{Benched, kind_text}
+use Rattle.agc_session.specs.Runs.{bench_plan, pairs_agree}
 use Rattle.agc_trace.specs.Accounts.{phases_text}
 use Rattle.agc_trace.specs.Lines.{front_columns, scene_text, state_columns}
 use Rattle.agc_trace.specs.Scenes.{Scene, scene_of}
@@ -80,6 +84,25 @@ unfoldable pub opening_text : Option (List ℕ) → Machined → List ℕ
 opening_text None m = heading
 opening_text (Some words) m =
     heading ++ power_text words (scene_of (plain_of m) (places_of m)) (plain_of m).base.phases
+
+-- so many pulses of a line
+abbrev pub pulses_text : ℕ → Line → List ℕ
+pulses_text count line = decimal count
+    ++ (codes " " ++ (kind_text line ++ (if count == 1 then codes " pulse" else codes " pulses")))
+
+-- whether pulses of a line ask for nothing
+abbrev pub is_idle : Benched → Line → Bool
+is_idle bench line = is_none (pulse_request (bench_plan bench) line)
+
+-- a device whose pulses ask for nothing, if it sent some
+abbrev pub idle_text : Benched → Line × ℕ → List ℕ
+idle_text bench device = if is_idle bench device.0 && nat_lt 0 device.1
+    then codes "        " ++ (pulses_text device.1 device.0 ++ codes " asked for nothing\n")
+    else []
+
+-- all such devices of a bench
+unfoldable pub idle_devices : Benched → List ℕ
+idle_devices bench = flat_map (idle_text bench) bench.devices
 
 -- so many requests
 abbrev pub requests_text : ℕ → List ℕ

@@ -12,7 +12,7 @@ use Rattle.agc_session.specs.declared.run_fault.RunFault.TheVariants.{NoMemory, 
 use Rattle.agc_session.specs.declared.run_fault.RunFault.TheVariants.{Lost}
 use Rattle.agc_session.specs.Walks.{texts}
 use Rattle.agc_trace.specs.Choices.{Telling, all_told, chosen, text_of}
-use Rattle.agc_trace.specs.Openings.{opening_text, ending_text}
+use Rattle.agc_trace.specs.Openings.{opening_text, ending_text, idle_devices}
 use Rattle.agc_trace.specs.Traces.{Counted, counted, traced_text}
 
 -- the run's machine, and nothing was asked, nor refused
@@ -35,10 +35,14 @@ run_text opening alarms m requests =
     ++ (text_of (chosen alarms (all_told (counted_from m).run requests))
     ++ ending_text m.limit m.allowance (fold counted (counted_from m) requests))
 
--- of a bench: the heading, and what came of power-up, stand before
-abbrev pub trace_text : (alarms : Bool) → Benched → List ℕ
-trace_text alarms bench = run_text (opening_text bench.power (bench_machine bench)) alarms
+-- all that is asked for of a bench: the heading, and what came of power-up, stand before
+abbrev pub asked_text : (alarms : Bool) → Benched → List ℕ
+asked_text alarms bench = run_text (opening_text bench.power (bench_machine bench)) alarms
     (bench_machine bench) (bench_requests bench)
+
+-- of a bench: last stand the pulses that asked for nothing
+abbrev pub trace_text : (alarms : Bool) → Benched → List ℕ
+trace_text alarms bench = asked_text alarms bench ++ idle_devices bench
 
 -- of a script: it has no power-up
 abbrev pub script_text : (alarms : Bool) → List Request → List ℕ

@@ -6,6 +6,7 @@ mod account;
 mod cells;
 mod columns;
 mod ending;
+mod idle;
 mod lines;
 mod newjob;
 mod opening;

@@ -1,9 +1,10 @@
 // The trace of a bench or of a script: its machine is asked for all requests in order, and a line
 // of each that is told is written.
 ghost use Rattle.std.specs.Prelude.{◌≡◌};
-ghost use Rattle.agc_trace.specs.Runs.{WritesTrace, script_text, telling_from, trace_text};
+ghost use Rattle.agc_trace.specs.Runs.{WritesTrace, asked_text, script_text, telling_from, trace_text};
 
 use crate::ending::ending_of;
+use crate::idle::put_idle;
 use crate::opening::{heading_of, opening_of};
 use crate::runs::{Tracer, tell, tracer_of};
 use agc_document::Bench;
@@ -53,11 +54,31 @@ fn teller_of(alarms: bool, machine: Machine) -> Teller
     }
 }
 
+/// Writes what is told of all that a bench asks for.
+fn trace_asked<W: Write>(
+    alloc: Global,
+    bench: &Bench,
+    alarms: bool,
+    writer: &mut W,
+) -> Result<(), RunFault>
+    ensures { WritesTrace (W.contents writer.old) (W.contents writer.new)
+        (asked_text alarms bench.now) result }
+{
+    let machine = machine_of(alloc, bench)?;
+    let opening = opening_of(bench, &machine);
+    let mut teller = teller_of(alarms, machine);
+    put(writer, opening.as_bytes())?;
+    ask_bench(&mut teller, bench, writer)?;
+    let ending = ending_of(bench.limit().get(), bench.allowance(), &teller.tracer);
+    put(writer, ending.as_bytes())?;
+    Ok(())
+}
+
 /// Writes the trace of a bench: the heading, and what came of power-up, where it has phase words;
 /// then its machine is asked for the requests in the order of `serial`, and for each a line is
 /// written, or for those alone that raise an alarm, with the state in which it was answered: at an
-/// alarm the full table, before the era begins; and last how many requests were refused. The writer
-/// is not flushed. Source: profile.
+/// alarm the full table, before the era begins; and last how many requests were refused, and the
+/// devices whose pulses asked for nothing. The writer is not flushed. Source: profile.
 ///
 /// # Errors
 ///
@@ -72,13 +93,8 @@ pub fn trace<W: Write>(
     ensures { WritesTrace (W.contents writer.old) (W.contents writer.new)
         (trace_text alarms bench.now) result }
 {
-    let machine = machine_of(alloc, bench)?;
-    let opening = opening_of(bench, &machine);
-    let mut teller = teller_of(alarms, machine);
-    put(writer, opening.as_bytes())?;
-    ask_bench(&mut teller, bench, writer)?;
-    let ending = ending_of(bench.limit().get(), bench.allowance(), &teller.tracer);
-    put(writer, ending.as_bytes())?;
+    trace_asked(alloc, bench, alarms, writer)?;
+    put_idle(bench, writer)?;
     Ok(())
 }
 
