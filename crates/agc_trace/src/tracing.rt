@@ -1,7 +1,8 @@
 // The trace of a bench or of a script: its machine is asked for all requests in order, and a line
 // of each that is told is written.
 ghost use Rattle.std.specs.Prelude.{◌≡◌};
-ghost use Rattle.agc_trace.specs.Runs.{WritesTrace, asked_text, script_text, telling_from, trace_text};
+ghost use Rattle.agc_trace.specs.Runs.{WritesTrace, asked_text, script_text, telling_from};
+ghost use Rattle.agc_trace.specs.Runs.{trace_text};
 
 use crate::ending::ending_of;
 use crate::idle::put_idle;
