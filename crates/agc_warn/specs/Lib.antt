@@ -1,4 +1,6 @@
 pub mod Listed
 pub mod Reasons
+pub mod Refusals
+pub mod Runners
 pub mod Warnings
 pub mod Tellings

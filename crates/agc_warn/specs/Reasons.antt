@@ -60,3 +60,13 @@ device_warning bench line = elim (pulse_request (bench_plan bench) line) [
   | Some request ↦ None
   | None ↦ Some (warning.NoRequest line)
 ]
+
+-- what is warned of a run in which this request was the first that was refused as the log is full,
+-- and in which this was the first that was as all of the allowance was served
+abbrev pub log_full_warning : Benched → Option ℕ → Option Warning
+log_full_warning bench None = None
+log_full_warning bench (Some number) = Some (warning.LogFull number bench.limit)
+
+abbrev pub spent_warning : Benched → Option ℕ → Option Warning
+spent_warning bench None = None
+spent_warning bench (Some number) = Some (warning.Spent number bench.allowance)

@@ -14,6 +14,21 @@ use Rattle.agc_warn.specs.declared.warning.Located.{Located}
 abbrev pub task_text : Task → List ℕ
 task_text task = octal 5 task.at ++ (codes " in bank " ++ octal 5 task.bank)
 
+-- what is told of the first request that is refused: its number, and why, with a number in it
+abbrev pub first_sentence : ℕ → List ℕ → ℕ → List ℕ → List ℕ
+first_sentence first before number behind =
+    codes "request " ++ (decimal first ++ (before ++ (decimal number ++ behind)))
+
+-- because the log is full, or all of the allowance was served
+abbrev pub log_full_sentence : ℕ → ℕ → List ℕ
+log_full_sentence first limit =
+    first_sentence first (codes " is the first that is refused: log full (limit ") limit (codes ")")
+
+abbrev pub spent_sentence : ℕ → ℕ → List ℕ
+spent_sentence first allowance =
+    first_sentence first (codes " is the first that is refused: spent (allowance ") allowance
+    (codes ", all served)")
+
 -- what is told of it
 abbrev pub sentence : Warning → List ℕ
 sentence warning.NoRows = codes "the bench has no task row, so nothing is done when a task fires"
@@ -27,6 +42,8 @@ sentence (warning.NoEntry group phase) = codes "group "
     ++ (decimal phase ++ codes ", so nothing begins again in it")))
 sentence (warning.NoRequest line) = codes "a pulse asks for nothing, since the action of "
     ++ (kind_text line ++ codes " is nothing")
+sentence (warning.LogFull first limit) = log_full_sentence first limit
+sentence (warning.Spent first allowance) = spent_sentence first allowance
 
 -- the line that tells of it
 unfoldable pub told_warning : Located → List ℕ

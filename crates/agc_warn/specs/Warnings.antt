@@ -18,7 +18,8 @@ use Rattle.agc_warn.specs.declared.warning.Warning.TheVariants as warning
 use Rattle.agc_warn.specs.declared.warning.Warned.{Warned}
 use Rattle.agc_warn.specs.declared.warning.Located.{Located}
 use Rattle.agc_warn.specs.Reasons.{request_warning, action_warning, entry_warning, row_warning}
-use Rattle.agc_warn.specs.Reasons.{device_warning}
+use Rattle.agc_warn.specs.Reasons.{device_warning, log_full_warning, spent_warning}
+use Rattle.agc_warn.specs.Refusals.{log_full_at, spent_at}
 
 -- what is warned of at a place, if anything is
 abbrev pub placed : Place → Option Warning → List Warned
@@ -73,6 +74,11 @@ of_bench bench = of_actions bench
     ++ (numbered (of_worker bench) 1 bench.workers
     ++ numbered (of_device bench) 1 bench.devices))))
 
+-- and of its run, at the keys of which too little is there
+abbrev pub of_run : Benched → List Warned
+of_run bench = placed (place.Value key.Limit) (log_full_warning bench (log_full_at bench))
+    ++ placed (place.Value key.Allowance) (spent_warning bench (spent_at bench))
+
 -- whether two tell the same
 abbrev pub is_like : Warning → Warning → Bool
 is_like warning.NoRows warning.NoRows = true
@@ -92,7 +98,7 @@ noted found one = if nat_le 20 (length found) || is_told found one.warning then 
 
 -- what is told of a bench
 unfoldable pub warnings_of : Benched → List Warned
-warnings_of bench = fold noted [] (of_bench bench)
+warnings_of bench = fold noted [] (of_bench bench ++ of_run bench)
 
 -- these are told of the bench of a text, each with the number of a line of it
 pub record AreWarned (text : List ℕ) (bench : Benched) (all : List Located) : Type 0 where

@@ -5,10 +5,12 @@ mod listed;
 mod locating;
 mod noting;
 mod reasons;
+mod running;
 mod telling;
 mod walk;
 mod warning;
 
 pub use locating::bench_warnings;
+pub use running::{FirstRefused, first_refused};
 pub use telling::tell_warnings;
 pub use warning::{Located, Warned, Warning};

@@ -29,6 +29,8 @@ fn is_like(one: &Warning, other: &Warning) -> bool
         },
         Warning::NeverListed => false,
         Warning::NoRequest(_line) => false,
+        Warning::LogFull(_number, _limit) => false,
+        Warning::Spent(_number, _allowance) => false,
     }
 }
 

@@ -5,6 +5,7 @@ ghost use Rattle.agc_plan.specs.Plans.{has_task, has_entry};
 ghost use Rattle.agc_warn.specs.Reasons.{bank_at, rowless, task_warning, phase_warning};
 ghost use Rattle.agc_warn.specs.Reasons.{request_warning, action_warning, entry_warning};
 ghost use Rattle.agc_warn.specs.Reasons.{row_warning, device_warning};
+ghost use Rattle.agc_warn.specs.Reasons.{log_full_warning, spent_warning};
 
 use crate::listed::is_listed;
 use crate::warning::Warning;
@@ -133,5 +134,27 @@ pub(crate) fn device_warning(bench: &Bench, line: Line) -> Option<Warning>
     match pulse_request(bench, line) {
         Some(_request) => None,
         None => Some(Warning::NoRequest(line)),
+    }
+}
+
+/// What is warned of a run in which this request was the first that was refused because the log is
+/// full.
+pub(crate) fn log_full_warning(bench: &Bench, first: Option<u64>) -> Option<Warning>
+    ensures { result ≡ log_full_warning bench.now first }
+{
+    match first {
+        None => None,
+        Some(number) => Some(Warning::LogFull(number, bench.limit())),
+    }
+}
+
+/// What is warned of a run in which this request was the first that was refused because all of the
+/// allowance was served.
+pub(crate) fn spent_warning(bench: &Bench, first: Option<u64>) -> Option<Warning>
+    ensures { result ≡ spent_warning bench.now first }
+{
+    match first {
+        None => None,
+        Some(number) => Some(Warning::Spent(number, bench.allowance())),
     }
 }

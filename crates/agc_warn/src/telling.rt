@@ -4,11 +4,12 @@ ghost use Rattle.std.specs.List.{flat_map};
 ghost use Rattle.agc_document.specs.Benches.{kind_text};
 ghost use Rattle.agc_text.specs.Writing.{Writes};
 ghost use Rattle.agc_warn.specs.Tellings.{task_text, sentence, told_warning};
+ghost use Rattle.agc_warn.specs.Tellings.{first_sentence, log_full_sentence, spent_sentence};
 
 use crate::warning::{Located, Warning};
 use agc_latch::Line;
 use agc_lint::tell_where;
-use agc_plan::Task;
+use agc_plan::{Limit, Task};
 use agc_text::{Output, add_number, add_word, put};
 use arrayvec::ArrayString;
 use std::io::Write;
@@ -34,6 +35,36 @@ fn add_task(text: &mut ArrayString<128>, task: Task)
     add_word(text, task.at.get());
     text.push_str(" in bank ");
     add_word(text, task.bank.bits());
+}
+
+/// What is told of the first request that is refused: its number, and why, with a number in it.
+fn first_sentence(first: u64, before: &str, number: u64, behind: &str) -> ArrayString<128>
+    requires { length before.now + length behind.now ≤ 80 }
+    ensures { result.bytes ≡ first_sentence first before.now number behind.now }
+{
+    let mut text = ArrayString::new();
+    text.push_str("request ");
+    add_number(&mut text, first);
+    text.push_str(before);
+    add_number(&mut text, number);
+    text.push_str(behind);
+    text
+}
+
+/// What is told of the first request that is refused because the log is full.
+fn log_full_sentence(first: u64, limit: Limit) -> ArrayString<128>
+    ensures { result.bytes ≡ log_full_sentence first limit }
+{
+    let before = " is the first that is refused: log full (limit ";
+    first_sentence(first, before, limit.get() as u64, ")")
+}
+
+/// What is told of the first request that is refused because all of the allowance was served.
+fn spent_sentence(first: u64, allowance: u64) -> ArrayString<128>
+    ensures { result.bytes ≡ spent_sentence first allowance }
+{
+    let before = " is the first that is refused: spent (allowance ";
+    first_sentence(first, before, allowance, ", all served)")
 }
 
 /// What is told of a warning.
@@ -71,6 +102,8 @@ fn sentence(warning: Warning) -> ArrayString<128>
             text.push_str(line_name(line));
             text.push_str(" is nothing");
         }
+        Warning::LogFull(number, limit) => return log_full_sentence(number, limit),
+        Warning::Spent(number, allowance) => return spent_sentence(number, allowance),
     }
     text
 }

@@ -3,10 +3,14 @@ ghost use Rattle.std.specs.Prelude.{◌≡◌, [], IfOk};
 ghost use Rattle.std.specs.List.{fold};
 ghost use Rattle.agc_warn.specs.Warnings.{numbered, noted, request_place, of_requests, of_row};
 ghost use Rattle.agc_warn.specs.Warnings.{of_entry, of_worker, of_device, of_actions};
-ghost use Rattle.agc_warn.specs.Warnings.{warnings_of};
+ghost use Rattle.agc_warn.specs.Warnings.{of_bench, of_run, warnings_of};
 
 use crate::noting::note;
-use crate::reasons::{action_warning, device_warning, entry_warning, request_warning, row_warning};
+use crate::reasons::{
+    action_warning, device_warning, entry_warning, log_full_warning, request_warning, row_warning,
+    spent_warning,
+};
+use crate::running::first_refused;
 use crate::warning::Warned;
 use agc_document::Bench;
 use agc_latch::Line;
@@ -136,16 +140,44 @@ fn note_devices(
     Ok(())
 }
 
-/// What is warned of in a bench, in the order of its keys.
+/// Notes what is warned of in a bench, in the order of its keys.
+fn note_bench(found: &mut Vec<Warned>, bench: &Bench) -> Result<(), AllocError>
+    ensures { IfOk result (λ _. found.new.items
+        ≡ fold noted found.old.items (of_bench bench.now)) }
+{
+    note_actions(found, bench)?;
+    note_requests(found, bench, None, bench.script())?;
+    note_rows(found, bench, bench.rows())?;
+    note_entries(found, bench, bench.entries())?;
+    note_workers(found, bench, bench.workers())?;
+    note_devices(found, bench, bench.devices())?;
+    Ok(())
+}
+
+/// Runs a bench, and notes what is warned of its run.
+fn note_run(alloc: Global, found: &mut Vec<Warned>, bench: &Bench) -> Result<(), AllocError>
+    ensures { IfOk result (λ _. found.new.items
+        ≡ fold noted found.old.items (of_run bench.now)) }
+{
+    let first = first_refused(alloc, bench)?;
+    note(
+        found,
+        Place::Value(Key::Limit),
+        log_full_warning(bench, first.log_full),
+    )?;
+    note(
+        found,
+        Place::Value(Key::Allowance),
+        spent_warning(bench, first.spent),
+    )
+}
+
+/// What is warned of in a bench, in the order of its keys, and then of its run.
 pub(crate) fn warned_of(alloc: Global, bench: &Bench) -> Result<Vec<Warned>, AllocError>
     ensures { IfOk result (λ v. v.items ≡ warnings_of bench.now) }
 {
     let mut found: Vec<Warned> = Vec::new(alloc);
-    note_actions(&mut found, bench)?;
-    note_requests(&mut found, bench, None, bench.script())?;
-    note_rows(&mut found, bench, bench.rows())?;
-    note_entries(&mut found, bench, bench.entries())?;
-    note_workers(&mut found, bench, bench.workers())?;
-    note_devices(&mut found, bench, bench.devices())?;
+    note_bench(&mut found, bench)?;
+    note_run(alloc, &mut found, bench)?;
     Ok(found)
 }

@@ -1,10 +1,11 @@
 //! What is warned of.
 use agc_latch::Line;
 use agc_lint::Place;
-use agc_plan::{Group, Phase, Task};
+use agc_plan::{Group, Limit, Phase, Task};
 use agc_word::Word;
 
-/// What a bench may have that is no fault, and of which nothing comes. Source: profile.
+/// What a bench may have that is no fault, and of which nothing comes, or less than it asks for.
+/// Source: profile.
 #[derive(Clone, Copy, PartialEq, Eq, Debug)]
 pub enum Warning {
     /// A task is listed, and the bench has no row.
@@ -19,6 +20,12 @@ pub enum Warning {
     NoEntry(Group, Phase),
     /// The pulses of a device's line ask for nothing.
     NoRequest(Line),
+    /// The request of this number is the first that is refused because the log, of this limit, is
+    /// full.
+    LogFull(u64, Limit),
+    /// The request of this number is the first that is refused because all of this allowance was
+    /// served.
+    Spent(u64, u64),
 }
 
 /// A warning, and where in the bench its reason stands. Source: profile.

@@ -1,0 +1,24 @@
+-- The first requests of a run that are refused.
+use Rattle.std.specs.Prelude.{ℕ, Bool, if◌then◌else◌, List, [], ◌∷◌, Option, Some, None}
+use Rattle.agc_plan.specs.declared.request.Request.{Request}
+use Rattle.agc_machine.specs.Machines.{Machined, after, refusal_of}
+use Rattle.agc_machine.specs.declared.answer.Refusal.{Refusal}
+use Rattle.agc_document.specs.Benches.{Benched}
+use Rattle.agc_session.specs.Runs.{bench_machine, bench_requests}
+use Rattle.agc_trace.specs.Traces.{one_more, is_log_full, is_spent}
+
+-- the number of the first of these requests that the machine refuses so, where so many were asked
+-- before
+abbrev pub first_refused : (Option Refusal → Bool) → Machined → ℕ → List Request → Option ℕ
+first_refused is_so m asked [] = None
+first_refused is_so m asked (request ∷ requests) =
+    if is_so (refusal_of m request) then Some (one_more asked)
+    else first_refused is_so (after m request) (one_more asked) requests
+
+-- the number, from 1, of the first request of a bench that is refused as the log is full
+unfoldable pub log_full_at : Benched → Option ℕ
+log_full_at bench = first_refused is_log_full (bench_machine bench) 0 (bench_requests bench)
+
+-- and of the first that is refused as all of the allowance was served
+unfoldable pub spent_at : Benched → Option ℕ
+spent_at bench = first_refused is_spent (bench_machine bench) 0 (bench_requests bench)
