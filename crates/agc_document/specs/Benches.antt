@@ -1,5 +1,6 @@
 -- A bench: its values, their ranges and their texts.
-use Rattle.std.specs.Prelude.{◌≡◌, ◌≤◌, ℕ, List, codes, map, length, Option, Some, None}
+use Rattle.std.specs.Prelude.{◌≡◌, ◌≤◌, ℕ, Bool, List, codes, map, length, Option, Some}
+use Rattle.std.specs.Prelude.{None}
 use Rattle.std.specs.Option.{option_map}
 use Rattle.std.specs.List.{AllByRecursion}
 use Rattle.agc_plan.specs.declared.request.Task.{Task}
@@ -21,6 +22,7 @@ use Rattle.agc_document.specs.Texts.{RowTexts, EntryTexts, DeviceTexts, Settings
 -- the values of a bench
 pub record Benched : Type 0 where
   pub sets : ℕ
+  pub names_sets : Bool
   pub limit : ℕ
   pub allowance : ℕ
   pub attends : ℕ
@@ -66,21 +68,18 @@ entry_texts b =
 abbrev pub device_texts : Line × ℕ → DeviceTexts
 device_texts d = record { line = kind_text d.0; pulses = d.1 }
 
--- the texts of a power-up's phase words
-abbrev pub power_texts : Option (List ℕ) → Option (List (List ℕ))
-power_texts power = option_map (map (octal 5)) power
-
 -- the numbers and texts of what a bench has once
 abbrev pub settings_texts : Benched → Settings
 settings_texts b =
     record {
       sets = b.sets;
+      names_sets = b.names_sets;
       limit = b.limit;
       allowance = b.allowance;
       attends = b.attends;
       key = action_line_of b.key;
       radar = action_line_of b.radar;
-      power = power_texts b.power;
+      power = option_map (map (octal 5)) b.power;
     }
 
 -- the texts of what a bench has many of
@@ -128,10 +127,6 @@ abbrev pub IsPower : Option (List ℕ) → Type 0
 IsPower None = Unit {0}
 IsPower (Some words) = (length words ≡ 12) × AllByRecursion IsWord words
 
--- all of these are requests
-abbrev pub AreRequests : List Request → Type 0
-AreRequests rs = AllByRecursion IsRequest rs
-
 -- the ranges of a bench
 pub record IsInRange (b : Benched) : Type 0 where
   pub sets : IsBetween 7 8 b.sets
@@ -141,10 +136,10 @@ pub record IsInRange (b : Benched) : Type 0 where
   pub key : IsAction b.key
   pub radar : IsAction b.radar
   pub power : IsPower b.power
-  pub script : AreRequests b.script
+  pub script : AllByRecursion IsRequest b.script
   pub rows : AllByRecursion IsRow b.rows
   pub entries : AllByRecursion IsEntry b.entries
-  pub workers : AllByRecursion AreRequests b.workers
+  pub workers : AllByRecursion (AllByRecursion IsRequest) b.workers
   pub few_workers : length b.workers ≤ 32
   pub devices : AllByRecursion IsDevice b.devices
   pub few_devices : length b.devices ≤ 32

@@ -1,6 +1,7 @@
 -- A document's numbers and texts by key, before any text is read. None stands for a fault Key.
 use Rattle.std.specs.Prelude.{ℕ, ℤ, pos, negsuc, List, [], ◌∷◌, codes, length, Option, Some, None}
-use Rattle.std.specs.Prelude.{Bool, true, false, nat_lt, ◌==◌, ◌&&◌, ◌||◌, if◌then◌else◌}
+use Rattle.std.specs.Prelude.{Bool, true, false, is_some, nat_lt, ◌==◌, ◌&&◌, ◌||◌}
+use Rattle.std.specs.Prelude.{if◌then◌else◌}
 use Rattle.std.specs.Str.{bytes_eq}
 use Rattle.toml.specs.Data.{Data, Items, no_items, item, Members, no_members, member, get_member}
 use Rattle.toml.specs.Data.{as_str, as_integer, as_array, as_table}
@@ -103,6 +104,7 @@ settings_in ms = do
   power ← read_or None twelve_texts (get_member (codes "power") ms)
   Some (record {
     sets = sets;
+    names_sets = is_some (get_member (codes "sets") ms);
     limit = limit;
     allowance = allowance;
     attends = attends;

@@ -1,5 +1,5 @@
 -- The numbers and texts of a bench, before any text is read.
-use Rattle.std.specs.Prelude.{ℕ, List, Option}
+use Rattle.std.specs.Prelude.{ℕ, Bool, List, Option}
 
 -- the texts of a task's row
 pub record RowTexts : Type 0 where
@@ -19,9 +19,10 @@ pub record DeviceTexts : Type 0 where
   pub line : List ℕ
   pub pulses : ℕ
 
--- what a bench has once
+-- what a bench has once, and whether it says how many core sets there are
 pub record Settings : Type 0 where
   pub sets : ℕ
+  pub names_sets : Bool
   pub limit : ℕ
   pub allowance : ℕ
   pub attends : ℕ

@@ -21,6 +21,7 @@ use std::marker::Model;
 #[derive(Drop)]
 struct Parts {
     sets: Sets,
+    names_sets: bool,
     limit: Limit,
     allowance: u64,
     attends: u32,
@@ -43,6 +44,7 @@ impl Model for Parts {
 
     ghost view = { λ p. record {
       sets = count_of p.sets;
+      names_sets = p.names_sets;
       limit = p.limit;
       allowance = p.allowance;
       attends = p.attends;
@@ -80,6 +82,13 @@ impl Bench {
         ensures { count_of result ≡ self.now.sets }
     {
         self.parts.sets
+    }
+
+    /// Whether the document says how many core sets there are. Source: profile.
+    pub fn names_sets(&self) -> bool
+        ensures { result ≡ self.now.names_sets }
+    {
+        self.parts.names_sets
     }
 
     /// How many requests the log may hold, 1 to 1,000,000. Source: profile.
@@ -198,6 +207,7 @@ fn parts_of(alloc: Global, texts: &Texts<'_>) -> Result<Parts, BenchFault>
     let devices = devices_of(alloc, texts.lists.devices.as_slice())?;
     Ok(Parts {
         sets: texts.settings.sets,
+        names_sets: texts.settings.names_sets,
         limit,
         allowance: texts.settings.allowance,
         attends: texts.settings.attends,

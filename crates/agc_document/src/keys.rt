@@ -1,6 +1,6 @@
 //! The numbers and texts of a document, by its keys and the kinds of their values.
 ghost use Rattle.std.specs.Prelude.{◌≡◌, ◌≤◌, ℕ, [], map, length, codes, Option, Some, None};
-ghost use Rattle.std.specs.Prelude.{string_bytes, IfSome, IfOk};
+ghost use Rattle.std.specs.Prelude.{string_bytes, is_some, IfSome, IfOk};
 ghost use Rattle.std.specs.Option.{option_map};
 ghost use Rattle.std.specs.List.{list_all};
 ghost use Rattle.std.specs.BTreeMap.{keys};
@@ -326,6 +326,13 @@ fn sets_of(value: Option<&Value>) -> Option<Sets>
     }
 }
 
+/// Whether a key is there.
+fn is_there(value: Option<&Value>) -> bool
+    ensures { result ≡ is_some (option_map (λ v. view v.now) value.entry) }
+{
+    value.is_some()
+}
+
 fn limit_of(value: Option<&Value>) -> Option<u32>
     ensures { result
         ≡ read_or 1000 (number_in 1 1000000) (option_map (λ v. view v.now) value.entry) }
@@ -354,6 +361,7 @@ fn settings_in(alloc: Global, table: &Table) -> Result<Settings<'_>, BenchFault>
     ensures { GivesOrKey (λ s. s) result (settings_in (table_view table.now)) }
 {
     let sets = or_key(sets_of(value_at(table, "sets")))?;
+    let names_sets = is_there(value_at(table, "sets"));
     let limit = or_key(limit_of(value_at(table, "limit")))?;
     let allowance = or_key(allowance_of(value_at(table, "allowance")))?;
     let attends = or_key(attends_of(value_at(table, "attends")))?;
@@ -362,6 +370,7 @@ fn settings_in(alloc: Global, table: &Table) -> Result<Settings<'_>, BenchFault>
     let power = power_at(alloc, value_at(table, "power"))?;
     Ok(Settings {
         sets,
+        names_sets,
         limit,
         allowance,
         attends,

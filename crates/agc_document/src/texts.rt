@@ -103,10 +103,11 @@ impl<'a> Model for DeviceTexts<'a> {
     ghost invariant = { λ t. t.pulses ≤ 1000000 };
 }
 
-/// What a bench has once.
+/// What a bench has once, and whether it says how many core sets there are.
 #[derive(Drop)]
 pub(crate) struct Settings<'a> {
     pub(crate) sets: Sets,
+    pub(crate) names_sets: bool,
     pub(crate) limit: u32,
     pub(crate) allowance: u64,
     pub(crate) attends: u32,
@@ -126,6 +127,7 @@ impl<'a> Model for Settings<'a> {
 
     ghost view = { λ t. record {
       sets = count_of t.sets;
+      names_sets = t.names_sets;
       limit = t.limit;
       allowance = t.allowance;
       attends = t.attends;

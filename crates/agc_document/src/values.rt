@@ -13,8 +13,8 @@ ghost use Rattle.agc_latch.specs.declared.line.Line.{Line};
 ghost use Rattle.agc_text.specs.Numbers.{octal, IsWord};
 ghost use Rattle.agc_text.specs.Lines.{line_of};
 ghost use Rattle.agc_document.specs.Benches.{job_request, timed_request, kind_text, row_texts};
-ghost use Rattle.agc_document.specs.Benches.{entry_texts, device_texts, power_texts, IsRow, IsJob};
-ghost use Rattle.agc_document.specs.Benches.{IsTimed, IsEntry, IsDevice, IsPower, AreRequests};
+ghost use Rattle.agc_document.specs.Benches.{entry_texts, device_texts, IsRow, IsJob, IsTimed};
+ghost use Rattle.agc_document.specs.Benches.{IsEntry, IsDevice, IsPower};
 ghost use Rattle.agc_document.specs.Kinds.{job_of, timed_of};
 ghost use Rattle.agc_document.specs.Gives.{RefusedLine};
 
@@ -28,10 +28,10 @@ use std::alloc::Global;
 
 /// The requests that texts spell, in order.
 pub(crate) fn requests_of(alloc: Global, texts: &[Text<'_>]) -> Result<Vec<Request>, BenchFault>
-    ensures found { IfOk result (λ v. AreRequests v.items
+    ensures found { IfOk result (λ v. AllByRecursion IsRequest v.items
         × (texts.now ≡ map line_of v.items)) }
     ensures refused { IfErr result (RefusedLine
-        ((rs : List Request) → AreRequests rs → texts.now ≢ map line_of rs)) }
+        ((rs : List Request) → AllByRecursion IsRequest rs → texts.now ≢ map line_of rs)) }
 {
     let mut requests = Vec::new(alloc);
     for text in texts {
@@ -166,10 +166,11 @@ pub(crate) fn workers_of(
     alloc: Global,
     texts: &[WorkerTexts<'_>],
 ) -> Result<Vec<Vec<Request>>, BenchFault>
-    ensures found { IfOk result (λ v. AllByRecursion AreRequests (map (λ w. w.items) v.items)
+    ensures found { IfOk result (λ v.
+        AllByRecursion (AllByRecursion IsRequest) (map (λ w. w.items) v.items)
         × (texts.now ≡ map (map line_of) (map (λ w. w.items) v.items))) }
     ensures refused { IfErr result (RefusedLine
-        ((ws : List (List Request)) → AllByRecursion AreRequests ws
+        ((ws : List (List Request)) → AllByRecursion (AllByRecursion IsRequest) ws
         → texts.now ≢ map (map line_of) ws)) }
 {
     let mut workers: Vec<Vec<Request>> = Vec::new(alloc);
@@ -244,9 +245,9 @@ fn words_of(texts: &[Text<'_>]) -> Option<[Word; 12]>
 /// The phase words of a power-up, if their texts are there. None where one of these spells no word.
 pub(crate) fn power_of(texts: &Option<Vec<Text<'_>>>) -> Option<Option<[Word; 12]>>
     ensures found { IfSome result (λ p. IsPower p
-        × (option_map (λ v. v.items) texts.now ≡ power_texts p)) }
+        × (option_map (λ v. v.items) texts.now ≡ option_map (map (octal 5)) p)) }
     ensures only { IfNone result ((p : Option (List ℕ)) → IsPower p
-        → option_map (λ v. v.items) texts.now ≢ power_texts p) }
+        → option_map (λ v. v.items) texts.now ≢ option_map (map (octal 5)) p) }
 {
     match texts {
         None => Some(None),

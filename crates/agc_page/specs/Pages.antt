@@ -1,5 +1,6 @@
 -- The page of a bench.
-use Rattle.std.specs.Prelude.{◌≡◌, ℕ, ◌==◌, if◌then◌else◌, List, ◌++◌, Option, Result, Ok, Err}
+use Rattle.std.specs.Prelude.{◌≡◌, ℕ, if◌then◌else◌, List, ◌++◌, Option, Some, None}
+use Rattle.std.specs.Prelude.{Result, Ok, Err}
 use Rattle.std.specs.Io.KnownBytes.{Appends}
 use Rattle.agc_plan.specs.declared.request.Request.{Request}
 use Rattle.agc_machine.specs.Machines.{Machined}
@@ -12,20 +13,23 @@ use Rattle.agc_session.specs.declared.run_fault.RunFault.TheVariants.{Lost}
 use Rattle.agc_page.specs.declared.front.TheConstants.{FRONT, BETWEEN, END}
 use Rattle.agc_page.specs.Rows.{data_of}
 
--- the data of a run, and of the same requests asked of another machine
-unfoldable pub page_of : Option (List ℕ) → Machined → Machined → List Request → List ℕ
-page_of power own other requests =
-    (FRONT.now ++ data_of power own requests)
-    ++ ((BETWEEN.now ++ data_of power other requests) ++ END.now)
+-- what stands behind the data of a run: those of another machine, if there is one, and the end
+unfoldable pub rest_of : Option (List ℕ) → Option Machined → List Request → List ℕ
+rest_of power None requests = END.now
+rest_of power (Some other) requests = (BETWEEN.now ++ data_of power other requests) ++ END.now
 
--- seven core sets where there are eight, and eight where there are seven
-abbrev pub other_sets : ℕ → ℕ
-other_sets sets = if sets == 7 then 8 else 7
+-- the data of a run, and of the same requests asked of another machine, if there is one
+unfoldable pub page_of : Option (List ℕ) → Machined → Option Machined → List Request → List ℕ
+page_of power own other requests =
+    (FRONT.now ++ data_of power own requests) ++ rest_of power other requests
+
+-- the same bench on eight core sets, where it names no number, so that its own machine has seven
+abbrev pub other_machine : Benched → Option Machined
+other_machine bench = if bench.names_sets then None else Some (machine_on 8 bench)
 
 abbrev pub page_text : Benched → List ℕ
 page_text bench =
-    page_of bench.power (bench_machine bench) (machine_on (other_sets bench.sets) bench)
-    (bench_requests bench)
+    page_of bench.power (bench_machine bench) (other_machine bench) (bench_requests bench)
 
 -- the page was written and nothing else; a front of it where a write failed; nothing where there
 -- was no memory; no other fault comes

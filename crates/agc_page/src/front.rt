@@ -8,7 +8,7 @@ pub(crate) const FRONT: &str = r#"<!DOCTYPE html>
 <meta charset="utf-8">
 <meta http-equiv="Content-Security-Policy" content="default-src 'none';
 base-uri 'none'; form-action 'none';
-script-src 'sha256-flfGSRAd3dpXtl7lXEfJmCH2CMae73gFKaZGc2BsUj0=';
+script-src 'sha256-ysw6ZHGCcLXnZt5kUQNPmq8oqlagsHekdHF1FlR+XWk=';
 style-src 'sha256-LNvPzA/2in7Wkjkal5gS2Jb/J1Eza1quCy/W0ckmAc8='">
 <meta name="viewport" content="width=device-width, initial-scale=1">
 <title>A run, request by request</title>
@@ -311,7 +311,7 @@ function hear() {
 }
 
 function start() {
-  runs = [read('own'), read('other')];
+  runs = ['own', 'other'].filter(by).map(read);
   run = runs[0];
   hear();
   if (run.length === 0) { draw(); return; }
@@ -319,8 +319,10 @@ function start() {
   last = first + run.length - 1;
   by('slider').min = String(first);
   by('slider').max = String(last);
-  by('sets-other').textContent = String(words(runs[1][0].cells[5]).length);
-  by('choice').hidden = false;
+  if (runs.length === 2) {
+    by('sets-other').textContent = String(words(runs[1][0].cells[5]).length);
+    by('choice').hidden = false;
+  }
   by('now').hidden = false;
   from_address();
 }
@@ -370,7 +372,7 @@ number or an address.</p>
 <script type="text/plain" id="own">
 "#;
 
-/// What stands between the data of two runs.
+/// What stands between the data of two runs, where there are two.
 pub(crate) const BETWEEN: &str = r#"</script>
 <script type="text/plain" id="other">
 "#;

@@ -1,9 +1,9 @@
-// The page of a bench: its front, the run, the run on the other number of core sets, and its end.
-ghost use Rattle.std.specs.Prelude.{◌≡◌, ◌++◌};
-ghost use Rattle.agc_word.specs.Profiles.{count_of};
+// The page of a bench: its front, the run, the run on the other number of core sets where the bench
+// names none, and its end.
+ghost use Rattle.std.specs.Prelude.{◌≡◌, ◌++◌, IfOk, IfErr};
 ghost use Rattle.agc_text.specs.Writing.{Writes};
 ghost use Rattle.agc_session.specs.Runs.{bench_requests};
-ghost use Rattle.agc_page.specs.Pages.{page_of, other_sets, WritesPage};
+ghost use Rattle.agc_page.specs.Pages.{page_of, rest_of, other_machine, WritesPage};
 ghost use Rattle.agc_page.specs.Rows.{data_of};
 
 use crate::front::{BETWEEN, END, FRONT};
@@ -17,14 +17,16 @@ use agc_word::Sets;
 use std::alloc::Global;
 use std::io::Write;
 
-/// The other number of core sets.
-fn other_sets(sets: Sets) -> Sets
-    ensures { count_of result ≡ other_sets (count_of sets) }
+/// The machine of the same bench on eight core sets, where it names no number.
+fn other_machine(alloc: Global, bench: &Bench) -> Result<Option<Machine>, RunFault>
+    ensures machine { IfOk result (λ m. m ≡ other_machine bench.now) }
+    ensures refused { IfErr result (λ e. e ≡ RunFault.NoMemory) }
 {
-    match sets {
-        Sets::Seven => Sets::Eight,
-        Sets::Eight => Sets::Seven,
+    if bench.names_sets() {
+        return Ok(None);
     }
+    let other = machine_on(alloc, bench, Sets::Eight)?;
+    Ok(Some(other))
 }
 
 /// Writes a text, and the data of a bench's requests, asked of this machine.
@@ -44,10 +46,24 @@ fn put_run<W: Write>(
     ask_bench(&mut stepper, bench, writer)
 }
 
-/// Writes the page of a bench's requests, asked of two machines.
+/// Writes the data of the bench's requests, asked of another machine, if there is one, and the end.
+fn put_rest<W: Write>(other: Option<Machine>, bench: &Bench, writer: &mut W) -> Result<(), Output>
+    ensures { Writes (W.contents writer.old) (W.contents writer.new)
+        (rest_of bench.now.power other (bench_requests bench.now)) result }
+{
+    match other {
+        None => put(writer, END.as_bytes()),
+        Some(other) => {
+            put_run(BETWEEN, other, bench, writer)?;
+            put(writer, END.as_bytes())
+        }
+    }
+}
+
+/// Writes the page of a bench's requests, asked of its machine, and of another, if there is one.
 fn put_page<W: Write>(
     own: Machine,
-    other: Machine,
+    other: Option<Machine>,
     bench: &Bench,
     writer: &mut W,
 ) -> Result<(), Output>
@@ -55,14 +71,13 @@ fn put_page<W: Write>(
         (page_of bench.now.power own other (bench_requests bench.now)) result }
 {
     put_run(FRONT, own, bench, writer)?;
-    put_run(BETWEEN, other, bench, writer)?;
-    put(writer, END.as_bytes())
+    put_rest(other, bench, writer)
 }
 
 /// Writes the page of a bench, one HTML file that needs no other: its machine is asked for the
-/// requests in the order of `serial`, and so is a machine of the other number of core sets. The
-/// page has the rows of both, and draws the state in which a request was answered: at an alarm the
-/// full table, before the era begins. The writer is not flushed. Source: profile.
+/// requests in the order of `serial`. Where it names no number of core sets, so is a machine of
+/// eight, and the page has the rows of both. It draws the state in which a request was answered: at
+/// an alarm the full table, before the era begins. The writer is not flushed. Source: profile.
 ///
 /// # Errors
 ///
@@ -72,7 +87,7 @@ pub fn page<W: Write>(alloc: Global, bench: &Bench, writer: &mut W) -> Result<()
     ensures { WritesPage (W.contents writer.old) (W.contents writer.new) bench.now result }
 {
     let own = machine_of(alloc, bench)?;
-    let other = machine_on(alloc, bench, other_sets(bench.sets()))?;
+    let other = other_machine(alloc, bench)?;
     put_page(own, other, bench, writer)?;
     Ok(())
 }
