@@ -286,9 +286,9 @@ pub record IsLed (sets : List (Option Held)) : Type 0 where
   pub first : running_in sets ≡ best (slots_of sets)
 
 -- the reply to a new job: its number, or that all are used
-abbrev pub told : Option ℕ → Reply
-told None = Alarmed A1202
-told (Some number) = Established number
+abbrev pub replied : Option ℕ → Reply
+replied None = Alarmed A1202
+replied (Some number) = Established number
 
 -- one more job, with this area, if there is room
 abbrev pub DoesEstablish : ℕ → Entry → ℕ → List ℕ → List ℕ → Reply → Type 0
@@ -301,6 +301,6 @@ DoesEstablish priority entry area old new reply =
     old new reply
 
 -- the new job has this number
-abbrev pub DoesSettle : ℕ → ℕ → Entry → ℕ → List ℕ → List ℕ → Type 0
-DoesSettle number priority entry area old new =
+abbrev pub DoesAdmit : ℕ → ℕ → Entry → ℕ → List ℕ → List ℕ → Type 0
+DoesAdmit number priority entry area old new =
     DoesEstablish priority entry area old new (Established number)

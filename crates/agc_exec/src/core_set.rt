@@ -12,7 +12,7 @@ use agc_plan::{Entry, JobNo};
 use agc_word::layout::{SET_SIZE, set_place};
 use agc_word::{Erasable, Word};
 
-/// The core sets before core set 7, which stand in both profiles.
+/// How many core sets stand before core set 7: all, where there are seven.
 pub const COMMON_SETS: usize = 7;
 
 /// LOC, from a set's first word.

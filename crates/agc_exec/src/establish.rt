@@ -6,7 +6,7 @@ ghost use Rattle.agc_plan.specs.Places.{place_of};
 ghost use Rattle.agc_exec.specs.Calls.{DoesNovac, DoesFindvac};
 ghost use Rattle.agc_exec.specs.Image.{sets_of, IsLawfulWords};
 ghost use Rattle.agc_exec.specs.Sets.{slots_of, entries_of};
-ghost use Rattle.agc_exec.specs.Stages.{DoesEstablish, DoesSettle, IsFreeAt, IsUnowned, told};
+ghost use Rattle.agc_exec.specs.Stages.{DoesEstablish, DoesAdmit, IsFreeAt, IsUnowned, replied};
 
 use crate::area::{free_area, take_area};
 use crate::core_set::{PRIORITY_UNIT, write_new};
@@ -17,14 +17,14 @@ use agc_word::layout::address_of;
 use agc_word::{Erasable, Word};
 
 /// A new job of this number comes to set k, the first free one, and runs if nobody did.
-fn settle(e: &mut Erasable, k: usize, number: JobNo, priority: Priority, entry: Entry, area: u16)
+fn admit(e: &mut Erasable, k: usize, number: JobNo, priority: Priority, entry: Entry, area: u16)
     requires lawful { IsLawfulWords e.old }
     requires free { (k < sets_in e.old) × IsFreeAt (sets_of e.old) k }
     requires first { k ≡ place_of 0 (entries_of (sets_of e.old)) }
     requires least { Some number ≡ least_unused 1 (slots_of (sets_of e.old)) }
     requires five { area ≤ 5 }
     requires own { 0 < area → IsUnowned (sets_of e.old) area }
-    ensures { DoesSettle number priority entry area e.old e.new }
+    ensures { DoesAdmit number priority entry area e.old e.new }
 {
     let ran = somebody_runs(e);
     let urgency = PRIORITY_UNIT * priority.get() as u16 + address_of(area);
@@ -39,14 +39,14 @@ fn establish(e: &mut Erasable, priority: Priority, entry: Entry, area: u16) -> O
     requires lawful { IsLawfulWords e.old }
     requires five { area ≤ 5 }
     requires own { 0 < area → IsUnowned (sets_of e.old) area }
-    ensures { DoesEstablish priority entry area e.old e.new (told result) }
+    ensures { DoesEstablish priority entry area e.old e.new (replied result) }
 {
     let mut used = [false; 9];
     let k = mark_used(e, &mut used);
     match free_number(e, &used) {
         None => None,
         Some(number) => {
-            settle(e, k, number, priority, entry, area);
+            admit(e, k, number, priority, entry, area);
             Some(number)
         }
     }
@@ -54,7 +54,7 @@ fn establish(e: &mut Erasable, priority: Priority, entry: Entry, area: u16) -> O
 
 /// What is replied: the new job's number, or that there was no room.
 fn reply_of(number: Option<JobNo>) -> Reply
-    ensures { result ≡ told number }
+    ensures { result ≡ replied number }
 {
     match number {
         None => Reply::Alarmed(Alarm::A1202),

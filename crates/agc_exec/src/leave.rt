@@ -15,7 +15,7 @@ ghost use Rattle.agc_exec.specs.Stages.{FrontRuns, Gives};
 
 use crate::area::{front_area, release_area};
 use crate::core_set::{LOC, MINUS_ZERO, PRIORITY, set_word, word_of};
-use crate::newjob::settle_newjob;
+use crate::newjob::note_best_runs;
 use crate::search::{bring_best, runner, somebody_runs};
 use agc_plan::{Address, JobNo, Reply};
 use agc_word::{Erasable, Word};
@@ -51,7 +51,7 @@ pub fn end_of_job(e: &mut Erasable) -> Reply
     let area = front_area(e);
     let number = end_front(e);
     release_area(e, area);
-    settle_newjob(e);
+    note_best_runs(e);
     Reply::Left(number)
 }
 
@@ -87,6 +87,6 @@ pub fn job_sleep(e: &mut Erasable, at: Address) -> Reply
         return Reply::NoJob;
     }
     let number = sleep_front(e, at);
-    settle_newjob(e);
+    note_best_runs(e);
     Reply::Left(number)
 }

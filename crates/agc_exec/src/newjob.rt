@@ -98,7 +98,7 @@ pub fn note_newcomer(e: &mut Erasable, k: usize, ran: bool)
 }
 
 /// What NEWJOB is to be where the best job runs, or nobody is awake.
-fn newjob_settled(e: &Erasable) -> u16
+fn newjob_of_best(e: &Erasable) -> u16
     requires set { IsSet e.now }
     requires first { running_in (sets_of e.now) ≡ best (slots_of (sets_of e.now)) }
     ensures value { result ≡ newjob_of (sets_of e.now) }
@@ -108,7 +108,7 @@ fn newjob_settled(e: &Erasable) -> u16
 }
 
 /// Brings NEWJOB up to date where the best job runs, or nobody is awake.
-pub fn settle_newjob(e: &mut Erasable)
+pub fn note_best_runs(e: &mut Erasable)
     requires set { IsSet e.old }
     requires first { running_in (sets_of e.old) ≡ best (slots_of (sets_of e.old)) }
     ensures words { blocks_of e.new ≡ blocks_of e.old }
@@ -116,7 +116,7 @@ pub fn settle_newjob(e: &mut Erasable)
     ensures uses { (i : ℕ) → i < layout.newjob → slice_index e.new i ≡ slice_index e.old i }
     ensures others { Keeps OutsideCores e.old e.new }
 {
-    let newjob = newjob_settled(e);
+    let newjob = newjob_of_best(e);
     e.set(NEWJOB, Word::of_bits(newjob));
 }
 

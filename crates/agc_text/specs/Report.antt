@@ -48,8 +48,8 @@ unfoldable pub full_line : List ℕ → Totals → ReportLine → List ℕ
 full_line words totals line = line_text words totals line ++ 10 ∷ []
 
 -- the first line, which says how many core sets there are; a report of seven has none
-abbrev pub profile_text : ℕ → List ℕ
-profile_text sets = if sets == 7 then [] else (codes "SETS " ++ decimal sets ++ 10 ∷ [])
+abbrev pub sets_count_text : ℕ → List ℕ
+sets_count_text sets = if sets == 7 then [] else (codes "SETS " ++ decimal sets ++ 10 ∷ [])
 
 -- the lines of so many core sets, from 0
 unfoldable pub sets_text : ℕ → List ℕ → List ℕ
@@ -66,4 +66,4 @@ lines_text words totals = flat_map (full_line words totals) lines
 -- the whole report of so many core sets
 abbrev pub report_text : ℕ → List ℕ → Totals → List ℕ
 report_text sets words totals =
-    profile_text sets ++ (sets_text sets words ++ lines_text words totals)
+    sets_count_text sets ++ (sets_text sets words ++ lines_text words totals)

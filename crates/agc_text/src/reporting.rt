@@ -3,7 +3,7 @@ ghost use Rattle.agc_word.specs.Profiles.{count_of};
 ghost use Rattle.agc_text.specs.Writing.{Writes};
 ghost use Rattle.agc_text.specs.Replies.{words_text};
 ghost use Rattle.agc_text.specs.Report.{words_at, set_text, set_line, count_text, line_text};
-ghost use Rattle.agc_text.specs.Report.{full_line, profile_text, sets_text, lines_text};
+ghost use Rattle.agc_text.specs.Report.{full_line, sets_count_text, sets_text, lines_text};
 ghost use Rattle.agc_text.specs.Report.{report_text};
 
 use crate::fault::Output;
@@ -201,8 +201,8 @@ fn put_lines<W: Write>(words: &[Word], totals: &Totals, writer: &mut W) -> Resul
 }
 
 /// The line that says how many core sets there are; with seven there is none.
-fn profile_line(sets: Sets) -> &'static str
-    ensures { result.now ≡ profile_text (count_of sets) }
+fn sets_count_line(sets: Sets) -> &'static str
+    ensures { result.now ≡ sets_count_text (count_of sets) }
 {
     match sets {
         Sets::Seven => "",
@@ -229,7 +229,7 @@ pub fn report<W: Write>(
         (report_text (count_of sets) words.now totals.now) result }
 {
     let words = &words[..];
-    put(writer, profile_line(sets).as_bytes())?;
+    put(writer, sets_count_line(sets).as_bytes())?;
     put_sets(sets.count(), words, writer)?;
     put_lines(words, totals, writer)
 }

@@ -8,14 +8,14 @@ use Rattle.agc_exec.specs.Sets.{slots_of}
 use Rattle.agc_exec.proofs.Freeing.{first_free}
 use Rattle.agc_exec.proofs.establish.establish.Goals as goal
 
-pub settle-requires-clause-free : goal.settle-requires-clause-free
-settle-requires-clause-free c =
+pub admit-requires-clause-free : goal.admit-requires-clause-free
+admit-requires-clause-free c =
     let room : IsSome (least_unused 1 (slots_of (sets_of c.args.e.now))) = rw (← c.in-Some.ensures) refl in
     let (lt, free, first) = first_free c.args.e.now c.mark_used-k.result c.requires.lawful.sets.sized c.requires.lawful.sets.standing.lawful c.mark_used-k.ensures.free room in
     (lt, free)
 
-pub settle-requires-clause-first : goal.settle-requires-clause-first
-settle-requires-clause-first c =
+pub admit-requires-clause-first : goal.admit-requires-clause-first
+admit-requires-clause-first c =
     let room : IsSome (least_unused 1 (slots_of (sets_of c.args.e.now))) = rw (← c.in-Some.ensures) refl in
     let (lt, free, first) = first_free c.args.e.now c.mark_used-k.result c.requires.lawful.sets.sized c.requires.lawful.sets.standing.lawful c.mark_used-k.ensures.free room in
     first
@@ -24,4 +24,4 @@ pub returns-in-None : goal.returns-in-None
 returns-in-None c = rw (← c.in-None.ensures) (record { lawful = c.requires.lawful; outcome_is = refl; placed = refl; words = refl; tidy = λ t. t; others = kept OutsideCores c.args.e.now })
 
 pub returns-in-Some : goal.returns-in-Some
-returns-in-Some c = c.settle.ensures
+returns-in-Some c = c.admit.ensures

@@ -11,8 +11,8 @@ use Rattle.agc_exec.proofs.Finishing.{finish}
 use Rattle.agc_exec.proofs.Turning.{Near-sleep}
 use Rattle.agc_exec.proofs.leave.job_sleep.Goals as goal
 
-pub settle_newjob-requires : goal.settle_newjob-requires
-settle_newjob-requires c = record {
+pub note_best_runs-requires : goal.note_best_runs-requires
+note_best_runs-requires c = record {
   set = record {
     sized = IsSized-kept c.args.e.now c.sleep_front-number.new.e c.sleep_front-number.ensures.others.same_length c.requires.sets.sized;
     coded = c.sleep_front-number.ensures.coded;
@@ -24,6 +24,6 @@ settle_newjob-requires c = record {
 pub returns : goal.returns
 returns c =
     let (job, here, awake) = c.somebody_runs.ensures.runs (search rules) in
-    finish c.args.e.now c.sleep_front-number.new.e c.settle_newjob.new.e (sleep c.args.at (jobs_in c.args.e.now)) (λ running. fronted running (entries_in c.args.e.now)) (λ running. blocks_changed (running_in (sets_of c.args.e.now)) (slept_block c.args.at (front_block (blocks_of c.args.e.now))) running (entries_in c.args.e.now) (blocks_of c.args.e.now)) (Left c.sleep_front-number.result) c.requires.sets.sized
+    finish c.args.e.now c.sleep_front-number.new.e c.note_best_runs.new.e (sleep c.args.at (jobs_in c.args.e.now)) (λ running. fronted running (entries_in c.args.e.now)) (λ running. blocks_changed (running_in (sets_of c.args.e.now)) (slept_block c.args.at (front_block (blocks_of c.args.e.now))) running (entries_in c.args.e.now) (blocks_of c.args.e.now)) (Left c.sleep_front-number.result) c.requires.sets.sized
     (Near-sleep c.args.e.now c.sleep_front-number.new.e job c.args.at (Left c.sleep_front-number.result) c.requires (here, awake) c.sleep_front-number.ensures.gives c.sleep_front-number.ensures.words c.sleep_front-number.ensures.coded c.sleep_front-number.ensures.others)
-    (record { words = c.settle_newjob.ensures.words; newjob = c.settle_newjob.ensures.newjob; uses = c.settle_newjob.ensures.uses; others = c.settle_newjob.ensures.others })
+    (record { words = c.note_best_runs.ensures.words; newjob = c.note_best_runs.ensures.newjob; uses = c.note_best_runs.ensures.uses; others = c.note_best_runs.ensures.others })

@@ -16,7 +16,7 @@ use Rattle.agc_exec.proofs.Coming.{Came, Comes, Comes-made, came, came-lawful, c
 use Rattle.agc_exec.proofs.Decoding.{length-sets, IsSized-kept, job_with}
 use Rattle.agc_exec.proofs.Finishing.{finish, sets_of-same, IsLawfulBlock-new}
 use Rattle.agc_exec.proofs.Newcomers.{newcomer, only_awake, led}
-use Rattle.agc_exec.proofs.establish.settle.Goals as goal
+use Rattle.agc_exec.proofs.establish.admit.Goals as goal
 
 free : (words : List ℕ) (k : ℕ) → IsSized words → (k < sets_in words) × IsFreeAt (sets_of words) k → (k < length (sets_of words)) × IsFreeAt (sets_of words) k
 free words k sized is = let len : length (sets_of words) ≡ sets_in words = length-sets words in let lt : k < sets_in words = is.0 in (omega arith, is.1)
