@@ -14,7 +14,7 @@ use Rattle.agc_machine.specs.declared.totals.Totals.{Totals}
 use Rattle.agc_machine.specs.Told.{add, nothing}
 use Rattle.agc_machine.specs.Machines.{Machined, after, after_all, said_of}
 use Rattle.agc_machine.specs.Said.{Said}
-use Rattle.agc_desk.specs.declared.book.Call.{Call}
+use Rattle.agc_desk.specs.declared.ties.Call.{Call}
 use Rattle.agc_desk.specs.Desks.{ArePulses}
 use Rattle.agc_desk.specs.History.{Holder, IsHistory, Leads, applied_in, calls_by, is_of, new_holder, numbers_of, own_call, with_heard}
 use Rattle.agc_desk.proofs.Calls.{calls_by_append}
@@ -189,7 +189,7 @@ run_finished may_answer bench first latch calls caller shares devices last appli
     let caller_is : caller ≡ with_heard (calls_by 0 (first_calls answers)) (new_holder 0) =
     ran.ready.caller_is ∙ ap (λ l. with_heard l (new_holder 0)) (sym (calls_by_first answers)) in
     let begun : HaveMade (first_calls answers) starts = made (first_calls answers) caller ran.starts caller_is (λ n. calls_by_others n answers) ran.ready.fresh in
-    let asked : EachAsks may_answer (asker_at bench) starts (ends.now ∷ shares) = each_all may_answer bench caller ends.now ran.starts shares ends.attended ran.each in
+    let asked : EachAsks may_answer (asker_at bench) starts (ends.now ∷ shares) = each_all may_answer bench caller ends.now ran.starts shares ends.attended ran.asked.each in
     run_of may_answer bench first (calls ++ ends.more) last starts (ends.now ∷ shares) applied is ends.whole
     (subst (λ p. ArePulses p (calls ++ ends.more) applied) (plan_is bench first is) ends.pulses)
-    (begins_on (first_calls answers) calls ends.more begins) begun asked (omega (arith, ran.for_each)) (omega (arith, ran.ready.for_each))
+    (begins_on (first_calls answers) calls ends.more begins) begun asked (omega (arith, ran.asked.for_each)) (omega (arith, ran.ready.for_each))

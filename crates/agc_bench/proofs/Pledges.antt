@@ -5,7 +5,7 @@ use Rattle.agc_latch.specs.declared.line.Line.{Line}
 use Rattle.agc_latch.specs.Ends.{Posting}
 use Rattle.agc_desk.specs.History.{Holder}
 use Rattle.agc_document.specs.Benches.{Benched}
-use Rattle.agc_bench.specs.Sharing.{spent_device}
+use Rattle.agc_bench.specs.Sharing.{IsPledge, IsPosts, spent_device}
 
 -- one element more
 pub each_push : {T : Type 0} (P : ℕ → T → Type 0) (xs : List T) (x : T)
@@ -17,13 +17,6 @@ each_push P (y ∷ ys) x old here zero d lt = old zero d (omega arith)
 each_push P (y ∷ ys) x old here (suc k) d lt =
     each_push (λ j. P (suc j)) ys x (λ j e l. old (suc j) e (omega arith)) here k d (omega arith)
 
--- the pledge of a thread: its number, its bench and its gate, and what its share was told as it starts
-pub record IsPledge {G : Type 0} (bench : Benched) (starts : List Holder) (gate : G) (k : ℕ) (start : Holder) (its_bench : Benched) (thread : ℕ) (its_gate : G) : Type 0 where
-  pub start_is : (s : Holder) → start ≡ get_or starts k s
-  pub bench_is : its_bench ≡ bench
-  pub thread_is : thread ≡ k
-  pub gate_is : its_gate ≡ gate
-
 -- a pledge stays what it is as one more start is known
 pub pledge_kept : {G : Type 0} (bench : Benched) (starts : List Holder) (x : Holder) (gate : G) (k : ℕ) (start : Holder) (its_bench : Benched) (thread : ℕ) (its_gate : G)
     → k < length starts → IsPledge bench starts gate k start its_bench thread its_gate → IsPledge bench (starts ++ x ∷ []) gate k start its_bench thread its_gate
@@ -33,11 +26,6 @@ pledge_kept bench starts x gate k start its_bench thread its_gate below pledge =
   thread_is = pledge.thread_is;
   gate_is = pledge.gate_is;
 }
-
--- the promise of a device's thread: its latch, and its line and pulses as the bench has them
-pub record IsPosts (latch : TableId) (bench : Benched) (k : ℕ) (its_latch : TableId) (planned : Line × ℕ) : Type 0 where
-  pub latch_is : its_latch ≡ latch
-  pub planned_is : (d : Line × ℕ) → planned ≡ get_or bench.devices k d
 
 -- a device that a thread gave back, as its promise says
 pub spent_at : (latch : TableId) (bench : Benched) (back : List Posting) (k : ℕ) (d : Posting) (its_latch : TableId) (planned : Line × ℕ)

@@ -4,7 +4,7 @@ use Rattle.std.specs.List.{All}
 use Rattle.std.proofs.lemmas.List.Elements.{All-append, All-cons, All-nil}
 use Rattle.atomic_table.specs.Seated.{TableId}
 use Rattle.agc_machine.specs.Machines.{Machined, after, said_of}
-use Rattle.agc_desk.specs.declared.book.Call.{Call}
+use Rattle.agc_desk.specs.declared.ties.Call.{Call}
 use Rattle.agc_desk.specs.declared.drain.Drained.{Drained}
 use Rattle.agc_desk.specs.Desks.{Desked}
 use Rattle.agc_desk.specs.Draining.{Attends, Drains, calls_of, drained_by}

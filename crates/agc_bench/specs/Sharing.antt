@@ -10,7 +10,7 @@ use Rattle.agc_latch.specs.Ends.{Posting, new_device}
 use Rattle.agc_latch.specs.Lines.{on}
 use Rattle.agc_machine.specs.Machines.{Machined}
 use Rattle.agc_machine.specs.Said.{Said}
-use Rattle.agc_desk.specs.declared.book.Call.{Call}
+use Rattle.agc_desk.specs.declared.ties.Call.{Call}
 use Rattle.agc_desk.specs.Desks.{ArePulses}
 use Rattle.agc_desk.specs.Draining.{answers_to}
 use Rattle.agc_desk.specs.History.{Holder, IsHistory, calls_by}
@@ -63,9 +63,39 @@ EachAsks may_answer who old new =
     (i : ℕ) (s t : Holder) → i < length new
     → AsksOwn may_answer (who i) (slice_index_or old i s) (slice_index_or new i t)
 
+-- each thread of a bench asked what is its own, with the share that it had
+pub record HaveAsked (may_answer : ℕ → ℕ → Bool → Type 0) (bench : Benched)
+    (old new : List Holder) : Type 0 where
+  pub for_each : length new ≡ length old
+  pub each : EachAsks may_answer (thread_at bench) old new
+
 -- a device of this latch that posted all its pulses
 abbrev pub spent_device : TableId → Line × ℕ → Posting
 spent_device latch device = record { latch = latch; posts = device.1; posted = posts_of device }
+
+-- the devices of a bench before they post, each of which may post its pulses
+abbrev pub new_devices : TableId → Benched → List Posting
+new_devices latch bench = map (λ d. new_device latch d.1) bench.devices
+
+-- and when they have posted them all
+abbrev pub spent_devices : TableId → Benched → List Posting
+spent_devices latch bench = map (spent_device latch) bench.devices
+
+-- what a thread of this number promises: to ask what is its own, as the bench says, with the share
+-- at its place as that was when the thread started, through this gate
+pub record IsPledge {G : Type 0} (bench : Benched) (starts : List Holder) (gate : G) (thread : ℕ)
+    (its_start : Holder) (its_bench : Benched) (its_thread : ℕ) (its_gate : G) : Type 0 where
+  pub start_is : (s : Holder) → its_start ≡ slice_index_or starts thread s
+  pub bench_is : its_bench ≡ bench
+  pub thread_is : its_thread ≡ thread
+  pub gate_is : its_gate ≡ gate
+
+-- what the thread of a device at this place promises: to post, on this latch, on the line and as
+-- often as the bench says
+pub record IsPosts (latch : TableId) (bench : Benched) (place : ℕ) (its_latch : TableId)
+    (planned : Line × ℕ) : Type 0 where
+  pub latch_is : its_latch ≡ latch
+  pub planned_is : (d : Line × ℕ) → planned ≡ slice_index_or bench.devices place d
 
 -- what takes part in a run before it begins: the script was asked with the caller's share; each
 -- thread that asks has a share, with which nothing was asked; and each device may post its pulses
@@ -74,7 +104,7 @@ pub record AreReady (first : Machined) (bench : Benched) (latch : TableId)
   pub caller_is : caller ≡ with_heard (first_calls (answers_to first bench.script)) (new_holder 0)
   pub fresh : AreFresh 1 shares
   pub for_each : length shares ≡ length (threads_of bench)
-  pub devices_are : devices ≡ map (λ d. new_device latch d.1) bench.devices
+  pub devices_are : devices ≡ new_devices latch bench
 
 -- what takes part in a run when its threads have ended: each asked what is its own with the share
 -- that it had, and each device posted its pulses
@@ -82,11 +112,9 @@ pub record HaveRun (may_answer : ℕ → ℕ → Bool → Type 0) (first : Machi
     (latch : TableId) (caller : Holder) (shares : List Holder)
     (devices : List Posting) : Type 0 where
   pub starts : List Holder
-  pub ready : AreReady first bench latch caller starts
-      (map (λ d. new_device latch d.1) bench.devices)
-  pub for_each : length shares ≡ length starts
-  pub each : EachAsks may_answer (thread_at bench) starts shares
-  pub devices_are : devices ≡ map (spent_device latch) bench.devices
+  pub ready : AreReady first bench latch caller starts (new_devices latch bench)
+  pub asked : HaveAsked may_answer bench starts shares
+  pub devices_are : devices ≡ spent_devices latch bench
 
 -- calls come after those that were made before
 abbrev pub GoesOn : List Call → List Call → Type 0

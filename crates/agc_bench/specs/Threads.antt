@@ -9,7 +9,7 @@ use Rattle.agc_latch.specs.declared.line.Line.{Line}
 use Rattle.agc_latch.specs.Lines.{on, raised, word_of, zeros}
 use Rattle.agc_machine.specs.Image.{HandsOut}
 use Rattle.agc_machine.specs.Machines.{Machined, after_all}
-use Rattle.agc_desk.specs.declared.book.Call.{Call}
+use Rattle.agc_desk.specs.declared.ties.Call.{Call}
 use Rattle.agc_desk.specs.Desks.{ArePulses}
 use Rattle.agc_desk.specs.History.{Leads, calls_by}
 use Rattle.agc_desk.specs.Runs.{IsFront, requests_of}

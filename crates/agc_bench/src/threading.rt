@@ -1,11 +1,13 @@
-ghost use Rattle.std.specs.Prelude.{◌≡◌, ℕ, IfOk, IfErr, Some, length, map, nat_eq, vec_len};
+ghost use Rattle.std.specs.Prelude.{◌≡◌, ◌<◌, ℕ, IfOk, IfErr, Some, length, nat_eq};
+ghost use Rattle.std.specs.Prelude.{slice_index_or, vec_len};
 ghost use Rattle.agc_latch.specs.Ends.{new_device};
 ghost use Rattle.agc_latch.specs.Lines.{zeros};
 ghost use Rattle.agc_desk.specs.Draining.{answers_to};
 ghost use Rattle.agc_desk.specs.Opening.{names_of};
 ghost use Rattle.agc_session.specs.Runs.{bench_machine};
-ghost use Rattle.agc_bench.specs.Sharing.{AreReady, AsksOwn, EachAsks, HaveRun, first_calls};
-ghost use Rattle.agc_bench.specs.Sharing.{spent_device};
+ghost use Rattle.agc_bench.specs.Sharing.{AreReady, AsksOwn, HaveAsked, HaveRun, first_calls};
+ghost use Rattle.agc_bench.specs.Sharing.{spent_device, spent_devices};
+ghost use Rattle.agc_bench.specs.Sharing.{IsPledge, IsPosts, new_devices};
 ghost use Rattle.agc_bench.specs.Threads.{AreSettled, IsRun, WritesRun, askers_of};
 ghost use Rattle.agc_bench.specs.Steps.{IsEarly, WritesSettled, thread_at};
 
@@ -26,7 +28,7 @@ use std::marker::Brand;
 use std::snapshot::Snapshot;
 use std::sync::{Mutex, Wait};
 use std::thread;
-use std::thread::{Promise, Threads};
+use std::thread::{Promise, PromisedHandle, Scope, Threads};
 
 /// What a thread promises of its share: that it asks what is its own, through this gate.
 #[derive(Drop)]
@@ -54,6 +56,45 @@ impl<'l> Promise<Device> for Posts<'l> {
     ghost kept_by = { λ pledge device. device ≡ spent_device pledge.latch.now pledge.planned };
 }
 
+/// Starts a thread for each share, which asks with it what is its own: the workers' first, and then
+/// one that attends.
+fn start_askers<'s, E, N: Sharing + Send + Sync, G: Gate + Sync, W: Wait + Sync>(
+    scope: &Scope<'s, E>,
+    rt: &'s W,
+    alloc: Global,
+    shared: &'s Shared<N>,
+    latch: &'s Latch,
+    shares: Vec<Share<N>>,
+    bench: &'s Bench,
+    gate: &'s G,
+) -> Result<Vec<PromisedHandle<Share<N>, Pledge<'s, 's, N, G>>>, RunFault>
+    requires latch { latch.now ≡ N.latch }
+    ensures len { IfOk result (λ v. vec_len v ≡ vec_len shares) }
+    ensures each { IfOk result (λ v. (k : ℕ) (d : _) → k < vec_len v
+        → let p = (slice_index_or v.items k d).promise in
+        IsPledge bench.now shares.items gate.now k p.start.value p.bench.now p.thread p.gate.now) }
+    ensures early { IfErr result (λ fault. IsEarly fault) }
+{
+    let mut running = Vec::new(alloc);
+    for share in shares {
+        let thread = running.len();
+        let pledge = Pledge {
+            start: Snapshot::of(&share),
+            bench,
+            thread,
+            gate,
+        };
+        let own = move || -> Share<N>
+            requires { latch.now ≡ N.latch }
+            ensures { AsksOwn (λ n call answer. G.may_answer gate.entry.now n call answer)
+                (thread_at bench.entry.now thread) share result }
+        { ask_own(rt, shared, latch, share, bench, thread, gate) };
+        let asking = scope.spawn_with(pledge, own)?;
+        running.push(asking)?;
+    }
+    Ok(running)
+}
+
 /// Has all workers ask at once, and one more thread attend, each in a thread of its own with the
 /// share at its place, and joins them.
 fn ask_at_once<N: Sharing + Send + Sync, G: Gate + Sync, W: Threads + Wait + Sync>(
@@ -66,9 +107,8 @@ fn ask_at_once<N: Sharing + Send + Sync, G: Gate + Sync, W: Threads + Wait + Syn
     gate: &G,
 ) -> Result<Vec<Share<N>>, RunFault>
     requires latch { latch.now ≡ N.latch }
-    ensures len { IfOk result (λ v. vec_len v ≡ vec_len shares) }
-    ensures each { IfOk result (λ v. EachAsks (λ n call answer. G.may_answer gate.now n call answer)
-        (thread_at bench.now) shares.items v.items) }
+    ensures asked { IfOk result (λ v. HaveAsked
+        (λ n call answer. G.may_answer gate.now n call answer) bench.now shares.items v.items) }
     ensures early { IfErr result (λ fault. IsEarly fault) }
 {
     thread::scope(
@@ -76,35 +116,47 @@ fn ask_at_once<N: Sharing + Send + Sync, G: Gate + Sync, W: Threads + Wait + Syn
         rt,
         move |scope| -> Result<Vec<Share<N>>, RunFault>
             requires latch { latch.now ≡ N.latch }
-            ensures len { IfOk result (λ v. vec_len v ≡ vec_len shares) }
-            ensures each { IfOk result (λ v. EachAsks
+            ensures asked { IfOk result (λ v. HaveAsked
                 (λ n call answer. G.may_answer gate.entry.now n call answer)
-                (thread_at bench.entry.now) shares.items v.items) }
+                bench.entry.now shares.items v.items) }
             ensures early { IfErr result (λ fault. IsEarly fault) }
         {
-            let mut running = Vec::new(alloc);
-            for share in shares {
-                let thread = running.len();
-                let pledge = Pledge {
-                    start: Snapshot::of(&share),
-                    bench,
-                    thread,
-                    gate,
-                };
-                let own = move || -> Share<N>
-                    requires { latch.now ≡ N.latch }
-                    ensures { AsksOwn (λ n call answer. G.may_answer gate.entry.now n call answer)
-                        (thread_at bench.entry.now thread) share result }
-                { ask_own(rt, shared, latch, share, bench, thread, gate) };
-                let asking = scope.spawn_with(pledge, own)?;
-                running.push(asking)?;
-            }
+            let running = start_askers(scope, rt, alloc, shared, latch, shares, bench, gate)?;
             match thread::join_promised(rt, running) {
                 Ok(back) => Ok(back),
                 Err(_failed) => Err(RunFault::NoMemory),
             }
         },
     )
+}
+
+/// Starts a thread for each device of a bench, which posts its pulses on its line.
+fn start_posters<'s, E>(
+    scope: &Scope<'s, E>,
+    alloc: Global,
+    latch: &'s Latch,
+    devices: Vec<Device>,
+    bench: &Bench,
+) -> Result<Vec<PromisedHandle<Device, Posts<'s>>>, RunFault>
+    requires devices { devices.items ≡ new_devices latch.now bench.now }
+    ensures len { IfOk result (λ v. vec_len v ≡ length bench.now.devices) }
+    ensures each { IfOk result (λ v. (k : ℕ) (d : _) → k < vec_len v
+        → let p = (slice_index_or v.items k d).promise in
+        IsPosts latch.now bench.now k p.latch.now p.planned) }
+    ensures early { IfErr result (λ fault. IsEarly fault) }
+{
+    let mut posting = Vec::new(alloc);
+    for device in devices {
+        let planned = bench.devices()[posting.len()];
+        let pledge = Posts { latch, planned };
+        let own = move || -> Device
+            requires { device ≡ new_device latch.now planned.1 }
+            ensures { result ≡ spent_device latch.entry.now planned }
+        { post_all(latch, device, planned) };
+        let poster = scope.spawn_with(pledge, own)?;
+        posting.push(poster)?;
+    }
+    Ok(posting)
 }
 
 /// Has all devices post at once, each in a thread of its own, while the workers ask and one more
@@ -120,12 +172,10 @@ fn run_at_once<N: Sharing + Send + Sync, G: Gate + Sync, W: Threads + Wait + Syn
     gate: &G,
 ) -> Result<(Vec<Share<N>>, Vec<Device>), RunFault>
     requires latch { latch.now ≡ N.latch }
-    requires devices { devices.items ≡ map (λ d. new_device latch.now d.1) bench.now.devices }
-    ensures len { IfOk result (λ r. vec_len r.0 ≡ vec_len shares) }
-    ensures each { IfOk result (λ r. EachAsks (λ n call answer. G.may_answer gate.now n call answer)
-        (thread_at bench.now) shares.items r.0.items) }
-    ensures devices { IfOk result (λ r. r.1.items ≡ map
-        (spent_device latch.now) bench.now.devices) }
+    requires devices { devices.items ≡ new_devices latch.now bench.now }
+    ensures asked { IfOk result (λ r. HaveAsked
+        (λ n call answer. G.may_answer gate.now n call answer) bench.now shares.items r.0.items) }
+    ensures devices { IfOk result (λ r. r.1.items ≡ spent_devices latch.now bench.now) }
     ensures early { IfErr result (λ fault. IsEarly fault) }
 {
     thread::scope(
@@ -133,27 +183,15 @@ fn run_at_once<N: Sharing + Send + Sync, G: Gate + Sync, W: Threads + Wait + Syn
         rt,
         move |scope| -> Result<(Vec<Share<N>>, Vec<Device>), RunFault>
             requires latch { latch.now ≡ N.latch }
-            requires devices { devices.items ≡ map
-                (λ d. new_device latch.now d.1) bench.now.devices }
-            ensures len { IfOk result (λ r. vec_len r.0 ≡ vec_len shares) }
-            ensures each { IfOk result (λ r. EachAsks
+            requires devices { devices.items ≡ new_devices latch.now bench.now }
+            ensures asked { IfOk result (λ r. HaveAsked
                 (λ n call answer. G.may_answer gate.entry.now n call answer)
-                (thread_at bench.entry.now) shares.items r.0.items) }
-            ensures devices { IfOk result (λ r. r.1.items ≡ map
-                (spent_device latch.entry.now) bench.entry.now.devices) }
+                bench.entry.now shares.items r.0.items) }
+            ensures devices { IfOk result
+                (λ r. r.1.items ≡ spent_devices latch.entry.now bench.entry.now) }
             ensures early { IfErr result (λ fault. IsEarly fault) }
         {
-            let mut posting = Vec::new(alloc);
-            for device in devices {
-                let planned = bench.devices()[posting.len()];
-                let pledge = Posts { latch, planned };
-                let own = move || -> Device
-                    requires { device ≡ new_device latch.now planned.1 }
-                    ensures { result ≡ spent_device latch.entry.now planned }
-                { post_all(latch, device, planned) };
-                let poster = scope.spawn_with(pledge, own)?;
-                posting.push(poster)?;
-            }
+            let posting = start_posters(scope, alloc, latch, devices, bench)?;
             let back = ask_at_once(rt, alloc, shared, latch, shares, bench, gate)?;
             match thread::join_promised(rt, posting) {
                 Ok(devices) => Ok((back, devices)),

@@ -15,8 +15,8 @@ use Rattle.agc_machine.specs.declared.totals.Totals.{Totals}
 use Rattle.std.specs.Option.{option_map_or}
 use Rattle.agc_machine.specs.Machines.{Machined, after, answer_of, refusal_of, result_of, said_of, served, stepped}
 use Rattle.agc_machine.specs.Told.{add, nothing, told}
-use Rattle.agc_desk.specs.declared.book.Call.{Call}
-use Rattle.agc_desk.specs.Accounts.{told_in, told_to}
+use Rattle.agc_desk.specs.declared.ties.Call.{Call}
+use Rattle.agc_desk.specs.Books.{told_in, told_to}
 use Rattle.agc_desk.specs.History.{Holder, IsHistory, Leads, calls_by, numbers_of}
 
 -- one call more
@@ -124,7 +124,7 @@ all_numbers numbers n number apart below many within = by_test (list_any (nat_eq
         (λ k has. ⊎_elim (λ old. below k old) (λ (same : k ≡ number). omega (arith, same, within)) (push_cases k number numbers has)) in
         absurd (omega (arith, longer, length_push numbers number, many))
 
--- a history is whole where as many shares were settled as were given out
+-- a history is whole where as many shares were gathered as were given out
 pub whole_history : (first : Machined) (shares : List Holder) (calls : List Call) (last : Machined) (given : ℕ)
     → Leads first calls last → All (λ s. calls_by s.number calls ≡ s.heard) shares → IsDistinct nat_eq (numbers_of shares)
     → ((k : ℕ) → list_any (nat_eq k) (numbers_of shares) ≡ true → k < given) → length shares ≡ given → All (λ call. call.by < given) calls → IsHistory first shares calls last

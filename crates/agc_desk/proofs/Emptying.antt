@@ -17,8 +17,8 @@ use Rattle.agc_machine.specs.declared.totals.Totals.{Totals}
 use Rattle.agc_machine.specs.Machines.{Machined, after, after_all, answer_of, refusal_of, result_of, said_of, served, stepped}
 use Rattle.agc_machine.specs.Said.{Said}
 use Rattle.agc_machine.specs.Told.{add, nothing, told}
-use Rattle.agc_desk.specs.declared.book.Call.{Call}
-use Rattle.agc_desk.specs.Accounts.{told_in}
+use Rattle.agc_desk.specs.declared.ties.Call.{Call}
+use Rattle.agc_desk.specs.Books.{told_in}
 use Rattle.agc_desk.specs.Desks.{Desked, with_lines}
 use Rattle.agc_desk.specs.Draining.{NoneRefused, ServesAll, answers_to, calls_of, pulse_refusal, requests_by, with_asked}
 use Rattle.agc_desk.specs.History.{Holder, with_heard}

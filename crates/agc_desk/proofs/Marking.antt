@@ -15,7 +15,7 @@ use Rattle.agc_plan.specs.declared.request.Task.{Task}
 use Rattle.agc_plan.specs.Plans.{Planned}
 use Rattle.agc_machine.specs.declared.answer.Refusal.{Refusal}
 use Rattle.agc_machine.specs.Said.{Said}
-use Rattle.agc_desk.specs.declared.book.Call.{Call}
+use Rattle.agc_desk.specs.declared.ties.Call.{Call}
 use Rattle.agc_desk.specs.Desks.{ArePulses}
 use Rattle.agc_desk.specs.History.{applied_in, is_of}
 use Rattle.agc_desk.specs.Pulses.{pulse_request}

@@ -11,10 +11,10 @@ use Rattle.atomic_table.specs.Table.{State, Splits, Joins, Allows, keeps, step}
 use Rattle.atomic_table.proofs.Lists.{at_set, set_again}
 use Rattle.agc_latch.specs.declared.line.Line.{Line}
 use Rattle.agc_machine.specs.Said.{Said}
-use Rattle.agc_desk.specs.declared.book.Call.{Call}
-use Rattle.agc_desk.specs.declared.book.View.{View}
+use Rattle.agc_desk.specs.declared.ties.Call.{Call}
+use Rattle.agc_desk.specs.declared.ties.View.{View}
 use Rattle.agc_desk.specs.History.{calls_by, new_holder, with_heard}
-use Rattle.agc_desk.specs.Views.{owner, nobody, joined, call_by, holder_of, IsSettled, Fits, Kept, Settled, Counted, Checked}
+use Rattle.agc_desk.specs.Views.{owner, nobody, joined, call_by, holder_of, IsGathered, Fits, Kept, Gathered, Counted, Checked}
 use Rattle.agc_desk.specs.Knowing.{knower}
 
 abbrev pub Holds : State ℕ View → Type 0
@@ -69,10 +69,10 @@ turned_else seat_of b i k apart = else (k == b) (grind (arith, nat_tests))
     else : (t : Bool) → t ≡ false → cond t i (seat_of k) ≡ seat_of k
     else t e = ap (λ x. cond x i (seat_of k)) e
 
--- where this number goes to a seat or from one, or is given out first, the settled ones stay settled
-still_settled : (given more : ℕ) (seat_of : ℕ → ℕ) (b i : ℕ) (settled : List ℕ) → ((k : ℕ) → IsSettled given seat_of k → k ≢ b)
-    → All (λ n. IsSettled given seat_of n) settled → All (λ n. IsSettled (given + more) (turned seat_of b i) n) settled
-still_settled given more seat_of b i settled apart all k d below =
+-- where this number goes to a seat or from one, or is given out first, the gathered ones stay gathered
+still_gathered : (given more : ℕ) (seat_of : ℕ → ℕ) (b i : ℕ) (gathered : List ℕ) → ((k : ℕ) → IsGathered given seat_of k → k ≢ b)
+    → All (λ n. IsGathered given seat_of n) gathered → All (λ n. IsGathered (given + more) (turned seat_of b i) n) gathered
+still_gathered given more seat_of b i gathered apart all k d below =
     let s = all k d below in
     record { given_out = omega (arith, s.given_out); nobody_has = turned_else seat_of b i _ (apart _ s) ∙ s.nobody_has }
 
@@ -129,7 +129,7 @@ takes i v o w is_keeper s h at apart there =
     let theirs : Fits h.keeper h.given h.seat_of h.calls o w = ⊎_elim (λ (t : (o ≡ i) × (joined v w ≡ w)). absurd (apart t.0)) (λ (t : (o ≢ i) × (get_elem? s.views o ≡ some w)). h.fits o w t.1) (at_set s.views i o (joined v w) w there) in
     by_claim k theirs w.owns refl
   where
-    by_claim : (i ≡ h.keeper) × (v.calls ≡ h.calls) × (v.given ≡ h.given) × All (λ n. IsSettled h.given h.seat_of n) v.settled → Fits h.keeper h.given h.seat_of h.calls o w
+    by_claim : (i ≡ h.keeper) × (v.calls ≡ h.calls) × (v.given ≡ h.given) × All (λ n. IsGathered h.given h.seat_of n) v.gathered → Fits h.keeper h.given h.seat_of h.calls o w
         → (b : Bool) → w.owns ≡ b → Kept (set (set s.views i (joined v w)) o nobody)
     by_claim k theirs false without =
         record {
@@ -146,7 +146,7 @@ takes i v o w is_keeper s h at apart there =
     by_claim k theirs true claims =
         let own = theirs.own claims in
         let now = turned h.seat_of w.number (i + 1) in
-        let settled : (n : ℕ) → IsSettled h.given h.seat_of n → IsSettled h.given now n =
+        let gathered : (n : ℕ) → IsGathered h.given h.seat_of n → IsGathered h.given now n =
         λ n z. record { given_out = z.given_out; nobody_has = turned_else h.seat_of w.number (i + 1) n (λ same. omega (arith, z.nobody_has, own.0, ap h.seat_of same)) ∙ z.nobody_has } in
         record {
           keeper = h.keeper;
@@ -159,7 +159,7 @@ takes i v o w is_keeper s h at apart there =
               (λ (t : (j ≡ o) × (nobody ≡ u)). subst (Fits h.keeper h.given now h.calls j) t.1 (fits_nobody h.keeper h.given now h.calls j))
               (λ (t : (j ≢ o) × (get_elem? (set s.views i (joined v w)) j ≡ some u)).
               ⊎_elim
-              (λ (x : (j ≡ i) × (joined v w ≡ u)). subst (λ (y : ℕ × View). Fits h.keeper h.given now h.calls y.0 y.1) (λ m. (sym x.0 m, x.1 m)) (record { knows = λ _. (k.0, k.1, k.2, λ n d l. settled _ (k.3 n d l)); own = λ c. (turned_here h.seat_of w.number (i + 1), own.1, own.2) }))
+              (λ (x : (j ≡ i) × (joined v w ≡ u)). subst (λ (y : ℕ × View). Fits h.keeper h.given now h.calls y.0 y.1) (λ m. (sym x.0 m, x.1 m)) (record { knows = λ _. (k.0, k.1, k.2, λ n d l. gathered _ (k.3 n d l)); own = λ c. (turned_here h.seat_of w.number (i + 1), own.1, own.2) }))
               (λ (x : (j ≢ i) × (get_elem? s.views j ≡ some u)).
               let f = h.fits j u x.1 in
               record {
@@ -170,10 +170,10 @@ takes i v o w is_keeper s h at apart there =
               (at_set (set s.views i (joined v w)) o j nobody u e);
         }
 
-pub deals : (i : ℕ) (v : View) → v.keeps ≡ true → Splits Holds i v (knower v.calls (v.given + 1) v.settled) (owner (new_holder v.given))
+pub deals : (i : ℕ) (v : View) → v.keeps ≡ true → Splits Holds i v (knower v.calls (v.given + 1) v.gathered) (owner (new_holder v.given))
 deals i v is_keeper s h at =
     let k = (h.fits i v at).knows is_keeper in
-    let left = knower v.calls (v.given + 1) v.settled in
+    let left = knower v.calls (v.given + 1) v.gathered in
     let new = length (set s.views i left) in
     let now = turned h.seat_of v.given (new + 1) in
     record {
@@ -191,19 +191,19 @@ deals i v is_keeper s h at =
             own = λ c. let mine = f.own c in (turned_else h.seat_of v.given (new + 1) u.number (λ same. omega (arith, same, mine.1, k.2)) ∙ mine.0, omega (arith, mine.1), mine.2);
           })
           (record {
-            knows = λ _. (k.0, k.1, ap (λ n. n + 1) k.2, still_settled h.given 1 h.seat_of v.given (new + 1) v.settled (λ n z same. omega (arith, z.given_out, same, k.2)) k.3);
+            knows = λ _. (k.0, k.1, ap (λ n. n + 1) k.2, still_gathered h.given 1 h.seat_of v.given (new + 1) v.gathered (λ n z same. omega (arith, z.given_out, same, k.2)) k.3);
             own = λ c. absurd (off c);
           }))
           (record { knows = λ c. absurd (off c); own = λ _. (turned_here h.seat_of v.given (new + 1), omega (arith, k.2), none_by v.given h.given k.2 h.calls h.below) });
     }
 
 pub notes : (i : ℕ) (v : View) (said : Said) (pulse : Option Line) → v.keeps ≡ true → v.owns ≡ true
-    → Splits Holds i v (knower (v.calls ++ call_by v said pulse ∷ []) v.given v.settled) (owner (with_heard (call_by v said pulse ∷ []) (holder_of v)))
+    → Splits Holds i v (knower (v.calls ++ call_by v said pulse ∷ []) v.given v.gathered) (owner (with_heard (call_by v said pulse ∷ []) (holder_of v)))
 notes i v said pulse is_keeper owns s h at =
     let k = (h.fits i v at).knows is_keeper in
     let own = (h.fits i v at).own owns in
     let e : Call = call_by v said pulse in
-    let left = knower (v.calls ++ e ∷ []) v.given v.settled in
+    let left = knower (v.calls ++ e ∷ []) v.given v.gathered in
     let new = length (set s.views i left) in
     let now = turned h.seat_of v.number (new + 1) in
     record {
@@ -230,17 +230,17 @@ notes i v said pulse is_keeper owns s h at =
           (record { knows = λ c. absurd (off c); own = λ _. (turned_here h.seat_of v.number (new + 1), own.1, calls_here v.number h.calls e refl ∙ ap (λ l. l ++ e ∷ []) own.2) });
     }
 
-pub settles_as : (slots i : ℕ) (me : View × List (ℕ × ℕ)) → me.0.keeps ≡ true → me.0.owns ≡ true
-    → Allows Holds slots i me 0 (λ n. n) (Settled (step slots 0 0 0 none) me)
-settles_as slots i me is_keeper owns s h len at word =
+pub gathers_as : (slots i : ℕ) (me : View × List (ℕ × ℕ)) → me.0.keeps ≡ true → me.0.owns ≡ true
+    → Allows Holds slots i me 0 (λ n. n) (Gathered (step slots 0 0 0 none) me)
+gathers_as slots i me is_keeper owns s h len at word =
     let v = me.0 in
     let f = h.fits i v at in
     let k = f.knows is_keeper in
     let own = f.own owns in
-    let w = knower v.calls v.given (v.settled ++ v.number ∷ []) in
+    let w = knower v.calls v.given (v.gathered ++ v.number ∷ []) in
     let now = turned h.seat_of v.number 0 in
-    let apart : (n : ℕ) → IsSettled h.given h.seat_of n → n ≢ v.number = λ n z same. omega (arith, z.nobody_has, own.0, ap h.seat_of same) in
-    let settled : (n : ℕ) → IsSettled h.given h.seat_of n → IsSettled h.given now n =
+    let apart : (n : ℕ) → IsGathered h.given h.seat_of n → n ≢ v.number = λ n z same. omega (arith, z.nobody_has, own.0, ap h.seat_of same) in
+    let gathered : (n : ℕ) → IsGathered h.given h.seat_of n → IsGathered h.given now n =
     λ n z. record { given_out = z.given_out; nobody_has = turned_else h.seat_of v.number 0 n (apart n z) ∙ z.nobody_has } in
     let new : Kept (set s.views i w) = record {
       keeper = h.keeper;
@@ -257,7 +257,7 @@ settles_as slots i me is_keeper owns s h len at word =
             own = λ c. let mine = g.own c in (turned_else h.seat_of v.number 0 u.number (λ same. far (omega (arith, mine.0, own.0, ap h.seat_of same))) ∙ mine.0, mine.1, mine.2);
           })
           (record {
-            knows = λ _. (k.0, k.1, k.2, All-push (λ n. IsSettled h.given now n) v.settled v.number (λ n d l. settled _ (k.3 n d l)) (record { given_out = own.1; nobody_has = turned_here h.seat_of v.number 0 }));
+            knows = λ _. (k.0, k.1, k.2, All-push (λ n. IsGathered h.given now n) v.gathered v.number (λ n d l. gathered _ (k.3 n d l)) (record { given_out = own.1; nobody_has = turned_here h.seat_of v.number 0 }));
             own = λ c. absurd (off c);
           });
     } in (
@@ -270,7 +270,7 @@ settles_as slots i me is_keeper owns s h len at word =
           new = refl;
           heard = subst (λ l. calls_by v.number l ≡ v.heard) (sym k.1) own.2;
           given_out = subst (λ n. v.number < n) (sym k.2) own.1;
-          apart = list_any_none (nat_eq v.number) v.settled (λ n d l. other v.number _ (apart _ (k.3 n d l)));
+          apart = list_any_none (nat_eq v.number) v.gathered (λ n d l. other v.number _ (apart _ (k.3 n d l)));
         },
         refl,
       ),

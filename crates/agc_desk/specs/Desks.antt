@@ -8,8 +8,8 @@ use Rattle.agc_latch.specs.Accounts.{LineAccounts, no_accounts}
 use Rattle.agc_machine.specs.declared.totals.Totals.{Totals}
 use Rattle.agc_machine.specs.Machines.{Machined}
 use Rattle.agc_machine.specs.Told.{add, nothing}
-use Rattle.agc_desk.specs.declared.book.Call.{Call}
-use Rattle.agc_desk.specs.Accounts.{Accounts}
+use Rattle.agc_desk.specs.declared.ties.Call.{Call}
+use Rattle.agc_desk.specs.Books.{Ledgered}
 use Rattle.agc_desk.specs.History.{Known, Leads, applied_in}
 use Rattle.agc_desk.specs.Pulses.{pulse_request}
 
@@ -46,13 +46,13 @@ pub record ArePulses (plan : Planned) (calls : List Call) (applied : List ℕ) :
       → on line applied ≡ applied_in line calls
 
 -- what a desk keeps that was made with the first machine: its history leads from that one to its
--- machine, and no share was settled; each book is the machine's total less its value as the desk
+-- machine, and no share was gathered; each book is the machine's total less its value as the desk
 -- was made; with each share went one of the 65 parts of each ledger, the desk keeps at least one,
 -- and no share is back; and its lines tell of the pulses of its history
 pub record IsBooked (first machine : Machined) (known : Known) (since : Totals)
-    (ledgers : Accounts) (applied : List ℕ) : Type 0 where
+    (ledgers : Ledgered) (applied : List ℕ) : Type 0 where
   pub leads : Leads first known.calls machine
-  pub none_settled : known.settled ≡ []
+  pub none_gathered : known.gathered ≡ []
   pub since_is : since ≡ first.totals
   pub grown : add ledgers.total since ≡ machine.totals
   pub parts : ledgers.left + known.given ≡ 65

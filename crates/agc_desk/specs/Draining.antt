@@ -13,9 +13,9 @@ use Rattle.agc_machine.specs.declared.answer.Refusal.{Refusal}
 use Rattle.agc_machine.specs.Machines.{IsLawful, Machined, after, after_all, refusal_of, said_of}
 use Rattle.agc_machine.specs.Said.{Said}
 use Rattle.agc_machine.specs.Told.{add}
-use Rattle.agc_desk.specs.declared.book.Call.{Call}
+use Rattle.agc_desk.specs.declared.ties.Call.{Call}
 use Rattle.agc_desk.specs.declared.drain.Drained.{Drained}
-use Rattle.agc_desk.specs.Accounts.{told_in}
+use Rattle.agc_desk.specs.Books.{told_in}
 use Rattle.agc_desk.specs.Desks.{ArePulses, Desked, with_lines}
 use Rattle.agc_desk.specs.History.{Holder, Leads, with_drain, with_heard}
 use Rattle.agc_desk.specs.Pulses.{Pulse, first_pulse, pulses_of}

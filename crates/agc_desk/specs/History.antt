@@ -6,7 +6,7 @@ use Rattle.agc_latch.specs.declared.line.Line.{Line}
 use Rattle.agc_latch.specs.Lines.{word_of}
 use Rattle.agc_machine.specs.Said.{Said}
 use Rattle.agc_machine.specs.Machines.{Machined, after, said_of}
-use Rattle.agc_desk.specs.declared.book.Call.{Call}
+use Rattle.agc_desk.specs.declared.ties.Call.{Call}
 
 -- these calls lead in this order from the first machine to the last, each answered as the machine's
 -- step answers it there
@@ -54,11 +54,11 @@ abbrev pub with_drain : Holder → Holder
 with_drain holder = record holder { drains = holder.drains + 1 }
 
 -- what a desk knows of its history: the calls, how many shares were given out, and the numbers of
--- those that were settled
+-- those that were gathered
 pub record Known : Type 0 where
   pub calls : List Call
   pub given : ℕ
-  pub settled : List ℕ
+  pub gathered : List ℕ
 
 -- the numbers of these shares
 abbrev pub numbers_of : List Holder → List ℕ

@@ -4,7 +4,7 @@ use Rattle.agc_machine.specs.declared.totals.Totals.{Totals}
 
 -- a ledger: what was booked, how many of its parts were not given out, and what came back with the
 -- others
-pub record Account : Type 0 where
+pub record Columned : Type 0 where
   pub total : ℕ
   pub left : ℕ
   pub back : ℕ

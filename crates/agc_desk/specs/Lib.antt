@@ -1,4 +1,4 @@
-pub mod Accounts
+pub mod Books
 pub mod Ledgers
 pub mod Desks
 pub mod Draining

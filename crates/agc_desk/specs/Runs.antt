@@ -5,7 +5,7 @@ use Rattle.std.specs.List.{All}
 use Rattle.agc_plan.specs.declared.request.Request.{Request}
 use Rattle.agc_machine.specs.Machines.{Machined, IsLawful, said_of}
 use Rattle.agc_machine.specs.Said.{Said}
-use Rattle.agc_desk.specs.declared.book.Call.{Call}
+use Rattle.agc_desk.specs.declared.ties.Call.{Call}
 use Rattle.agc_desk.specs.History.{Holder, Leads, own_call, with_heard}
 
 -- the answer is the one that the machine's step gives to its request on a lawful machine to which

@@ -8,8 +8,8 @@ use Rattle.std.specs.List.{list_any}
 use Rattle.atomic_table.specs.Table.{Me, Step}
 use Rattle.agc_latch.specs.declared.line.Line.{Line}
 use Rattle.agc_machine.specs.Said.{Said}
-use Rattle.agc_desk.specs.declared.book.Call.{Call}
-use Rattle.agc_desk.specs.declared.book.View.{View}
+use Rattle.agc_desk.specs.declared.ties.Call.{Call}
+use Rattle.agc_desk.specs.declared.ties.View.{View}
 use Rattle.agc_desk.specs.History.{Holder, calls_by, with_heard}
 use Rattle.agc_desk.specs.Knowing.{knower}
 
@@ -19,7 +19,7 @@ owner h = record {
   keeps = false;
   calls = [];
   given = 0;
-  settled = [];
+  gathered = [];
   owns = true;
   number = h.number;
   heard = h.heard;
@@ -36,7 +36,7 @@ call_by v said pulse = record { by = v.number; answer = said; pulse = pulse }
 
 -- the desk's view after this call
 abbrev pub with_call : View → Call → View
-with_call v call = knower (v.calls ++ call ∷ []) v.given v.settled
+with_call v call = knower (v.calls ++ call ∷ []) v.given v.gathered
 
 -- the view of a share that heard this call
 abbrev pub hearing : View → Call → View
@@ -48,7 +48,7 @@ nobody = record {
   keeps = false;
   calls = [];
   given = 0;
-  settled = [];
+  gathered = [];
   owns = false;
   number = 0;
   heard = [];
@@ -59,8 +59,8 @@ nobody = record {
 abbrev pub joined : View → View → View
 joined v w = record v { owns = w.owns; number = w.number; heard = w.heard; drains = w.drains }
 
--- a number that was given out and settled, so that no seat has it
-pub record IsSettled (given : ℕ) (seat_of : ℕ → ℕ) (number : ℕ) : Type 0 where
+-- a number that was given out and gathered, so that no seat has it
+pub record IsGathered (given : ℕ) (seat_of : ℕ → ℕ) (number : ℕ) : Type 0 where
   pub given_out : number < given
   pub nobody_has : seat_of number ≡ 0
 
@@ -69,7 +69,7 @@ pub record IsSettled (given : ℕ) (seat_of : ℕ → ℕ) (number : ℕ) : Type
 pub record Fits (keeper given : ℕ) (seat_of : ℕ → ℕ) (calls : List Call) (seat : ℕ) (v : View)
     : Type 0 where
   pub knows : v.keeps ≡ true → (seat ≡ keeper) × (v.calls ≡ calls) × (v.given ≡ given)
-      × All (λ n. IsSettled given seat_of n) v.settled
+      × All (λ n. IsGathered given seat_of n) v.gathered
   pub own : v.owns ≡ true → (seat_of v.number ≡ seat + 1) × (v.number < given)
       × (calls_by v.number calls ≡ v.heard)
 
@@ -84,16 +84,16 @@ pub record Kept (views : List View) : Type 0 where
   pub fits : (seat : ℕ) (v : View) → get_elem? views seat ≡ some v
       → Fits keeper given seat_of calls seat v
 
--- the number is settled: what was heard with it is what the history has of it, and it was given out
--- and not settled before
-pub record Settles (v w : View) : Type 0 where
-  pub new : w ≡ knower v.calls v.given (v.settled ++ v.number ∷ [])
+-- the number is gathered: what was heard with it is what the history has of it, and it was given
+-- out and not gathered before
+pub record Gathers (v w : View) : Type 0 where
+  pub new : w ≡ knower v.calls v.given (v.gathered ++ v.number ∷ [])
   pub heard : calls_by v.number v.calls ≡ v.heard
   pub given_out : v.number < v.given
-  pub apart : list_any (nat_eq v.number) v.settled ≡ false
+  pub apart : list_any (nat_eq v.number) v.gathered ≡ false
 
-abbrev pub Settled : {S : Type 0} → Step S → Me S View → ℕ → Me S View → Type 0
-Settled s v found w = Settles v.0 w.0 × (w.1 ≡ v.1)
+abbrev pub Gathered : {S : Type 0} → Step S → Me S View → ℕ → Me S View → Type 0
+Gathered s v found w = Gathers v.0 w.0 × (w.1 ≡ v.1)
 
 -- the desk is drained once more with the share
 abbrev pub Counted : {S : Type 0} → Step S → Me S View → ℕ → Me S View → Type 0

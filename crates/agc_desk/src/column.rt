@@ -40,9 +40,9 @@ pub(crate) struct Column<L: Ledger> {
 
 impl<L: Ledger> Model for Column<L> {
     ghost use Rattle.std.specs.Prelude.{◌≡◌};
-    ghost use Rattle.agc_desk.specs.Ledgers.{Account};
+    ghost use Rattle.agc_desk.specs.Ledgers.{Columned};
 
-    ghost Value = { Account };
+    ghost Value = { Columned };
 
     ghost view = { λ c. record {
       total = c.book.total;

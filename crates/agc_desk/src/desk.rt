@@ -7,7 +7,7 @@ ghost use Rattle.agc_latch.specs.Ends.{new_device};
 ghost use Rattle.agc_latch.specs.Lines.{on};
 ghost use Rattle.agc_machine.specs.Machines.{IsLawful, after, said_of};
 ghost use Rattle.agc_machine.specs.Told.{add, told};
-ghost use Rattle.agc_desk.specs.Accounts.{told_in, told_to};
+ghost use Rattle.agc_desk.specs.Books.{told_in, told_to};
 ghost use Rattle.agc_desk.specs.Desks.{ArePulses, new_desk, with_lines};
 ghost use Rattle.agc_desk.specs.History.{IsHistory, Leads, new_holder, own_call};
 ghost use Rattle.agc_desk.specs.History.{with_drain, with_heard};
@@ -74,7 +74,7 @@ pub struct Share<N: Names> {
 
 impl<N: Names> Model for Share<N> {
     ghost use Rattle.std.specs.Prelude.{◌≡◌};
-    ghost use Rattle.agc_desk.specs.Accounts.{told_in};
+    ghost use Rattle.agc_desk.specs.Books.{told_in};
     ghost use Rattle.agc_desk.specs.History.{Holder};
 
     ghost Value = { Holder };
@@ -365,7 +365,7 @@ pub fn gather<N: Names>(
     for share in shares {
         let Share { amounts, own } = share;
         ledgers.merge(amounts);
-        history.settle(own);
+        history.gather(own);
     }
     ledgers.audit();
     history.check();

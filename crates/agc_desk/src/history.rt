@@ -3,8 +3,8 @@ ghost use Rattle.std.specs.List.{list_any};
 ghost use Rattle.agc_desk.specs.History.{calls_by, new_holder, with_drain, with_heard};
 ghost use Rattle.agc_desk.specs.Knowing.{knower};
 
-use crate::book::{Book, Pass, check, count, deal, note, open_book, settle};
 use crate::names::Names;
+use crate::ties::{Pass, Ties, check, count, deal, gather, note, open_ties};
 use agc_latch::Line;
 use agc_machine::{Answer, NoMemory};
 use std::alloc::Global;
@@ -14,7 +14,7 @@ use std::marker::{Model, PhantomData};
 /// profile.
 #[derive(Drop)]
 pub struct Opened {
-    book: Book,
+    ties: Ties,
     keeper: Pass,
 }
 
@@ -25,25 +25,25 @@ impl Model for Opened {
 
     ghost Value = { TableId };
 
-    ghost view = { λ o. o.book.shared.table_id };
+    ghost view = { λ o. o.ties.shared.table_id };
 
-    ghost invariant = { λ o. (o.keeper.table_id ≡ o.book.shared.table_id)
-        × (0 < o.book.shared.table_id.words) × (o.keeper.me ≡ (knower [] 0 [], [])) };
+    ghost invariant = { λ o. (o.keeper.table_id ≡ o.ties.shared.table_id)
+        × (0 < o.ties.shared.table_id.words) × (o.keeper.me ≡ (knower [] 0 [], [])) };
 }
 
 impl Opened {
     /// A new history of no calls. It takes eight bytes.
     pub(crate) fn new(alloc: Global) -> Result<Opened, NoMemory> {
-        let (book, keeper) = open_book(alloc)?;
-        Ok(Opened { book, keeper })
+        let (ties, keeper) = open_ties(alloc)?;
+        Ok(Opened { ties, keeper })
     }
 }
 
 /// The history of a desk, which has no bytes but those that name it. Contracts see it as its calls,
-/// how many shares were given out, and the numbers of those that were settled.
+/// how many shares were given out, and the numbers of those that were gathered.
 #[derive(Drop)]
 pub(crate) struct History<N: Names> {
-    book: Book,
+    ties: Ties,
     keeper: Pass,
     given: u64,
     of: PhantomData<N>,
@@ -56,9 +56,9 @@ impl<N: Names> Model for History<N> {
     ghost Value = { Known };
 
     ghost view = { λ h. record
-        { calls = h.keeper.me.0.calls; given = h.given; settled = h.keeper.me.0.settled } };
+        { calls = h.keeper.me.0.calls; given = h.given; gathered = h.keeper.me.0.gathered } };
 
-    ghost invariant = { λ h. (h.book.shared.table_id ≡ N.names.history)
+    ghost invariant = { λ h. (h.ties.shared.table_id ≡ N.names.history)
         × (h.keeper.table_id ≡ N.names.history) × (0 < N.names.history.words)
         × (h.keeper.me.0.keeps ≡ true) × (h.keeper.me.0.given ≡ h.given) };
 }
@@ -87,11 +87,11 @@ impl<N: Names> History<N> {
     /// A history of no calls, under the name that the types know.
     pub(crate) fn open(opened: Opened) -> History<N>
         requires { opened ≡ N.names.history }
-        ensures { result ≡ record { calls = []; given = 0; settled = [] } }
+        ensures { result ≡ record { calls = []; given = 0; gathered = [] } }
     {
-        let Opened { book, keeper } = opened;
+        let Opened { ties, keeper } = opened;
         History {
-            book,
+            ties,
             keeper,
             given: 0,
             of: PhantomData,
@@ -113,7 +113,7 @@ impl<N: Names> History<N> {
     {
         self.given += 1;
         Own {
-            pass: deal(&self.book, &mut self.keeper),
+            pass: deal(&self.ties, &mut self.keeper),
             of: PhantomData,
         }
     }
@@ -129,27 +129,27 @@ impl<N: Names> History<N> {
                   ++ record { by = own.old.number; answer = answer.now; pulse = pulse } ∷ [];
             } }
     {
-        note(&self.book, &mut self.keeper, &mut own.pass, answer, pulse);
+        note(&self.ties, &mut self.keeper, &mut own.pass, answer, pulse);
     }
 
     /// The holder of this number drains once more.
     pub(crate) fn count(&self, own: &mut Own<N>)
         ensures { own.new ≡ with_drain own.old }
     {
-        count(&self.book, &mut own.pass);
+        count(&self.ties, &mut own.pass);
     }
 
     /// What the holder of this number heard is what the history has of it; and it was given out,
-    /// and settled just now.
-    pub(crate) fn settle(&mut self, own: Own<N>)
-        ensures settled { self.new
-            ≡ record self.old { settled = self.old.settled ++ own.number ∷ [] } }
+    /// and gathered just now.
+    pub(crate) fn gather(&mut self, own: Own<N>)
+        ensures gathered { self.new
+            ≡ record self.old { gathered = self.old.gathered ++ own.number ∷ [] } }
         ensures heard { calls_by own.number self.old.calls ≡ own.heard }
         ensures given_out { own.number < self.old.given }
-        ensures apart { list_any (nat_eq own.number) self.old.settled ≡ false }
+        ensures apart { list_any (nat_eq own.number) self.old.gathered ≡ false }
     {
         let Own { pass, of: _ } = own;
-        settle(&self.book, &mut self.keeper, pass);
+        gather(&self.ties, &mut self.keeper, pass);
     }
 
     /// All calls are of numbers that were given out.
@@ -157,6 +157,6 @@ impl<N: Names> History<N> {
         ensures same { self.new ≡ self.old }
         ensures below { All (λ call. call.by < self.old.given) self.old.calls }
     {
-        check(&self.book, &mut self.keeper);
+        check(&self.ties, &mut self.keeper);
     }
 }

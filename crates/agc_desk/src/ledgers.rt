@@ -60,9 +60,9 @@ pub(crate) struct Ledgers<N: Names> {
 
 impl<N: Names> Model for Ledgers<N> {
     ghost use Rattle.std.specs.Prelude.{◌≡◌};
-    ghost use Rattle.agc_desk.specs.Accounts.{Accounts};
+    ghost use Rattle.agc_desk.specs.Books.{Ledgered};
 
-    ghost Value = { Accounts };
+    ghost Value = { Ledgered };
 
     ghost view = { λ l. record {
       total = record {

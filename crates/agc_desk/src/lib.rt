@@ -12,7 +12,6 @@
 //! [`settle`] tells what became of each line's pulses. Source: profile.
 #![tactic(auto)]
 
-mod book;
 mod caller;
 mod column;
 mod console;
@@ -23,9 +22,9 @@ mod ledgers;
 mod names;
 mod pulse;
 mod settling;
+mod ties;
 
 pub use agc_latch::{Device, Latch, Line, PostSpent, Settled, Taker};
-pub use book::Call;
 pub use caller::{Caller, Held, Shared, ask, attend, work};
 pub use console::{Console, Gate, OpenGate, drive};
 pub use desk::{Desk, Share, Ungathered, gather};
@@ -34,3 +33,4 @@ pub use history::Opened;
 pub use names::{Blanks, Names, Sharing};
 pub use pulse::{action_request, pulse_request};
 pub use settling::{Unsettled, settle};
+pub use ties::Call;

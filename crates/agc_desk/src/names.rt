@@ -2,7 +2,7 @@ ghost use Rattle.std.specs.Prelude.{◌≡◌, ℕ, List, [], None, Option, true
 ghost use Rattle.atomic_table.specs.Seated.{TableId};
 ghost use Rattle.agc_latch.specs.Holders.{no_latch};
 ghost use Rattle.agc_machine.specs.Machines.{Machined};
-ghost use Rattle.agc_desk.specs.declared.book.Call.{Call};
+ghost use Rattle.agc_desk.specs.declared.ties.Call.{Call};
 ghost use Rattle.agc_desk.specs.Lending.{Lent};
 ghost use Rattle.agc_desk.specs.Naming.{DeskNames};
 ghost use Rattle.agc_desk.specs.Unpicked.{no_names, no_machine};

@@ -1,4 +1,4 @@
--- Each kind of step keeps the line account.
+-- Each kind of step keeps the latch's rule.
 use Rattle.std.proofs.Common.{◌≡◌, ℕ, zero, suc, ◌+◌, ◌*◌, ◌%◌, ◌^◌, ◌<◌, ◌≤◌, ◌≢◌, List, [], ◌∷◌, set, slice_index, sum, sym, refl, ap, ◌∙◌, subst, ⊎_elim, arith, length-set, get_or-set_same, get_or-set_other}
 use mathlib.Core.Logic.{dite}
 use native.Mathlib.Decide.{ℕ_discrete}
@@ -10,9 +10,9 @@ use Rattle.agc_latch.specs.declared.views.View.{View}
 use Rattle.agc_latch.specs.declared.views.Role.{Role}
 use Rattle.agc_latch.specs.declared.views.Role.TheVariants.{Takes, Posts, Spent}
 use Rattle.agc_latch.specs.Lines.{zeros}
-use Rattle.agc_latch.specs.Account.{total, takers_as, takers, seats, given, posted_at, taken_at, HasTakenNothing, FitsRole, Fits, LineAccount}
+use Rattle.agc_latch.specs.Latches.{total, takers_as, takers, seats, given, posted_at, taken_at, HasTakenNothing, FitsRole, Fits, IsLatch}
 use Rattle.agc_latch.specs.Steps.{Seated, after_post, after_take, after_split, after_join, device_view, spent_view}
-use Rattle.agc_latch.specs.Tellings.{Accounted, Posted, Taken}
+use Rattle.agc_latch.specs.Tellings.{IsLatchState, Posted, Taken}
 use Rattle.agc_latch.specs.Laws.{PostKeeps, TakeKeeps, SplitKeeps, JoinKeeps, TakesOnlyPosted, IsBounded}
 use Rattle.agc_latch.proofs.Totals.{total-append, total-set, terms_le, total_alone, total_below, sum_raised, raised_here, raised_else, one_le_sum, added_at, length_added, sum_added}
 
@@ -27,11 +27,11 @@ each_set views id w fits each seat v e =
 -- A view is replaced by one of the same role, and word i by x. That keeps the account where the
 -- word changes as the view
 replaced : (words : List ℕ) (views : List View) (id i x : ℕ) (v w : View) → i < 3
-    → LineAccount words views → get_elem? views id ≡ some v → Fits w
+    → IsLatch words views → get_elem? views id ≡ some v → Fits w
     → w.role ≡ v.role → w.seats ≡ v.seats → w.given ≡ v.given
     → x + taken_at i w + posted_at i v ≡ slice_index words i + taken_at i v + posted_at i w
     → ((j : ℕ) → j ≢ i → (taken_at j w ≡ taken_at j v) × (posted_at j w ≡ posted_at j v))
-    → LineAccount (set words i x) (set views id w)
+    → IsLatch (set words i x) (set views id w)
 replaced words views id i x v w inside k at fits role same_seats same_given here else =
     let wide = k.three in record {
       three = length-set words i x ∙ wide;
@@ -62,7 +62,7 @@ replaced words views id i x v w inside k at fits role same_seats same_given here
     }
 
 -- no line has more pulses than the devices may post
-pub room : (words : List ℕ) (views : List View) (i : ℕ) → i < 3 → LineAccount words views
+pub room : (words : List ℕ) (views : List View) (i : ℕ) → i < 3 → IsLatch words views
     → total (posted_at i) views ≤ 4294967295 * total given views
 room words views i inside k =
     let most = total_below (posted_at i) seats views (λ seat v e.
@@ -103,7 +103,7 @@ post_keeps words views id i v k at is inside few =
     (λ j other. (refl, raised_else v.posted i j 1 other))
 
 pub posts : (slots id i : ℕ) (me : Seated) → i < 3 → me.0.role ≡ Posts → sum me.0.posted < 4294967295
-    → Allows Accounted slots id me i (λ n. (n + 1) % 2 ^ 64) (Posted (step slots i 1 0 none) me)
+    → Allows IsLatchState slots id me i (λ n. (n + 1) % 2 ^ 64) (Posted (step slots i 1 0 none) me)
 posts slots id i me inside is few s k homes at small =
     let v = me.0 in
     let w = after_post i v in
@@ -114,7 +114,7 @@ posts slots id i me inside is few s k homes at small =
       w,
       keeps,
       tt,
-      subst (λ (z : ℕ). LineAccount (set s.words i z) (set s.views id w)) (sym fits) kept,
+      subst (λ (z : ℕ). IsLatch (set s.words i z) (set s.views id w)) (sym fits) kept,
       refl,
     )
 
@@ -133,7 +133,7 @@ none_posted v i inside f no_seat =
     let o = one_le_sum v.posted i (omega arith) in omega arith
 
 -- what the taker's view says of the whole
-module _ (words : List ℕ) (views : List View) (k : LineAccount words views) (id : ℕ) (v : View) (at : get_elem? views id ≡ some v) (is : v.role ≡ Takes) where
+module _ (words : List ℕ) (views : List View) (k : IsLatch words views) (id : ℕ) (v : View) (at : get_elem? views id ≡ some v) (is : v.role ≡ Takes) where
   alone : (seat : ℕ) (u : View) → seat ≢ id → get_elem? views seat ≡ some u → takers u ≡ 0
   alone seat u other e =
       let both = terms_le takers views id seat v u other at e in
@@ -178,7 +178,7 @@ take_keeps words views id i v k at is inside =
     (λ j other. (raised_else v.taken i j x other, refl))
 
 pub takes : (slots id i : ℕ) (me : Seated) → i < 3 → me.0.role ≡ Takes
-    → Allows Accounted slots id me i (λ _. 0) (Taken (step slots i 0 0 none) me)
+    → Allows IsLatchState slots id me i (λ _. 0) (Taken (step slots i 0 0 none) me)
 takes slots id i me inside is s k homes at small =
     let v = me.0 in
     let x : ℕ = slice_index s.words i in
@@ -250,7 +250,7 @@ split_keeps words views id v k at is few =
     }
 
 pub splits : (id : ℕ) (v : View) → v.role ≡ Takes → v.given < 64
-    → Splits Accounted id v (after_split v) device_view
+    → Splits IsLatchState id v (after_split v) device_view
 splits id v is few s k at = split_keeps s.words s.views id v k at is few
 
 pub join_keeps : JoinKeeps
@@ -307,7 +307,7 @@ join_keeps words views id other v w k at is apart was posts_role =
     }
 
 pub joins : (id other : ℕ) (v w : View) → v.role ≡ Takes → w.role ≡ Posts
-    → Joins Accounted id v other w (after_join v w) spent_view
+    → Joins IsLatchState id v other w (after_join v w) spent_view
 joins id other v w is posts_role s k at apart there =
     let b = after_join v w in
     let was : get_elem? s.views other ≡ some w =
@@ -318,7 +318,7 @@ joins id other v w is posts_role s k at apart there =
 
 -- at the end, where each device came back
 pub closes : (ws : List ℕ) (xs : List (Unit {0})) (id : ℕ) (v : View) → v.role ≡ Takes → v.seats ≡ v.given
-    → Final (Seen Accounted id v) ws xs
+    → Final (Seen IsLatchState id v) ws xs
     → (i : ℕ) → i < 3 → slice_index ws i + slice_index v.taken i ≡ slice_index v.posted i
 closes ws xs id v is back f i l =
     let s = f.0 in

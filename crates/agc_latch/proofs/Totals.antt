@@ -4,7 +4,7 @@ use Rattle.std.proofs.lemmas.List.Sums.{sum_by-set, sum_by-cons, get_or-le-sum_b
 use mathlib.Core.Option.{some, some-injective, some-ne-none}
 use lib.ListN.{get_elem?}
 use Rattle.agc_latch.specs.Lines.{added, raised}
-use Rattle.agc_latch.specs.Account.{total}
+use Rattle.agc_latch.specs.Latches.{total}
 
 module _ {A : Type 0} where
   module _ (f : A → ℕ) where

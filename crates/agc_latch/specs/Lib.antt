@@ -1,5 +1,5 @@
 pub mod Lines
-pub mod Account
+pub mod Latches
 pub mod Steps
 pub mod Tellings
 pub mod Ends

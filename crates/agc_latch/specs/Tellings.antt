@@ -4,11 +4,11 @@ use Rattle.atomic_table.specs.Table.{State, Step}
 use Rattle.agc_latch.specs.declared.views.View.{View}
 use Rattle.agc_latch.specs.declared.views.Role.TheVariants.{Takes}
 use Rattle.agc_latch.specs.Lines.{zeros}
-use Rattle.agc_latch.specs.Account.{LineAccount}
+use Rattle.agc_latch.specs.Latches.{IsLatch}
 use Rattle.agc_latch.specs.Steps.{Seated, after_post, after_take}
 
-abbrev pub Accounted : State (Unit {0}) View → Type 0
-Accounted s = LineAccount s.words s.views
+abbrev pub IsLatchState : State (Unit {0}) View → Type 0
+IsLatchState s = IsLatch s.words s.views
 
 -- the taker's view when the latch is made
 abbrev pub first_view : View

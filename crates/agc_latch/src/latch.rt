@@ -9,7 +9,7 @@ use std::marker::Model;
 
 /// Three words, one for each line. Contracts see which latch it is.
 ///
-/// Between any two steps its words and the views of its seats meet the line account. Source:
+/// Between any two steps its words and the views of its seats meet the latch's rule. Source:
 /// profile.
 #[derive(Drop)]
 pub struct Latch {

@@ -2,10 +2,10 @@ ghost use Rattle.std.specs.Prelude.{◌≡◌};
 ghost use Rattle.agc_latch.specs.Laws.{PostKeeps, TakeKeeps, SplitKeeps, JoinKeeps};
 ghost use Rattle.agc_latch.specs.Laws.{TakesOnlyPosted, IsBounded};
 
-/// What the line account says, and that each of the four kinds of step keeps it: a post, a take, a
+/// What the latch's rule says, and that each of the four kinds of step keeps it: a post, a take, a
 /// split and a join. No pulse is taken twice, or before it was posted, and no word wraps. Source:
 /// profile.
-pub fn steps_keep_the_line_account()
+pub fn steps_keep_the_rule()
     ensures post { PostKeeps }
     ensures take { TakeKeeps }
     ensures split { SplitKeeps }

@@ -19,6 +19,6 @@ mod views;
 pub use accounts::{Accounts, Settled, Unjoined};
 pub use device::{Device, PostSpent};
 pub use latch::Latch;
-pub use laws::steps_keep_the_line_account;
+pub use laws::steps_keep_the_rule;
 pub use line::Line;
 pub use taker::Taker;

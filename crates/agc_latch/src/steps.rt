@@ -1,13 +1,13 @@
 use crate::views::View;
 use atomic_table::{Join, Play, Split, TableRule};
 
-/// The rule of the latch's table: between any two steps its words and views meet the line account.
+/// The rule of a latch, which its words and the views of its seats meet between any two steps.
 pub struct Rule;
 
 impl TableRule<(), View, ()> for Rule {
-    ghost use Rattle.agc_latch.specs.Tellings.{Accounted, first_view};
+    ghost use Rattle.agc_latch.specs.Tellings.{IsLatchState, first_view};
 
-    ghost holds = { λ _. Accounted };
+    ghost holds = { λ _. IsLatchState };
 
     ghost first = { λ _. first_view };
 }

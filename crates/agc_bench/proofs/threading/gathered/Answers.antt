@@ -15,7 +15,7 @@ finish-requires-clause-given g c =
     let ran = c.in_ok-held.ensures.run in
     let held = c.in_ok-held.field-0.held in
     let given : held.desk.given ≡ length (askers_of c.args.bench.now) = number_is _ _ (sym (c.requires.shares held.desk.given) ∙ held.given) in
-    omega (arith, given, ran.for_each, ran.ready.for_each)
+    omega (arith, given, ran.asked.for_each, ran.ready.for_each)
 
 pub finish-requires-clause-lent : goal.finish-requires-clause-lent
 finish-requires-clause-lent g c =

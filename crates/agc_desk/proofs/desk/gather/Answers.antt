@@ -6,7 +6,7 @@ use Rattle.std.proofs.lemmas.List.{length_push, map-append}
 use Rattle.std.proofs.lemmas.List.Elements.{All-push}
 use Rattle.std.proofs.lemmas.Map.Keys.{IsDistinct-push}
 use Rattle.agc_machine.specs.Told.{add}
-use Rattle.agc_desk.specs.Accounts.{told_in, told_to}
+use Rattle.agc_desk.specs.Books.{told_in, told_to}
 use Rattle.agc_desk.specs.History.{Holder, IsHistory, Known, calls_by, numbers_of}
 use Rattle.agc_desk.proofs.Calls.{push_cases, told_to_push, whole_history}
 use Rattle.agc_desk.proofs.desk.gather.Goals as goal
@@ -23,7 +23,7 @@ loop-share-init g c = record {
   total = refl;
   left = search rules;
   back = c.desk.invariant.none_back;
-  history = ap (λ s. record { calls = c.desk.inside.history.calls; given = c.desk.inside.history.given; settled = s }) c.desk.invariant.none_settled;
+  history = ap (λ s. record { calls = c.desk.inside.history.calls; given = c.desk.inside.history.given; gathered = s }) c.desk.invariant.none_gathered;
   each = λ k d below. absurd (omega arith);
   apart = tt;
   below = λ k e. cc;
@@ -39,13 +39,13 @@ loop-share-preserved g c =
     let numbers : numbers_of (old ++ share ∷ []) ≡ numbers_of old ++ share.number ∷ [] = map-append (λ (s : Holder). s.number) old (share ∷ []) in
     let told : c.share.inside.amounts ≡ told_in share.heard = c.share.invariant ∙ ap (λ o. told_in o.heard) own in
     let calls_are : c.loop-share.history.calls ≡ initial.calls = ap (λ h. h.calls) i.history in
-    let settled_are : c.loop-share.history.settled ≡ numbers_of old = ap (λ h. h.settled) i.history in
+    let gathered_are : c.loop-share.history.gathered ≡ numbers_of old = ap (λ h. h.gathered) i.history in
     let given_are : c.loop-share.history.given ≡ initial.given = ap (λ h. h.given) i.history in
     let heard : calls_by share.number initial.calls ≡ share.heard =
-    subst (λ (o : Holder). calls_by o.number initial.calls ≡ o.heard) own (subst (λ l. calls_by c.share.inside.own.number l ≡ c.share.inside.own.heard) calls_are c.settle.ensures.heard) in
-    let given_out : share.number < initial.given = omega (arith, c.settle.ensures.given_out, given_are, ap (λ (o : Holder). o.number) own) in
+    subst (λ (o : Holder). calls_by o.number initial.calls ≡ o.heard) own (subst (λ l. calls_by c.share.inside.own.number l ≡ c.share.inside.own.heard) calls_are c.gather.ensures.heard) in
+    let given_out : share.number < initial.given = omega (arith, c.gather.ensures.given_out, given_are, ap (λ (o : Holder). o.number) own) in
     let apart : list_any (nat_eq share.number) (numbers_of old) ≡ false =
-    subst (λ n. list_any (nat_eq n) (numbers_of old) ≡ false) (ap (λ (o : Holder). o.number) own) (subst (λ l. list_any (nat_eq c.share.inside.own.number) l ≡ false) settled_are c.settle.ensures.apart) in
+    subst (λ n. list_any (nat_eq n) (numbers_of old) ≡ false) (ap (λ (o : Holder). o.number) own) (subst (λ l. list_any (nat_eq c.share.inside.own.number) l ≡ false) gathered_are c.gather.ensures.apart) in
     let steps : into_iter_items c.loop-share.share-iterator ≡ share ∷ into_iter_items c.next.new.self = c.in-Some.ensures.steps.0 in
     record {
       rest = append_assoc old (share ∷ []) _ ∙ rw (← steps) i.rest;
@@ -54,8 +54,8 @@ loop-share-preserved g c =
       left = omega (arith, c.merge.ensures.left, i.left, length_push old share);
       back = c.merge.ensures.back ∙ (ap (λ t. add t c.share.inside.amounts) i.back ∙ (ap (λ t. add (told_to old) t) told ∙ sym (told_to_push old share)));
       history =
-          c.settle.ensures.settled ∙ (ap (λ (h : Known). record h { settled = h.settled ++ c.share.inside.own.number ∷ [] }) i.history
-          ∙ ap (λ l. record { calls = initial.calls; given = initial.given; settled = l }) (ap (λ (o : Holder). numbers_of old ++ o.number ∷ []) own ∙ sym numbers));
+          c.gather.ensures.gathered ∙ (ap (λ (h : Known). record h { gathered = h.gathered ++ c.share.inside.own.number ∷ [] }) i.history
+          ∙ ap (λ l. record { calls = initial.calls; given = initial.given; gathered = l }) (ap (λ (o : Holder). numbers_of old ++ o.number ∷ []) own ∙ sym numbers));
       each = All-push (λ (s : Holder). calls_by s.number initial.calls ≡ s.heard) old share i.each heard;
       apart = subst (IsDistinct nat_eq) (sym numbers) (IsDistinct-push nat_eq_equiv (numbers_of old) share.number i.apart apart);
       below = λ k has. ⊎_elim (λ before. i.below k before) (λ (same : k ≡ share.number). omega (arith, same, given_out))

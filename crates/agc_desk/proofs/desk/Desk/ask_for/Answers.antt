@@ -5,8 +5,8 @@ use Rattle.agc_plan.specs.Plans.{Planned}
 use Rattle.agc_machine.specs.Machines.{after, answer_of, said_of}
 use Rattle.agc_machine.specs.Said.{Said}
 use Rattle.agc_machine.specs.Told.{add, told}
-use Rattle.agc_desk.specs.declared.book.Call.{Call}
-use Rattle.agc_desk.specs.Accounts.{told_in}
+use Rattle.agc_desk.specs.declared.ties.Call.{Call}
+use Rattle.agc_desk.specs.Books.{told_in}
 use Rattle.agc_desk.specs.Desks.{ArePulses, Desked}
 use Rattle.agc_desk.specs.History.{Leads}
 use Rattle.agc_desk.specs.Pulses.{pulse_request}
@@ -30,7 +30,7 @@ invariant_of-self g c =
     (subst (λ (d : Desked). IfSome c.args.pulse (λ line. pulse_request d.machine.plan line ≡ Some c.args.request)) (sym c.self.view_is) c.requires.asks)) in
     record {
       leads = subst (λ l. Leads g.N.Names.first l c.apply-answer.new.self) (sym (ap (λ k. k.calls) c.note.ensures.calls)) (subst (λ m. Leads g.N.Names.first (calls ++ call ∷ []) m) there led);
-      none_settled = ap (λ k. k.settled) c.note.ensures.calls ∙ c.self.invariant.none_settled;
+      none_gathered = ap (λ k. k.gathered) c.note.ensures.calls ∙ c.self.invariant.none_gathered;
       since_is = c.self.invariant.since_is;
       grown = search rules;
       parts = search rules;

@@ -16,7 +16,7 @@ invariant_of-self g c =
     ∙ (ap (λ (d : Desked). pulse_request d.machine.plan c.args.line) c.self.view_is ∙ c.requires.idle) in
     record {
       leads = i.leads;
-      none_settled = i.none_settled;
+      none_gathered = i.none_gathered;
       since_is = i.since_is;
       grown = i.grown;
       parts = i.parts;

@@ -1,5 +1,5 @@
 use Rattle.std.proofs.Common.{ap, sym, ◌∙◌}
-use Rattle.agc_desk.specs.Accounts.{told_in}
+use Rattle.agc_desk.specs.Books.{told_in}
 use Rattle.agc_desk.proofs.Calls.{told_none}
 use Rattle.agc_desk.proofs.desk.Desk.share.Goals as goal
 

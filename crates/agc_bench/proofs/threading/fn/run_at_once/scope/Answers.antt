@@ -1,60 +1,26 @@
-use Rattle.std.proofs.Common.{◌≡◌, ◌<◌, ◌∷◌, [], ◌++◌, List, map, length, get_or, arith, length-append, append_assoc, append-nil, sym, subst, ap, ◌∙◌}
-use Rattle.std.specs.Vec.Iter.{into_iter_items}
-use Rattle.std.proofs.lemmas.List.{ext_get_or, get_or_default, length-map, length_push}
-use Rattle.agc_latch.specs.declared.line.Line.TheVariants.{Timer}
+use Rattle.std.proofs.Common.{◌≡◌, List, length, arith, sym, subst, ◌∙◌}
+use Rattle.std.proofs.lemmas.List.{ext_get_or, length-map}
 use Rattle.agc_latch.specs.Ends.{Posting, new_device}
 use Rattle.agc_latch.specs.Holders.{no_latch}
-use Rattle.agc_bench.specs.Sharing.{spent_device}
-use Rattle.agc_bench.proofs.Pledges.{IsPosts, each_push, nothing_left, spent_at}
+use Rattle.agc_bench.specs.Sharing.{IsPosts, spent_device, spent_devices}
+use Rattle.agc_bench.proofs.Pledges.{spent_at}
 use Rattle.agc_bench.proofs.threading.fn.run_at_once.scope.Goals as goal
-
-pub loop-device-preserved : goal.loop-device-preserved
-loop-device-preserved g c =
-    let latch = c.captures.latch.now in
-    let bench = c.captures.bench.now in
-    let old : List Posting = c.loop-device.yielded in
-    let device : Posting = c.in-Some.device in
-    let running = c.loop-device.posting.items in
-    let i = c.loop-device.invariant in
-    let e = c.in_ok-poster.ensures.ok in
-    let n : length running ≡ length old = omega (arith, i.len) in
-    let m : c.len.result ≡ length running = omega (arith, c.len.ensures) in
-    let steps : into_iter_items c.loop-device.device-iterator ≡ device ∷ into_iter_items c.next.new.self = c.in-Some.ensures.steps.0 in
-    let whole : old ++ device ∷ into_iter_items c.next.new.self ≡ map (λ d. new_device latch d.1) bench.devices =
-    ap (λ l. old ++ l) (sym steps) ∙ (i.rest ∙ (c.into_iter-device-iterator.ensures.into_iter_gives.0 ∙ c.requires.devices)) in
-    let inside : length running < length bench.devices =
-    omega (arith, n, ap length whole, length-append old (device ∷ into_iter_items c.next.new.self), length-map bench.devices (λ d. new_device latch d.1)) in
-    let here : IsPosts latch bench (length running) c.in_ok-poster.poster.promise.latch.now c.in_ok-poster.poster.promise.planned = record {
-      latch_is = ap (λ p. p.latch.now) e;
-      planned_is = λ d. ap (λ p. p.planned) e ∙ ((λ j. get_or (c.devices.ensures.value j) (m j) (Timer, 0)) ∙ get_or_default bench.devices (length running) (Timer, 0) d inside);
-    } in
-    record {
-      rest = append_assoc old (device ∷ []) _ ∙ rw (← steps) i.rest;
-      left_over = omega (arith, i.left_over, c.in-Some.ensures.steps.1, ap length steps);
-      len = omega (arith, length_push old device, n, c.in_ok-push.ensures.len);
-      each = λ k d below. rw c.in_ok-push.ensures.items (each_push (λ j h. IsPosts latch bench j h.promise.latch.now h.promise.planned) running c.in_ok-poster.poster (λ j h l. i.each j h (omega (arith, n, l))) here k d (omega (arith, n, length_push old device, below)));
-    }
 
 pub returns-in-Ok : goal.returns-in-Ok
 returns-in-Ok g c =
     let latch = c.captures.latch.now in
     let bench = c.captures.bench.now in
-    let i = c.loop-device.invariant in
+    let posting = c.in_ok-posting.ensures in
     let back : List Posting = c.in-Ok.devices.items in
     let none : Posting = new_device no_latch 0 in
-    let over : into_iter_items c.loop-device.device-iterator ≡ [] = nothing_left _ (sym i.left_over ∙ c.in-None.ensures.steps.0) in
-    let all : c.loop-device.yielded ≡ map (λ d. new_device latch d.1) bench.devices =
-    sym (append-nil c.loop-device.yielded) ∙ (rw over at i.rest ∙ (c.into_iter-device-iterator.ensures.into_iter_gives.0 ∙ c.requires.devices)) in
-    let many : length back ≡ length bench.devices =
-    omega (arith, c.in-Ok.ensures.len, i.len, ap length all, length-map bench.devices (λ d. new_device latch d.1)) in
+    let many : length back ≡ length bench.devices = omega (arith, c.in-Ok.ensures.len, posting.len) in
     record {
-      len = c.in_ok-back.ensures.len;
-      each = c.in_ok-back.ensures.each;
+      asked = c.in_ok-back.ensures.asked;
       devices =
-          ext_get_or none back (map (spent_device latch) bench.devices) (many ∙ sym (length-map bench.devices (spent_device latch))) (λ k below.
+          ext_get_or none back (spent_devices latch bench) (many ∙ sym (length-map bench.devices (spent_device latch))) (λ k below.
           let kept = (c.in-Ok.ensures.each k none (omega (arith, c.in-Ok.ensures.len, below))).1 in
           let posts : IsPosts latch bench k kept.handle.promise.latch.now kept.handle.promise.planned =
-          subst (λ h. IsPosts latch bench k h.promise.latch.now h.promise.planned) (sym kept.handle_is) (i.each k kept.handle (omega (arith, c.in-Ok.ensures.len, i.len, below))) in
+          subst (λ h. IsPosts latch bench k h.promise.latch.now h.promise.planned) (sym kept.handle_is) (posting.each k kept.handle (omega (arith, c.in-Ok.ensures.len, below))) in
           spent_at latch bench back k none kept.handle.promise.latch.now kept.handle.promise.planned (omega (arith, many, below)) posts kept.kept);
       early = tt;
     }

@@ -30,7 +30,7 @@ pub struct View {
     pub keeps: bool,
     pub calls: LinkedList<Call>,
     pub given: u64,
-    pub settled: LinkedList<u64>,
+    pub gathered: LinkedList<u64>,
     pub owns: bool,
     pub number: u64,
     pub heard: LinkedList<Call>,
@@ -70,7 +70,7 @@ impl TableRule<u64, View, ()> for Law {
     ghost first = { λ _. knower [] 0 [] };
 }
 
-pub(crate) type Book = Table<u64, View, (), Law, Global>;
+pub(crate) type Ties = Table<u64, View, (), Law, Global>;
 
 pub(crate) type Pass = Seat<u64, View>;
 
@@ -83,7 +83,7 @@ impl Split<View> for Dealing {
     ghost use Rattle.agc_desk.specs.History.{new_holder};
     ghost use Rattle.agc_desk.specs.Knowing.{knower};
 
-    ghost left = { λ v. knower v.calls (v.given + 1) v.settled };
+    ghost left = { λ v. knower v.calls (v.given + 1) v.gathered };
 
     ghost right = { λ v. owner (new_holder v.given) };
 }
@@ -125,13 +125,13 @@ impl<J: Noting> Split<View> for Adding<J> {
     ghost right = { λ v. hearing v (call_by v J.answer J.pulse) };
 }
 
-/// Settles the number of the share that was taken in.
-struct Settling;
+/// Gathers the number of the share that was taken in.
+struct Gathering;
 
-impl Play<u64, View> for Settling {
-    ghost use Rattle.agc_desk.specs.Views.{Settled};
+impl Play<u64, View> for Gathering {
+    ghost use Rattle.agc_desk.specs.Views.{Gathered};
 
-    ghost then = { Settled };
+    ghost then = { Gathered };
 }
 
 /// Counts one drain more.
@@ -153,34 +153,34 @@ impl Play<u64, View> for Checking {
 }
 
 /// A table for a history of no calls, and the desk's seat.
-pub(crate) fn open_book(alloc: Global) -> Result<(Book, Pass), NoMemory>
+pub(crate) fn open_ties(alloc: Global) -> Result<(Ties, Pass), NoMemory>
     ensures { Rattle.std.specs.Prelude.IfOk result
         (λ r. (0 < r.0.shared.table_id.words) × (r.1.table_id ≡ r.0.shared.table_id)
         × (r.1.me ≡ (knower [] 0 [], []))) }
 {
-    Ok(Book::of_words(alloc, &[0], &())?)
+    Ok(Ties::of_words(alloc, &[0], &())?)
 }
 
 /// A new number's seat.
-pub(crate) fn deal(book: &Book, keeper: &mut Pass) -> Pass
-    requires table { (keeper.old.table_id ≡ book.now.shared.table_id)
-        × (0 < book.now.shared.table_id.words) }
+pub(crate) fn deal(ties: &Ties, keeper: &mut Pass) -> Pass
+    requires table { (keeper.old.table_id ≡ ties.now.shared.table_id)
+        × (0 < ties.now.shared.table_id.words) }
     requires keeps { keeper.old.me.0.keeps ≡ true }
     ensures keeper { (keeper.new.table_id ≡ keeper.old.table_id)
         × (keeper.new.me ≡ (
           knower keeper.old.me.0.calls (keeper.old.me.0.given + 1)
-              keeper.old.me.0.settled,
+              keeper.old.me.0.gathered,
           keeper.old.me.1,
         )) }
     ensures pass { (result.table_id ≡ keeper.old.table_id)
         × (result.me ≡ (owner (new_holder keeper.old.me.0.given), [])) }
 {
-    book.shared.split_seat::<Dealing>(keeper)
+    ties.shared.split_seat::<Dealing>(keeper)
 }
 
 /// Adds a call under the pass's number to the history, and its answer to what the pass knows.
 fn noted<J: Noting>(
-    book: &Book,
+    ties: &Ties,
     keeper: &mut Pass,
     pass: Pass,
     answer: &Answer,
@@ -188,8 +188,8 @@ fn noted<J: Noting>(
 ) -> Pass
     requires answer { answer.now ≡ J.answer }
     requires pulse { pulse ≡ J.pulse }
-    requires table { (keeper.old.table_id ≡ book.now.shared.table_id)
-        × (pass.table_id ≡ book.now.shared.table_id) × (0 < book.now.shared.table_id.words) }
+    requires table { (keeper.old.table_id ≡ ties.now.shared.table_id)
+        × (pass.table_id ≡ ties.now.shared.table_id) × (0 < ties.now.shared.table_id.words) }
     requires keeps { keeper.old.me.0.keeps ≡ true }
     requires owns { (pass.me.0.owns ≡ true) × (pass.me.1 ≡ []) }
     ensures keeper { (keeper.new.table_id ≡ keeper.old.table_id)
@@ -200,20 +200,20 @@ fn noted<J: Noting>(
 {
     let _ = answer;
     let _ = pulse;
-    book.shared.join_seat::<Taking>(keeper, pass);
-    book.shared.split_seat::<Adding<J>>(keeper)
+    ties.shared.join_seat::<Taking>(keeper, pass);
+    ties.shared.split_seat::<Adding<J>>(keeper)
 }
 
 /// Adds a call under the pass's number to the history, and its answer to what the pass knows.
 pub(crate) fn note(
-    book: &Book,
+    ties: &Ties,
     keeper: &mut Pass,
     pass: &mut Pass,
     answer: &Answer,
     pulse: Option<Line>,
 )
-    requires table { (keeper.old.table_id ≡ book.now.shared.table_id)
-        × (pass.old.table_id ≡ book.now.shared.table_id) × (0 < book.now.shared.table_id.words) }
+    requires table { (keeper.old.table_id ≡ ties.now.shared.table_id)
+        × (pass.old.table_id ≡ ties.now.shared.table_id) × (0 < ties.now.shared.table_id.words) }
     requires keeps { keeper.old.me.0.keeps ≡ true }
     requires owns { (pass.old.me.0.owns ≡ true) × (pass.old.me.1 ≡ []) }
     ensures keeper { (keeper.new.table_id ≡ keeper.old.table_id)
@@ -222,50 +222,50 @@ pub(crate) fn note(
     ensures pass { (pass.new.table_id ≡ pass.old.table_id)
         × (pass.new.me ≡ (hearing pass.old.me.0 (call_by pass.old.me.0 answer.now pulse), [])) }
 {
-    let spare = book.shared.split_seat::<Spare>(keeper);
+    let spare = ties.shared.split_seat::<Spare>(keeper);
     let own = std::mem::replace(pass, spare);
-    *pass = noted::<Brand>(book, keeper, own, answer, pulse);
+    *pass = noted::<Brand>(ties, keeper, own, answer, pulse);
 }
 
 /// Counts one drain more with the pass.
-pub(crate) fn count(book: &Book, pass: &mut Pass)
-    requires { (pass.old.table_id ≡ book.now.shared.table_id)
-        × (0 < book.now.shared.table_id.words) }
+pub(crate) fn count(ties: &Ties, pass: &mut Pass)
+    requires { (pass.old.table_id ≡ ties.now.shared.table_id)
+        × (0 < ties.now.shared.table_id.words) }
     ensures table { pass.new.table_id ≡ pass.old.table_id }
     ensures pass { pass.new.me ≡
         (record pass.old.me.0 { drains = pass.old.me.0.drains + 1 }, pass.old.me.1) }
 {
-    book.shared.load::<Counting>(pass, 0);
+    ties.shared.load::<Counting>(pass, 0);
 }
 
-/// Settles the pass's number: what the pass knows is what the history has of it, and no other pass
+/// Gathers the pass's number: what the pass knows is what the history has of it, and no other pass
 /// has it.
-pub(crate) fn settle(book: &Book, keeper: &mut Pass, pass: Pass)
-    requires table { (keeper.old.table_id ≡ book.now.shared.table_id)
-        × (pass.table_id ≡ book.now.shared.table_id) × (0 < book.now.shared.table_id.words) }
+pub(crate) fn gather(ties: &Ties, keeper: &mut Pass, pass: Pass)
+    requires table { (keeper.old.table_id ≡ ties.now.shared.table_id)
+        × (pass.table_id ≡ ties.now.shared.table_id) × (0 < ties.now.shared.table_id.words) }
     requires keeps { keeper.old.me.0.keeps ≡ true }
     requires owns { (pass.me.0.owns ≡ true) × (pass.me.1 ≡ []) }
     ensures keeper { (keeper.new.table_id ≡ keeper.old.table_id)
         × (keeper.new.me ≡ (
           knower keeper.old.me.0.calls keeper.old.me.0.given
-              (keeper.old.me.0.settled ++ pass.me.0.number ∷ []),
+              (keeper.old.me.0.gathered ++ pass.me.0.number ∷ []),
           keeper.old.me.1,
         )) }
     ensures heard { calls_by pass.me.0.number keeper.old.me.0.calls ≡ pass.me.0.heard }
     ensures given_out { pass.me.0.number < keeper.old.me.0.given }
-    ensures apart { list_any (nat_eq pass.me.0.number) keeper.old.me.0.settled ≡ false }
+    ensures apart { list_any (nat_eq pass.me.0.number) keeper.old.me.0.gathered ≡ false }
 {
-    book.shared.join_seat::<Taking>(keeper, pass);
-    book.shared.load::<Settling>(keeper, 0);
+    ties.shared.join_seat::<Taking>(keeper, pass);
+    ties.shared.load::<Gathering>(keeper, 0);
 }
 
 /// All calls of the history are of numbers that were given out.
-pub(crate) fn check(book: &Book, keeper: &mut Pass)
-    requires table { (keeper.old.table_id ≡ book.now.shared.table_id)
-        × (0 < book.now.shared.table_id.words) }
+pub(crate) fn check(ties: &Ties, keeper: &mut Pass)
+    requires table { (keeper.old.table_id ≡ ties.now.shared.table_id)
+        × (0 < ties.now.shared.table_id.words) }
     requires keeps { keeper.old.me.0.keeps ≡ true }
     ensures same { (keeper.new.table_id ≡ keeper.old.table_id) × (keeper.new.me ≡ keeper.old.me) }
     ensures below { All (λ call. call.by < keeper.old.me.0.given) keeper.old.me.0.calls }
 {
-    book.shared.load::<Checking>(keeper, 0);
+    ties.shared.load::<Checking>(keeper, 0);
 }

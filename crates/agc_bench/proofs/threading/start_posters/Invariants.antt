@@ -1,7 +1,7 @@
 use Rattle.std.proofs.Common.{◌≡◌, ◌++◌, ℕ, ◌<◌, length, get_or, vec_len}
 use Rattle.std.specs.Vec.Iter.{into_iter_items, into_iter_len}
-use Rattle.agc_bench.proofs.Pledges.{IsPosts}
-use Rattle.agc_bench.proofs.threading.fn.run_at_once.scope.Given as goal
+use Rattle.agc_bench.specs.Sharing.{IsPosts}
+use Rattle.agc_bench.proofs.threading.start_posters.Given as goal
 
 abbrev pub invariant-loop-device : goal.invariant-loop-device
 invariant-loop-device g l = record {

@@ -1,4 +1,4 @@
-use Rattle.agc_desk.proofs.book.note.Given as goal
+use Rattle.agc_desk.proofs.ties.note.Given as goal
 
 -- the answer that is noted, and of which line's pulse
 abbrev pub ghosts-noted : goal.ghosts-noted

@@ -1,6 +1,6 @@
 use Rattle.std.proofs.Common.{◌≡◌, ℕ, ◌<◌, length, get_or, vec_len}
-use Rattle.agc_bench.proofs.Pledges.{IsPledge}
-use Rattle.agc_bench.proofs.threading.fn.ask_at_once.scope.Given as goal
+use Rattle.agc_bench.specs.Sharing.{IsPledge}
+use Rattle.agc_bench.proofs.threading.start_askers.Given as goal
 
 abbrev pub invariant-loop-share : goal.invariant-loop-share
 invariant-loop-share g l = record {

@@ -1,7 +1,7 @@
 use Rattle.std.proofs.Common.{ap, ◌∙◌, ◌≡◌}
 use Rattle.agc_desk.specs.Views.{joined}
 use Rattle.agc_desk.proofs.Moves.{takes, notes}
-use Rattle.agc_desk.proofs.book.noted.Goals as goal
+use Rattle.agc_desk.proofs.ties.noted.Goals as goal
 
 pub join_seat-requires : goal.join_seat-requires
 join_seat-requires g c = (c.requires.table.0, c.requires.table.1, c.requires.owns.1, c.requires.table.2, takes _ _ _ _ c.requires.keeps)

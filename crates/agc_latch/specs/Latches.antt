@@ -1,4 +1,4 @@
--- The line account: what holds of a latch's words and of the views of all its seats between any two
+-- The rule of a latch: what holds of its words and of the views of all its seats between any two
 -- steps.
 use Rattle.std.specs.Prelude.{◌≡◌, ℕ, ◌+◌, ◌*◌, ◌<◌, ◌≤◌, List, [], ◌∷◌, length, sum, slice_index}
 use mathlib.Core.Option.{some}
@@ -52,7 +52,7 @@ pub record Fits (v : View) : Type 0 where
 
 -- The word of a line is what was posted on it, less what was taken. One view is the taker's. All
 -- seats together are as many as were given out, at most 64
-pub record LineAccount (words : List ℕ) (views : List View) : Type 0 where
+pub record IsLatch (words : List ℕ) (views : List View) : Type 0 where
   pub three : length words ≡ 3
   pub lines : (i : ℕ) → i < 3
       → slice_index words i + total (taken_at i) views ≡ total (posted_at i) views

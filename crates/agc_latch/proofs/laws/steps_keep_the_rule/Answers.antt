@@ -1,5 +1,5 @@
 use Rattle.agc_latch.proofs.Keeps.{post_keeps, take_keeps, split_keeps, join_keeps, takes_only_posted, is_bounded}
-use Rattle.agc_latch.proofs.laws.steps_keep_the_line_account.Goals as goal
+use Rattle.agc_latch.proofs.laws.steps_keep_the_rule.Goals as goal
 
 pub returns-clause-post : goal.returns-clause-post
 returns-clause-post c = post_keeps

@@ -1,6 +1,6 @@
 use Rattle.std.proofs.Common.{ap, ◌∙◌}
-use Rattle.agc_desk.proofs.Moves.{takes, settles_as}
-use Rattle.agc_desk.proofs.book.settle.Goals as goal
+use Rattle.agc_desk.proofs.Moves.{takes, gathers_as}
+use Rattle.agc_desk.proofs.ties.gather.Goals as goal
 
 pub join_seat-requires : goal.join_seat-requires
 join_seat-requires c = (c.requires.table.0, c.requires.table.1, c.requires.owns.1, c.requires.table.2, takes _ _ _ _ c.requires.keeps)
@@ -8,4 +8,4 @@ join_seat-requires c = (c.requires.table.0, c.requires.table.1, c.requires.owns.
 pub load-requires : goal.load-requires
 load-requires c =
     let j = c.join_seat.ensures in
-    (j.0 ∙ c.requires.table.0, c.requires.table.2, settles_as _ _ _ (ap (λ m. m.0.keeps) j.2 ∙ c.requires.keeps) (ap (λ m. m.0.owns) j.2 ∙ c.requires.owns.0))
+    (j.0 ∙ c.requires.table.0, c.requires.table.2, gathers_as _ _ _ (ap (λ m. m.0.keeps) j.2 ∙ c.requires.keeps) (ap (λ m. m.0.owns) j.2 ∙ c.requires.owns.0))

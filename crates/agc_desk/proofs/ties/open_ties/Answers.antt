@@ -1,5 +1,5 @@
 use Rattle.agc_desk.proofs.Moves.{begins}
-use Rattle.agc_desk.proofs.book.open_book.Goals as goal
+use Rattle.agc_desk.proofs.ties.open_ties.Goals as goal
 
 pub of_words-requires : goal.of_words-requires
 of_words-requires c = begins

@@ -3,11 +3,11 @@ use Rattle.std.specs.Prelude.{ℕ, List, sum_by}
 use Rattle.std.specs.List.{fold}
 use Rattle.agc_machine.specs.declared.totals.Totals.{Totals}
 use Rattle.agc_machine.specs.Told.{add, nothing, told}
-use Rattle.agc_desk.specs.declared.book.Call.{Call}
+use Rattle.agc_desk.specs.declared.ties.Call.{Call}
 use Rattle.agc_desk.specs.History.{Holder}
 
 -- five ledgers, one for each number of the totals, with as many parts left of each
-pub record Accounts : Type 0 where
+pub record Ledgered : Type 0 where
   pub total : Totals
   pub left : ℕ
   pub back : Totals

@@ -1,5 +1,5 @@
 use Rattle.agc_desk.proofs.Moves.{spares}
-use Rattle.agc_desk.proofs.book.note.Goals as goal
+use Rattle.agc_desk.proofs.ties.note.Goals as goal
 
 pub split_seat-spare-requires : goal.split_seat-spare-requires
 split_seat-spare-requires c = (c.requires.table.0, c.requires.table.2, spares _ _)
