@@ -87,6 +87,9 @@ const first = count === 0 ? 1 : Number(own[0][0]);
 const last = first + count - 1;
 const alarms = own.filter((row) => /alarm/.test(row[3])).map((row) => Number(row[0]));
 
+// An alarm has one, and power-up.
+const has_account = (cells) => /alarm/.test(cells[3]) || cells[2] === 'power-up';
+
 const is_drawn = (cells) => {
   const [number, time, request, reply, runs, sets, areas, tasks, base] = cells;
   const row = shown('row');
@@ -117,7 +120,9 @@ const is_drawn = (cells) => {
   const told = [...named.phases.children, ...named.failreg.children]
     .map((box) => box.children[0].textContent.replace('phase ', ''));
   expect(`${number}: phases and FAILREG ${told}, not ${base}`, told.join(' ') === base);
-  expect(`${number}: an account`, named.why.hidden !== /alarm/.test(reply));
+  expect(`${number}: an account`, named.why.hidden !== has_account(cells));
+  expect(`${number}: its heading`, named.why.hidden
+    || (named.heading.textContent === 'Why the alarm came') === /alarm/.test(reply));
   const current = named.lines.children.filter((line) => line.attributes['aria-current']);
   expect(`${number}: one line is current`, current.length === 1
     && current[0].children.map((cell) => cell.textContent).join('|') === cells.join('|'));
@@ -172,7 +177,10 @@ if (count === 0) {
     expect(`the address is found at ${at()}`, at() === address + first);
   }
   window.fire('beforeprint');
-  expect('all lines are printed', named.lines.children.length === count);
+  const printed = named.lines.children.map((line) => line.children[0].textContent);
+  const accounts = printed.filter((text) => /^(alarm|restart|group)/.test(text)).length;
+  expect('all lines are printed', printed.length === count + accounts);
+  expect(`${accounts} accounts are printed`, accounts === own.filter(has_account).length);
   window.fire('afterprint');
   expect('few lines are drawn', named.lines.children.length <= 13);
 }

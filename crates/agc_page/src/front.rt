@@ -8,19 +8,19 @@ pub(crate) const FRONT: &str = r#"<!DOCTYPE html>
 <meta charset="utf-8">
 <meta http-equiv="Content-Security-Policy" content="default-src 'none';
 base-uri 'none'; form-action 'none';
-script-src 'sha256-ysw6ZHGCcLXnZt5kUQNPmq8oqlagsHekdHF1FlR+XWk=';
-style-src 'sha256-LNvPzA/2in7Wkjkal5gS2Jb/J1Eza1quCy/W0ckmAc8='">
+script-src 'sha256-Uc/i1KNCeQF6L3cv0NBmU9L3IRn0Ns3jcDTtUYnMN6I=';
+style-src 'sha256-fdYiGawdS5/UK2vfImcK3e4p+ekkMhWivUdB+wugmSc='">
 <meta name="viewport" content="width=device-width, initial-scale=1">
 <title>A run, request by request</title>
 <style>
 html{font:100%/1.4 system-ui,sans-serif;color:#000;background:#fff}
-body{margin:0 auto;max-width:80rem;padding:.5rem 1rem}
+body{margin:0 auto;max-width:96rem;padding:.5rem 1rem}
 h1{font-size:1.2rem;margin:.2rem 0}
 h2{font-size:1rem;margin:1rem 0 .2rem}
 [hidden]{display:none}
 .bar{display:flex;flex-wrap:wrap;gap:.5rem;align-items:center;padding:.4rem 0;background:#fff}
 @media (min-width:60rem){.bar{position:sticky;top:0}
-.state{display:flex;gap:1.5rem;align-items:flex-start}.tables{flex:1}.why{flex:0 0 23rem;order:2}}
+.state{display:flex;gap:1.5rem;align-items:flex-start}.tables{flex:1}.why{flex:0 0 27rem;order:2}}
 button,input{font:inherit;min-height:2.6rem;vertical-align:middle}
 input[type=checkbox]{min-height:0;width:1.5rem;height:1.5rem}
 button{padding:0 .8rem}
@@ -48,7 +48,9 @@ progress{width:100%}
 .s3{background:#a6ddce!important}.s4{background:#edd0e0!important}
 .s5{background:#c4e5f7!important}.s6{background:#f0c7a6!important}
 .s7{background:#faf6bd!important}.s8{background:#a6a6a6!important}
-pre{white-space:pre-wrap;border-left:.6rem solid #c00;padding-left:.6rem;margin:.2rem 0}
+@media (max-width:40rem){pre{font-size:.7rem}}
+pre{white-space:pre-wrap;border-left:.6rem solid #555;padding-left:.6rem;margin:.2rem 0}
+pre.alarm{border-color:#c00}
 .full{outline:.3rem solid #c00;outline-offset:.2rem}
 .wide{overflow-x:auto}
 table{border-collapse:collapse;font-family:ui-monospace,monospace}
@@ -57,8 +59,14 @@ th,td{text-align:left;padding:.1rem 1rem .1rem 0;white-space:nowrap}
 tbody tr{cursor:pointer}
 tr[aria-current]{background:#ff9;font-weight:bold}
 td.alarm{color:#a00;font-weight:bold}
-@media print{.bar,.now{display:none}table{font-size:7pt}th,td{white-space:normal}
-thead{display:table-header-group}tr[aria-current]{background:none;font-weight:normal}}
+td.account{white-space:pre-wrap}
+@media (min-width:60rem),print{
+th,td{padding:.1rem .4rem;vertical-align:top;border-left:1px solid #bbb}
+td:nth-child(4),td:nth-child(8){white-space:normal}}
+@media print{.bar,.row,.now{display:none}body{max-width:none;padding:0}.wide{overflow:visible}
+table{font-size:7pt}thead{display:table-header-group}
+tr[aria-current]{background:none;font-weight:normal}}
+@page{size:landscape;margin:1cm}
 </style>
 <script>
 (function () {
@@ -200,10 +208,21 @@ function line(i) {
   return row;
 }
 
+// The account below a line, where all lines are printed.
+function told_below(i) {
+  var row = element('tr', ''), cell = element('td', account(i), 'account');
+  cell.colSpan = 9;
+  row.appendChild(cell);
+  return row;
+}
+
 // The lines of some requests, made anew each time.
-function table(from, past) {
+function table(from, past, accounts) {
   var rows = [], i;
-  for (i = Math.max(from, 0); i < Math.min(past, run.length); i += 1) { rows.push(line(i)); }
+  for (i = Math.max(from, 0); i < Math.min(past, run.length); i += 1) {
+    rows.push(line(i));
+    if (accounts && run[i].why.length > 0) { rows.push(told_below(i)); }
+  }
   fill('lines', rows);
 }
 
@@ -222,6 +241,8 @@ function draw() {
   by('slider').value = c.number;
   by('why').hidden = why === '';
   by('account').textContent = why;
+  by('account').className = is_alarm(c) ? 'alarm' : '';
+  by('heading').textContent = is_alarm(c) ? 'Why the alarm came' : 'What begins again';
   fill('sets', c.sets.map(function (word, k) { return set_box(word, k, c); }));
   fill('areas', c.areas.map(area_box));
   fill('tasks', task_boxes(c.tasks));
@@ -229,7 +250,7 @@ function draw() {
   mark_full('areas', '1201', c);
   mark_full('sets', '1202', c);
   mark_full('tasks', '1203', c);
-  table(at - around, at + around + 1);
+  table(at - around, at + around + 1, false);
 }
 
 function say(text) { by('said').textContent = text; }
@@ -306,7 +327,7 @@ function hear() {
   });
   document.addEventListener('keydown', key);
   window.addEventListener('hashchange', from_address);
-  window.addEventListener('beforeprint', function () { table(0, run.length); });
+  window.addEventListener('beforeprint', function () { table(0, run.length, true); });
   window.addEventListener('afterprint', draw);
 }
 
@@ -349,7 +370,7 @@ with <span id="sets-other"></span> core sets</label>
 <main>
 <p class="row now" id="row" role="status" aria-live="polite"></p>
 <div class="now" id="now" hidden><div class="state">
-<section class="why" id="why" hidden><h2>Why the alarm came</h2>
+<section class="why" id="why" hidden><h2 id="heading"></h2>
 <pre id="account" tabindex="0"></pre></section>
 <div class="tables">
 <h2>Core sets</h2><ol class="boxes" id="sets"></ol>
