@@ -13,6 +13,8 @@ use Rattle.agc_machine.specs.Machines.{Machined, refusal_of, result_of, answer_o
 use Rattle.agc_machine.specs.Moments.{Acting, IsMoment}
 use Rattle.agc_plan.specs.declared.reply.Reply.{Reply}
 use Rattle.agc_plan.specs.declared.reply.Alarm.{Alarm}
+use Rattle.std.specs.Prelude.{is_some}
+use Rattle.agc_trace.specs.declared.choice.Choice.{Choice}
 use Rattle.agc_trace.specs.Choices.{alarm_at, is_told, told_text}
 use Rattle.agc_trace.specs.Lines.{line_text}
 use Rattle.agc_trace.specs.Reading.{IsShown, begins_unless, scene_in}
@@ -121,10 +123,14 @@ alarm_is t asked refusal moment refusal_is shown =
     ∙ ap (λ (r : Option Refusal). told_alarm r (acted t.machine.plan asked (plain_of t.machine)).reply) refusal_is
 
 -- it is told, or left out
-pub told_yes : (alarms : Bool) (t : Traced) (asked : Request) (alarm : Option Alarm) (b : Bool) → alarm ≡ alarm_at t asked → b ≡ is_told alarms alarm → b ≡ true → traced_text t asked ≡ told_text alarms t asked
-told_yes alarms t asked alarm b alarm_at_is b_is b_true =
-    ap (λ (v : Bool). if v then traced_text t asked else []) (sym b_true ∙ b_is ∙ ap (is_told alarms) alarm_at_is)
+told_by : (choice : Choice) (t : Traced) (asked : Request) (alarm : Option Alarm) (number : ℕ) (b : Bool) → alarm ≡ alarm_at t asked → number ≡ one_more t.asked → b ≡ is_told choice number (is_some alarm) → b ≡ is_told choice (one_more t.asked) (is_some (alarm_at t asked))
+told_by choice t asked alarm number b alarm_at_is number_is b_is =
+    b_is ∙ ap (λ (a : Option Alarm). is_told choice number (is_some a)) alarm_at_is ∙ ap (λ (n : ℕ). is_told choice n (is_some (alarm_at t asked))) number_is
 
-pub told_no : (alarms : Bool) (t : Traced) (asked : Request) (alarm : Option Alarm) (b : Bool) → alarm ≡ alarm_at t asked → b ≡ is_told alarms alarm → b ≡ false → [] ≡ told_text alarms t asked
-told_no alarms t asked alarm b alarm_at_is b_is b_false =
-    ap (λ (v : Bool). if v then traced_text t asked else []) (sym b_false ∙ b_is ∙ ap (is_told alarms) alarm_at_is)
+pub told_yes : (choice : Choice) (t : Traced) (asked : Request) (alarm : Option Alarm) (number : ℕ) (b : Bool) → alarm ≡ alarm_at t asked → number ≡ one_more t.asked → b ≡ is_told choice number (is_some alarm) → b ≡ true → traced_text t asked ≡ told_text choice t asked
+told_yes choice t asked alarm number b alarm_at_is number_is b_is b_true =
+    ap (λ (v : Bool). if v then traced_text t asked else []) (sym b_true ∙ told_by choice t asked alarm number b alarm_at_is number_is b_is)
+
+pub told_no : (choice : Choice) (t : Traced) (asked : Request) (alarm : Option Alarm) (number : ℕ) (b : Bool) → alarm ≡ alarm_at t asked → number ≡ one_more t.asked → b ≡ is_told choice number (is_some alarm) → b ≡ false → [] ≡ told_text choice t asked
+told_no choice t asked alarm number b alarm_at_is number_is b_is b_false =
+    ap (λ (v : Bool). if v then traced_text t asked else []) (sym b_false ∙ told_by choice t asked alarm number b alarm_at_is number_is b_is)

@@ -1,37 +1,60 @@
--- Which requests a trace tells: all, or only those that raised an alarm.
-use Rattle.std.specs.Prelude.{ℕ, Bool, true, if◌then◌else◌, List, [], ◌∷◌, Option, is_some}
+-- Which requests a trace tells.
+use Rattle.std.specs.Prelude.{ℕ, Bool, true, false, nat_le, ◌&&◌, if◌then◌else◌, List, [], ◌∷◌}
+use Rattle.std.specs.Prelude.{Option, Some, None, is_some}
 use Rattle.std.specs.List.{filter, flat_map}
 use Rattle.agc_plan.specs.declared.request.Request.{Request}
 use Rattle.agc_plan.specs.declared.reply.Alarm.{Alarm}
 use Rattle.agc_plan.specs.Steps.{acted}
 use Rattle.agc_machine.specs.Machines.{plain_of, refusal_of}
-use Rattle.agc_trace.specs.Traces.{Counted, Traced, counted, told_alarm, traced, traced_text}
+use Rattle.agc_trace.specs.declared.choice.Choice.{Choice}
+use Rattle.agc_trace.specs.Traces.{Counted, Traced, counted, one_more, told_alarm, traced}
+use Rattle.agc_trace.specs.Traces.{traced_text}
 
 -- the alarm that the next request raises, if it raises one
 abbrev pub alarm_at : Traced → Request → Option Alarm
 alarm_at t asked = told_alarm (refusal_of t.machine asked)
     (acted t.machine.plan asked (plain_of t.machine)).reply
 
--- what is told of a request: whether it raised an alarm, and its line and account
+-- what is told of a request: its number, whether it raised an alarm, and its line and account
 pub record Told : Type 0 where
+  pub number : ℕ
   pub alarmed : Bool
   pub text : List ℕ
 
 abbrev pub told_of : Traced → Request → Told
-told_of t asked = record { alarmed = is_some (alarm_at t asked); text = traced_text t asked }
+told_of t asked = record
+    { number = one_more t.asked; alarmed = is_some (alarm_at t asked); text = traced_text t asked }
 
 -- of all requests, in order
 abbrev pub all_told : Traced → List Request → List Told
 all_told t [] = []
 all_told t (asked ∷ requests) = told_of t asked ∷ all_told (traced t asked) requests
 
--- of those alone that raised an alarm
-abbrev pub alarms_of : List Told → List Told
-alarms_of lines = filter (λ line. line.alarmed) lines
+-- whether a number is no less than the first, or no greater than the last, where there is one
+abbrev pub is_from : Option ℕ → ℕ → Bool
+is_from None number = true
+is_from (Some from) number = nat_le from number
 
--- what is told where only alarms are to be, or all
-abbrev pub chosen : (alarms : Bool) → List Told → List Told
-chosen alarms lines = if alarms then alarms_of lines else lines
+abbrev pub is_to : Option ℕ → ℕ → Bool
+is_to None number = true
+is_to (Some to) number = nat_le number to
+
+-- whether a request is told that raised an alarm or not, where only alarms are to be, or all
+abbrev pub is_wanted : (alarms alarmed : Bool) → Bool
+is_wanted alarms alarmed = if alarms then alarmed else true
+
+-- whether a request of this number is told, which raised an alarm or not
+abbrev pub is_told : Choice → ℕ → (alarmed : Bool) → Bool
+is_told choice number alarmed = is_from choice.from number
+    && (is_to choice.to number && is_wanted choice.alarms alarmed)
+
+-- those of all that are told
+abbrev pub chosen : Choice → List Told → List Told
+chosen choice lines = filter (λ line. is_told choice line.number line.alarmed) lines
+
+-- no choice is made: all are told
+abbrev pub everything : Choice
+everything = record { alarms = false; from = None; to = None }
 
 abbrev pub text_of : List Told → List ℕ
 text_of lines = flat_map (λ line. line.text) lines
@@ -39,19 +62,15 @@ text_of lines = flat_map (λ line. line.text) lines
 -- for the proofs: the run, and which of its requests are told
 pub record Telling : Type 0 where
   pub counted : Counted
-  pub alarms : Bool
+  pub choice : Choice
 
 abbrev pub telling : Telling → Request → Telling
-telling t asked = record { counted = counted t.counted asked; alarms = t.alarms }
-
--- whether a request is told
-abbrev pub is_told : (alarms : Bool) (alarm : Option Alarm) → Bool
-is_told alarms alarm = if alarms then is_some alarm else true
+telling t asked = record { counted = counted t.counted asked; choice = t.choice }
 
 -- what is told of the next request
-abbrev pub told_text : Bool → Traced → Request → List ℕ
-told_text alarms t asked =
-    if is_told alarms (alarm_at t asked) then traced_text t asked else []
+abbrev pub told_text : Choice → Traced → Request → List ℕ
+told_text choice t asked = if is_told choice (one_more t.asked) (is_some (alarm_at t asked))
+    then traced_text t asked else []
 
 abbrev pub telling_text : Telling → Request → List ℕ
-telling_text t asked = told_text t.alarms t.counted.run asked
+telling_text t asked = told_text t.choice t.counted.run asked

@@ -1,5 +1,5 @@
 -- The trace of a bench, and of a script.
-use Rattle.std.specs.Prelude.{◌≡◌, ℕ, Bool, List, ◌++◌, Option, None, Result, Ok, Err}
+use Rattle.std.specs.Prelude.{◌≡◌, ℕ, List, ◌++◌, Option, None, Result, Ok, Err}
 use Rattle.std.specs.Io.KnownBytes.{Appends}
 use Rattle.std.specs.List.{fold}
 use Rattle.agc_plan.specs.declared.request.Request.{Request}
@@ -11,6 +11,7 @@ use Rattle.agc_session.specs.declared.run_fault.RunFault.{RunFault}
 use Rattle.agc_session.specs.declared.run_fault.RunFault.TheVariants.{NoMemory, Output, NoThread}
 use Rattle.agc_session.specs.declared.run_fault.RunFault.TheVariants.{Lost}
 use Rattle.agc_session.specs.Walks.{texts}
+use Rattle.agc_trace.specs.declared.choice.Choice.{Choice}
 use Rattle.agc_trace.specs.Choices.{Telling, all_told, chosen, text_of}
 use Rattle.agc_trace.specs.Openings.{opening_text, ending_text, idle_devices}
 use Rattle.agc_trace.specs.Traces.{Counted, counted, traced_text}
@@ -27,31 +28,30 @@ counted_from m = record {
 abbrev pub lines_of : Machined → List Request → List ℕ
 lines_of m requests = texts counted (λ c asked. traced_text c.run asked) (counted_from m) requests
 
--- what stands before the lines; the lines of the requests that are told, all or those that raised
--- an alarm; and how many were refused
-unfoldable pub run_text : List ℕ → (alarms : Bool) → Machined → List Request → List ℕ
-run_text opening alarms m requests =
+-- what stands before the lines; the lines of the requests that are told; and how many were refused
+unfoldable pub run_text : List ℕ → Choice → Machined → List Request → List ℕ
+run_text opening choice m requests =
     opening
-    ++ (text_of (chosen alarms (all_told (counted_from m).run requests))
+    ++ (text_of (chosen choice (all_told (counted_from m).run requests))
     ++ ending_text m.limit m.allowance (fold counted (counted_from m) requests))
 
 -- all that is asked for of a bench: the heading, and what came of power-up, stand before
-abbrev pub asked_text : (alarms : Bool) → Benched → List ℕ
-asked_text alarms bench = run_text (opening_text bench.power (bench_machine bench)) alarms
+abbrev pub asked_text : Choice → Benched → List ℕ
+asked_text choice bench = run_text (opening_text bench.power (bench_machine bench)) choice
     (bench_machine bench) (bench_requests bench)
 
 -- of a bench: last stand the pulses that asked for nothing
-abbrev pub trace_text : (alarms : Bool) → Benched → List ℕ
-trace_text alarms bench = asked_text alarms bench ++ idle_devices bench
+abbrev pub trace_text : Choice → Benched → List ℕ
+trace_text choice bench = asked_text choice bench ++ idle_devices bench
 
 -- of a script: it has no power-up
-abbrev pub script_text : (alarms : Bool) → List Request → List ℕ
-script_text alarms requests =
-    run_text (opening_text None script_machine) alarms script_machine requests
+abbrev pub script_text : Choice → List Request → List ℕ
+script_text choice requests =
+    run_text (opening_text None script_machine) choice script_machine requests
 
 -- for the proofs: with which a run begins of which these are told
-abbrev pub telling_from : Bool → Machined → Telling
-telling_from alarms m = record { counted = counted_from m; alarms = alarms }
+abbrev pub telling_from : Choice → Machined → Telling
+telling_from choice m = record { counted = counted_from m; choice = choice }
 
 -- the text was written and nothing else; a front of it where a write failed; nothing where there
 -- was no memory; no other fault comes

@@ -4,6 +4,7 @@
 
 mod account;
 mod cells;
+mod choice;
 mod columns;
 mod ending;
 mod idle;
@@ -16,6 +17,7 @@ mod tracing;
 mod waits;
 
 pub use account::{account_of, add_phases};
+pub use choice::Choice;
 pub use lines::{
     answer_cell, number_cell, owners_cell, request_cell, running_cell, seats_cell, waits_cell,
 };

@@ -4,6 +4,7 @@ ghost use Rattle.std.specs.Prelude.{◌≡◌};
 ghost use Rattle.agc_trace.specs.Runs.{WritesTrace, asked_text, script_text, telling_from};
 ghost use Rattle.agc_trace.specs.Runs.{trace_text};
 
+use crate::choice::Choice;
 use crate::ending::ending_of;
 use crate::idle::put_idle;
 use crate::opening::{heading_of, opening_of};
@@ -17,11 +18,11 @@ use std::alloc::Global;
 use std::io::Write;
 use std::marker::Model;
 
-/// A run that is traced, and whether only the requests are told that raise an alarm.
+/// A run that is traced, and which of its requests are told.
 #[derive(Drop)]
 struct Teller {
     tracer: Tracer,
-    alarms: bool,
+    choice: Choice,
 }
 
 impl Model for Teller {
@@ -29,7 +30,7 @@ impl Model for Teller {
 
     ghost Value = { Telling };
 
-    ghost view = { λ t. record { counted = t.tracer; alarms = t.alarms } };
+    ghost view = { λ t. record { counted = t.tracer; choice = t.choice } };
 }
 
 impl Asks for Teller {
@@ -41,17 +42,17 @@ impl Asks for Teller {
 
     /// Asks for one request, and writes its line and account, where it is told.
     fn ask<W: Write>(&mut self, request: &Request, writer: &mut W) -> Result<(), Output> {
-        tell(&mut self.tracer, self.alarms, request, writer)
+        tell(&mut self.tracer, self.choice, request, writer)
     }
 }
 
 /// A run of this machine, of which nothing was asked.
-fn teller_of(alarms: bool, machine: Machine) -> Teller
-    ensures { result ≡ telling_from alarms machine }
+fn teller_of(choice: Choice, machine: Machine) -> Teller
+    ensures { result ≡ telling_from choice machine }
 {
     Teller {
         tracer: tracer_of(machine),
-        alarms,
+        choice,
     }
 }
 
@@ -59,15 +60,15 @@ fn teller_of(alarms: bool, machine: Machine) -> Teller
 fn trace_asked<W: Write>(
     alloc: Global,
     bench: &Bench,
-    alarms: bool,
+    choice: Choice,
     writer: &mut W,
 ) -> Result<(), RunFault>
     ensures { WritesTrace (W.contents writer.old) (W.contents writer.new)
-        (asked_text alarms bench.now) result }
+        (asked_text choice bench.now) result }
 {
     let machine = machine_of(alloc, bench)?;
     let opening = opening_of(bench, &machine);
-    let mut teller = teller_of(alarms, machine);
+    let mut teller = teller_of(choice, machine);
     put(writer, opening.as_bytes())?;
     ask_bench(&mut teller, bench, writer)?;
     let ending = ending_of(bench.limit().get(), bench.allowance(), &teller.tracer);
@@ -77,9 +78,9 @@ fn trace_asked<W: Write>(
 
 /// Writes the trace of a bench: the heading, and what came of power-up, where it has phase words;
 /// then its machine is asked for the requests in the order of `serial`, and for each a line is
-/// written, or for those alone that raise an alarm, with the state in which it was answered: at an
-/// alarm the full table, before the era begins; and last how many requests were refused, and the
-/// devices whose pulses asked for nothing. The writer is not flushed. Source: profile.
+/// written, where it is told, with the state in which it was answered: at an alarm the full table,
+/// before the era begins; and last how many requests were refused, and the devices whose pulses
+/// asked for nothing. The writer is not flushed. Source: profile.
 ///
 /// # Errors
 ///
@@ -88,13 +89,13 @@ fn trace_asked<W: Write>(
 pub fn trace<W: Write>(
     alloc: Global,
     bench: &Bench,
-    alarms: bool,
+    choice: Choice,
     writer: &mut W,
 ) -> Result<(), RunFault>
     ensures { WritesTrace (W.contents writer.old) (W.contents writer.new)
-        (trace_text alarms bench.now) result }
+        (trace_text choice bench.now) result }
 {
-    trace_asked(alloc, bench, alarms, writer)?;
+    trace_asked(alloc, bench, choice, writer)?;
     put_idle(bench, writer)?;
     Ok(())
 }
@@ -109,15 +110,15 @@ pub fn trace<W: Write>(
 pub fn trace_script<W: Write>(
     alloc: Global,
     requests: &[Request],
-    alarms: bool,
+    choice: Choice,
     writer: &mut W,
 ) -> Result<(), RunFault>
     ensures { WritesTrace (W.contents writer.old) (W.contents writer.new)
-        (script_text alarms requests.now) result }
+        (script_text choice requests.now) result }
 {
     let machine = script_machine(alloc)?;
     let heading = heading_of();
-    let mut teller = teller_of(alarms, machine);
+    let mut teller = teller_of(choice, machine);
     put(writer, heading.as_bytes())?;
     ask_all(&mut teller, requests, writer)?;
     let ending = ending_of(1000, 1_000_000, &teller.tracer);

@@ -26,9 +26,11 @@ use Rattle.agc_lint.specs.Tellings.{told_of_bench}
 use Rattle.agc_warn.specs.declared.warning.Located.{Located}
 use Rattle.agc_warn.specs.Warnings.{AreWarned}
 use Rattle.agc_warn.specs.Tellings.{told_warning}
+use Rattle.agc_trace.specs.declared.choice.Choice.{Choice}
 use Rattle.agc_trace.specs.Runs.{WritesTrace, script_text, trace_text}
 use Rattle.agc_picture.specs.Pictures.{WritesPicture}
 use Rattle.agc_page.specs.Pages.{WritesPage}
+use Rattle.agc_words.specs.declared.options.TraceOptions.{TraceOptions}
 use Rattle.agc_words.specs.declared.words.WordsFault.{WordsFault}
 use Rattle.agc_words.specs.declared.words.WordsFault.TheVariants as words
 
@@ -56,31 +58,36 @@ ComesOf writes text old new (Err (fault.Bench why)) =
     RefusesBench (parse_document text) why × (new ≡ old)
 ComesOf writes text old new (Err why) = ⊥
 
--- its bench is traced, all requests or those that raise an alarm
-abbrev pub TracesBench : (alarms : Bool) → List ℕ → Option (List ℕ) → Option (List ℕ)
+-- the requests that options of a trace choose
+abbrev pub choice_of : TraceOptions → Choice
+choice_of options =
+    record { alarms = options.alarms; from = options.from; to = options.to }
+
+-- its bench is traced, the requests of this choice
+abbrev pub TracesBench : Choice → List ℕ → Option (List ℕ) → Option (List ℕ)
     → Result Unit Fault → Type 0
-TracesBench alarms =
-    ComesOf (λ old new bench outcome. WritesTrace old new (trace_text alarms bench) outcome)
+TracesBench choice =
+    ComesOf (λ old new bench outcome. WritesTrace old new (trace_text choice bench) outcome)
 
 -- it was traced as the script that it is
-abbrev pub WrittenOfScript : (alarms : Bool) → List ℕ → Option (List ℕ) → Option (List ℕ)
+abbrev pub WrittenOfScript : Choice → List ℕ → Option (List ℕ) → Option (List ℕ)
     → Result Unit RunFault → Type 0
-WrittenOfScript alarms text old new outcome = (requests : List Request)
+WrittenOfScript choice text old new outcome = (requests : List Request)
     × (lines_of text ≡ map line_of requests)
-    × WritesTrace old new (script_text alarms requests) outcome
+    × WritesTrace old new (script_text choice requests) outcome
 
 -- what comes of this text as a script: it is traced; or it is none, and nothing was written
-abbrev pub TracesScript : (alarms : Bool) → List ℕ → Option (List ℕ) → Option (List ℕ)
+abbrev pub TracesScript : Choice → List ℕ → Option (List ℕ) → Option (List ℕ)
     → Result Unit Fault → Type 0
-TracesScript alarms text old new (Ok done) = WrittenOfScript alarms text old new (Ok done)
-TracesScript alarms text old new (Err (fault.Run why)) =
-    WrittenOfScript alarms text old new (Err why)
-TracesScript alarms text old new (Err (fault.Script why)) =
+TracesScript choice text old new (Ok done) = WrittenOfScript choice text old new (Ok done)
+TracesScript choice text old new (Err (fault.Run why)) =
+    WrittenOfScript choice text old new (Err why)
+TracesScript choice text old new (Err (fault.Script why)) =
     RefusesScript (lines_of text) why × (new ≡ old)
-TracesScript alarms text old new (Err why) = ⊥
+TracesScript choice text old new (Err why) = ⊥
 
 -- it is traced as a script, or as a bench
-abbrev pub TracesText : (script alarms : Bool) → List ℕ → Option (List ℕ) → Option (List ℕ)
+abbrev pub TracesText : (script : Bool) → Choice → List ℕ → Option (List ℕ) → Option (List ℕ)
     → Result Unit Fault → Type 0
 TracesText true = TracesScript
 TracesText false = TracesBench

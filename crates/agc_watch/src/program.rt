@@ -4,7 +4,7 @@ ghost use Rattle.std.specs.Prelude.{◌≡◌};
 ghost use Rattle.toml.specs.Parse.{parse_document};
 ghost use Rattle.agc_document.specs.Faults.{RefusesBench};
 ghost use Rattle.agc_program.specs.Inputs.{EndsBy, IsDocument};
-ghost use Rattle.agc_watch.specs.Program.{fault_for};
+ghost use Rattle.agc_watch.specs.Program.{choice_of, fault_for};
 ghost use Rattle.agc_watch.specs.Program.{DrawsText, PagesText, TracesBench, is_nothing};
 ghost use Rattle.agc_watch.specs.Program.{TracesScript, TracesText};
 ghost use Rattle.agc_watch.specs.Program.{ChecksScript, ChecksInput, ChecksBench};
@@ -15,24 +15,35 @@ use agc_page::page;
 use agc_picture::picture;
 use agc_program::{Fault, buffered, flushed, given_words};
 use agc_text::{read_all, read_script};
-use agc_trace::{trace, trace_script};
+use agc_trace::{Choice, trace, trace_script};
 use agc_warn::{bench_warnings, tell_warnings};
 use agc_words::{Asked, TraceOptions, WordsFault, Work, asked_for};
 use std::alloc::Global;
 use std::io::{Read, Write};
 use std::rt::Env;
 
-/// Writes the trace of a text's bench, of all requests or of those that raise an alarm.
+/// The requests that options of a trace choose.
+fn choice_of(options: TraceOptions) -> Choice
+    ensures { result ≡ choice_of options }
+{
+    Choice {
+        alarms: options.alarms,
+        from: options.from,
+        to: options.to,
+    }
+}
+
+/// Writes the trace of a text's bench, of the requests that are chosen.
 fn trace_bench<W: Write>(
     alloc: Global,
     text: &str,
-    alarms: bool,
+    choice: Choice,
     writer: &mut W,
 ) -> Result<(), Fault>
-    ensures { TracesBench alarms text.now (W.contents writer.old) (W.contents writer.new) result }
+    ensures { TracesBench choice text.now (W.contents writer.old) (W.contents writer.new) result }
 {
     let bench = read_bench(alloc, text)?;
-    trace(alloc, &bench, alarms, writer)?;
+    trace(alloc, &bench, choice, writer)?;
     Ok(())
 }
 
@@ -40,13 +51,13 @@ fn trace_bench<W: Write>(
 fn trace_script_of<W: Write>(
     alloc: Global,
     text: &str,
-    alarms: bool,
+    choice: Choice,
     writer: &mut W,
 ) -> Result<(), Fault>
-    ensures { TracesScript alarms text.now (W.contents writer.old) (W.contents writer.new) result }
+    ensures { TracesScript choice text.now (W.contents writer.old) (W.contents writer.new) result }
 {
     let requests = read_script(alloc, text)?;
-    trace_script(alloc, requests.as_slice(), alarms, writer)?;
+    trace_script(alloc, requests.as_slice(), choice, writer)?;
     Ok(())
 }
 
@@ -57,14 +68,14 @@ fn trace_input<R: Read, W: Write>(
     reader: &mut R,
     writer: &mut W,
 ) -> Result<(), Fault>
-    ensures { EndsBy (TracesText options.script options.alarms) (R.remaining reader.old)
+    ensures { EndsBy (TracesText options.script (choice_of options)) (R.remaining reader.old)
         (R.remaining reader.new) (W.contents writer.old) (W.contents writer.new) result }
 {
     let text = read_all(alloc, reader)?;
     if options.script {
-        trace_script_of(alloc, text.as_str(), options.alarms, writer)
+        trace_script_of(alloc, text.as_str(), choice_of(options), writer)
     } else {
-        trace_bench(alloc, text.as_str(), options.alarms, writer)
+        trace_bench(alloc, text.as_str(), choice_of(options), writer)
     }
 }
 

@@ -41,6 +41,11 @@ fn flag<'a>(alloc: Global, name: &'a str, help: &'a str) -> Arg<'a> {
         .help(help)
 }
 
+/// An option that takes a number.
+fn numbered<'a>(alloc: Global, name: &'a str, help: &'a str) -> Arg<'a> {
+    Arg::new(alloc, name).long(name).value_name("N").help(help)
+}
+
 /// A subcommand, of which its help tells an example.
 fn subcommand<'a>(alloc: Global, name: &'a str, about: &'a str, example: &'a str) -> Command<'a> {
     Command::new(alloc, name).about(about).after_help(example)
@@ -59,6 +64,16 @@ fn trace_command<'a>(alloc: Global) -> Result<Command<'a>, AllocError> {
         alloc,
         "alarms",
         "Tells only the requests that raised an alarm",
+    ))?
+    .arg(numbered(
+        alloc,
+        "from",
+        "Tells only the requests from number N on",
+    ))?
+    .arg(numbered(
+        alloc,
+        "to",
+        "Tells only the requests up to number N",
     ))
 }
 

@@ -11,31 +11,31 @@ returns-in_err-put g c =
     let p = err_from_is_err_and c.from_residual-in_err-put.result c.from_residual-in_err-put.ensures.1 in
     let bench = c.args.bench.now in
     let m = c.in_ok-machine.machine in
-    let run : IsRun (opening_text bench.power m) c.args.alarms m c.as_bytes.result.now c.teller_of-teller.result = record {
+    let run : IsRun (opening_text bench.power m) c.args.choice m c.as_bytes.result.now c.teller_of-teller.result = record {
       text_is = c.as_bytes.ensures.value ∙ c.deref.ensures.0 ∙ c.opening_of-opening.ensures;
       start_is = c.teller_of-teller.ensures;
     } in
-    rw (p.1, p.2) (bench_front _ _ c.args.alarms bench m c.in_ok-machine.ensures.machine
-    (opening_front _ _ (opening_text bench.power m) c.args.alarms m (bench_requests bench) c.as_bytes.result.now c.teller_of-teller.result run c.in_err-put.ensures))
+    rw (p.1, p.2) (bench_front _ _ c.args.choice bench m c.in_ok-machine.ensures.machine
+    (opening_front _ _ (opening_text bench.power m) c.args.choice m (bench_requests bench) c.as_bytes.result.now c.teller_of-teller.result run c.in_err-put.ensures))
 
 pub returns-in_err-ask_bench : goal.returns-in_err-ask_bench
 returns-in_err-ask_bench g c =
     let p = err_from_is_err_and c.from_residual-in_err-ask_bench.result c.from_residual-in_err-ask_bench.ensures.1 in
     let bench = c.args.bench.now in
     let m = c.in_ok-machine.machine in
-    let run : IsRun (opening_text bench.power m) c.args.alarms m c.as_bytes.result.now c.teller_of-teller.result = record {
+    let run : IsRun (opening_text bench.power m) c.args.choice m c.as_bytes.result.now c.teller_of-teller.result = record {
       text_is = c.as_bytes.ensures.value ∙ c.deref.ensures.0 ∙ c.opening_of-opening.ensures;
       start_is = c.teller_of-teller.ensures;
     } in
-    rw (p.1, p.2) (bench_front _ _ c.args.alarms bench m c.in_ok-machine.ensures.machine
-    (lines_front _ _ _ (opening_text bench.power m) c.args.alarms m (bench_requests bench) c.as_bytes.result.now c.teller_of-teller.result run c.in_ok-put.ensures c.in_err-ask_bench.ensures.writes))
+    rw (p.1, p.2) (bench_front _ _ c.args.choice bench m c.in_ok-machine.ensures.machine
+    (lines_front _ _ _ (opening_text bench.power m) c.args.choice m (bench_requests bench) c.as_bytes.result.now c.teller_of-teller.result run c.in_ok-put.ensures c.in_err-ask_bench.ensures.writes))
 
 pub returns-in_err-put-2 : goal.returns-in_err-put-2
 returns-in_err-put-2 g c =
     let p = err_from_is_err_and c.from_residual-in_err-put-2.result c.from_residual-in_err-put-2.ensures.1 in
     let bench = c.args.bench.now in
     let m = c.in_ok-machine.machine in
-    let run : IsRun (opening_text bench.power m) c.args.alarms m c.as_bytes.result.now c.teller_of-teller.result = record {
+    let run : IsRun (opening_text bench.power m) c.args.choice m c.as_bytes.result.now c.teller_of-teller.result = record {
       text_is = c.as_bytes.ensures.value ∙ c.deref.ensures.0 ∙ c.opening_of-opening.ensures;
       start_is = c.teller_of-teller.ensures;
     } in
@@ -47,14 +47,14 @@ returns-in_err-put-2 g c =
           ∙ ap (λ (n : ℕ). ending_text n c.allowance.result last.counted) (c.get.ensures.value ∙ c.limit.ensures ∙ bench_limit bench m c.in_ok-machine.ensures.machine)
           ∙ ap (λ (n : ℕ). ending_text m.limit n last.counted) (c.allowance.ensures.value ∙ bench_allowance bench m c.in_ok-machine.ensures.machine);
     } in
-    rw (p.1, p.2) (bench_front _ _ c.args.alarms bench m c.in_ok-machine.ensures.machine
-    (ending_front _ _ _ _ (opening_text bench.power m) c.args.alarms m (bench_requests bench) c.as_bytes.result.now c.teller_of-teller.result last c.as_bytes-2.result.now run end c.in_ok-put.ensures c.in_ok-ask_bench.ensures.writes c.in_err-put-2.ensures))
+    rw (p.1, p.2) (bench_front _ _ c.args.choice bench m c.in_ok-machine.ensures.machine
+    (ending_front _ _ _ _ (opening_text bench.power m) c.args.choice m (bench_requests bench) c.as_bytes.result.now c.teller_of-teller.result last c.as_bytes-2.result.now run end c.in_ok-put.ensures c.in_ok-ask_bench.ensures.writes c.in_err-put-2.ensures))
 
 pub returns : goal.returns
 returns g c =
     let bench = c.args.bench.now in
     let m = c.in_ok-machine.machine in
-    let run : IsRun (opening_text bench.power m) c.args.alarms m c.as_bytes.result.now c.teller_of-teller.result = record {
+    let run : IsRun (opening_text bench.power m) c.args.choice m c.as_bytes.result.now c.teller_of-teller.result = record {
       text_is = c.as_bytes.ensures.value ∙ c.deref.ensures.0 ∙ c.opening_of-opening.ensures;
       start_is = c.teller_of-teller.ensures;
     } in
@@ -66,5 +66,5 @@ returns g c =
           ∙ ap (λ (n : ℕ). ending_text n c.allowance.result last.counted) (c.get.ensures.value ∙ c.limit.ensures ∙ bench_limit bench m c.in_ok-machine.ensures.machine)
           ∙ ap (λ (n : ℕ). ending_text m.limit n last.counted) (c.allowance.ensures.value ∙ bench_allowance bench m c.in_ok-machine.ensures.machine);
     } in
-    bench_whole _ _ c.args.alarms bench m c.in_ok-machine.ensures.machine
-    (all_written _ _ _ _ (opening_text bench.power m) c.args.alarms m (bench_requests bench) c.as_bytes.result.now c.teller_of-teller.result last c.as_bytes-2.result.now run end c.in_ok-put.ensures c.in_ok-ask_bench.ensures.writes c.in_ok-put-2.ensures)
+    bench_whole _ _ c.args.choice bench m c.in_ok-machine.ensures.machine
+    (all_written _ _ _ _ (opening_text bench.power m) c.args.choice m (bench_requests bench) c.as_bytes.result.now c.teller_of-teller.result last c.as_bytes-2.result.now run end c.in_ok-put.ensures c.in_ok-ask_bench.ensures.writes c.in_ok-put-2.ensures)

@@ -10,29 +10,29 @@ pub returns-in_err-put : goal.returns-in_err-put
 returns-in_err-put g c =
     let p = err_from_is_err_and c.from_residual-in_err-put.result c.from_residual-in_err-put.ensures.1 in
     let m = c.in_ok-machine.machine in
-    let run : IsRun (opening_text None m) c.args.alarms m c.as_bytes.result.now c.teller_of-teller.result = record {
+    let run : IsRun (opening_text None m) c.args.choice m c.as_bytes.result.now c.teller_of-teller.result = record {
       text_is = c.as_bytes.ensures.value ∙ c.deref.ensures.0 ∙ c.heading_of-heading.ensures.text ∙ opening_fresh m None refl;
       start_is = c.teller_of-teller.ensures;
     } in
-    rw (p.1, p.2) (script_front _ _ c.args.alarms c.args.requests.now m c.in_ok-machine.ensures.machine
-    (opening_front _ _ (opening_text None m) c.args.alarms m c.args.requests.now c.as_bytes.result.now c.teller_of-teller.result run c.in_err-put.ensures))
+    rw (p.1, p.2) (script_front _ _ c.args.choice c.args.requests.now m c.in_ok-machine.ensures.machine
+    (opening_front _ _ (opening_text None m) c.args.choice m c.args.requests.now c.as_bytes.result.now c.teller_of-teller.result run c.in_err-put.ensures))
 
 pub returns-in_err-ask_all : goal.returns-in_err-ask_all
 returns-in_err-ask_all g c =
     let p = err_from_is_err_and c.from_residual-in_err-ask_all.result c.from_residual-in_err-ask_all.ensures.1 in
     let m = c.in_ok-machine.machine in
-    let run : IsRun (opening_text None m) c.args.alarms m c.as_bytes.result.now c.teller_of-teller.result = record {
+    let run : IsRun (opening_text None m) c.args.choice m c.as_bytes.result.now c.teller_of-teller.result = record {
       text_is = c.as_bytes.ensures.value ∙ c.deref.ensures.0 ∙ c.heading_of-heading.ensures.text ∙ opening_fresh m None refl;
       start_is = c.teller_of-teller.ensures;
     } in
-    rw (p.1, p.2) (script_front _ _ c.args.alarms c.args.requests.now m c.in_ok-machine.ensures.machine
-    (lines_front _ _ _ (opening_text None m) c.args.alarms m c.args.requests.now c.as_bytes.result.now c.teller_of-teller.result run c.in_ok-put.ensures c.in_err-ask_all.ensures.writes))
+    rw (p.1, p.2) (script_front _ _ c.args.choice c.args.requests.now m c.in_ok-machine.ensures.machine
+    (lines_front _ _ _ (opening_text None m) c.args.choice m c.args.requests.now c.as_bytes.result.now c.teller_of-teller.result run c.in_ok-put.ensures c.in_err-ask_all.ensures.writes))
 
 pub returns-in_err-put-2 : goal.returns-in_err-put-2
 returns-in_err-put-2 g c =
     let p = err_from_is_err_and c.from_residual-in_err-put-2.result c.from_residual-in_err-put-2.ensures.1 in
     let m = c.in_ok-machine.machine in
-    let run : IsRun (opening_text None m) c.args.alarms m c.as_bytes.result.now c.teller_of-teller.result = record {
+    let run : IsRun (opening_text None m) c.args.choice m c.as_bytes.result.now c.teller_of-teller.result = record {
       text_is = c.as_bytes.ensures.value ∙ c.deref.ensures.0 ∙ c.heading_of-heading.ensures.text ∙ opening_fresh m None refl;
       start_is = c.teller_of-teller.ensures;
     } in
@@ -44,13 +44,13 @@ returns-in_err-put-2 g c =
           ∙ ap (λ (n : ℕ). ending_text n 1000000 last.counted) (script_limit m c.in_ok-machine.ensures.machine)
           ∙ ap (λ (n : ℕ). ending_text m.limit n last.counted) (script_allowance m c.in_ok-machine.ensures.machine);
     } in
-    rw (p.1, p.2) (script_front _ _ c.args.alarms c.args.requests.now m c.in_ok-machine.ensures.machine
-    (ending_front _ _ _ _ (opening_text None m) c.args.alarms m c.args.requests.now c.as_bytes.result.now c.teller_of-teller.result last c.as_bytes-2.result.now run end c.in_ok-put.ensures c.in_ok-ask_all.ensures.writes c.in_err-put-2.ensures))
+    rw (p.1, p.2) (script_front _ _ c.args.choice c.args.requests.now m c.in_ok-machine.ensures.machine
+    (ending_front _ _ _ _ (opening_text None m) c.args.choice m c.args.requests.now c.as_bytes.result.now c.teller_of-teller.result last c.as_bytes-2.result.now run end c.in_ok-put.ensures c.in_ok-ask_all.ensures.writes c.in_err-put-2.ensures))
 
 pub returns : goal.returns
 returns g c =
     let m = c.in_ok-machine.machine in
-    let run : IsRun (opening_text None m) c.args.alarms m c.as_bytes.result.now c.teller_of-teller.result = record {
+    let run : IsRun (opening_text None m) c.args.choice m c.as_bytes.result.now c.teller_of-teller.result = record {
       text_is = c.as_bytes.ensures.value ∙ c.deref.ensures.0 ∙ c.heading_of-heading.ensures.text ∙ opening_fresh m None refl;
       start_is = c.teller_of-teller.ensures;
     } in
@@ -62,5 +62,5 @@ returns g c =
           ∙ ap (λ (n : ℕ). ending_text n 1000000 last.counted) (script_limit m c.in_ok-machine.ensures.machine)
           ∙ ap (λ (n : ℕ). ending_text m.limit n last.counted) (script_allowance m c.in_ok-machine.ensures.machine);
     } in
-    script_whole _ _ c.args.alarms c.args.requests.now m c.in_ok-machine.ensures.machine
-    (all_written _ _ _ _ (opening_text None m) c.args.alarms m c.args.requests.now c.as_bytes.result.now c.teller_of-teller.result last c.as_bytes-2.result.now run end c.in_ok-put.ensures c.in_ok-ask_all.ensures.writes c.in_ok-put-2.ensures)
+    script_whole _ _ c.args.choice c.args.requests.now m c.in_ok-machine.ensures.machine
+    (all_written _ _ _ _ (opening_text None m) c.args.choice m c.args.requests.now c.as_bytes.result.now c.teller_of-teller.result last c.as_bytes-2.result.now run end c.in_ok-put.ensures c.in_ok-ask_all.ensures.writes c.in_ok-put-2.ensures)
