@@ -65,16 +65,8 @@ fn trace_command<'a>(alloc: Global) -> Result<Command<'a>, AllocError> {
         "alarms",
         "Tells only the requests that raised an alarm",
     ))?
-    .arg(numbered(
-        alloc,
-        "from",
-        "Tells only the requests from number N on",
-    ))?
-    .arg(numbered(
-        alloc,
-        "to",
-        "Tells only the requests up to number N",
-    ))
+    .arg(numbered(alloc, "from", "Tells only the requests from number N on"))?
+    .arg(numbered(alloc, "to", "Tells only the requests up to number N"))
 }
 
 /// The subcommand `picture`.
