@@ -1,11 +1,24 @@
-use Rattle.std.proofs.Common.{◌≡◌, ℕ, ◌+◌, ◌-◌, ◌<◌, ◌≤◌, zero, suc, List, [], ◌∷◌, map, length, get_or, arith, refl, sym, ap, ◌∙◌, length-append}
-use Rattle.std.specs.List.{enumerate_from}
-use Rattle.std.proofs.lemmas.List.{get_or_append_left, get_or-append_right, get_or-map, length-map}
+use Rattle.std.proofs.Common.{◌≡◌, ℕ, ◌+◌, ◌-◌, ◌<◌, ◌≤◌, zero, suc, List, [], ◌∷◌, map, length, get_or, arith, refl, sym, ap, subst, ◌∙◌, length-append}
+use Rattle.std.specs.List.{All, enumerate_from}
+use Rattle.std.proofs.lemmas.List.{get_or_append_left, get_or-append_right, get_or_default, get_or-map, length-map}
 use Rattle.std.proofs.lemmas.List.FromFn.{get_or-enumerate_from, length-enumerate_from}
 use Rattle.agc_plan.specs.declared.request.Request.{Request}
 use Rattle.agc_document.specs.Benches.{Benched}
-use Rattle.agc_bench.specs.Threads.{Asker, Worker, Attends, workers_of, threads_of}
+use Rattle.agc_bench.specs.Threads.{Asker, Worker, Attends, threads_of}
 use Rattle.agc_bench.specs.Steps.{thread_at}
+
+-- what holds of each element and its place holds of all, with their places beside them
+pub all_numbered : {X : Type 0} (P : ℕ → X → Type 0) (xs : List X) (d : X) → ((i : ℕ) → i < length xs → P i (get_or xs i d))
+    → All (λ x. P x.0 x.1) (enumerate_from 0 xs)
+all_numbered {X} P xs d all k e below =
+    let inside : k < length xs = omega (arith, below, length-enumerate_from 0 xs) in
+    let number : 0 + k ≡ k = omega arith in
+    let same : get_or xs k e.1 ≡ get_or xs k d = get_or_default xs k e.1 d inside in
+    subst (λ (x : ℕ × X). P x.0 x.1) (sym (get_or-enumerate_from 0 xs k e inside ∙ (λ j. (number j, same j)))) (all k inside)
+
+-- the workers of a bench, numbered from 0
+abbrev workers_of : Benched → List Asker
+workers_of bench = map (λ w. Worker w.0 w.1) (enumerate_from 0 bench.workers)
 
 -- how many workers there are
 workers_of_length : (bench : Benched) → length (workers_of bench) ≡ length bench.workers

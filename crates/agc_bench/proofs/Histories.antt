@@ -23,8 +23,9 @@ use Rattle.agc_document.specs.Benches.{Benched}
 use Rattle.agc_session.specs.Runs.{bench_machine, bench_plan}
 use Rattle.agc_desk.specs.Draining.{answers_to}
 use Rattle.agc_bench.specs.Sharing.{AreFresh, AsksOwn, AsksPulses, EachAsks, Finishes, HaveMade, HaveRun, first_calls}
-use Rattle.agc_bench.specs.Threads.{AskedOwn, IsRun, asker_at, askers_of}
-use Rattle.agc_bench.specs.Steps.{thread_at}
+use Rattle.agc_bench.specs.Threads.{AskedOwn, Attends, IsRun, askers_of}
+use Rattle.agc_bench.specs.Steps.{asker_at, thread_at}
+use Rattle.agc_bench.proofs.Askers.{all_numbered}
 
 -- the next request's answer, and those of the requests after it
 answers_at : (m : Machined) (rs : List Request) (i : ℕ) (r : Request) (said : Said) → i < length rs → r ≡ get_or rs i r
@@ -112,7 +113,7 @@ run_of may_answer bench first history last starts back applied is whole pulses b
     record {
       calls = rest;
       leads = subst (λ m. Leads (after_all m bench.script) rest last) is (leads_past first bench.script rest last (subst (λ l. Leads first l last) parts whole.leads));
-      each = λ i below.
+      each = all_numbered (λ i asker. AskedOwn may_answer asker (calls_by i rest)) (askers_of bench) (Attends bench.attends) (λ i below.
           let d : Holder = new_holder i in
           let a : AsksOwn may_answer (asker_at bench i) (get_or starts i d) (get_or back i d) = asked i d d (omega (arith, many, for_each, below)) in
           let start = begun i d (omega (arith, for_each, below)) in
@@ -123,7 +124,7 @@ run_of may_answer bench first history last starts back applied is whole pulses b
           ∙ (ap (λ n. calls_by n history) (sym number)
           ∙ (whole.each i d (omega (arith, many, for_each, below))
           ∙ (a.with_it.heard ∙ ap (λ h. h.heard ++ a.calls) start)))) in
-          subst (λ l. AskedOwn may_answer (asker_at bench i) l) (sym (append_cancel_left (calls_by i begin) _ _ heard)) a.own;
+          subst (λ l. AskedOwn may_answer (asker_at bench i) l) (sym (append_cancel_left (calls_by i begin) _ _ heard)) a.own);
       no_other = λ k d below.
           let among = All-drop (λ (call : Call). Contains (numbers_of back) call.by) (length begin) history whole.no_other k d below in
           let far : among.0 < length back = omega (arith, among.1, length-map back (λ (h : Holder). h.number)) in

@@ -7,7 +7,7 @@ use Rattle.agc_latch.specs.declared.accounts.Settled.{Settled}
 use Rattle.agc_latch.specs.declared.line.Line.{Line}
 use Rattle.agc_latch.specs.Accounts.{posted_by}
 use Rattle.agc_latch.specs.Ends.{Posting, new_device}
-use Rattle.agc_latch.specs.Lines.{on}
+use Rattle.agc_latch.specs.Lines.{on, raised, word_of, zeros}
 use Rattle.agc_machine.specs.Machines.{Machined}
 use Rattle.agc_machine.specs.Said.{Said}
 use Rattle.agc_desk.specs.declared.ties.Call.{Call}
@@ -16,7 +16,7 @@ use Rattle.agc_desk.specs.Draining.{answers_to}
 use Rattle.agc_desk.specs.History.{Holder, IsHistory, calls_by}
 use Rattle.agc_desk.specs.History.{new_holder, own_call, with_heard}
 use Rattle.agc_document.specs.Benches.{Benched}
-use Rattle.agc_bench.specs.Threads.{Asker, Worker, Attends, AskedOwn, posts_of, threads_of}
+use Rattle.agc_bench.specs.Threads.{Asker, Worker, Attends, AskedOwn, threads_of}
 use Rattle.agc_bench.specs.Steps.{thread_at}
 
 -- the calls of the share of number 0, with these answers, of no line's pulse
@@ -68,6 +68,10 @@ pub record HaveAsked (may_answer : ℕ → ℕ → Bool → Type 0) (bench : Ben
     (old new : List Holder) : Type 0 where
   pub for_each : length new ≡ length old
   pub each : EachAsks may_answer (thread_at bench) old new
+
+-- what a device posts per line: all its pulses, on its own
+abbrev pub posts_of : Line × ℕ → List ℕ
+posts_of device = raised (word_of device.0) device.1 zeros
 
 -- a device of this latch that posted all its pulses
 abbrev pub spent_device : TableId → Line × ℕ → Posting

@@ -8,7 +8,7 @@ use Rattle.agc_session.specs.declared.run_fault.RunFault.{RunFault}
 use Rattle.agc_session.specs.declared.run_fault.RunFault.TheVariants.{NoMemory, Output, NoThread}
 use Rattle.agc_session.specs.declared.run_fault.RunFault.TheVariants.{Lost}
 use Rattle.agc_document.specs.Benches.{Benched}
-use Rattle.agc_bench.specs.Threads.{Asker, Attends, threads_of}
+use Rattle.agc_bench.specs.Threads.{Asker, Attends, askers_of, threads_of}
 use Rattle.agc_text.specs.Pulses.{pulses_text}
 use Rattle.agc_text.specs.Report.{report_text}
 use Rattle.agc_text.specs.Writing.{Writes}
@@ -16,6 +16,10 @@ use Rattle.agc_text.specs.Writing.{Writes}
 -- who asks in the thread of this number
 abbrev pub thread_at : Benched → ℕ → Asker
 thread_at bench thread = slice_index_or (threads_of bench) thread (Attends bench.attends)
+
+-- who asks with the share of this number
+abbrev pub asker_at : Benched → ℕ → Asker
+asker_at bench number = slice_index_or (askers_of bench) number (Attends bench.attends)
 
 -- of a machine's words, of these totals and of what became of pulses the lines were written and
 -- nothing else; where a write failed, a front of them

@@ -1,12 +1,12 @@
 -- What the threads of a bench ask and post, and what a run of them writes.
 use Rattle.std.specs.Prelude.{◌≡◌, ℕ, ◌+◌, ◌<◌, List, [], ◌∷◌, ◌++◌, map, length, sum_by}
-use Rattle.std.specs.Prelude.{slice_index_or, Bool, Option, IsNone, IsSome, Result, Ok, Err}
+use Rattle.std.specs.Prelude.{◌==◌, if◌then◌else◌, Bool, Option, IsNone, IsSome}
+use Rattle.std.specs.Prelude.{Result, Err}
 use Rattle.std.specs.List.{All, enumerate_from}
-use Rattle.std.specs.Io.KnownBytes.{Appends}
 use Rattle.agc_plan.specs.declared.request.Request.{Request}
 use Rattle.agc_latch.specs.declared.accounts.Settled.{Settled}
 use Rattle.agc_latch.specs.declared.line.Line.{Line}
-use Rattle.agc_latch.specs.Lines.{on, raised, word_of, zeros}
+use Rattle.agc_latch.specs.Lines.{on, word_of}
 use Rattle.agc_machine.specs.Image.{HandsOut}
 use Rattle.agc_machine.specs.Machines.{Machined, after_all}
 use Rattle.agc_desk.specs.declared.ties.Call.{Call}
@@ -14,13 +14,13 @@ use Rattle.agc_desk.specs.Desks.{ArePulses}
 use Rattle.agc_desk.specs.History.{Leads, calls_by}
 use Rattle.agc_desk.specs.Runs.{IsFront, requests_of}
 use Rattle.agc_session.specs.declared.run_fault.RunFault.{RunFault}
-use Rattle.agc_session.specs.declared.run_fault.RunFault.TheVariants.{NoMemory, Output, NoThread}
+use Rattle.agc_session.specs.declared.run_fault.RunFault.TheVariants.{NoMemory, NoThread}
 use Rattle.agc_session.specs.declared.run_fault.RunFault.TheVariants.{Lost}
 use Rattle.agc_document.specs.Benches.{Benched}
 use Rattle.agc_session.specs.Runs.{bench_machine, bench_plan}
 use Rattle.agc_text.specs.Pulses.{pulses_text}
 use Rattle.agc_text.specs.Report.{report_text}
-use Rattle.agc_text.specs.Writing.{AppendsFront}
+use Rattle.agc_text.specs.Writing.{Writes}
 
 -- who asks with a share: a worker with its number and its requests, or one who attends to pulses so
 -- many times
@@ -28,22 +28,16 @@ pub data Asker : Type 0 where
   Worker : ℕ → List Request → Asker
   Attends : ℕ → Asker
 
--- the workers of a bench, numbered from 0
-abbrev pub workers_of : Benched → List Asker
-workers_of bench = map (λ w. Worker w.0 w.1) (enumerate_from 0 bench.workers)
-
--- who asks in a thread: the workers, and then one who attends as often as the bench says
+-- who asks in a thread: the workers of a bench, numbered from 0, and then one who attends as often
+-- as it says
 abbrev pub threads_of : Benched → List Asker
-threads_of bench = workers_of bench ++ Attends bench.attends ∷ []
+threads_of bench =
+    map (λ w. Worker w.0 w.1) (enumerate_from 0 bench.workers) ++ Attends bench.attends ∷ []
 
 -- who asks: the caller of the run, which attends once when all threads have ended, and these
 -- threads
 abbrev pub askers_of : Benched → List Asker
 askers_of bench = Attends 1 ∷ threads_of bench
-
--- who asks with the share of this number
-abbrev pub asker_at : Benched → ℕ → Asker
-asker_at bench number = slice_index_or (askers_of bench) number (Attends bench.attends)
 
 -- one who asks made just these calls: a worker asked, as far as its gate lets it, the requests that
 -- are its own, and for no pulse; one who attends asked for pulses
@@ -61,18 +55,15 @@ pub record IsRun (may_answer : ℕ → ℕ → Bool → Type 0) (bench : Benched
     (machine : Machined) (applied : List ℕ) : Type 0 where
   pub calls : List Call
   pub leads : Leads (after_all (bench_machine bench) bench.script) calls machine
-  pub each : (number : ℕ) → number < length (askers_of bench)
-      → AskedOwn may_answer (asker_at bench number) (calls_by number calls)
+  pub each : All (λ asker. AskedOwn may_answer asker.1 (calls_by asker.0 calls))
+      (enumerate_from 0 (askers_of bench))
   pub no_other : All (λ call. call.by < length (askers_of bench)) calls
   pub pulses : ArePulses (bench_plan bench) calls applied
 
--- what a device posts per line: all its pulses, on its own
-abbrev pub posts_of : Line × ℕ → List ℕ
-posts_of device = raised (word_of device.0) device.1 zeros
-
 -- how many pulses of a line the devices of a bench have
 abbrev pub pulses_of : Line → Benched → ℕ
-pulses_of line bench = sum_by (λ d. on line (posts_of d)) bench.devices
+pulses_of line bench =
+    sum_by (λ d. if word_of d.0 == word_of line then d.1 else 0) bench.devices
 
 -- what became of the pulses of a bench: all were posted, and each was applied or is owed
 pub record AreSettled (bench : Benched) (settled : Settled) : Type 0 where
@@ -96,10 +87,8 @@ pub record IsRunReport (may_answer : ℕ → ℕ → Bool → Type 0) (bench : B
 -- nothing where there was no memory or no thread; Lost is never answered
 abbrev pub WritesRun : {T : Type 0} → (ℕ → ℕ → Bool → Type 0) → Benched
     → Option (List ℕ) → Option (List ℕ) → Result T RunFault → Type 0
-WritesRun may_answer bench old new (Ok _) =
-    (text : List ℕ) × IsRunReport may_answer bench text × Appends old new text
-WritesRun may_answer bench old new (Err Output) =
-    (text : List ℕ) × IsRunReport may_answer bench text × AppendsFront old new text
 WritesRun may_answer bench old new (Err NoMemory) = new ≡ old
 WritesRun may_answer bench old new (Err NoThread) = new ≡ old
 WritesRun may_answer bench old new (Err Lost) = ⊥
+WritesRun may_answer bench old new result =
+    (text : List ℕ) × IsRunReport may_answer bench text × Writes old new text result

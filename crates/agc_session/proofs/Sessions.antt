@@ -1,5 +1,5 @@
 -- The text of a session.
-use Rattle.std.proofs.Common.{◌≡◌, ℕ, List, ◌++◌, Option, subst, refl, inl, inr}
+use Rattle.std.proofs.Common.{◌≡◌, ℕ, List, ◌++◌, ◌⊎◌, Option, subst, refl, inl, inr}
 use Rattle.std.specs.Io.KnownBytes.{Appends}
 use Rattle.std.specs.List.{fold}
 use Rattle.agc_plan.specs.declared.request.Request.{Request}
@@ -8,7 +8,13 @@ use Rattle.agc_machine.specs.Machines.{Machined, after, after_all}
 use Rattle.agc_text.specs.Report.{report_text}
 use Rattle.agc_text.specs.Writing.{AppendsFront}
 use Rattle.agc_text.proofs.Steps.{appends_both, up_to_more_front}
-use Rattle.agc_session.specs.Session.{IsSession, AppendsSessionFront, answer_lines}
+use Rattle.agc_session.specs.Session.{IsSession, answer_lines}
+
+-- a front of a session's text was written: of its answers' lines, or these all and a front of the report
+abbrev pub AppendsSessionFront : Option (List ℕ) → Option (List ℕ) → Machined → List Request → Type 0
+AppendsSessionFront old new machine requests =
+    AppendsFront old new (answer_lines machine requests)
+    ⊎ ((text : List ℕ) × IsSession machine requests text × AppendsFront old new text)
 
 -- the text of a session, of words of the machine that was reached
 session_of : (machine m : Machined) (rs : List Request) (words : List ℕ) → m ≡ fold after machine rs → HandsOut m words → IsSession machine rs (answer_lines machine rs ++ report_text m.plan.sets words m.totals)

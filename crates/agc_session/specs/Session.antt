@@ -5,8 +5,7 @@ use Rattle.agc_plan.specs.declared.request.Request.{Request}
 use Rattle.agc_machine.specs.Image.{HandsOut}
 use Rattle.agc_machine.specs.Machines.{Machined, after, after_all}
 use Rattle.agc_session.specs.declared.run_fault.RunFault.{RunFault}
-use Rattle.agc_session.specs.declared.run_fault.RunFault.TheVariants.{NoMemory, Output, NoThread}
-use Rattle.agc_session.specs.declared.run_fault.RunFault.TheVariants.{Lost}
+use Rattle.agc_session.specs.declared.run_fault.RunFault.TheVariants.{NoMemory, Output}
 use Rattle.agc_text.specs.Report.{report_text}
 use Rattle.agc_text.specs.Session.{line_for}
 use Rattle.agc_text.specs.Writing.{AppendsFront}
@@ -25,21 +24,15 @@ pub record IsSession (machine : Machined) (requests : List Request) (text : List
       ++ report_text (after_all machine requests).plan.sets words
       (after_all machine requests).totals
 
--- a front of a session's text was written: of its answers' lines, or these all and a front of the
--- report
-abbrev pub AppendsSessionFront : Option (List ℕ) → Option (List ℕ) → Machined → List Request
-    → Type 0
-AppendsSessionFront old new machine requests =
-    AppendsFront old new (answer_lines machine requests)
-    ⊎ ((text : List ℕ) × IsSession machine requests text × AppendsFront old new text)
-
--- what a run of one caller wrote: the session's text and nothing else; a front of it where a write
--- failed; nothing where there was no memory; no other fault comes
+-- what a run of one caller wrote: the session's text and nothing else; where a write failed, a
+-- front of it: of its answers' lines, or of them all and the report; nothing where there was no
+-- memory; no other fault comes
 abbrev pub WritesSession : {T : Type 0} → Option (List ℕ) → Option (List ℕ) → Machined
     → List Request → Result T RunFault → Type 0
 WritesSession old new machine requests (Ok _) = (text : List ℕ) × IsSession machine requests text
     × Appends old new text
-WritesSession old new machine requests (Err Output) = AppendsSessionFront old new machine requests
+WritesSession old new machine requests (Err Output) =
+    AppendsFront old new (answer_lines machine requests)
+    ⊎ ((text : List ℕ) × IsSession machine requests text × AppendsFront old new text)
 WritesSession old new machine requests (Err NoMemory) = new ≡ old
-WritesSession old new machine requests (Err NoThread) = ⊥
-WritesSession old new machine requests (Err Lost) = ⊥
+WritesSession old new machine requests (Err other) = ⊥

@@ -5,11 +5,8 @@ use Rattle.agc_text.specs.Report.{count_text}
 -- a line of three counts: the timer's, the keyboard's and the radar's
 unfoldable pub counts_line : List ℕ → List ℕ → List ℕ
 counts_line name counts =
-    name
-    ++ count_text (slice_index counts 0)
-    ++ count_text (slice_index counts 1)
-    ++ count_text (slice_index counts 2)
-    ++ 10 ∷ []
+    name ++ count_text (slice_index counts 0) ++ count_text (slice_index counts 1)
+    ++ count_text (slice_index counts 2) ++ 10 ∷ []
 
 -- how many pulses were posted, how many of these were applied, and how many are owed
 abbrev pub pulses_text : List ℕ → List ℕ → List ℕ → List ℕ

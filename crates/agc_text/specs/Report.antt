@@ -43,10 +43,6 @@ line_text words totals Alarms =
     codes "ALARMS" ++ count_text totals.a1201 ++ count_text totals.a1202 ++ count_text totals.a1203
 line_text words totals Restarts = codes "RESTARTS" ++ count_text totals.restarts
 
--- with its end
-unfoldable pub full_line : List ℕ → Totals → ReportLine → List ℕ
-full_line words totals line = line_text words totals line ++ 10 ∷ []
-
 -- the first line, which says how many core sets there are; a report of seven has none
 abbrev pub sets_count_text : ℕ → List ℕ
 sets_count_text sets = if sets == 7 then [] else (codes "SETS " ++ decimal sets ++ 10 ∷ [])
@@ -59,11 +55,15 @@ sets_text sets words = flat_map (set_line words) (range_with_len 0 sets)
 abbrev pub lines : List ReportLine
 lines = Vac ∷ Newjob ∷ Time3 ∷ Lst1 ∷ Lst2 ∷ Phase ∷ Failreg ∷ Served ∷ Alarms ∷ Restarts ∷ []
 
--- the text of these lines
+-- the text of these lines, each with its end
 unfoldable pub lines_text : List ℕ → Totals → List ℕ
-lines_text words totals = flat_map (full_line words totals) lines
+lines_text words totals = flat_map (λ line. line_text words totals line ++ 10 ∷ []) lines
 
 -- the whole report of so many core sets
 abbrev pub report_text : ℕ → List ℕ → Totals → List ℕ
 report_text sets words totals =
     sets_count_text sets ++ (sets_text sets words ++ lines_text words totals)
+
+-- of proofs alone: a line with its end
+unfoldable pub full_line : List ℕ → Totals → ReportLine → List ℕ
+full_line words totals line = line_text words totals line ++ 10 ∷ []

@@ -17,7 +17,7 @@ loop-line-preserved g c =
     c.in_ok-put_line.ensures
 
 pub loop-line-init : goal.loop-line-init
-unfolding lines_text
+unfolding lines_text full_line
 loop-line-init g c = up_to_start _ _
 
 pub returns : goal.returns
