@@ -6,7 +6,7 @@ _agc_watch() {
         1:*) mapfile -t COMPREPLY < <(compgen -W "$commands help --help --version" -- "$2") ;;
         2:help) mapfile -t COMPREPLY < <(compgen -W "$commands" -- "$2") ;;
         2:check) mapfile -t COMPREPLY < <(compgen -W '--script --help' -- "$2") ;;
-        *:trace) mapfile -t COMPREPLY < <(compgen -W '--script --alarms --from --to --help' -- "$2") ;;
+        *:trace) mapfile -t COMPREPLY < <(compgen -W '--script --alarms --brief --from --to --help' -- "$2") ;;
         2:picture | 2:page) mapfile -t COMPREPLY < <(compgen -W '--help' -- "$2") ;;
     esac
 }

@@ -3,4 +3,5 @@ pub mod Naming
 pub mod Moments
 pub mod Words
 pub mod Pieces
+pub mod Joined
 pub mod Whole

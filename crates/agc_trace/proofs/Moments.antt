@@ -15,7 +15,11 @@ use Rattle.agc_plan.specs.declared.reply.Reply.{Reply}
 use Rattle.agc_plan.specs.declared.reply.Alarm.{Alarm}
 use Rattle.std.specs.Prelude.{is_some}
 use Rattle.agc_trace.specs.declared.choice.Choice.{Choice}
-use Rattle.agc_trace.specs.Choices.{alarm_at, is_told, told_text}
+use Rattle.agc_machine.specs.declared.answer.Refusal.TheVariants.{Spent, LogFull}
+use Rattle.agc_trace.specs.declared.quiet.Left.{Left}
+use Rattle.agc_trace.specs.Briefs.{left_after, left_before, left_told, loud, noticed, tells, told_text}
+use Rattle.agc_trace.specs.Choices.{alarm_at, is_told, quiet_at}
+use Rattle.agc_trace.specs.Quiets.{quiet_of, quiet_reply}
 use Rattle.agc_trace.specs.Lines.{line_text}
 use Rattle.agc_trace.specs.Reading.{IsShown, begins_unless, scene_in}
 use Rattle.agc_trace.specs.Scenes.{Scene, scene_of}
@@ -123,14 +127,33 @@ alarm_is t asked refusal moment refusal_is shown =
     ∙ ap (λ (r : Option Refusal). told_alarm r (acted t.machine.plan asked (plain_of t.machine)).reply) refusal_is
 
 -- it is told, or left out
-told_by : (choice : Choice) (t : Traced) (asked : Request) (alarm : Option Alarm) (number : ℕ) (b : Bool) → alarm ≡ alarm_at t asked → number ≡ one_more t.asked → b ≡ is_told choice number (is_some alarm) → b ≡ is_told choice (one_more t.asked) (is_some (alarm_at t asked))
+pub told_by : (choice : Choice) (t : Traced) (asked : Request) (alarm : Option Alarm) (number : ℕ) (b : Bool) → alarm ≡ alarm_at t asked → number ≡ one_more t.asked → b ≡ is_told choice number (is_some alarm) → b ≡ is_told choice (one_more t.asked) (is_some (alarm_at t asked))
 told_by choice t asked alarm number b alarm_at_is number_is b_is =
     b_is ∙ ap (λ (a : Option Alarm). is_told choice number (is_some a)) alarm_at_is ∙ ap (λ (n : ℕ). is_told choice n (is_some (alarm_at t asked))) number_is
 
-pub told_yes : (choice : Choice) (t : Traced) (asked : Request) (alarm : Option Alarm) (number : ℕ) (b : Bool) → alarm ≡ alarm_at t asked → number ≡ one_more t.asked → b ≡ is_told choice number (is_some alarm) → b ≡ true → traced_text t asked ≡ told_text choice t asked
-told_yes choice t asked alarm number b alarm_at_is number_is b_is b_true =
-    ap (λ (v : Bool). if v then traced_text t asked else []) (sym b_true ∙ told_by choice t asked alarm number b alarm_at_is number_is b_is)
+pub told_yes : (choice : Choice) (left : Option Left) (t : Traced) (asked : Request) (b : Bool) → b ≡ tells choice t asked → b ≡ true → left_before left (noticed choice.brief (quiet_at t asked)) ++ loud (noticed choice.brief (quiet_at t asked)) (traced_text t asked) ≡ told_text choice left t asked
+told_yes choice left t asked b is holds =
+    ap (λ (v : Bool). if v then left_before left (noticed choice.brief (quiet_at t asked)) ++ loud (noticed choice.brief (quiet_at t asked)) (traced_text t asked) else []) (sym holds ∙ is)
 
-pub told_no : (choice : Choice) (t : Traced) (asked : Request) (alarm : Option Alarm) (number : ℕ) (b : Bool) → alarm ≡ alarm_at t asked → number ≡ one_more t.asked → b ≡ is_told choice number (is_some alarm) → b ≡ false → [] ≡ told_text choice t asked
-told_no choice t asked alarm number b alarm_at_is number_is b_is b_false =
-    ap (λ (v : Bool). if v then traced_text t asked else []) (sym b_false ∙ told_by choice t asked alarm number b alarm_at_is number_is b_is)
+pub told_no : (choice : Choice) (left : Option Left) (t : Traced) (asked : Request) (b : Bool) → b ≡ tells choice t asked → b ≡ false → [] ≡ told_text choice left t asked
+told_no choice left t asked b is fails =
+    ap (λ (v : Bool). if v then left_before left (noticed choice.brief (quiet_at t asked)) ++ loud (noticed choice.brief (quiet_at t asked)) (traced_text t asked) else []) (sym fails ∙ is)
+
+pub left_yes : (choice : Choice) (left : Option Left) (t : Traced) (asked : Request) (b : Bool) → b ≡ tells choice t asked → b ≡ true → left_after left (noticed choice.brief (quiet_at t asked)) ≡ left_told choice left t asked
+left_yes choice left t asked b is holds = ap (λ (v : Bool). if v then left_after left (noticed choice.brief (quiet_at t asked)) else left) (sym holds ∙ is)
+
+pub left_no : (choice : Choice) (left : Option Left) (t : Traced) (asked : Request) (b : Bool) → b ≡ tells choice t asked → b ≡ false → left ≡ left_told choice left t asked
+left_no choice left t asked b is fails = ap (λ (v : Bool). if v then left_after left (noticed choice.brief (quiet_at t asked)) else left) (sym fails ∙ is)
+
+-- whether it is quiet
+quiet_by : (t : Traced) (asked : Request) (refusal : Option Refusal) (moment : Acting) → IsShown t.machine asked refusal moment → quiet_of refusal moment.reply moment.fired ≡ quiet_of refusal (acted t.machine.plan asked (plain_of t.machine)).reply (fired_of t.machine asked)
+quiet_by t asked None moment shown =
+    ap (λ (r : Reply). quiet_reply r moment.fired) (shown.reply refl)
+    ∙ ap (λ (f : List Task). quiet_reply (acted t.machine.plan asked (plain_of t.machine)).reply f) shown.fired
+quiet_by t asked (Some Spent) moment shown = refl
+quiet_by t asked (Some LogFull) moment shown = refl
+
+pub quiet_is : (t : Traced) (asked : Request) (refusal : Option Refusal) (moment : Acting) → refusal ≡ refusal_of t.machine asked → IsShown t.machine asked refusal moment → quiet_of refusal moment.reply moment.fired ≡ quiet_at t asked
+quiet_is t asked refusal moment refusal_is shown =
+    quiet_by t asked refusal moment shown
+    ∙ ap (λ (r : Option Refusal). quiet_of r (acted t.machine.plan asked (plain_of t.machine)).reply (fired_of t.machine asked)) refusal_is

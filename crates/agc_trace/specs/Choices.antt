@@ -1,13 +1,15 @@
 -- Which requests a trace tells.
 use Rattle.std.specs.Prelude.{ℕ, Bool, true, false, nat_le, ◌&&◌, if◌then◌else◌, List, [], ◌∷◌}
 use Rattle.std.specs.Prelude.{Option, Some, None, is_some}
-use Rattle.std.specs.List.{filter, flat_map}
+use Rattle.std.specs.List.{filter}
 use Rattle.agc_plan.specs.declared.request.Request.{Request}
 use Rattle.agc_plan.specs.declared.reply.Alarm.{Alarm}
 use Rattle.agc_plan.specs.Steps.{acted}
-use Rattle.agc_machine.specs.Machines.{plain_of, refusal_of}
+use Rattle.agc_machine.specs.Machines.{fired_of, plain_of, refusal_of}
 use Rattle.agc_trace.specs.declared.choice.Choice.{Choice}
-use Rattle.agc_trace.specs.Traces.{Counted, Traced, counted, one_more, told_alarm, traced}
+use Rattle.agc_trace.specs.declared.quiet.Quiet.{Quiet}
+use Rattle.agc_trace.specs.Quiets.{quiet_of}
+use Rattle.agc_trace.specs.Traces.{Traced, one_more, told_alarm, traced}
 use Rattle.agc_trace.specs.Traces.{traced_text}
 
 -- the alarm that the next request raises, if it raises one
@@ -15,15 +17,26 @@ abbrev pub alarm_at : Traced → Request → Option Alarm
 alarm_at t asked = told_alarm (refusal_of t.machine asked)
     (acted t.machine.plan asked (plain_of t.machine)).reply
 
--- what is told of a request: its number, whether it raised an alarm, and its line and account
+-- how the next request changes nothing but the time, if it changes nothing
+abbrev pub quiet_at : Traced → Request → Option Quiet
+quiet_at t asked = quiet_of (refusal_of t.machine asked)
+    (acted t.machine.plan asked (plain_of t.machine)).reply (fired_of t.machine asked)
+
+-- what is told of a request: its number, how it is quiet, if it is, whether it raised an alarm, and
+-- its line and account
 pub record Told : Type 0 where
   pub number : ℕ
+  pub quiet : Option Quiet
   pub alarmed : Bool
   pub text : List ℕ
 
 abbrev pub told_of : Traced → Request → Told
-told_of t asked = record
-    { number = one_more t.asked; alarmed = is_some (alarm_at t asked); text = traced_text t asked }
+told_of t asked = record {
+  number = one_more t.asked;
+  quiet = quiet_at t asked;
+  alarmed = is_some (alarm_at t asked);
+  text = traced_text t asked;
+}
 
 -- of all requests, in order
 abbrev pub all_told : Traced → List Request → List Told
@@ -54,23 +67,4 @@ chosen choice lines = filter (λ line. is_told choice line.number line.alarmed) 
 
 -- no choice is made: all are told
 abbrev pub everything : Choice
-everything = record { alarms = false; from = None; to = None }
-
-abbrev pub text_of : List Told → List ℕ
-text_of lines = flat_map (λ line. line.text) lines
-
--- for the proofs: the run, and which of its requests are told
-pub record Telling : Type 0 where
-  pub counted : Counted
-  pub choice : Choice
-
-abbrev pub telling : Telling → Request → Telling
-telling t asked = record { counted = counted t.counted asked; choice = t.choice }
-
--- what is told of the next request
-abbrev pub told_text : Choice → Traced → Request → List ℕ
-told_text choice t asked = if is_told choice (one_more t.asked) (is_some (alarm_at t asked))
-    then traced_text t asked else []
-
-abbrev pub telling_text : Telling → Request → List ℕ
-telling_text t asked = told_text t.choice t.counted.run asked
+everything = record { alarms = false; from = None; to = None; brief = false }

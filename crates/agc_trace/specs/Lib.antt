@@ -3,6 +3,8 @@ pub mod Lines
 pub mod Accounts
 pub mod Traces
 pub mod Openings
+pub mod Quiets
 pub mod Choices
+pub mod Briefs
 pub mod Reading
 pub mod Runs

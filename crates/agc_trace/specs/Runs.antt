@@ -12,7 +12,8 @@ use Rattle.agc_session.specs.declared.run_fault.RunFault.TheVariants.{NoMemory, 
 use Rattle.agc_session.specs.declared.run_fault.RunFault.TheVariants.{Lost}
 use Rattle.agc_session.specs.Walks.{texts}
 use Rattle.agc_trace.specs.declared.choice.Choice.{Choice}
-use Rattle.agc_trace.specs.Choices.{Telling, all_told, chosen, text_of}
+use Rattle.agc_trace.specs.Briefs.{Telling, text_of}
+use Rattle.agc_trace.specs.Choices.{all_told, chosen}
 use Rattle.agc_trace.specs.Openings.{opening_text, ending_text, idle_devices}
 use Rattle.agc_trace.specs.Traces.{Counted, counted, traced_text}
 
@@ -32,7 +33,7 @@ lines_of m requests = texts counted (λ c asked. traced_text c.run asked) (count
 unfoldable pub run_text : List ℕ → Choice → Machined → List Request → List ℕ
 run_text opening choice m requests =
     opening
-    ++ (text_of (chosen choice (all_told (counted_from m).run requests))
+    ++ (text_of choice.brief (chosen choice (all_told (counted_from m).run requests))
     ++ ending_text m.limit m.allowance (fold counted (counted_from m) requests))
 
 -- all that is asked for of a bench: the heading, and what came of power-up, stand before
@@ -51,7 +52,7 @@ script_text choice requests =
 
 -- for the proofs: with which a run begins of which these are told
 abbrev pub telling_from : Choice → Machined → Telling
-telling_from choice m = record { counted = counted_from m; choice = choice }
+telling_from choice m = record { counted = counted_from m; choice = choice; left = None }
 
 -- the text was written and nothing else; a front of it where a write failed; nothing where there
 -- was no memory; no other fault comes

@@ -13,6 +13,8 @@ pub struct Choice {
     pub from: Option<u64>,
     /// Only those up to this number.
     pub to: Option<u64>,
+    /// Those after which nothing changed but the time are counted.
+    pub brief: bool,
 }
 
 /// No choice is made: all are told.
@@ -23,6 +25,7 @@ pub(crate) fn everything() -> Choice
         alarms: false,
         from: None,
         to: None,
+        brief: false,
     }
 }
 

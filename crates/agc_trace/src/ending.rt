@@ -1,7 +1,10 @@
-// What a trace tells behind the last request: how many were refused.
+// What a trace tells behind the last request: quiet ones that were not told yet, and how many were
+// refused.
 ghost use Rattle.std.specs.Prelude.{◌≡◌, ◌+◌, ◌≤◌, ◌++◌, codes, length, if◌then◌else◌};
+ghost use Rattle.agc_trace.specs.Briefs.{left_text};
 ghost use Rattle.agc_trace.specs.Openings.{ending_text, refused_text, requests_text};
 
+use crate::quiet::{Left, left_cell};
 use crate::runs::Tracer;
 use agc_text::add_number;
 use arrayvec::ArrayString;
@@ -41,7 +44,7 @@ fn refused_cell(count: u64, before: &str, number: u64, behind: &str) -> ArrayStr
 fn log_full_cell(limit: u32, count: u64) -> ArrayString<256>
     ensures text { result.bytes ≡ refused_text count (codes " refused: log full (limit ")
         limit (codes ")\n") }
-    ensures len { length result.bytes ≤ 120 }
+    ensures len { length result.bytes ≤ 100 }
 {
     refused_cell(count, " refused: log full (limit ", limit as u64, ")\n")
 }
@@ -50,7 +53,7 @@ fn log_full_cell(limit: u32, count: u64) -> ArrayString<256>
 fn spent_cell(allowance: u64, count: u64) -> ArrayString<256>
     ensures text { result.bytes ≡ refused_text count (codes " refused: spent (allowance ")
         allowance (codes ", all served)\n") }
-    ensures len { length result.bytes ≤ 120 }
+    ensures len { length result.bytes ≤ 100 }
 {
     refused_cell(
         count,
@@ -62,10 +65,25 @@ fn spent_cell(allowance: u64, count: u64) -> ArrayString<256>
 
 /// How many requests were refused, for each reason, by a machine of this limit and allowance.
 #[tactic(auto, unfolding(crate::specs::Openings::ending_text))]
-pub(crate) fn ending_of(limit: u32, allowance: u64, tracer: &Tracer) -> ArrayString<256>
-    ensures { result.bytes ≡ ending_text limit allowance tracer.now }
+fn ending_of(limit: u32, allowance: u64, tracer: &Tracer) -> ArrayString<256>
+    ensures text { result.bytes ≡ ending_text limit allowance tracer.now }
+    ensures len { length result.bytes ≤ 200 }
 {
     let mut ending = log_full_cell(limit, tracer.log_full);
     ending.push_str(spent_cell(allowance, tracer.spent).as_str());
     ending
+}
+
+/// What is told of quiet requests that were not told yet, and how many requests were refused.
+pub(crate) fn last_of(
+    left: Option<Left>,
+    limit: u32,
+    allowance: u64,
+    tracer: &Tracer,
+) -> ArrayString<256>
+    ensures { result.bytes ≡ left_text left ++ ending_text limit allowance tracer.now }
+{
+    let mut last = left_cell(left);
+    last.push_str(ending_of(limit, allowance, tracer).as_str());
+    last
 }

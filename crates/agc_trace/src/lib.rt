@@ -11,6 +11,7 @@ mod idle;
 mod lines;
 mod newjob;
 mod opening;
+mod quiet;
 mod runs;
 mod seats;
 mod tracing;

@@ -5,9 +5,10 @@ ghost use Rattle.agc_trace.specs.Runs.{WritesTrace, asked_text, script_text, tel
 ghost use Rattle.agc_trace.specs.Runs.{trace_text};
 
 use crate::choice::Choice;
-use crate::ending::ending_of;
+use crate::ending::last_of;
 use crate::idle::put_idle;
 use crate::opening::{heading_of, opening_of};
+use crate::quiet::Left;
 use crate::runs::{Tracer, tell, tracer_of};
 use agc_document::Bench;
 use agc_machine::Machine;
@@ -18,23 +19,24 @@ use std::alloc::Global;
 use std::io::Write;
 use std::marker::Model;
 
-/// A run that is traced, and which of its requests are told.
+/// A run that is traced, which of its requests are told, and the quiet ones that were not told yet.
 #[derive(Drop)]
 struct Teller {
     tracer: Tracer,
     choice: Choice,
+    left: Option<Left>,
 }
 
 impl Model for Teller {
-    ghost use Rattle.agc_trace.specs.Choices.{Telling};
+    ghost use Rattle.agc_trace.specs.Briefs.{Telling};
 
     ghost Value = { Telling };
 
-    ghost view = { λ t. record { counted = t.tracer; choice = t.choice } };
+    ghost view = { λ t. record { counted = t.tracer; choice = t.choice; left = t.left } };
 }
 
 impl Asks for Teller {
-    ghost use Rattle.agc_trace.specs.Choices.{telling, telling_text};
+    ghost use Rattle.agc_trace.specs.Briefs.{telling, telling_text};
 
     ghost next = { λ teller request. telling teller request };
 
@@ -42,7 +44,8 @@ impl Asks for Teller {
 
     /// Asks for one request, and writes its line and account, where it is told.
     fn ask<W: Write>(&mut self, request: &Request, writer: &mut W) -> Result<(), Output> {
-        tell(&mut self.tracer, self.choice, request, writer)
+        let choice = self.choice;
+        tell(&mut self.tracer, choice, &mut self.left, request, writer)
     }
 }
 
@@ -53,6 +56,7 @@ fn teller_of(choice: Choice, machine: Machine) -> Teller
     Teller {
         tracer: tracer_of(machine),
         choice,
+        left: None,
     }
 }
 
@@ -71,8 +75,9 @@ fn trace_asked<W: Write>(
     let mut teller = teller_of(choice, machine);
     put(writer, opening.as_bytes())?;
     ask_bench(&mut teller, bench, writer)?;
-    let ending = ending_of(bench.limit().get(), bench.allowance(), &teller.tracer);
-    put(writer, ending.as_bytes())?;
+    let limit = bench.limit().get();
+    let last = last_of(teller.left, limit, bench.allowance(), &teller.tracer);
+    put(writer, last.as_bytes())?;
     Ok(())
 }
 
@@ -121,7 +126,7 @@ pub fn trace_script<W: Write>(
     let mut teller = teller_of(choice, machine);
     put(writer, heading.as_bytes())?;
     ask_all(&mut teller, requests, writer)?;
-    let ending = ending_of(1000, 1_000_000, &teller.tracer);
-    put(writer, ending.as_bytes())?;
+    let last = last_of(teller.left, 1000, 1_000_000, &teller.tracer);
+    put(writer, last.as_bytes())?;
     Ok(())
 }

@@ -61,7 +61,7 @@ ComesOf writes text old new (Err why) = ⊥
 -- the requests that options of a trace choose
 abbrev pub choice_of : TraceOptions → Choice
 choice_of options =
-    record { alarms = options.alarms; from = options.from; to = options.to }
+    record { alarms = options.alarms; from = options.from; to = options.to; brief = options.brief }
 
 -- its bench is traced, the requests of this choice
 abbrev pub TracesBench : Choice → List ℕ → Option (List ℕ) → Option (List ℕ)

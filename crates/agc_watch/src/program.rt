@@ -30,6 +30,7 @@ fn choice_of(options: TraceOptions) -> Choice
         alarms: options.alarms,
         from: options.from,
         to: options.to,
+        brief: options.brief,
     }
 }
 

@@ -7,7 +7,7 @@ use Rattle.std.proofs.lemmas.List.{take_rest}
 use Rattle.std.proofs.lemmas.List.Concat.{flat_map-cons}
 use Rattle.std.proofs.lemmas.Fmt.{digits_value-decimal}
 use Rattle.agc_words.specs.declared.options.TraceOption.{TraceOption}
-use Rattle.agc_words.specs.declared.options.TraceOption.TheVariants.{Script, Alarms, From, To}
+use Rattle.agc_words.specs.declared.options.TraceOption.TheVariants.{Script, Alarms, Brief, From, To}
 use Rattle.agc_words.specs.declared.options.TraceOptions.{TraceOptions}
 use Rattle.agc_words.specs.Words.{AddUp, IsOption, SetOptions, option_words, with_option}
 use Rattle.agc_words.proofs.Numbers.{own}
@@ -49,18 +49,27 @@ apart m n less e = omega arith
 same_front : (o p : TraceOption) (r s : List (List ℕ)) → IsOption o → IsOption p → option_words o ++ r ≡ option_words p ++ s → (o ≡ p) × (r ≡ s)
 same_front Script Script r s a b e = (refl, ap behind e)
 same_front Script Alarms r s a b e = absurd (apart 97 115 (omega arith) (sym (ap letter e)))
+same_front Script Brief r s a b e = absurd (apart 98 115 (omega arith) (sym (ap letter e)))
 same_front Script (From n) r s a b e = absurd (apart 102 115 (omega arith) (sym (ap letter e)))
 same_front Script (To n) r s a b e = absurd (apart 115 116 (omega arith) (ap letter e))
 same_front Alarms Script r s a b e = absurd (apart 97 115 (omega arith) (ap letter e))
 same_front Alarms Alarms r s a b e = (refl, ap behind e)
+same_front Alarms Brief r s a b e = absurd (apart 97 98 (omega arith) (ap letter e))
 same_front Alarms (From n) r s a b e = absurd (apart 97 102 (omega arith) (ap letter e))
 same_front Alarms (To n) r s a b e = absurd (apart 97 116 (omega arith) (ap letter e))
+same_front Brief Script r s a b e = absurd (apart 98 115 (omega arith) (ap letter e))
+same_front Brief Alarms r s a b e = absurd (apart 97 98 (omega arith) (sym (ap letter e)))
+same_front Brief Brief r s a b e = (refl, ap behind e)
+same_front Brief (From n) r s a b e = absurd (apart 98 102 (omega arith) (ap letter e))
+same_front Brief (To n) r s a b e = absurd (apart 98 116 (omega arith) (ap letter e))
 same_front (From m) Script r s a b e = absurd (apart 102 115 (omega arith) (ap letter e))
 same_front (From m) Alarms r s a b e = absurd (apart 97 102 (omega arith) (sym (ap letter e)))
+same_front (From m) Brief r s a b e = absurd (apart 98 102 (omega arith) (sym (ap letter e)))
 same_front (From m) (From n) r s a b e = (ap From (same_number m n a b (ap second e)), ap (λ (ws : List (List ℕ)). behind (behind ws)) e)
 same_front (From m) (To n) r s a b e = absurd (apart 102 116 (omega arith) (ap letter e))
 same_front (To m) Script r s a b e = absurd (apart 115 116 (omega arith) (sym (ap letter e)))
 same_front (To m) Alarms r s a b e = absurd (apart 97 116 (omega arith) (sym (ap letter e)))
+same_front (To m) Brief r s a b e = absurd (apart 98 116 (omega arith) (sym (ap letter e)))
 same_front (To m) (From n) r s a b e = absurd (apart 102 116 (omega arith) (sym (ap letter e)))
 same_front (To m) (To n) r s a b e = (ap To (same_number m n a b (ap second e)), ap (λ (ws : List (List ℕ)). behind (behind ws)) e)
 
@@ -68,6 +77,7 @@ same_front (To m) (To n) r s a b e = (ap To (same_number m n a b (ap second e)),
 pub alone_is : (o : TraceOption) (word : List ℕ) → option_words o ≡ word ∷ [] → IsOption o
 alone_is Script word e = tt
 alone_is Alarms word e = tt
+alone_is Brief word e = tt
 alone_is (From n) word e = absurd (apart 1 2 (omega arith) (sym (ap (λ (ws : List (List ℕ)). length ws) e)))
 alone_is (To n) word e = absurd (apart 1 2 (omega arith) (sym (ap (λ (ws : List (List ℕ)). length ws) e)))
 
@@ -98,6 +108,7 @@ begins words before after h = by_given h.0 h.1 h.2 where
 filled : (o : TraceOption) (rest : List (List ℕ)) → [] ≡ option_words o ++ rest → ⊥
 filled Script rest e = absurd cc
 filled Alarms rest e = absurd cc
+filled Brief rest e = absurd cc
 filled (From n) rest e = absurd cc
 filled (To n) rest e = absurd cc
 
@@ -136,6 +147,7 @@ set_already words rest option before after is valid none h =
 by_first : (o : TraceOption) (word : List ℕ) (rest more : List (List ℕ)) → ((p : TraceOption) → option_words p ≡ word ∷ [] → ⊥) → option_words o ++ more ≡ word ∷ rest → (value : List ℕ) × (tail : List (List ℕ)) × (rest ≡ value ∷ tail) × (option_words o ≡ word ∷ value ∷ [])
 by_first Script word rest more never e = absurd (never Script (ap (λ (w : List ℕ). w ∷ []) (ap first e)))
 by_first Alarms word rest more never e = absurd (never Alarms (ap (λ (w : List ℕ). w ∷ []) (ap first e)))
+by_first Brief word rest more never e = absurd (never Brief (ap (λ (w : List ℕ). w ∷ []) (ap first e)))
 by_first (From n) word rest more never e = (decimal n, more, sym (ap behind e), ap (λ (ws : List (List ℕ)). first ws ∷ decimal n ∷ []) e)
 by_first (To n) word rest more never e = (decimal n, more, sym (ap behind e), ap (λ (ws : List (List ℕ)). first ws ∷ decimal n ∷ []) e)
 

@@ -8,7 +8,8 @@ use Rattle.clap.specs.Values.{kind_of}
 use Rattle.clap.specs.declared.error.Error.{Error}
 use Rattle.clap.specs.declared.error.kind.ErrorKind.TheVariants as kind
 use Rattle.agc_words.specs.declared.options.TraceOption.{TraceOption}
-use Rattle.agc_words.specs.declared.options.TraceOption.TheVariants.{Script, Alarms, From, To}
+use Rattle.agc_words.specs.declared.options.TraceOption.TheVariants.{Script, Alarms, Brief}
+use Rattle.agc_words.specs.declared.options.TraceOption.TheVariants.{From, To}
 use Rattle.agc_words.specs.declared.options.TraceOptions.{TraceOptions}
 use Rattle.agc_words.specs.declared.words.Work.{Work}
 use Rattle.agc_words.specs.declared.words.Work.TheVariants as work
@@ -19,6 +20,7 @@ use Rattle.agc_words.specs.declared.words.Asked.TheVariants as asked
 abbrev pub option_words : TraceOption → List (List ℕ)
 option_words Script = codes "--script" ∷ []
 option_words Alarms = codes "--alarms" ∷ []
+option_words Brief = codes "--brief" ∷ []
 option_words (From number) = codes "--from" ∷ decimal number ∷ []
 option_words (To number) = codes "--to" ∷ decimal number ∷ []
 
@@ -26,6 +28,7 @@ option_words (To number) = codes "--to" ∷ decimal number ∷ []
 abbrev pub IsOption : TraceOption → Type 0
 IsOption Script = Unit
 IsOption Alarms = Unit
+IsOption Brief = Unit
 IsOption (From number) = number < 2 ^ 64
 IsOption (To number) = number < 2 ^ 64
 
@@ -35,6 +38,8 @@ with_option options Script =
     if options.script then None else Some (record options { script = true })
 with_option options Alarms =
     if options.alarms then None else Some (record options { alarms = true })
+with_option options Brief =
+    if options.brief then None else Some (record options { brief = true })
 with_option options (From number) =
     if is_some options.from then None else Some (record options { from = Some number })
 with_option options (To number) =
@@ -53,7 +58,7 @@ SetOptions words before after = (given : List TraceOption)
 
 -- no option is set
 abbrev pub no_options : TraceOptions
-no_options = record { script = false; alarms = false; from = None; to = None }
+no_options = record { script = false; alarms = false; brief = false; from = None; to = None }
 
 -- the first number is no greater than the last
 abbrev pub is_range : TraceOptions → Bool

@@ -65,6 +65,11 @@ fn trace_command<'a>(alloc: Global) -> Result<Command<'a>, AllocError> {
         "alarms",
         "Tells only the requests that raised an alarm",
     ))?
+    .arg(flag(
+        alloc,
+        "brief",
+        "Counts requests after which nothing changed but the time",
+    ))?
     .arg(numbered(alloc, "from", "Tells only the requests from number N on"))?
     .arg(numbered(alloc, "to", "Tells only the requests up to number N"))
 }

@@ -6,8 +6,8 @@ ghost use Rattle.std.specs.String.{string_bytes};
 ghost use Rattle.agc_words.specs.Words.{AreOptions, IsOption, SetOptions, is_range, option_words};
 ghost use Rattle.agc_words.specs.Words.{with_option};
 ghost use Rattle.agc_words.specs.declared.options.TraceOption.{TraceOption};
-ghost use Rattle.agc_words.specs.declared.options.TraceOption.TheVariants.{Alarms, From, Script};
-ghost use Rattle.agc_words.specs.declared.options.TraceOption.TheVariants.{To};
+ghost use Rattle.agc_words.specs.declared.options.TraceOption.TheVariants.{Alarms, Brief, From};
+ghost use Rattle.agc_words.specs.declared.options.TraceOption.TheVariants.{Script, To};
 ghost use Rattle.agc_words.specs.declared.options.TraceOptions.{TraceOptions};
 
 /// One option of `trace`.
@@ -15,6 +15,7 @@ ghost use Rattle.agc_words.specs.declared.options.TraceOptions.{TraceOptions};
 pub enum TraceOption {
     Script,
     Alarms,
+    Brief,
     From(u64),
     To(u64),
 }
@@ -26,6 +27,8 @@ pub struct TraceOptions {
     pub script: bool,
     /// Only the requests that raised an alarm.
     pub alarms: bool,
+    /// Requests after which nothing changed but the time are counted.
+    pub brief: bool,
     /// Only the requests from this number on.
     pub from: Option<u64>,
     /// Only the requests up to this number.
@@ -40,6 +43,7 @@ impl TraceOptions {
         match option {
             TraceOption::Script => self.with_script(),
             TraceOption::Alarms => self.with_alarms(),
+            TraceOption::Brief => self.with_brief(),
             TraceOption::From(number) => self.with_from(number),
             TraceOption::To(number) => self.with_to(number),
         }
@@ -54,6 +58,7 @@ impl TraceOptions {
         Some(TraceOptions {
             script: true,
             alarms: self.alarms,
+            brief: self.brief,
             from: self.from,
             to: self.to,
         })
@@ -68,6 +73,22 @@ impl TraceOptions {
         Some(TraceOptions {
             script: self.script,
             alarms: true,
+            brief: self.brief,
+            from: self.from,
+            to: self.to,
+        })
+    }
+
+    fn with_brief(self) -> Option<TraceOptions>
+        ensures { result ≡ with_option self Brief }
+    {
+        if self.brief {
+            return None;
+        }
+        Some(TraceOptions {
+            script: self.script,
+            alarms: self.alarms,
+            brief: true,
             from: self.from,
             to: self.to,
         })
@@ -81,6 +102,7 @@ impl TraceOptions {
             None => Some(TraceOptions {
                 script: self.script,
                 alarms: self.alarms,
+                brief: self.brief,
                 from: Some(number),
                 to: self.to,
             }),
@@ -95,6 +117,7 @@ impl TraceOptions {
             None => Some(TraceOptions {
                 script: self.script,
                 alarms: self.alarms,
+                brief: self.brief,
                 from: self.from,
                 to: Some(number),
             }),
@@ -111,6 +134,7 @@ fn option_named(word: &str) -> Option<TraceOption>
     match word {
         "--script" => Some(TraceOption::Script),
         "--alarms" => Some(TraceOption::Alarms),
+        "--brief" => Some(TraceOption::Brief),
         _ => None,
     }
 }
@@ -214,6 +238,7 @@ pub(crate) fn options_of(words: &[String]) -> Option<TraceOptions>
     let none = TraceOptions {
         script: false,
         alarms: false,
+        brief: false,
         from: None,
         to: None,
     };
