@@ -57,5 +57,5 @@ capped n = if nat_le n 18446744073709551615 then n else 18446744073709551615
 
 -- so many requests that are quiet in this way
 abbrev pub times_text : Quiet → ℕ → List ℕ
-times_text quiet count =
-    codes "        " ++ (quiet_text quiet ++ (codes " x " ++ (decimal (capped count) ++ codes "\n")))
+times_text quiet count = codes "        "
+    ++ (quiet_text quiet ++ (codes " x " ++ (decimal (capped count) ++ codes "\n")))
