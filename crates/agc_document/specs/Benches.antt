@@ -11,7 +11,7 @@ use Rattle.agc_plan.specs.declared.request.JobStart.TheVariants.{Findvac as With
 use Rattle.agc_plan.specs.declared.request.Request.{Request}
 use Rattle.agc_plan.specs.declared.request.Request.TheVariants.{Novac, Findvac, List as ListTask}
 use Rattle.agc_plan.specs.Begins.{Begins}
-use Rattle.agc_plan.specs.Plans.{fault_of}
+use Rattle.agc_plan.specs.Plans.{Rows, fault_of}
 use Rattle.agc_plan.specs.Ranges.{IsBetween, IsSix, IsRequest, IsAction, IsTask}
 use Rattle.agc_latch.specs.declared.line.Line.{Line}
 use Rattle.agc_latch.specs.declared.line.Line.TheVariants.{Timer, Key, Radar}
@@ -30,7 +30,7 @@ pub record Benched : Type 0 where
   pub radar : Action
   pub power : Option (List ℕ)
   pub script : List Request
-  pub rows : List (Task × Action)
+  pub rows : Rows
   pub entries : List Begins
   pub workers : List (List Request)
   pub devices : List (Line × ℕ)
@@ -51,8 +51,9 @@ kind_text Key = codes "key"
 kind_text Radar = codes "radar"
 
 -- the texts of a row
-abbrev pub row_texts : Task × Action → RowTexts
-row_texts r = record { at = octal 5 r.0.at; bank = octal 5 r.0.bank; action = action_line_of r.1 }
+abbrev pub row_texts : Task × List Action → RowTexts
+row_texts r =
+    record { at = octal 5 r.0.at; bank = octal 5 r.0.bank; actions = map action_line_of r.1 }
 
 -- the numbers and texts of a phase entry
 abbrev pub entry_texts : Begins → EntryTexts
@@ -98,8 +99,8 @@ abbrev pub bench_texts : Benched → Texts
 bench_texts b = record { settings = settings_texts b; lists = lists_texts b }
 
 -- a row's numbers are in their ranges
-abbrev pub IsRow : Task × Action → Type 0
-IsRow r = IsTask r.0 × IsAction r.1
+abbrev pub IsRow : Task × List Action → Type 0
+IsRow r = IsTask r.0 × AllByRecursion IsAction r.1 × IsBetween 1 4 (length r.1)
 
 -- a job's numbers are in their ranges
 abbrev pub IsJob : Option JobStart → Type 0

@@ -61,14 +61,24 @@ few_of read d = items_of read d >>= λ xs. if nat_lt 32 (length xs) then None el
 abbrev pub twelve_texts : Data → Option (Option (List (List ℕ)))
 twelve_texts d = items_of as_str d >>= λ ts. if length ts == 12 then Some (Some ts) else None
 
+-- one to four texts, or one alone
+abbrev pub texts_by : Option (List ℕ) → Data → Option (List (List ℕ))
+texts_by (Some text) d = Some (text ∷ [])
+texts_by None d =
+    items_of as_str d >>= λ ts. if (length ts == 0) || nat_lt 4 (length ts) then None
+    else Some ts
+
+abbrev pub action_texts : Data → Option (List (List ℕ))
+action_texts d = texts_by (as_str d) d
+
 -- the texts of a row
 unfoldable pub row : Data → Option RowTexts
 row d = do
   ms ← table_of (codes "at" ∷ codes "bank" ∷ codes "action" ∷ []) d
   at ← read_at as_str (codes "at") ms
   bank ← read_at as_str (codes "bank") ms
-  action ← read_at as_str (codes "action") ms
-  Some (record { at = at; bank = bank; action = action })
+  actions ← read_at action_texts (codes "action") ms
+  Some (record { at = at; bank = bank; actions = actions })
 
 -- the numbers and texts of a phase entry
 unfoldable pub entry : Data → Option EntryTexts

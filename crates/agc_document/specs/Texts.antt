@@ -1,11 +1,11 @@
 -- The numbers and texts of a bench, before any text is read.
 use Rattle.std.specs.Prelude.{ℕ, Bool, List, Option}
 
--- the texts of a task's row
+-- the texts of a task's row: its address, its bank, and one for each action
 pub record RowTexts : Type 0 where
   pub at : List ℕ
   pub bank : List ℕ
-  pub action : List ℕ
+  pub actions : List (List ℕ)
 
 -- a phase entry: its numbers, and the texts of its job and its task
 pub record EntryTexts : Type 0 where

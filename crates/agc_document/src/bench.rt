@@ -12,7 +12,7 @@ use crate::keys::texts_in;
 use crate::texts::Texts;
 use crate::values::{devices_of, entries_of, power_of, requests_of, rows_of, workers_of};
 use agc_latch::Line;
-use agc_plan::{Action, Limit, PhaseEntry, Plan, Request, Task};
+use agc_plan::{Action, Actions, Limit, PhaseEntry, Plan, Request, Task};
 use agc_text::parse_action;
 use agc_word::{Sets, Word};
 use std::alloc::Global;
@@ -29,7 +29,7 @@ struct Parts {
     radar: Action,
     power: Option<[Word; 12]>,
     script: Vec<Request>,
-    rows: Vec<(Task, Action)>,
+    rows: Vec<(Task, Actions)>,
     entries: Vec<PhaseEntry>,
     workers: Vec<Vec<Request>>,
     devices: Vec<(Line, u32)>,
@@ -144,9 +144,9 @@ impl Bench {
         self.parts.script.as_slice()
     }
 
-    /// The action of each task that has one. With `entries` these rows make a plan, want of memory
-    /// aside. Source: profile.
-    pub fn rows(&self) -> &[(Task, Action)]
+    /// The actions of each task that has some. With `entries` these rows make a plan, want of
+    /// memory aside. Source: profile.
+    pub fn rows(&self) -> &[(Task, Actions)]
         ensures value { result.now ≡ self.now.rows }
         ensures planned { fault_of self.now.rows self.now.entries ≡ None }
     {

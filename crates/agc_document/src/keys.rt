@@ -12,7 +12,7 @@ ghost use Rattle.agc_document.specs.Gives.{GivesOrKey};
 ghost use Rattle.agc_document.specs.Keys.{is_among, has_only, table_of, number_in, read_at};
 ghost use Rattle.agc_document.specs.Keys.{read_or, given_text, each, items_of, few_of, row};
 ghost use Rattle.agc_document.specs.Keys.{entry, worker, device, bench_keys, settings_in};
-ghost use Rattle.agc_document.specs.Keys.{lists_in, texts_in, twelve_texts};
+ghost use Rattle.agc_document.specs.Keys.{lists_in, texts_in, twelve_texts, action_texts};
 
 use crate::fault::BenchFault;
 use crate::texts::{DeviceTexts, EntryTexts, Lists, RowTexts, Settings, Text, Texts, WorkerTexts};
@@ -21,6 +21,8 @@ use std::alloc::Global;
 use toml::{Table, Value};
 
 const MOST_THREADS: usize = 32;
+
+const MOST_ACTIONS: usize = 4;
 
 /// Whether a key is one of these.
 fn is_among(names: &[&str], key: &str) -> bool
@@ -143,18 +145,6 @@ fn optional_text(value: Option<&Value>) -> Option<Option<&str>>
     }
 }
 
-#[tactic(auto, unfolding(crate::specs::Keys::row))]
-fn row_of(value: &Value) -> Option<RowTexts<'_>>
-    ensures { result ≡ row (view value.now) }
-{
-    let table = table_of(value, &["at", "bank", "action"])?;
-    Some(RowTexts {
-        at: text_at(table, "at")?,
-        bank: text_at(table, "bank")?,
-        action: text_at(table, "action")?,
-    })
-}
-
 #[tactic(auto, unfolding(crate::specs::Keys::entry))]
 fn entry_of(value: &Value) -> Option<EntryTexts<'_>>
     ensures { result ≡ entry (view value.now) }
@@ -212,8 +202,17 @@ impl<'a> FromData<'a> for Text<'a> {
 impl<'a> FromData<'a> for RowTexts<'a> {
     ghost reads = { row };
 
-    fn from_value(_alloc: Global, value: &'a Value) -> Result<RowTexts<'a>, BenchFault> {
-        or_key(row_of(value))
+    #[tactic(auto, unfolding(crate::specs::Keys::row))]
+    fn from_value(alloc: Global, value: &'a Value) -> Result<RowTexts<'a>, BenchFault> {
+        let table = or_key(table_of(value, &["at", "bank", "action"]))?;
+        let at = or_key(text_at(table, "at"))?;
+        let bank = or_key(text_at(table, "bank"))?;
+        let actions = or_key(value_at(table, "action"))?;
+        Ok(RowTexts {
+            at,
+            bank,
+            actions: actions_at(alloc, actions)?,
+        })
     }
 }
 
@@ -275,6 +274,23 @@ fn items_at<'a, T: FromData<'a>>(
             None => Err(BenchFault::Key),
         },
     }
+}
+
+/// The texts of actions: one text alone, or an array of one to four.
+fn actions_at<'a>(alloc: Global, value: &'a Value) -> Result<Vec<Text<'a>>, BenchFault>
+    ensures value { GivesOrKey (λ v. v.items) result (action_texts (view value.now)) }
+    ensures few { IfOk result (λ v. IsBetween 1 4 (length v.items)) }
+{
+    if let Some(text) = value.as_str() {
+        let mut alone = Vec::new(alloc);
+        alone.push(Text::new(text))?;
+        return Ok(alone);
+    }
+    let texts: Vec<Text<'a>> = items_at(alloc, Some(value))?;
+    if texts.is_empty() || texts.len() > MOST_ACTIONS {
+        return Err(BenchFault::Key);
+    }
+    Ok(texts)
 }
 
 /// The items of an array, at most 32; none where the key is missing.

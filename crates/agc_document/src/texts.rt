@@ -37,15 +37,19 @@ impl<'a> Text<'a> {
 pub(crate) struct RowTexts<'a> {
     pub(crate) at: &'a str,
     pub(crate) bank: &'a str,
-    pub(crate) action: &'a str,
+    pub(crate) actions: Vec<Text<'a>>,
 }
 
 impl<'a> Model for RowTexts<'a> {
+    ghost use Rattle.std.specs.Prelude.{length};
+    ghost use Rattle.agc_plan.specs.Ranges.{IsBetween};
     ghost use Rattle.agc_document.specs.Texts.{RowTexts as Texts};
 
     ghost Value = { Texts };
 
-    ghost view = { λ t. record { at = t.at.now; bank = t.bank.now; action = t.action.now } };
+    ghost view = { λ t. record { at = t.at.now; bank = t.bank.now; actions = t.actions.items } };
+
+    ghost invariant = { λ t. IsBetween 1 4 (length t.actions.items) };
 }
 
 /// A phase entry: its numbers, and the texts of its job and its task.

@@ -8,10 +8,11 @@ ghost use Rattle.agc_plan.specs.declared.request.Task.{Task};
 ghost use Rattle.agc_plan.specs.declared.request.Action.{Action};
 ghost use Rattle.agc_plan.specs.declared.request.JobStart.{JobStart};
 ghost use Rattle.agc_plan.specs.Begins.{Begins};
-ghost use Rattle.agc_plan.specs.Ranges.{IsRequest};
+ghost use Rattle.agc_plan.specs.Ranges.{IsRequest, IsAction};
+ghost use Rattle.agc_plan.specs.Plans.{Rows};
 ghost use Rattle.agc_latch.specs.declared.line.Line.{Line};
 ghost use Rattle.agc_text.specs.Numbers.{octal, IsWord};
-ghost use Rattle.agc_text.specs.Lines.{line_of};
+ghost use Rattle.agc_text.specs.Lines.{line_of, action_line_of};
 ghost use Rattle.agc_document.specs.Benches.{job_request, timed_request, kind_text, row_texts};
 ghost use Rattle.agc_document.specs.Benches.{entry_texts, device_texts, IsRow, IsJob, IsTimed};
 ghost use Rattle.agc_document.specs.Benches.{IsEntry, IsDevice, IsPower};
@@ -21,7 +22,7 @@ ghost use Rattle.agc_document.specs.Gives.{RefusedLine};
 use crate::fault::BenchFault;
 use crate::texts::{DeviceTexts, EntryTexts, RowTexts, Text, WorkerTexts};
 use agc_latch::Line;
-use agc_plan::{Action, Delay, Group, JobStart, Phase, PhaseEntry, Request, Task};
+use agc_plan::{Actions, Delay, Group, JobStart, Phase, PhaseEntry, Request, Task};
 use agc_text::{parse_action, parse_address, parse_line, parse_word};
 use agc_word::Word;
 use std::alloc::Global;
@@ -43,28 +44,46 @@ pub(crate) fn requests_of(alloc: Global, texts: &[Text<'_>]) -> Result<Vec<Reque
     Ok(requests)
 }
 
+/// The actions that texts spell, in order.
+fn actions_of(texts: &[Text<'_>]) -> Option<Actions>
+    requires { length texts.now ≤ 4 }
+    ensures found { IfSome result (λ a. AllByRecursion IsAction a
+        × (texts.now ≡ map action_line_of a)) }
+    ensures only { IfNone result ((a : List Action) → AllByRecursion IsAction a
+        → texts.now ≢ map action_line_of a) }
+{
+    let mut actions = Actions::new();
+    for text in texts {
+        match parse_action(text.as_str()) {
+            Some(action) => actions.push(action),
+            None => return None,
+        }
+    }
+    Some(actions)
+}
+
 /// The row that its texts spell.
-fn row_of(texts: &RowTexts<'_>) -> Option<(Task, Action)>
+fn row_of(texts: &RowTexts<'_>) -> Option<(Task, Actions)>
     ensures found { IfSome result (λ r. IsRow r × (texts.now ≡ row_texts r)) }
-    ensures only { IfNone result ((r : Task × Action) → IsRow r → texts.now ≢ row_texts r) }
+    ensures only { IfNone result ((r : Task × List Action) → IsRow r → texts.now ≢ row_texts r) }
 {
     let at = parse_address(texts.at)?;
     let bank = parse_word(texts.bank)?;
-    let action = parse_action(texts.action)?;
-    Some((Task { at, bank }, action))
+    let actions = actions_of(texts.actions.as_slice())?;
+    Some((Task { at, bank }, actions))
 }
 
 /// The rows that their texts spell, in order.
 pub(crate) fn rows_of(
     alloc: Global,
     texts: &[RowTexts<'_>],
-) -> Result<Vec<(Task, Action)>, BenchFault>
+) -> Result<Vec<(Task, Actions)>, BenchFault>
     ensures found { IfOk result (λ v. AllByRecursion IsRow v.items
         × (texts.now ≡ map row_texts v.items)) }
     ensures refused { IfErr result (RefusedLine
-        ((rs : List (Task × Action)) → AllByRecursion IsRow rs → texts.now ≢ map row_texts rs)) }
+        ((rs : Rows) → AllByRecursion IsRow rs → texts.now ≢ map row_texts rs)) }
 {
-    let mut rows: Vec<(Task, Action)> = Vec::new(alloc);
+    let mut rows: Vec<(Task, Actions)> = Vec::new(alloc);
     for text in texts {
         match row_of(text) {
             Some(row) => rows.push(row)?,

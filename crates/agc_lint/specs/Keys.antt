@@ -44,6 +44,7 @@ expected key.Tasks = codes "expected an array of tables, each below its line [[t
 expected key.Phases = codes "expected an array of tables, each below its line [[phase]]"
 expected key.Workers = codes "expected at most 32 tables, each below its line [[worker]]"
 expected key.Devices = codes "expected at most 32 tables, each below its line [[device]]"
+expected key.Action = codes "expected a string, or an array of 1 to 4 strings"
 expected _ = codes "expected a string"
 
 -- what an item of its array has to be

@@ -21,6 +21,7 @@ abbrev pub item_name : BenchKey → List ℕ
 item_name key.Power = codes "word"
 item_name key.Script = codes "request"
 item_name key.Requests = codes "request"
+item_name key.Action = codes "action"
 item_name _ = codes "item"
 
 -- the first word of a place

@@ -27,6 +27,8 @@ const LISTINGS: [Kind; 1] = [Kind::Listing];
 
 const MOST_THREADS: usize = 32;
 
+const MOST_ACTIONS: usize = 4;
+
 /// A place where something is wrong: where it stands in the text, and the text that is told of it.
 #[derive(Drop)]
 pub(crate) struct Spot<'a, F: Drop> {
@@ -305,6 +307,10 @@ impl<'a> Spots<'a> {
             Key::Workers | Key::Devices => has_items(value, 0, MOST_THREADS),
             Key::Power => return self.look_at_items(value, key, place, has_items(value, 12, 12)),
             Key::Script | Key::Requests => return self.look_at_items(value, key, place, true),
+            Key::Action if value.as_array().is_some() => {
+                let is_of_length = has_items(value, 1, MOST_ACTIONS);
+                return self.look_at_items(value, key, place, is_of_length);
+            }
             _ => return self.look_at_text(value, key, place),
         };
         if is_expected {

@@ -9,12 +9,12 @@ use Rattle.agc_wait.proofs.Dues.{is_due-none}
 use Rattle.agc_machine.specs.Image.{IsImage}
 use Rattle.agc_machine.specs.Machines.{Machined, plain_of, places_of}
 use Rattle.agc_machine.specs.Moments.{Acting, IsMoment}
-use Rattle.agc_machine.specs.Stands.{Acts, FiresIn, Steps}
+use Rattle.agc_machine.specs.Stands.{Acts, FiresIn, RaisesIn, Steps}
 use Rattle.agc_machine.proofs.Beginning.{same_sets}
 use Rattle.agc_machine.proofs.Serving.{stands_of}
 
-pub moment_is : (m : Machined) (words : List ℕ) (asked : Request) (moment : Acting) → IsImage m words → Acts m.plan asked words moment.reply moment.words → FiresIn m.plan asked words moment.fired → (begins moment.reply ≡ false → due_now (waits_of moment.words) ≡ 0) → IsMoment m asked moment
-moment_is m words asked moment image acts fires none_due =
+pub moment_is : (m : Machined) (words : List ℕ) (asked : Request) (moment : Acting) → IsImage m words → Acts m.plan asked words moment.reply moment.words → FiresIn m.plan asked words moment.fired → RaisesIn m.plan asked words moment.number → (begins moment.reply ≡ false → due_now (waits_of moment.words) ≡ 0) → IsMoment m asked moment
+moment_is m words asked moment image acts fires raises none_due =
     let steps : Steps moment.words moment.reply (acted m.plan asked (plain_of m)) (places_acted m.plan asked (plain_of m) (places_of m)) = acts.steps (plain_of m) (places_of m) (stands_of m words image) in
     record {
       size = acts.sound.size;
@@ -28,4 +28,5 @@ moment_is m words asked moment image acts fires none_due =
       stands = record { jobs = sym steps.state.work.jobs_is; tasks = steps.state.work.agenda; base = sym steps.state.base_is };
       reply = steps.reply_is;
       fired = fires (plain_of m) (places_of m) (stands_of m words image);
+      number = raises (plain_of m) (places_of m) (stands_of m words image);
     }

@@ -5,7 +5,7 @@ use Rattle.agc_plan.specs.declared.reply.Reply.{Reply}
 use Rattle.agc_plan.specs.declared.request.Request.{Request}
 use Rattle.agc_plan.specs.declared.request.Task.{Task}
 use Rattle.agc_plan.specs.Seats.{places_acted}
-use Rattle.agc_plan.specs.Steps.{acted, begins, fired_in}
+use Rattle.agc_plan.specs.Steps.{acted, begins, fired_in, raised_in}
 use Rattle.agc_exec.specs.Image.{entries_in}
 use Rattle.agc_exec.specs.Image as cores
 use Rattle.agc_wait.specs.Table.{waits_of}
@@ -15,11 +15,12 @@ use Rattle.agc_phase.specs.Image as phases
 use Rattle.agc_machine.specs.Image.{IsTidyImage, WordsStandFor}
 use Rattle.agc_machine.specs.Machines.{Machined, plain_of, places_of}
 
--- the words then, what is replied, and what fired
+-- the words then, what is replied, what fired, and which action raised an alarm inside a tick
 pub record Acting : Type 0 where
   pub words : List ℕ
   pub reply : Reply
   pub fired : List Task
+  pub number : ℕ
 
 -- what this machine does for this request, before an era begins: its words are lawful and tidy,
 -- and where no era begins no task is due; they stand for what the model does, with the jobs in the
@@ -36,3 +37,4 @@ pub record IsMoment (m : Machined) (asked : Request) (moment : Acting) : Type 0 
   pub stands : WordsStandFor moment.words (acted m.plan asked (plain_of m)).plain
   pub reply : moment.reply ≡ (acted m.plan asked (plain_of m)).reply
   pub fired : moment.fired ≡ fired_in m.plan asked (plain_of m)
+  pub number : moment.number ≡ raised_in m.plan asked (plain_of m)

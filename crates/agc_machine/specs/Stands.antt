@@ -1,6 +1,7 @@
 -- For the proofs: how the words stand for plain lists, and what the private functions do to both.
 use Rattle.std.specs.Prelude.{◌≡◌, ℕ, List, [], length, Option, Some, None}
-use Rattle.std.specs.Option.{option_map_or}
+use Rattle.std.specs.Prelude.{if◌then◌else◌}
+use Rattle.std.specs.Option.{is_some, option_map, option_map_or}
 use Rattle.agc_word.specs.Layout.{IsSized}
 use Rattle.agc_plan.specs.declared.reply.Alarm.{Alarm}
 use Rattle.agc_plan.specs.declared.reply.Reply.{Reply}
@@ -14,11 +15,11 @@ use Rattle.agc_plan.specs.Begins.{Begins}
 use Rattle.agc_plan.specs.Eras.{Work, no_work}
 use Rattle.agc_plan.specs.Groups.{started, jobs_begun, agenda_begun, begun_from, places_begun}
 use Rattle.agc_plan.specs.Groups.{places_from}
-use Rattle.agc_plan.specs.Plans.{Planned}
-use Rattle.agc_plan.specs.Seats.{Seated, no_places, seated_action, seated_fired, seated_new}
+use Rattle.agc_plan.specs.Plans.{Planned, Rows}
+use Rattle.agc_plan.specs.Seats.{Seated, no_places, seated_action, seated_by, seated_through, seated_new}
 use Rattle.agc_plan.specs.Seats.{places_acted, places_after, era_places}
 use Rattle.agc_plan.specs.Steps.{Plain, Stepped, Acted, done, begun, acted, step, code_of, fire_all}
-use Rattle.agc_plan.specs.Steps.{tick_fires, fired_in}
+use Rattle.agc_plan.specs.Steps.{all_done, those_done, later_work, tick_fires, raised_by, fired_in, raised_in}
 use Rattle.agc_plan.specs.Tasks as tasks
 use Rattle.agc_exec.specs.Image.{jobs_in, entries_in}
 use Rattle.agc_exec.specs.Image as cores
@@ -27,6 +28,7 @@ use Rattle.agc_wait.specs.Table as table
 use Rattle.agc_wait.specs.Waits.{due_now}
 use Rattle.agc_phase.specs.Image.{base_of}
 use Rattle.agc_phase.specs.Image as phases
+use Rattle.agc_machine.specs.declared.tick.Raised.{Raised}
 
 -- lawful and tidy words, also where a task is due
 pub record IsSound (words : List ℕ) : Type 0 where
@@ -99,28 +101,63 @@ pub record Performs (action : Action) (old : List ℕ) (alarm : Option Alarm) (n
         ≡ (done action work).alarm
     pub same_due : SameDue old new
 
--- the core sets after the actions of these tasks
-abbrev pub places_fired : List (Task × Action) → List Task → Work → List ℕ → List ℕ
-places_fired rows fired work places = (seated_fired rows (seated_in work places) fired).places
+-- the core sets after several
+abbrev pub places_all : List Action → Work → List ℕ → List ℕ
+places_all acts work places = (seated_by (those_done acts work) (seated_in work places)).places
+
+-- the alarm that was raised, if one was
+abbrev pub alarm_in : Option Raised → Option Alarm
+alarm_in raised = option_map (λ r. r.alarm) raised
+
+-- which action raised it, from 1, and 0 where none did
+abbrev pub number_in : Option Raised → ℕ
+number_in raised = option_map_or (λ r. r.number) raised 0
+
+-- as many of these actions are done where one raises an alarm, and else 0
+abbrev pub number_of : List Action → Work → ℕ
+number_of acts work =
+    if is_some (all_done acts work).alarm then length (those_done acts work) else 0
+
+-- actions of the plan are done, in order, up to the first that raises an alarm
+pub record PerformsAll (acts : List Action) (old : List ℕ) (alarm : Option Alarm) (number : ℕ)
+    (new : List ℕ) : Type 0 where
+  pub changes : Changes (λ work. (all_done acts work).work) (places_all acts) old new
+  pub alarm_is : (work : Work) (places : List ℕ) → Stands old work places → alarm
+      ≡ (all_done acts work).alarm
+  pub number_is : (work : Work) (places : List ℕ) → Stands old work places → number
+      ≡ number_of acts work
+  pub same_due : SameDue old new
+
+-- the core sets after the actions of the tasks that are due
+abbrev pub places_fired : Rows → Work → List ℕ → List ℕ
+places_fired rows work places =
+    (seated_through (fire_all rows work [] []).acts (seated_in work places)).places
 
 -- what is due fires, until an action raises an alarm
-pub record FiresDue (rows : List (Task × Action)) (old : List ℕ) (fired : List Task)
-    (alarm : Option Alarm) (new : List ℕ) : Type 0 where
-  pub changes : Changes (λ work. (fire_all rows work []).work) (places_fired rows fired) old new
+pub record FiresDue (rows : Rows) (old : List ℕ) (fired : List Task)
+    (alarm : Option Alarm) (number : ℕ) (new : List ℕ) : Type 0 where
+  pub changes : Changes (λ work. (fire_all rows work [] []).work) (places_fired rows) old new
   pub fired_is : (work : Work) (places : List ℕ) → Stands old work places → fired
-      ≡ (fire_all rows work []).fired
+      ≡ (fire_all rows work [] []).fired
   pub alarm_is : (work : Work) (places : List ℕ) → Stands old work places → alarm
-      ≡ (fire_all rows work []).alarm
+      ≡ (fire_all rows work [] []).alarm
+  pub number_is : (work : Work) (places : List ℕ) → Stands old work places → number
+      ≡ raised_by (fire_all rows work [] [])
   pub none_due : alarm ≡ None → due_now (waits_of new) ≡ 0
 
 -- these fire in a tick, whatever the words stand for
-abbrev pub FiresTick : List (Task × Action) → List ℕ → List Task → Type 0
+abbrev pub FiresTick : Rows → List ℕ → List Task → Type 0
 FiresTick rows old fired = (work : Work) (places : List ℕ) → Stands old work places → fired
     ≡ (tick_fires rows work).fired
 
+-- the action of this number raises the alarm in a tick, if one comes
+abbrev pub RaisesTick : Rows → List ℕ → ℕ → Type 0
+RaisesTick rows old number = (work : Work) (places : List ℕ) → Stands old work places → number
+    ≡ raised_by (tick_fires rows work)
+
 -- the core sets after a tick
-abbrev pub places_ticked : List (Task × Action) → Work → List ℕ → List ℕ
-places_ticked rows work places = places_fired rows (tick_fires rows work).fired work places
+abbrev pub places_ticked : Rows → Work → List ℕ → List ℕ
+places_ticked rows work places = places_fired rows (later_work work) places
 
 -- a phase's job is established, if it has one
 abbrev pub with_job : Option JobStart → Work → Work
@@ -186,6 +223,11 @@ pub record Acts (plan : Planned) (asked : Request) (old : List ℕ) (reply : Rep
 abbrev pub FiresIn : Planned → Request → List ℕ → List Task → Type 0
 FiresIn plan asked old fired = (plain : Plain) (places : List ℕ) → StandsFor old plain places
     → fired ≡ fired_in plan asked plain
+
+-- the action of this number raises its alarm, if one comes inside a tick
+abbrev pub RaisesIn : Planned → Request → List ℕ → ℕ → Type 0
+RaisesIn plan asked old number = (plain : Plain) (places : List ℕ) → StandsFor old plain places
+    → number ≡ raised_in plan asked plain
 
 -- one step: what the request does, and the beginning of an era, if one begins with it
 pub record StepsTo (plan : Planned) (asked : Request) (old : List ℕ) (reply : Reply) (new : List ℕ)

@@ -7,7 +7,7 @@ use Rattle.agc_plan.specs.declared.request.Request.{Request}
 use Rattle.agc_plan.specs.declared.request.Task.{Task}
 use Rattle.agc_plan.specs.declared.reply.Alarm.{Alarm}
 use Rattle.agc_plan.specs.Base.{Base}
-use Rattle.agc_plan.specs.Steps.{acted}
+use Rattle.agc_plan.specs.Steps.{raised_in, acted}
 use Rattle.agc_phase.specs.Image.{code_word}
 use Rattle.agc_machine.specs.Machines.{Machined, after, answer_of, fired_of, plain_of, places_of, refusal_of}
 use Rattle.agc_session.specs.Runs.{pairs_agree}
@@ -82,14 +82,14 @@ row number above now h =
     (both (state_text above now) (cell_text above.base now.base ++ (10 ∷ [])) (state above now h)
     (both (cell_text above.base now.base) (10 ∷ []) (cell above.base now.base h.base) refl))
 
-account_of : (a : Option Alarm) (m : Machined) (fired : List Task) (scene : Scene) (ns : List ℕ) → Plain (account_by a m fired scene ns)
-account_of None m fired scene ns = refl
-account_of (Some a) m fired scene ns = accounts m.plan.rows fired a scene.seats ns (scene_of (plain_of m) (places_of m))
+account_of : (a : Option Alarm) (m : Machined) (fired : List Task) (number : ℕ) (scene : Scene) (ns : List ℕ) → Plain (account_by a m fired number scene ns)
+account_of None m fired number scene ns = refl
+account_of (Some a) m fired number scene ns = accounts m.plan.rows fired number a scene.seats ns (scene_of (plain_of m) (places_of m))
 
 account : (t : Traced) (asked : Request) → Plain (traced_account t asked)
 unfolding traced_account
 account t asked =
-    account_of (told_alarm (refusal_of t.machine asked) (acted t.machine.plan asked (plain_of t.machine)).reply) (after t.machine asked) (fired_of t.machine asked) (scene_unless (refusal_of t.machine asked) t.machine asked) (acted t.machine.plan asked (plain_of t.machine)).plain.base.phases
+    account_of (told_alarm (refusal_of t.machine asked) (acted t.machine.plan asked (plain_of t.machine)).reply) (after t.machine asked) (fired_of t.machine asked) (raised_in t.machine.plan asked (plain_of t.machine)) (scene_unless (refusal_of t.machine asked) t.machine asked) (acted t.machine.plan asked (plain_of t.machine)).plain.base.phases
 
 step : (s : Stepped) (asked : Request) → Plain (stepped_text s asked)
 unfolding stepped_text

@@ -14,7 +14,7 @@ use Rattle.agc_plan.specs.declared.request.Entry.{Entry}
 use Rattle.agc_plan.specs.declared.request.Request.{Request}
 use Rattle.agc_plan.specs.declared.request.Request.TheVariants.{Novac, Findvac, EndOfJob, Sleep, Rouse, Prio, Change, Store, List as ListTask, Tick, SetPhase, Restart, Fresh}
 use Rattle.agc_plan.specs.declared.request.Task.{Task}
-use Rattle.agc_plan.specs.Plans.{action_in}
+use Rattle.agc_plan.specs.Plans.{Rows, actions_in}
 use Rattle.agc_plan.specs.Tasks.{Waiting}
 use Rattle.agc_machine.specs.declared.answer.Refusal.{Refusal}
 use Rattle.agc_machine.specs.declared.answer.Refusal.TheVariants.{Spent, LogFull}
@@ -25,7 +25,7 @@ use Rattle.agc_text.specs.Numbers.{octal}
 use Rattle.agc_text.specs.Replies.{word_text, words_text, alarm_text, runner_text, fired_text, end_text, reply_text, refusal_text, answer_text}
 use Rattle.agc_text.specs.Report.{count_text}
 use Rattle.agc_trace.specs.declared.seats.Seated.{Seated}
-use Rattle.agc_trace.specs.Accounts.{full_text, cause_by, cause_text, at_text, area_text, who_text, where_text, job_text, jobs_text, holders_text, phases_text, again_text, account_text}
+use Rattle.agc_trace.specs.Accounts.{full_text, which_text, doing_text, task_text as its_text, raised_text, cause_by, cause_text, at_text, area_text, who_text, where_text, job_text, jobs_text, holders_text, phases_text, again_text, account_text}
 use Rattle.agc_trace.specs.Lines.{column, running_text, is_named, job_priority_text, seat_text, owner_of, owner_text, owners_text, wait_text, waits_text, scene_text}
 use Rattle.agc_trace.specs.Openings.{power_reply, group_front, great_text, apart_text, pair_text, group_text, pairs_text, broken_text}
 use Rattle.agc_trace.specs.Scenes.{Scene}
@@ -215,12 +215,30 @@ full A1201 = refl
 full A1202 = refl
 full A1203 = refl
 
-cause : (rows : List (Task × Action)) (t : Option Task) → Plain (cause_by rows t)
-cause rows None = refl
-cause rows (Some t) =
-    both (codes "        raised by task") (fired_text t ++ (codes ": " ++ (action_line_of (action_in rows t) ++ codes "\n"))) refl
-    (both (fired_text t) (codes ": " ++ (action_line_of (action_in rows t) ++ codes "\n")) (fired t)
-    (both (codes ": ") (action_line_of (action_in rows t) ++ codes "\n") refl (both (action_line_of (action_in rows t)) (codes "\n") (actions (action_in rows t)) refl)))
+which : (acts : List Action) (number : ℕ) → Plain (which_text acts number)
+which [] number = refl
+which (first ∷ []) number = refl
+which (first ∷ second ∷ acts) number = both (codes "action ") (decimal number ++ codes " of ") refl (both (decimal number) (codes " of ") (decimals number) refl)
+
+doing : (o : Option Action) → Plain (doing_text o)
+doing None = refl
+doing (Some act) = actions act
+
+task : (t : Task) (o : Option Action) → Plain (its_text t o)
+unfolding its_text
+task t o =
+    both (codes "task") (fired_text t ++ (codes ": " ++ (doing_text o ++ codes "\n"))) refl
+    (both (fired_text t) (codes ": " ++ (doing_text o ++ codes "\n")) (fired t)
+    (both (codes ": ") (doing_text o ++ codes "\n") refl (both (doing_text o) (codes "\n") (doing o) refl)))
+
+raised : (acts : List Action) (number : ℕ) (t : Task) → Plain (raised_text acts number t)
+raised acts number t =
+    both (codes "        raised by ") (which_text acts number ++ its_text t (slice_get acts (number - 1))) refl
+    (both (which_text acts number) (its_text t (slice_get acts (number - 1))) (which acts number) (task t (slice_get acts (number - 1))))
+
+cause : (rows : Rows) (t : Option Task) (number : ℕ) → Plain (cause_by rows t number)
+cause rows None number = refl
+cause rows (Some t) number = raised (actions_in rows t) number t
 
 who : (k : ℕ) (s : Seated) → Plain (who_text k s)
 who k s =
@@ -257,11 +275,11 @@ again : (ns : List ℕ) (s : Scene) → Plain (again_text ns s)
 unfolding again_text
 again ns s = both (column 72 (phases_text ns)) (scene_text s ++ codes "\n") (columns 72 (phases_text ns) (phases ns)) (both (scene_text s) (codes "\n") (scenes s) refl)
 
-pub accounts : (rows : List (Task × Action)) (tasks : List Task) (a : Alarm) (seats : List (Option Seated)) (ns : List ℕ) (s : Scene) → Plain (account_text rows tasks a seats ns s)
+pub accounts : (rows : Rows) (tasks : List Task) (number : ℕ) (a : Alarm) (seats : List (Option Seated)) (ns : List ℕ) (s : Scene) → Plain (account_text rows tasks number a seats ns s)
 unfolding account_text
-accounts rows tasks a seats ns s =
-    both (full_text a) (cause_text rows tasks ++ (holders_text a seats ++ again_text ns s)) (full a)
-    (both (cause_text rows tasks) (holders_text a seats ++ again_text ns s) (cause rows (slice_get tasks (length tasks - 1)))
+accounts rows tasks number a seats ns s =
+    both (full_text a) (cause_text rows tasks number ++ (holders_text a seats ++ again_text ns s)) (full a)
+    (both (cause_text rows tasks number) (holders_text a seats ++ again_text ns s) (cause rows (slice_get tasks (length tasks - 1)) number)
     (both (holders_text a seats) (again_text ns s) (holders a seats) (again ns s)))
 
 -- power-up

@@ -68,7 +68,7 @@ fn account_at(machine: &Machine, refusal: Option<Refusal>, moment: &Moment) -> A
     requires phases { IsLawfulTable moment.now.words }
     ensures { result.bytes
         ≡ account_by (told_alarm refusal moment.now.reply) machine.now moment.now.fired
-        (scene_in moment.now.words) (base_of moment.now.words).phases }
+        moment.now.number (scene_in moment.now.words) (base_of moment.now.words).phases }
 {
     match alarm_of(refusal, moment) {
         None => ArrayString::new(),

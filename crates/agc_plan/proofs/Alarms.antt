@@ -1,8 +1,9 @@
 -- Which action, which request and which tick has an alarm.
-use Rattle.std.proofs.Common.{◌≡◌, ◌↔◌, ℕ, zero, suc, ◌<◌, ◌≤◌, Bool, true, false, if◌then◌else◌, List, [], ◌∷◌, ◌++◌, Option, Some, None, length, refl, ap, sym, subst, ◌∙◌, inl, inr, nat_le, arith}
+use Rattle.std.proofs.Common.{◌≡◌, ◌↔◌, ℕ, zero, suc, ◌+◌, ◌<◌, ◌≤◌, Bool, true, false, if◌then◌else◌, List, [], ◌∷◌, ◌++◌, Option, Some, None, length, refl, ap, sym, subst, ◌∙◌, inl, inr, nat_le, arith}
 use Rattle.std.proofs.lemmas.Bool.{cases_Bool}
-use Rattle.std.proofs.lemmas.List.{append_assoc, append-nil}
+use Rattle.std.proofs.lemmas.List.{append_assoc, append-nil, length-append}
 use Rattle.std.proofs.lemmas.Option.{same_Some}
+use Rattle.std.specs.Option.{option_or, is_some}
 use Rattle.agc_plan.specs.declared.reply.Alarm.{Alarm}
 use Rattle.agc_plan.specs.declared.reply.Alarm.TheVariants.{A1201, A1202, A1203}
 use Rattle.agc_plan.specs.declared.reply.Reply.{Reply}
@@ -14,15 +15,15 @@ use Rattle.agc_plan.specs.declared.request.Request.{Request}
 use Rattle.agc_plan.specs.declared.request.Request.TheVariants as request
 use Rattle.agc_plan.specs.declared.request.Task.{Task}
 use Rattle.agc_plan.specs.Jobs.{Job, Jobs, least_unused, least_unowned, new_job, establish_at, novac, findvac_at, findvac, end_of_job, sleep, rouse, prio, change, store, sleeper_from}
-use Rattle.agc_plan.specs.Tasks.{Pending, has_room, first_due, without_first_due, count_due}
+use Rattle.agc_plan.specs.Tasks.{Agenda, Pending, has_room, listed_if_room, first_due, without_first_due, count_due}
 use Rattle.agc_plan.specs.Base.{Base}
-use Rattle.agc_plan.specs.Plans.{Planned, action_in}
+use Rattle.agc_plan.specs.Plans.{Planned, Rows, actions_in, same_task}
 use Rattle.agc_plan.specs.Eras.{Work}
-use Rattle.agc_plan.specs.Steps.{Plain, Fires, alarm_of, with_listed, done, dispatched_work, unless_alarm, fire_first, fire, tick_fires, later_work, fired_in, step, reached}
-use Rattle.agc_plan.specs.Laws.{Misses, MissesNothing, EndsByLast, as_action, living, SomeAreaIsUnowned}
+use Rattle.agc_plan.specs.Steps.{Plain, Did, Fires, alarm_of, with_listed, done, and_then, all_done, those_done, dispatched_work, unless_alarm, fire_first, fire, tick_fires, later_work, fired_in, step, reached}
+use Rattle.agc_plan.specs.Laws.{Misses, MissesNothing, NoneMisses, StopsAt, EndsByLast, listings, ListsOne, as_action, living, SomeAreaIsUnowned}
 use Rattle.agc_plan.proofs.Searches.{option_cases}
 use Rattle.agc_plan.proofs.Replies.{novac_1201, novac_1202, findvac_1201, findvac_1202, listed_1203}
-use Rattle.agc_plan.proofs.Steady.{IsSteady, dispatched_steady, done_steady, later_steady, reached_steady, reached_sets}
+use Rattle.agc_plan.proofs.Steady.{IsSteady, dispatched_steady, done_steady, all_steady, later_steady, reached_steady, reached_sets}
 
 -- a new job's alarm
 established_told : (o : Option ℕ) (job : Job) (jobs : Jobs) (alarm : Alarm) → alarm_of (establish_at o job jobs).reply ≡ Some alarm → (establish_at o job jobs).reply ≡ Alarmed alarm
@@ -161,60 +162,117 @@ made_room time (x ∷ xs) task e = elim (cases_Bool (nat_le x.due time)) [
   | inr off ↦ let lt : length (without_first_due time xs) < length xs = made_room time xs task (rw off at e) in rw off (omega arith)
 ]
 
-has_its_room : (a : Action) (work : Work) → length work.agenda.tasks < 9 → Misses A1203 a work → ⊥
-has_its_room action.Nothing work lt missed = missed
-has_its_room (action.Novac priority entry) work lt missed = missed
-has_its_room (action.Findvac priority entry) work lt missed = missed
-has_its_room (action.Rouse at) work lt missed = missed
-has_its_room (action.List delay task) work lt missed = let nine : length work.agenda.tasks ≡ 9 = missed in omega (arith, nine, lt)
+-- of several actions the last that is done, and no other, has the alarm
+done_cases : (act : Action) (acts : List Action) (work : Work) → (alarm : Option Alarm) → (done act work).alarm ≡ alarm → (all_done (act ∷ acts) work).alarm ≡ option_or alarm (all_done acts (done act work).work).alarm
+done_cases act acts work None e = rw e refl
+done_cases act acts work (Some alarm) e = rw e e
 
--- these fired after those before, and ended by the last, never for want of room
-record IsEnded (rows : List (Task × Action)) (work : Work) (before : List Task) (fires : Fires) : Type 0 where
+unless_told : {size : ℕ} → (act : Action) (work : Work) → IsSteady size work → (done act work).alarm ≡ None → MissesNothing act work
+unless_told act work s is alarm missed = let no : None ≡ Some alarm = sym is ∙ (done_misses act work s alarm).1 missed in cc
+
+first_misses_none : {size : ℕ} → (act : Action) (acts : List Action) (work : Work) → IsSteady size work → ((all_done acts (done act work).work).alarm ≡ None → NoneMisses acts (done act work).work) → (all_done (act ∷ acts) work).alarm ≡ None → (o : Option Alarm) → (done act work).alarm ≡ o → NoneMisses (act ∷ acts) work
+first_misses_none act acts work s on e None is = (unless_told act work s is, on (sym (done_cases act acts work None is) ∙ e))
+first_misses_none act acts work s on e (Some alarm) is = absurd (let no : Some alarm ≡ None = sym (done_cases act acts work (Some alarm) is) ∙ e in cc)
+
+none_miss : {size : ℕ} → (acts : List Action) (work : Work) → IsSteady size work → (all_done acts work).alarm ≡ None → NoneMisses acts work
+none_miss [] work s e = tt
+none_miss (act ∷ acts) work s e = first_misses_none act acts work s (λ off. none_miss acts (done act work).work (done_steady act work s) off) e (done act work).alarm refl
+
+abbrev StopsSomewhere : Alarm → List Action → Work → Type 0
+StopsSomewhere alarm acts work = (number : ℕ) × StopsAt number alarm acts work
+
+first_misses_one : {size : ℕ} → (act : Action) (acts : List Action) (work : Work) → IsSteady size work → (alarm : Alarm) → ((all_done acts (done act work).work).alarm ≡ Some alarm → StopsSomewhere alarm acts (done act work).work) → (all_done (act ∷ acts) work).alarm ≡ Some alarm → (o : Option Alarm) → (done act work).alarm ≡ o → StopsSomewhere alarm (act ∷ acts) work
+first_misses_one act acts work s alarm on e None is =
+    let (number, stops) = on (sym (done_cases act acts work None is) ∙ e) in
+    (suc number, (unless_told act work s is, stops))
+first_misses_one act acts work s alarm on e (Some other) is =
+    let same : Some other ≡ Some alarm = sym (done_cases act acts work (Some other) is) ∙ e in
+    (zero, (done_misses act work s alarm).0 (is ∙ same))
+
+one_misses : {size : ℕ} → (acts : List Action) (work : Work) → IsSteady size work → (alarm : Alarm) → (all_done acts work).alarm ≡ Some alarm → StopsSomewhere alarm acts work
+one_misses [] work s alarm e = absurd (cc)
+one_misses (act ∷ acts) work s alarm e = first_misses_one act acts work s alarm (λ is. one_misses acts (done act work).work (done_steady act work s) alarm is) e (done act work).alarm refl
+
+-- while there is room for what they list, none of them misses any
+listed_more : (delay : ℕ) (task : Task) (agenda : Agenda) → length (listed_if_room delay task agenda).tasks ≤ length agenda.tasks + 1
+listed_more delay task agenda = elim (cases_Bool (has_room agenda)) [
+  | inl room ↦ rw (room, length-append) (omega arith)
+  | inr off ↦ rw off (omega arith)
+]
+
+has_their_room : (number : ℕ) (acts : List Action) (work : Work) → listings acts + length work.agenda.tasks ≤ 9 → StopsAt number A1203 acts work → ⊥
+has_their_room number [] work le stops = stops
+has_their_room zero (action.Nothing ∷ acts) work le missed = missed
+has_their_room zero (action.Novac priority entry ∷ acts) work le missed = missed
+has_their_room zero (action.Findvac priority entry ∷ acts) work le missed = missed
+has_their_room zero (action.Rouse at ∷ acts) work le missed = missed
+has_their_room zero (action.List delay task ∷ acts) work le missed = let nine : length work.agenda.tasks ≡ 9 = missed in omega (arith, nine, le)
+has_their_room (suc number) (action.Nothing ∷ acts) work le stops = has_their_room number acts work le stops.1
+has_their_room (suc number) (action.Novac priority entry ∷ acts) work le stops = has_their_room number acts (done (action.Novac priority entry) work).work le stops.1
+has_their_room (suc number) (action.Findvac priority entry ∷ acts) work le stops = has_their_room number acts (done (action.Findvac priority entry) work).work le stops.1
+has_their_room (suc number) (action.Rouse at ∷ acts) work le stops = has_their_room number acts (done (action.Rouse at) work).work le stops.1
+has_their_room (suc number) (action.List delay task ∷ acts) work le stops =
+    let more = listed_more delay task work.agenda in
+    has_their_room number acts (done (action.List delay task) work).work (omega (arith, le, more)) stops.1
+
+lists_one : (rows : Rows) (task : Task) → ListsOne rows → listings (actions_in rows task) ≤ 1
+lists_one [] task one = omega arith
+lists_one (row ∷ rows) task one = elim (cases_Bool (same_task row.0 task)) [
+  | inl here ↦ rw here (one 0 row (omega arith))
+  | inr off ↦ rw off (lists_one rows task (λ k x lt. one (suc k) x (omega arith)))
+]
+
+-- these fired after those before, and ended by the last; where each lists one at most, never for
+-- want of room
+record IsEnded (rows : Rows) (work : Work) (before : List Task) (fires : Fires) : Type 0 where
   fired : List Task
   all : fires.fired ≡ before ++ fired
   ends : EndsByLast rows work fired fires.alarm
-  room : fires.alarm ≡ Some A1203 → ⊥
+  room : ListsOne rows → fires.alarm ≡ Some A1203 → ⊥
 
-none_fired : (rows : List (Task × Action)) (work : Work) (before : List Task) → IsEnded rows work before (record { work = work; fired = before; alarm = None })
-none_fired rows work before = record { fired = []; all = sym (append-nil before); ends = refl; room = λ e. let no : None ≡ Some A1203 = e in cc }
+none_fired : (rows : Rows) (work : Work) (before : List Task) (acts : List (List Action)) → IsEnded rows work before (record { work = work; fired = before; acts = acts; alarm = None })
+none_fired rows work before acts = record { fired = []; all = sym (append-nil before); ends = refl; room = λ one e. let no : None ≡ Some A1203 = e in cc }
 
-one_fired : {size : ℕ} → (rows : List (Task × Action)) (work : Work) (task : Task) (before : List Task) (again : Work → List Task → Fires) → first_due work.agenda.time work.agenda.tasks ≡ Some task → IsSteady size (dispatched_work work) → length (dispatched_work work).agenda.tasks < 9 → ((w : Work) (f : List Task) → IsSteady size w → IsEnded rows w f (again w f)) → (o : Option Alarm) → (done (action_in rows task) (dispatched_work work)).alarm ≡ o → IsEnded rows work before (unless_alarm o (done (action_in rows task) (dispatched_work work)).work (before ++ task ∷ []) again)
-one_fired rows work task before again first s lt on None e =
-    let act : Action = action_in rows task in
+one_fired : {size : ℕ} → (rows : Rows) (work : Work) (task : Task) (before : List Task) (acts : List (List Action)) (again : Work → List Task → List (List Action) → Fires) → first_due work.agenda.time work.agenda.tasks ≡ Some task → IsSteady size (dispatched_work work) → length (dispatched_work work).agenda.tasks < 9 → ((w : Work) (f : List Task) (a : List (List Action)) → IsSteady size w → IsEnded rows w f (again w f a)) → (o : Option Alarm) → (all_done (actions_in rows task) (dispatched_work work)).alarm ≡ o → IsEnded rows work before (unless_alarm o (all_done (actions_in rows task) (dispatched_work work)).work (before ++ task ∷ []) acts again)
+one_fired rows work task before acts again first s lt on None e =
+    let its : List Action = actions_in rows task in
     let here : Work = dispatched_work work in
-    let rest = on (done act here).work (before ++ task ∷ []) (done_steady act here s) in
+    let rest = on (all_done its here).work (before ++ task ∷ []) acts (all_steady its here s) in
     record {
       fired = task ∷ rest.fired;
       all = rest.all ∙ append_assoc before (task ∷ []) rest.fired;
-      ends = (first, inl ((λ alarm missed. let no : None ≡ Some alarm = sym e ∙ (done_misses act here s alarm).1 missed in cc), rest.ends));
+      ends = (first, inl (none_miss its here s e, rest.ends));
       room = rest.room;
     }
-one_fired rows work task before again first s lt on (Some alarm) e =
-    let act : Action = action_in rows task in
+one_fired rows work task before acts again first s lt on (Some alarm) e =
+    let its : List Action = actions_in rows task in
     let here : Work = dispatched_work work in
-    let told : Misses alarm act here = (done_misses act here s alarm).0 e in
+    let (number, stops) = one_misses its here s alarm e in
     record {
       fired = task ∷ [];
       all = refl;
-      ends = (first, inr (refl, (alarm, refl, told)));
-      room = λ is. has_its_room act here lt (subst (λ (a : Alarm). Misses a act here) (same_Some alarm A1203 is) told);
+      ends = (first, inr (refl, (alarm, number, refl, stops)));
+      room = λ one is.
+          let few : listings its ≤ 1 = lists_one rows task one in
+          has_their_room number its here (omega (arith, lt, few)) (subst (λ (a : Alarm). StopsAt number a its here) (same_Some alarm A1203 is) stops);
     }
 
-first_ends : {size : ℕ} → (rows : List (Task × Action)) (work : Work) (before : List Task) (again : Work → List Task → Fires) → IsSteady size work → ((w : Work) (f : List Task) → IsSteady size w → IsEnded rows w f (again w f)) → (o : Option Task) → first_due work.agenda.time work.agenda.tasks ≡ o → IsEnded rows work before (fire_first o rows work before again)
-first_ends rows work before again s on None e = none_fired rows work before
-first_ends rows work before again s on (Some task) e =
+first_ends : {size : ℕ} → (rows : Rows) (work : Work) (before : List Task) (acts : List (List Action)) (again : Work → List Task → List (List Action) → Fires) → IsSteady size work → ((w : Work) (f : List Task) (a : List (List Action)) → IsSteady size w → IsEnded rows w f (again w f a)) → (o : Option Task) → first_due work.agenda.time work.agenda.tasks ≡ o → IsEnded rows work before (fire_first o rows work before acts again)
+first_ends rows work before acts again s on None e = none_fired rows work before acts
+first_ends rows work before acts again s on (Some task) e =
     let lt : length (without_first_due work.agenda.time work.agenda.tasks) < length work.agenda.tasks = made_room work.agenda.time work.agenda.tasks task e in
     let most : length work.agenda.tasks ≤ 9 = s.tasks in
-    one_fired rows work task before again e (dispatched_steady work s) (omega (arith, lt, most)) on (done (action_in rows task) (dispatched_work work)).alarm refl
+    let its : List Action = actions_in rows task in
+    one_fired rows work task before (acts ++ those_done its (dispatched_work work) ∷ []) again e (dispatched_steady work s) (omega (arith, lt, most)) on (all_done its (dispatched_work work)).alarm refl
 
-fire_ends : {size : ℕ} → (more : ℕ) (rows : List (Task × Action)) (work : Work) (before : List Task) → IsSteady size work → IsEnded rows work before (fire more rows work before)
-fire_ends zero rows work before s = none_fired rows work before
-fire_ends (suc more) rows work before s = first_ends rows work before (fire more rows) s (λ w f t. fire_ends more rows w f t) (first_due work.agenda.time work.agenda.tasks) refl
+fire_ends : {size : ℕ} → (more : ℕ) (rows : Rows) (work : Work) (before : List Task) (acts : List (List Action)) → IsSteady size work → IsEnded rows work before (fire more rows work before acts)
+fire_ends zero rows work before acts s = none_fired rows work before acts
+fire_ends (suc more) rows work before acts s = first_ends rows work before acts (fire more rows) s (λ w f a t. fire_ends more rows w f a t) (first_due work.agenda.time work.agenda.tasks) refl
 
 reached_ends : (plan : Planned) (base : Base) (log : List Request) → IsEnded plan.rows (later_work (reached plan base log).work) [] (tick_fires plan.rows (reached plan base log).work)
 reached_ends plan base log =
     let work : Work = later_work (reached plan base log).work in
-    fire_ends (count_due work.agenda.time work.agenda.tasks) plan.rows work [] (later_steady (reached plan base log).work (reached_steady plan base log))
+    fire_ends (count_due work.agenda.time work.agenda.tasks) plan.rows work [] [] (later_steady (reached plan base log).work (reached_steady plan base log))
 
 pub tick_ends : (plan : Planned) (base : Base) (log : List Request) (told : Option Alarm) → (step plan request.Tick (reached plan base log)).reply ≡ Ticked told → EndsByLast plan.rows (later_work (reached plan base log).work) (fired_in plan request.Tick (reached plan base log)) told
 tick_ends plan base log told e =
@@ -224,5 +282,20 @@ tick_ends plan base log told e =
     let alarm : (tick_fires plan.rows work).alarm ≡ told = ap alarm_of e in
     subst (λ tasks. EndsByLast plan.rows (later_work work) tasks told) same (subst (λ o. EndsByLast plan.rows (later_work work) ended.fired o) alarm ended.ends)
 
-pub tick_has_room : (plan : Planned) (base : Base) (log : List Request) → (step plan request.Tick (reached plan base log)).reply ≡ Ticked (Some A1203) → ⊥
-tick_has_room plan base log e = (reached_ends plan base log).room (ap alarm_of e)
+pub tick_has_room : (plan : Planned) (base : Base) (log : List Request) → ListsOne plan.rows → (step plan request.Tick (reached plan base log)).reply ≡ Ticked (Some A1203) → ⊥
+tick_has_room plan base log one e = (reached_ends plan base log).room one (ap alarm_of e)
+
+-- one action alone
+done_alone : (work : Work) (alarm : Option Alarm) → and_then (record { work = work; alarm = alarm }) (all_done []) ≡ record { work = work; alarm = alarm }
+done_alone work None = refl
+done_alone work (Some alarm) = refl
+
+pub one_done : (act : Action) (work : Work) → all_done (act ∷ []) work ≡ done act work
+one_done act work = done_alone (done act work).work (done act work).alarm
+
+those_alone : (act : Action) (raised : Bool) → (act ∷ (if raised then [] else [])) ≡ act ∷ []
+those_alone act true = refl
+those_alone act false = refl
+
+pub one_those : (act : Action) (work : Work) → those_done (act ∷ []) work ≡ act ∷ []
+one_those act work = those_alone act (is_some (done act work).alarm)

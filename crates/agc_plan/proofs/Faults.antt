@@ -5,7 +5,7 @@ use Rattle.agc_plan.specs.declared.request.JobStart.{JobStart}
 use Rattle.agc_plan.specs.declared.request.JobStart.TheVariants.{Novac, Findvac}
 use Rattle.agc_plan.specs.declared.request.Task.{Task}
 use Rattle.agc_plan.specs.Begins.{Begins}
-use Rattle.agc_plan.specs.Plans.{same_task, has_task, task_twice, is_for, has_entry, phase_twice, wants_area, group_wants, all_want}
+use Rattle.agc_plan.specs.Plans.{Rows, same_task, has_task, task_twice, is_for, has_entry, phase_twice, wants_area, group_wants, all_want}
 use Rattle.agc_plan.specs.Laws.{IsOneTask, HasTwoRows, IsOnePhase, HasTwoEntries, IsWithArea, HasArea, HasEachArea}
 
 -- both of two that hold together
@@ -67,14 +67,14 @@ at_two alike (x ∷ xs) (suc i) (suc j) before within h =
     or_right (any_alike alike xs x) (two_alike alike xs) (at_two alike xs i j (omega (arith, before)) (omega (arith, within)) h)
 
 -- rows of one task
-abbrev same_row : Task × Action → Task × Action → Bool
+abbrev same_row : Task × List Action → Task × List Action → Bool
 same_row a b = same_task a.0 b.0
 
-has_task_is : (rows : List (Task × Action)) (row : Task × Action) → has_task rows row.0 ≡ any_alike same_row rows row
+has_task_is : (rows : Rows) (row : Task × List Action) → has_task rows row.0 ≡ any_alike same_row rows row
 has_task_is [] row = refl
 has_task_is (r ∷ rows) row = ap (λ b. same_task r.0 row.0 || b) (has_task_is rows row)
 
-task_twice_is : (rows : List (Task × Action)) → task_twice rows ≡ two_alike same_row rows
+task_twice_is : (rows : Rows) → task_twice rows ≡ two_alike same_row rows
 task_twice_is [] = refl
 task_twice_is (row ∷ rows) = ap (λ b. b || task_twice rows) (has_task_is rows row) ∙ ap (λ b. any_alike same_row rows row || b) (task_twice_is rows)
 
@@ -84,7 +84,7 @@ one_task a b h = let r = both (a.at == b.at) (a.bank == b.bank) h in (sym (eqb-t
 task_one : (a b : Task) → IsOneTask b a → same_task a b ≡ true
 task_one a b h = together (a.at == b.at) (a.bank == b.bank) (eq-eqb a.at b.at (sym h.0)) (eq-eqb a.bank b.bank (sym h.1))
 
-pub two_rows_law : (rows : List (Task × Action)) → (task_twice rows ≡ true) ↔ HasTwoRows rows
+pub two_rows_law : (rows : Rows) → (task_twice rows ≡ true) ↔ HasTwoRows rows
 two_rows_law rows = (
   (λ h. let r = two_at same_row rows (sym (task_twice_is rows) ∙ h) in record {
     first = r.0;

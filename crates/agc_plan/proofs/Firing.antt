@@ -5,6 +5,7 @@ use Rattle.std.proofs.lemmas.List.{append_assoc}
 use Rattle.std.proofs.lemmas.Option.{same_Some}
 use Rattle.std.proofs.lemmas.Grind.{common_steps}
 use Rattle.std.specs.List.{fold}
+use Rattle.std.specs.Option.{is_some}
 use Rattle.agc_plan.specs.declared.reply.Alarm.{Alarm}
 use Rattle.agc_plan.specs.declared.reply.Reply.TheVariants.{Ticked}
 use Rattle.agc_plan.specs.declared.request.Action.{Action}
@@ -15,11 +16,11 @@ use Rattle.agc_plan.specs.declared.request.Task.{Task}
 use Rattle.agc_plan.specs.Tasks.{Agenda, Pending, InOrder, has_room, listed_if_room, first_due, without_first_due, count_due, due_at}
 use Rattle.agc_plan.specs.Base.{Base}
 use Rattle.agc_plan.specs.Begins.{Begins}
-use Rattle.agc_plan.specs.Plans.{Planned, same_task, action_in, is_for, entry_at}
+use Rattle.agc_plan.specs.Plans.{Planned, Rows, same_task, actions_in, is_for, entry_at}
 use Rattle.agc_plan.specs.Eras.{Work, no_work, active}
 use Rattle.agc_plan.specs.Groups.{agenda_begun, group_begun, begun_from}
 use Rattle.agc_plan.proofs.Groups.{begun_is}
-use Rattle.agc_plan.specs.Steps.{Plain, Did, Fires, Stepped, era, done, dispatched_work, unless_alarm, fire_first, fire, tick_fires, later_work, acted, begins, base_after, ended, step, reached}
+use Rattle.agc_plan.specs.Steps.{Plain, Did, Fires, Stepped, era, done, and_then, all_done, those_done, dispatched_work, unless_alarm, fire_first, fire, tick_fires, later_work, acted, begins, base_after, ended, step, reached}
 use Rattle.agc_plan.specs.Laws.{IsNothingDue, IsActionDelayed, IsListingDelayed, IsRequestDelayed, AreActionsDelayed, AreListingsDelayed, FiresThese}
 
 -- the tasks that are due by this time
@@ -70,11 +71,23 @@ done_later (action.Findvac priority entry) work d = (refl, refl)
 done_later (action.Rouse at) work d = (refl, refl)
 done_later (action.List delay task) work d = listed_later delay task work.agenda d
 
-action_delayed : (rows : List (Task × Action)) (task : Task) → AreActionsDelayed rows → IsActionDelayed (action_in rows task)
-action_delayed [] task d = tt
-action_delayed (row ∷ rows) task d = elim (cases_Bool (same_task row.0 task)) [
+-- and so do all that are done
+all_later : (acts : List Action) (work : Work) → All IsActionDelayed acts → ((all_done acts work).work.agenda.time ≡ work.agenda.time) × (due_by work.agenda.time (all_done acts work).work.agenda.tasks ≡ due_by work.agenda.time work.agenda.tasks)
+all_later [] work d = (refl, refl)
+all_later (act ∷ acts) work d =
+    let (time_is, is) = done_later act work (d 0 act (omega arith)) in
+    elim (cases_Bool (is_some (done act work).alarm)) [
+      | inl over ↦ rw over (time_is, is)
+      | inr on ↦
+          let (then_time, then_is) = all_later acts (done act work).work (λ k a lt. d (suc k) a (omega arith)) in
+          rw on (then_time ∙ time_is, ap (λ t. due_by t (all_done acts (done act work).work).work.agenda.tasks) (sym time_is) ∙ then_is ∙ ap (λ t. due_by t (done act work).work.agenda.tasks) time_is ∙ is)
+    ]
+
+actions_delayed : (rows : Rows) (task : Task) → AreActionsDelayed rows → All IsActionDelayed (actions_in rows task)
+actions_delayed [] task d = λ k a lt. absurd (omega arith)
+actions_delayed (row ∷ rows) task d = elim (cases_Bool (same_task row.0 task)) [
   | inl here ↦ rw here (d 0 row (omega arith))
-  | inr off ↦ rw off (action_delayed rows task (λ k x lt. d (suc k) x (omega arith)))
+  | inr off ↦ rw off (actions_delayed rows task (λ k x lt. d (suc k) x (omega arith)))
 ]
 
 -- of the tasks that were due, these fired after those before; without an alarm none is left
@@ -88,53 +101,55 @@ moved : (fires : Fires) (before : List Task) (t u : ℕ) (ds es : List Pending) 
 moved fires before t u ds es time_is due_is f = subst (λ n. IsFired n es before fires) time_is (subst (λ xs. IsFired t xs before fires) due_is f)
 
 -- one fired, and then the others
-fired_one : (work : Work) (did : Did) (x : Pending) (task : Task) (due : List Pending) (before : List Task) (again : Work → List Task → Fires) → x.task ≡ task → did.work.agenda.time ≡ work.agenda.time → due_by work.agenda.time did.work.agenda.tasks ≡ due → ((w : Work) (f : List Task) → w.agenda.time ≡ work.agenda.time → due_by work.agenda.time w.agenda.tasks ≡ due → IsFired work.agenda.time due f (again w f)) → (o : Option Alarm) → IsFired work.agenda.time (x ∷ due) before (unless_alarm o did.work (before ++ task ∷ []) again)
-fired_one work did x task due before again same time_is is on None =
-    let f = on did.work (before ++ task ∷ []) time_is is in
+fired_one : (work : Work) (did : Did) (x : Pending) (task : Task) (due : List Pending) (before : List Task) (acts : List (List Action)) (again : Work → List Task → List (List Action) → Fires) → x.task ≡ task → did.work.agenda.time ≡ work.agenda.time → due_by work.agenda.time did.work.agenda.tasks ≡ due → ((w : Work) (f : List Task) (a : List (List Action)) → w.agenda.time ≡ work.agenda.time → due_by work.agenda.time w.agenda.tasks ≡ due → IsFired work.agenda.time due f (again w f a)) → (o : Option Alarm) → IsFired work.agenda.time (x ∷ due) before (unless_alarm o did.work (before ++ task ∷ []) acts again)
+fired_one work did x task due before acts again same time_is is on None =
+    let f = on did.work (before ++ task ∷ []) acts time_is is in
     record {
       rest = f.rest;
       all = f.all ∙ append_assoc before (task ∷ []) (map (λ p. p.task) due) ∙ ap (λ t. before ++ t ∷ map (λ p. p.task) due) (sym same);
       time_is = f.time_is;
       none_left = f.none_left;
     }
-fired_one work did x task due before again same time_is is on (Some alarm) = record {
+fired_one work did x task due before acts again same time_is is on (Some alarm) = record {
   rest = map (λ p. p.task) due;
   all = append_assoc before (task ∷ []) (map (λ p. p.task) due) ∙ ap (λ t. before ++ t ∷ map (λ p. p.task) due) (sym same);
   time_is = time_is;
   none_left = λ off. absurd (let no : Some alarm ≡ None = off in cc);
 }
 
-first_fires : (more : ℕ) (rows : List (Task × Action)) → AreActionsDelayed rows → (work : Work) (before : List Task) (again : Work → List Task → Fires) → ((w : Work) (f : List Task) → length (due_by w.agenda.time w.agenda.tasks) ≤ more → IsFired w.agenda.time (due_by w.agenda.time w.agenda.tasks) f (again w f)) → length (due_by work.agenda.time work.agenda.tasks) ≤ suc more → (o : Option Task) → first_due work.agenda.time work.agenda.tasks ≡ o → IsFired work.agenda.time (due_by work.agenda.time work.agenda.tasks) before (fire_first o rows work before again)
-first_fires more rows d work before again on le None e =
+first_fires : (more : ℕ) (rows : Rows) → AreActionsDelayed rows → (work : Work) (before : List Task) (acts : List (List Action)) (again : Work → List Task → List (List Action) → Fires) → ((w : Work) (f : List Task) (a : List (List Action)) → length (due_by w.agenda.time w.agenda.tasks) ≤ more → IsFired w.agenda.time (due_by w.agenda.time w.agenda.tasks) f (again w f a)) → length (due_by work.agenda.time work.agenda.tasks) ≤ suc more → (o : Option Task) → first_due work.agenda.time work.agenda.tasks ≡ o → IsFired work.agenda.time (due_by work.agenda.time work.agenda.tasks) before (fire_first o rows work before acts again)
+first_fires more rows d work before acts again on le None e =
     let none : due_by work.agenda.time work.agenda.tasks ≡ [] = none_due work.agenda.time work.agenda.tasks e in
     record { rest = []; all = rw none; time_is = refl; none_left = λ off. (refl, none) }
-first_fires more rows d work before again on le (Some task) e =
+first_fires more rows d work before acts again on le (Some task) e =
     let (x, two, same) = one_due work.agenda.time work.agenda.tasks task e in
     let left : List Pending = due_by work.agenda.time (without_first_due work.agenda.time work.agenda.tasks) in
-    let did : Did = done (action_in rows task) (dispatched_work work) in
-    let (time_is, is) = done_later (action_in rows task) (dispatched_work work) (action_delayed rows task d) in
+    let its : List Action = actions_in rows task in
+    let did : Did = all_done its (dispatched_work work) in
+    let now_done : List (List Action) = acts ++ those_done its (dispatched_work work) ∷ [] in
+    let (time_is, is) = all_later its (dispatched_work work) (actions_delayed rows task d) in
     let most : suc (length left) ≤ suc more = rw two at le in
-    let next : (w : Work) (f : List Task) → w.agenda.time ≡ work.agenda.time → due_by work.agenda.time w.agenda.tasks ≡ left → IsFired work.agenda.time left f (again w f) = λ w f now w_is.
+    let next : (w : Work) (f : List Task) (a : List (List Action)) → w.agenda.time ≡ work.agenda.time → due_by work.agenda.time w.agenda.tasks ≡ left → IsFired work.agenda.time left f (again w f a) = λ w f a now w_is.
     let due_is : due_by w.agenda.time w.agenda.tasks ≡ left = ap (λ t. due_by t w.agenda.tasks) now ∙ w_is in
-    moved (again w f) f w.agenda.time work.agenda.time (due_by w.agenda.time w.agenda.tasks) left now due_is (on w f (rw due_is (omega arith))) in
-    subst (λ ds. IsFired work.agenda.time ds before (unless_alarm did.alarm did.work (before ++ task ∷ []) again)) (sym two)
-    (fired_one work did x task left before again same time_is is next did.alarm)
+    moved (again w f a) f w.agenda.time work.agenda.time (due_by w.agenda.time w.agenda.tasks) left now due_is (on w f a (rw due_is (omega arith))) in
+    subst (λ ds. IsFired work.agenda.time ds before (unless_alarm did.alarm did.work (before ++ task ∷ []) now_done again)) (sym two)
+    (fired_one work did x task left before now_done again same time_is is next did.alarm)
 
-fires_these : (more : ℕ) (rows : List (Task × Action)) → AreActionsDelayed rows → (work : Work) (before : List Task) → length (due_by work.agenda.time work.agenda.tasks) ≤ more → IsFired work.agenda.time (due_by work.agenda.time work.agenda.tasks) before (fire more rows work before)
-fires_these zero rows d work before le =
+fires_these : (more : ℕ) (rows : Rows) → AreActionsDelayed rows → (work : Work) (before : List Task) (acts : List (List Action)) → length (due_by work.agenda.time work.agenda.tasks) ≤ more → IsFired work.agenda.time (due_by work.agenda.time work.agenda.tasks) before (fire more rows work before acts)
+fires_these zero rows d work before acts le =
     let none : due_by work.agenda.time work.agenda.tasks ≡ [] = empty (due_by work.agenda.time work.agenda.tasks) le in
     record { rest = []; all = rw none; time_is = refl; none_left = λ off. (refl, none) }
   where
     empty : (xs : List Pending) → length xs ≤ 0 → xs ≡ []
     empty [] le = refl
     empty (x ∷ xs) le = absurd (omega arith)
-fires_these (suc more) rows d work before le =
-    first_fires more rows d work before (fire more rows) (λ w f short. fires_these more rows d w f short) le (first_due work.agenda.time work.agenda.tasks) refl
+fires_these (suc more) rows d work before acts le =
+    first_fires more rows d work before acts (fire more rows) (λ w f a short. fires_these more rows d w f a short) le (first_due work.agenda.time work.agenda.tasks) refl
 
-tick_fired : (rows : List (Task × Action)) (work : Work) → AreActionsDelayed rows → IsFired (work.agenda.time + 1) (due_by (work.agenda.time + 1) work.agenda.tasks) [] (tick_fires rows work)
+tick_fired : (rows : Rows) (work : Work) → AreActionsDelayed rows → IsFired (work.agenda.time + 1) (due_by (work.agenda.time + 1) work.agenda.tasks) [] (tick_fires rows work)
 tick_fired rows work d =
     let count : count_due (work.agenda.time + 1) work.agenda.tasks ≡ length (due_by (work.agenda.time + 1) work.agenda.tasks) = count-length (work.agenda.time + 1) work.agenda.tasks in
-    fires_these (count_due (work.agenda.time + 1) work.agenda.tasks) rows d (later_work work) [] (omega arith)
+    fires_these (count_due (work.agenda.time + 1) work.agenda.tasks) rows d (later_work work) [] [] (omega arith)
 
 -- nothing is due, by the list and by index
 all_cons : (P : Pending → Type 0) (x : Pending) (xs : List Pending) → P x → All P xs → All P (x ∷ xs)
@@ -165,17 +180,17 @@ due_just time (x ∷ xs) h =
           rw (due, is) rest
     ]
 
-pub tick_nothing_due : (rows : List (Task × Action)) (work : Work) → AreActionsDelayed rows → (tick_fires rows work).alarm ≡ None → IsNothingDue (tick_fires rows work).work.agenda
+pub tick_nothing_due : (rows : Rows) (work : Work) → AreActionsDelayed rows → (tick_fires rows work).alarm ≡ None → IsNothingDue (tick_fires rows work).work.agenda
 tick_nothing_due rows work d off =
     let f = tick_fired rows work d in
     later_all (tick_fires rows work).work.agenda.time (tick_fires rows work).work.agenda.tasks (ap (λ t. due_by t (tick_fires rows work).work.agenda.tasks) f.time_is ∙ (f.none_left off).1)
 
-pub tick_fires_these : (rows : List (Task × Action)) (work : Work) → AreActionsDelayed rows → IsNothingDue work.agenda → FiresThese (due_at (work.agenda.time + 1) work.agenda.tasks) (tick_fires rows work)
+pub tick_fires_these : (rows : Rows) (work : Work) → AreActionsDelayed rows → IsNothingDue work.agenda → FiresThese (due_at (work.agenda.time + 1) work.agenda.tasks) (tick_fires rows work)
 tick_fires_these rows work d idle =
     let f = tick_fired rows work d in
     (f.rest, f.all ∙ ap (map (λ p. p.task)) (due_just work.agenda.time work.agenda.tasks idle), λ off. (f.none_left off).0)
 
-pub tick_fires_in_order : (rows : List (Task × Action)) (work : Work) (ordered : List Pending) → AreActionsDelayed rows → IsNothingDue work.agenda → InOrder work.agenda.tasks ordered → FiresThese (due_at (work.agenda.time + 1) ordered) (tick_fires rows work)
+pub tick_fires_in_order : (rows : Rows) (work : Work) (ordered : List Pending) → AreActionsDelayed rows → IsNothingDue work.agenda → InOrder work.agenda.tasks ordered → FiresThese (due_at (work.agenda.time + 1) ordered) (tick_fires rows work)
 tick_fires_in_order rows work ordered d idle order = subst (λ ds. FiresThese ds (tick_fires rows work)) (sym (order.same_at (work.agenda.time + 1))) (tick_fires_these rows work d idle)
 
 -- nothing is due between requests

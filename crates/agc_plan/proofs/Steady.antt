@@ -5,6 +5,7 @@ use Rattle.std.proofs.lemmas.List.{length-append}
 use Rattle.std.proofs.lemmas.Grind.{common_steps}
 use Rattle.std.specs.List.{fold}
 use Rattle.std.specs.Prelude.{IsSome}
+use Rattle.std.specs.Option.{is_some}
 use Rattle.agc_plan.specs.declared.reply.Alarm.{Alarm}
 use Rattle.agc_plan.specs.declared.request.Action.{Action}
 use Rattle.agc_plan.specs.declared.request.Action.TheVariants as action
@@ -17,11 +18,11 @@ use Rattle.agc_plan.specs.Jobs.{Job, Jobs}
 use Rattle.agc_plan.specs.Tasks.{Agenda, Pending, has_room, listed_if_room, without_first_due, first_due, count_due}
 use Rattle.agc_plan.specs.Base.{Base}
 use Rattle.agc_plan.specs.Begins.{Begins}
-use Rattle.agc_plan.specs.Plans.{Planned, action_in}
+use Rattle.agc_plan.specs.Plans.{Planned, Rows, actions_in}
 use Rattle.agc_plan.specs.Eras.{Work, no_work, active}
 use Rattle.agc_plan.specs.Groups.{jobs_begun, agenda_begun, group_begun, begun_from}
 use Rattle.agc_plan.proofs.Groups.{begun_is}
-use Rattle.agc_plan.specs.Steps.{Plain, Fires, Stepped, era, done, dispatched_work, unless_alarm, fire_first, fire, later_work, acted, begins, base_after, ended, step, reached}
+use Rattle.agc_plan.specs.Steps.{Plain, Did, Fires, Stepped, era, done, and_then, all_done, those_done, dispatched_work, unless_alarm, fire_first, fire, later_work, acted, begins, base_after, ended, step, reached}
 use Rattle.agc_plan.specs.Laws.{SomebodyIsAwake, IsRunnerAwake, IsNoAreaShared, IsEachAreaKnown, IsUnrivalled}
 use Rattle.agc_plan.proofs.Sound.{IsSound, no_jobs_sound, novac_sound, findvac_sound, end_of_job_sound, sleep_sound, change_sound, prio_sound, store_sound, rouse_sound, sound_runner, sound_somebody, sound_areas, sound_known, end_unrivalled, sleep_unrivalled, prio_unrivalled, change_unrivalled}
 
@@ -53,20 +54,31 @@ done_steady (action.Findvac priority entry) work s = record { jobs = findvac_sou
 done_steady (action.Rouse at) work s = record { jobs = rouse_sound at work.jobs s.jobs; tasks = s.tasks }
 done_steady (action.List delay task) work s = record { jobs = s.jobs; tasks = listed_few delay task work.agenda s.tasks }
 
+then_steady : {size : ℕ} → (did : Did) (next : Work → Did) → ((w : Work) → IsSteady size w → IsSteady size (next w).work) → IsSteady size did.work → IsSteady size (and_then did next).work
+then_steady did next on s = elim (cases_Bool (is_some did.alarm)) [
+  | inl over ↦ rw over s
+  | inr off ↦ rw off (on did.work s)
+]
+
+pub all_steady : {size : ℕ} → (acts : List Action) (work : Work) → IsSteady size work → IsSteady size (all_done acts work).work
+all_steady [] work s = s
+all_steady (act ∷ acts) work s = then_steady (done act work) (all_done acts) (λ w t. all_steady acts w t) (done_steady act work s)
+
 -- it goes on only without an alarm
-unless_steady : {size : ℕ} → (alarm : Option Alarm) (work : Work) (fired : List Task) (again : Work → List Task → Fires) → ((w : Work) (f : List Task) → IsSteady size w → IsSteady size (again w f).work) → IsSteady size work → IsSteady size (unless_alarm alarm work fired again).work
-unless_steady None work fired again on s = on work fired s
-unless_steady (Some alarm) work fired again on s = s
+unless_steady : {size : ℕ} → (alarm : Option Alarm) (work : Work) (fired : List Task) (acts : List (List Action)) (again : Work → List Task → List (List Action) → Fires) → ((w : Work) (f : List Task) (a : List (List Action)) → IsSteady size w → IsSteady size (again w f a).work) → IsSteady size work → IsSteady size (unless_alarm alarm work fired acts again).work
+unless_steady None work fired acts again on s = on work fired acts s
+unless_steady (Some alarm) work fired acts again on s = s
 
-first_steady : {size : ℕ} → (o : Option Task) (rows : List (Task × Action)) (work : Work) (fired : List Task) (again : Work → List Task → Fires) → ((w : Work) (f : List Task) → IsSteady size w → IsSteady size (again w f).work) → IsSteady size work → IsSteady size (fire_first o rows work fired again).work
-first_steady None rows work fired again on s = s
-first_steady (Some task) rows work fired again on s =
-    let did = done (action_in rows task) (dispatched_work work) in
-    unless_steady did.alarm did.work (fired ++ task ∷ []) again on (done_steady (action_in rows task) (dispatched_work work) (dispatched_steady work s))
+first_steady : {size : ℕ} → (o : Option Task) (rows : Rows) (work : Work) (fired : List Task) (acts : List (List Action)) (again : Work → List Task → List (List Action) → Fires) → ((w : Work) (f : List Task) (a : List (List Action)) → IsSteady size w → IsSteady size (again w f a).work) → IsSteady size work → IsSteady size (fire_first o rows work fired acts again).work
+first_steady None rows work fired acts again on s = s
+first_steady (Some task) rows work fired acts again on s =
+    let its = actions_in rows task in
+    let here = dispatched_work work in
+    unless_steady (all_done its here).alarm (all_done its here).work (fired ++ task ∷ []) (acts ++ those_done its here ∷ []) again on (all_steady its here (dispatched_steady work s))
 
-fire_steady : {size : ℕ} → (more : ℕ) (rows : List (Task × Action)) (work : Work) (fired : List Task) → IsSteady size work → IsSteady size (fire more rows work fired).work
-fire_steady zero rows work fired s = s
-fire_steady (suc more) rows work fired s = first_steady (first_due work.agenda.time work.agenda.tasks) rows work fired (fire more rows) (fire_steady more rows) s
+fire_steady : {size : ℕ} → (more : ℕ) (rows : Rows) (work : Work) (fired : List Task) (acts : List (List Action)) → IsSteady size work → IsSteady size (fire more rows work fired acts).work
+fire_steady zero rows work fired acts s = s
+fire_steady (suc more) rows work fired acts s = first_steady (first_due work.agenda.time work.agenda.tasks) rows work fired acts (fire more rows) (fire_steady more rows) s
 
 pub later_steady : {size : ℕ} → (work : Work) → IsSteady size work → IsSteady size (later_work work)
 later_steady work s = record { jobs = s.jobs; tasks = s.tasks }
@@ -81,7 +93,7 @@ acted_steady plan (request.Prio priority) plain s = record { jobs = prio_sound p
 acted_steady plan request.Change plain s = record { jobs = change_sound plain.work.jobs s.jobs; tasks = s.tasks }
 acted_steady plan (request.Store place word) plain s = record { jobs = store_sound place word plain.work.jobs s.jobs; tasks = s.tasks }
 acted_steady plan (request.List delay task) plain s = record { jobs = s.jobs; tasks = listed_few delay task plain.work.agenda s.tasks }
-acted_steady plan request.Tick plain s = fire_steady (count_due (later_work plain.work).agenda.time (later_work plain.work).agenda.tasks) plan.rows (later_work plain.work) [] (later_steady plain.work s)
+acted_steady plan request.Tick plain s = fire_steady (count_due (later_work plain.work).agenda.time (later_work plain.work).agenda.tasks) plan.rows (later_work plain.work) [] [] (later_steady plain.work s)
 acted_steady plan (request.SetPhase group phase) plain s = s
 acted_steady plan request.Restart plain s = s
 acted_steady plan request.Fresh plain s = s

@@ -21,7 +21,7 @@ use Rattle.agc_plan.specs.Jobs.{no_jobs, job_in}
 use Rattle.agc_plan.specs.Places.{placed_new}
 use Rattle.agc_plan.specs.Base.{fresh_base}
 use Rattle.agc_plan.specs.Begins.{Begins}
-use Rattle.agc_plan.specs.Plans.{Planned}
+use Rattle.agc_plan.specs.Plans.{Planned, Rows}
 use Rattle.agc_plan.specs.Steps.{Plain, era, step, reached, fired_in}
 
 -- where a job begins, in bank 5
@@ -33,7 +33,7 @@ abbrev pub task : ℕ → Task
 task at = record { at = at; bank = 5 }
 
 -- a plan with these rows and entries, in which key and radar do nothing, on seven core sets
-abbrev pub planned : List (Task × Action) → List Begins → Planned
+abbrev pub planned : Rows → List Begins → Planned
 planned rows entries = record
     { rows = rows; entries = entries; key = action.Nothing; radar = action.Nothing; sets = 7 }
 
@@ -106,7 +106,7 @@ three_due = request.List 5 (task 0o2000) ∷ request.List 10 (task 0o2010) ∷ r
 
 -- a plan in which a task establishes a job; seven jobs, and three tasks due at once, it second
 abbrev pub an_eighth_job : Planned
-an_eighth_job = planned ((task 0o2010, action.Novac 0o10 (entry 0o3000)) ∷ []) []
+an_eighth_job = planned ((task 0o2010, action.Novac 0o10 (entry 0o3000) ∷ []) ∷ []) []
 
 abbrev pub three_at_once : List Request
 three_at_once = replicate 7 (Novac 0o10 (entry 0o2000))
@@ -115,7 +115,7 @@ three_at_once = replicate 7 (Novac 0o10 (entry 0o2000))
 
 -- a plan in which a task lists itself; it and another, and four ticks
 abbrev pub again_in_three : Planned
-again_in_three = planned ((task 0o2000, action.List 3 (task 0o2000)) ∷ []) []
+again_in_three = planned ((task 0o2000, action.List 3 (task 0o2000) ∷ []) ∷ []) []
 
 abbrev pub two_listed : List Request
 two_listed = request.List 1 (task 0o2000) ∷ request.List 1 (task 0o2010) ∷ replicate 4 Tick

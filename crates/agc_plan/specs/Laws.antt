@@ -1,7 +1,7 @@
 -- What a reader of the landing alarms wants to know, in words that know nothing of how the model
 -- computes, but for what one task that fires does.
-use Rattle.std.specs.Prelude.{◌≡◌, ◌⊎◌, ℕ, ◌<◌, ◌≤◌, suc, true, false, List, [], ◌∷◌, ◌++◌, length}
-use Rattle.std.specs.Prelude.{map, All, slice_index_or, Option, Some, None}
+use Rattle.std.specs.Prelude.{◌≡◌, ◌⊎◌, ℕ, ◌<◌, ◌≤◌, zero, suc, true, false, List, [], ◌∷◌, ◌++◌}
+use Rattle.std.specs.Prelude.{length, map, All, slice_index_or, Option, Some, None}
 use Rattle.agc_plan.specs.declared.reply.Alarm.{Alarm}
 use Rattle.agc_plan.specs.declared.reply.Alarm.TheVariants.{A1201, A1202, A1203}
 use Rattle.agc_plan.specs.declared.request.Action.{Action}
@@ -15,9 +15,9 @@ use Rattle.agc_plan.specs.declared.request.Task.{Task}
 use Rattle.agc_plan.specs.Jobs.{Job, Jobs, job_in}
 use Rattle.agc_plan.specs.Tasks.{Pending, Agenda, first_due}
 use Rattle.agc_plan.specs.Begins.{Begins}
-use Rattle.agc_plan.specs.Plans.{action_in}
+use Rattle.agc_plan.specs.Plans.{Rows, actions_in}
 use Rattle.agc_plan.specs.Eras.{Work}
-use Rattle.agc_plan.specs.Steps.{Fires, done, dispatched_work}
+use Rattle.agc_plan.specs.Steps.{Fires, done, all_done, dispatched_work}
 
 -- this job lives and has this number; numbers begin with 1, and no two jobs have the same
 abbrev pub Lives : List (Option Job) → ℕ → Job → Type 0
@@ -140,17 +140,41 @@ as_action (request.Rouse at) = action.Rouse at
 as_action (request.List delay task) = action.List delay task
 as_action other = action.Nothing
 
--- these tasks fire one after another, each the first that is due, taken out before its action is
--- done: an action misses nothing, or the task is the last and this alarm tells what its action
--- misses; where none misses anything, there is none
-abbrev pub EndsByLast : List (Task × Action) → Work → List Task → Option Alarm → Type 0
+-- these are done one after another, and none misses anything
+abbrev pub NoneMisses : List Action → Work → Type 0
+NoneMisses [] work = Unit {0}
+NoneMisses (act ∷ acts) work = MissesNothing act work × NoneMisses acts (done act work).work
+
+-- of these the one of this number, counted from 0, misses what this alarm tells, and those before
+-- it miss nothing
+abbrev pub StopsAt : ℕ → Alarm → List Action → Work → Type 0
+StopsAt number alarm [] work = ⊥
+StopsAt zero alarm (act ∷ acts) work = Misses alarm act work
+StopsAt (suc number) alarm (act ∷ acts) work =
+    MissesNothing act work × StopsAt number alarm acts (done act work).work
+
+-- these tasks fire one after another, each the first that is due, taken out before its actions are
+-- done: none of these misses anything, or the task is the last and this alarm tells what one of
+-- them misses; where none misses anything, there is none
+abbrev pub EndsByLast : Rows → Work → List Task → Option Alarm → Type 0
 EndsByLast rows work [] told = told ≡ None
 EndsByLast rows work (task ∷ tasks) told =
-    let act = action_in rows task in
+    let acts = actions_in rows task in
     let here = dispatched_work work in
     (first_due work.agenda.time work.agenda.tasks ≡ Some task)
-    × ((MissesNothing act here × EndsByLast rows (done act here).work tasks told)
-    ⊎ ((tasks ≡ []) × ((alarm : Alarm) × (told ≡ Some alarm) × Misses alarm act here)))
+    × ((NoneMisses acts here × EndsByLast rows (all_done acts here).work tasks told)
+    ⊎ ((tasks ≡ []) × ((alarm : Alarm) × (number : ℕ) × (told ≡ Some alarm)
+    × StopsAt number alarm acts here)))
+
+-- how many of these list a task
+abbrev pub listings : List Action → ℕ
+listings [] = 0
+listings (action.List delay task ∷ acts) = suc (listings acts)
+listings (other ∷ acts) = listings acts
+
+-- each task lists one task at most
+abbrev pub ListsOne : Rows → Type 0
+ListsOne rows = All (λ row. listings row.1 ≤ 1) rows
 
 -- the running job lives and is awake
 abbrev pub IsRunnerAwake : Jobs → Type 0
@@ -194,8 +218,8 @@ IsRequestDelayed (request.List delay task) = 1 ≤ delay
 IsRequestDelayed other = Unit {0}
 
 -- whatever these rows' actions list is due later
-abbrev pub AreActionsDelayed : List (Task × Action) → Type 0
-AreActionsDelayed rows = All (λ row. IsActionDelayed row.1) rows
+abbrev pub AreActionsDelayed : Rows → Type 0
+AreActionsDelayed rows = All (λ row. All IsActionDelayed row.1) rows
 
 -- whatever these entries list is
 abbrev pub AreListingsDelayed : List Begins → Type 0
@@ -211,12 +235,12 @@ abbrev pub IsOneTask : Task → Task → Type 0
 IsOneTask a b = (a.at ≡ b.at) × (a.bank ≡ b.bank)
 
 -- the rows at two places are of one task
-pub record HasTwoRows (rows : List (Task × Action)) : Type 0 where
+pub record HasTwoRows (rows : Rows) : Type 0 where
   pub first : ℕ
   pub second : ℕ
   pub before : first < second
   pub within : second < length rows
-  pub same : (d : Task × Action)
+  pub same : (d : Task × List Action)
       → IsOneTask (slice_index_or rows first d).0 (slice_index_or rows second d).0
 
 -- these are of one group and phase

@@ -2,7 +2,6 @@
 use Rattle.std.specs.Prelude.{ℕ, ◌==◌, ◌&&◌, ◌||◌, Bool, true, false, if◌then◌else◌, List, [], ◌∷◌}
 use Rattle.std.specs.Prelude.{Option, Some, None}
 use Rattle.agc_plan.specs.declared.request.Action.{Action}
-use Rattle.agc_plan.specs.declared.request.Action.TheVariants.{Nothing}
 use Rattle.agc_plan.specs.declared.request.JobStart.{JobStart}
 use Rattle.agc_plan.specs.declared.request.JobStart.TheVariants.{Novac, Findvac}
 use Rattle.agc_plan.specs.declared.request.Task.{Task}
@@ -10,17 +9,21 @@ use Rattle.agc_plan.specs.declared.plan.PlanFault.{PlanFault}
 use Rattle.agc_plan.specs.declared.plan.PlanFault.TheVariants.{TaskTwice, PhaseTwice, TooManyAreas}
 use Rattle.agc_plan.specs.Begins.{Begins}
 
--- a plan, as it is written: a row for each task that has an action, an entry for each phase with
+-- rows: each names a task, and what is done when it fires, in order
+abbrev pub Rows : Type 0
+Rows = List (Task × List Action)
+
+-- a plan, as it is written: a row for each task that does something, an entry for each phase with
 -- which something begins, and two actions
 pub record Written : Type 0 where
-  pub rows : List (Task × Action)
+  pub rows : Rows
   pub entries : List Begins
   pub key : Action
   pub radar : Action
 
 -- a plan on a computer with so many core sets
 pub record Planned : Type 0 where
-  pub rows : List (Task × Action)
+  pub rows : Rows
   pub entries : List Begins
   pub key : Action
   pub radar : Action
@@ -34,18 +37,18 @@ planned_with plan sets = record { rows = plan.rows; entries = plan.entries; key 
 abbrev pub same_task : Task → Task → Bool
 same_task a b = (a.at == b.at) && (a.bank == b.bank)
 
--- the action of a task's row, nothing where it has none
-abbrev pub action_in : List (Task × Action) → Task → Action
-action_in [] task = Nothing
-action_in (row ∷ rows) task = if same_task row.0 task then row.1 else action_in rows task
+-- the actions of a task's row, none where it has no row
+abbrev pub actions_in : Rows → Task → List Action
+actions_in [] task = []
+actions_in (row ∷ rows) task = if same_task row.0 task then row.1 else actions_in rows task
 
 -- whether a task has a row
-abbrev pub has_task : List (Task × Action) → Task → Bool
+abbrev pub has_task : Rows → Task → Bool
 has_task [] task = false
 has_task (row ∷ rows) task = same_task row.0 task || has_task rows task
 
 -- whether one task has two rows
-abbrev pub task_twice : List (Task × Action) → Bool
+abbrev pub task_twice : Rows → Bool
 task_twice [] = false
 task_twice (row ∷ rows) = has_task rows row.0 || task_twice rows
 
@@ -84,7 +87,7 @@ abbrev pub all_want : List Begins → Bool
 all_want es = group_wants es 1 && (group_wants es 2 && (group_wants es 3 && (group_wants es 4 && (group_wants es 5 && group_wants es 6))))
 
 -- the first thing that is wrong
-abbrev pub fault_of : List (Task × Action) → List Begins → Option PlanFault
+abbrev pub fault_of : Rows → List Begins → Option PlanFault
 fault_of rows entries =
     if task_twice rows then Some TaskTwice
     else if phase_twice entries then Some PhaseTwice

@@ -6,12 +6,11 @@ use Rattle.agc_plan.specs.declared.request.Action.{Action}
 use Rattle.agc_plan.specs.declared.request.Action.TheVariants as action
 use Rattle.agc_plan.specs.declared.request.Request.{Request}
 use Rattle.agc_plan.specs.declared.request.Request.TheVariants as request
-use Rattle.agc_plan.specs.declared.request.Task.{Task}
 use Rattle.agc_plan.specs.Jobs.{Jobs, Outcome, no_jobs, novac, findvac, end_of_job, sleep, rouse}
 use Rattle.agc_plan.specs.Jobs.{prio, change, established}
 use Rattle.agc_plan.specs.Places.{placed_new, placed_end, fronted}
 use Rattle.agc_plan.specs.Base.{Base}
-use Rattle.agc_plan.specs.Plans.{Planned, action_in}
+use Rattle.agc_plan.specs.Plans.{Planned}
 use Rattle.agc_plan.specs.Eras.{actions_from}
 use Rattle.agc_plan.specs.Steps.{Plain, era, step, begins, tick_fires}
 
@@ -43,9 +42,9 @@ seated_action other seated = seated
 abbrev pub seated_by : List Action → Seated → Seated
 seated_by actions seated = fold (λ s act. seated_action act s) seated actions
 
--- the actions of these fired tasks are done, in order
-abbrev pub seated_fired : List (Task × Action) → Seated → List Task → Seated
-seated_fired rows seated fired = fold (λ s task. seated_action (action_in rows task) s) seated fired
+-- and those of one task after another
+abbrev pub seated_through : List (List Action) → Seated → Seated
+seated_through acts seated = fold (λ s its. seated_by its s) seated acts
 
 -- the core sets after a request, before an era begins with it
 abbrev pub places_acted : Planned → Request → Plain → List ℕ → List ℕ
@@ -57,7 +56,8 @@ places_acted plan (request.Rouse at) plain places = fronted (rouse at plain.work
 places_acted plan (request.Prio priority) plain places = fronted (prio priority plain.work.jobs).jobs.running places
 places_acted plan request.Change plain places = fronted (change plain.work.jobs).jobs.running places
 places_acted plan request.Tick plain places =
-    (seated_fired plan.rows (record { jobs = plain.work.jobs; places = places }) (tick_fires plan.rows plain.work).fired).places
+    let before : Seated = record { jobs = plain.work.jobs; places = places } in
+    (seated_through (tick_fires plan.rows plain.work).acts before).places
 places_acted plan other plain places = places
 
 -- the core sets with which an era begins

@@ -1,6 +1,6 @@
 -- The plain state, an action, a tick, a step, and what a log of requests reaches.
 use Rattle.std.specs.Prelude.{ℕ, zero, suc, Bool, true, if◌then◌else◌, List, [], ◌∷◌, ◌++◌, Option}
-use Rattle.std.specs.Prelude.{Some, None}
+use Rattle.std.specs.Prelude.{Some, None, length, slice_index_or, ◌-◌}
 use Rattle.std.specs.List.{fold}
 use Rattle.std.specs.Option.{is_some, option_map_or}
 use Rattle.agc_plan.specs.declared.reply.Alarm.{Alarm}
@@ -19,7 +19,7 @@ use Rattle.agc_plan.specs.Jobs.{Outcome, novac, findvac, end_of_job, sleep, rous
 use Rattle.agc_plan.specs.Jobs.{store}
 use Rattle.agc_plan.specs.Tasks.{has_room, listed_if_room, later, dispatched, first_due, count_due}
 use Rattle.agc_plan.specs.Base.{Base, fresh_base, with_phase, with_code}
-use Rattle.agc_plan.specs.Plans.{Planned, action_in}
+use Rattle.agc_plan.specs.Plans.{Planned, Rows, actions_in}
 use Rattle.agc_plan.specs.Eras.{Work, no_work, actions_from}
 
 -- the plain state: jobs, tasks and time, phases and codes
@@ -64,6 +64,21 @@ done (action.Findvac priority entry) work = did_of (with_jobs (findvac priority 
 done (action.Rouse at) work = did_of (with_jobs (rouse at work.jobs) work)
 done (action.List delay task) work = did_of (with_listed delay task work)
 
+-- unless there was an alarm, on with it
+abbrev pub and_then : Did → (Work → Did) → Did
+and_then did next = if is_some did.alarm then did else next did.work
+
+-- actions are done, in order, up to the first that raises an alarm
+abbrev pub all_done : List Action → Work → Did
+all_done [] work = record { work = work; alarm = None }
+all_done (act ∷ acts) work = and_then (done act work) (all_done acts)
+
+-- those that are
+abbrev pub those_done : List Action → Work → List Action
+those_done [] work = []
+those_done (act ∷ acts) work =
+    act ∷ (if is_some (done act work).alarm then [] else those_done acts (done act work).work)
+
 -- the jobs and tasks with which an era begins
 abbrev pub begun : Planned → List ℕ → Work
 begun plan phases =
@@ -74,47 +89,59 @@ begun plan phases =
 abbrev pub era : Planned → Base → Plain
 era plan base = record { work = begun plan base.phases; base = base }
 
--- what firing leaves, the tasks that fired, and the alarm that ended it, if one did
+-- what firing leaves, the tasks that fired, of each the actions that were done, and the alarm that
+-- ended it, if one did
 pub record Fires : Type 0 where
   pub work : Work
   pub fired : List Task
+  pub acts : List (List Action)
   pub alarm : Option Alarm
 
 -- the first task that is due is taken out
 abbrev pub dispatched_work : Work → Work
 dispatched_work work = record work { agenda = dispatched work.agenda }
 
--- on with it, unless there was an alarm
-abbrev pub unless_alarm : Option Alarm → Work → List Task → (Work → List Task → Fires) → Fires
-unless_alarm None work fired again = again work fired
-unless_alarm (Some alarm) work fired again = record { work = work; fired = fired; alarm = Some alarm }
+-- how it goes on, with these tasks and actions so far
+abbrev pub Again : Type 0
+Again = Work → List Task → List (List Action) → Fires
 
--- this task fires, if there is one: it is counted and its action done, and then it goes on
-abbrev pub fire_first : Option Task → List (Task × Action) → Work → List Task → (Work → List Task → Fires) → Fires
-fire_first None rows work fired again = record { work = work; fired = fired; alarm = None }
-fire_first (Some task) rows work fired again =
-    let did = done (action_in rows task) (dispatched_work work) in
-    unless_alarm did.alarm did.work (fired ++ task ∷ []) again
+-- on with it, unless there was an alarm
+abbrev pub unless_alarm : Option Alarm → Work → List Task → List (List Action) → Again → Fires
+unless_alarm None work fired acts again = again work fired acts
+unless_alarm (Some alarm) work fired acts again =
+    record { work = work; fired = fired; acts = acts; alarm = Some alarm }
+
+-- this task fires, if there is one: it is counted and its actions are done, and then it goes on
+abbrev pub fire_first : Option Task → Rows → Work → List Task → List (List Action) → Again → Fires
+fire_first None rows work fired acts again =
+    record { work = work; fired = fired; acts = acts; alarm = None }
+fire_first (Some task) rows work fired acts again =
+    let its = actions_in rows task in
+    let here = dispatched_work work in
+    let did = all_done its here in
+    unless_alarm did.alarm did.work (fired ++ task ∷ []) (acts ++ those_done its here ∷ []) again
 
 -- so many times at most: of the tasks that are due the earliest arrival fires
-abbrev pub fire : ℕ → List (Task × Action) → Work → List Task → Fires
-fire zero rows work fired = record { work = work; fired = fired; alarm = None }
-fire (suc more) rows work fired = fire_first (first_due work.agenda.time work.agenda.tasks) rows work fired (fire more rows)
+abbrev pub fire : ℕ → Rows → Work → List Task → List (List Action) → Fires
+fire zero rows work fired acts = record { work = work; fired = fired; acts = acts; alarm = None }
+fire (suc more) rows work fired acts =
+    fire_first (first_due work.agenda.time work.agenda.tasks) rows work fired acts (fire more rows)
 
 -- while a task is due: as many times as tasks are due, since what is listed meanwhile is due later
-abbrev pub fire_all : List (Task × Action) → Work → List Task → Fires
-fire_all rows work fired = fire (count_due work.agenda.time work.agenda.tasks) rows work fired
+abbrev pub fire_all : Rows → Work → List Task → List (List Action) → Fires
+fire_all rows work fired acts =
+    fire (count_due work.agenda.time work.agenda.tasks) rows work fired acts
 
 -- a centisecond later
 abbrev pub later_work : Work → Work
 later_work work = record work { agenda = later work.agenda }
 
 -- what fires in a tick
-abbrev pub tick_fires : List (Task × Action) → Work → Fires
-tick_fires rows work = fire_all rows (later_work work) []
+abbrev pub tick_fires : Rows → Work → Fires
+tick_fires rows work = fire_all rows (later_work work) [] []
 
 -- a tick: a centisecond passes, and all that is due fires
-abbrev pub ticked : List (Task × Action) → Work → Acted
+abbrev pub ticked : Rows → Work → Acted
 ticked rows work =
     let fires = tick_fires rows work in
     record { work = fires.work; reply = Ticked fires.alarm }
@@ -148,6 +175,15 @@ acted plan request.Fresh plain = record { plain = record plain { base = fresh_ba
 abbrev pub fired_in : Planned → Request → Plain → List Task
 fired_in plan request.Tick plain = (tick_fires plan.rows plain.work).fired
 fired_in plan asked plain = []
+
+-- in a tick that an alarm ended: which action of the task that fired last raised it, from 1; else 0
+abbrev pub raised_by : Fires → ℕ
+raised_by fires =
+    if is_some fires.alarm then length (slice_index_or fires.acts (length fires.acts - 1) []) else 0
+
+abbrev pub raised_in : Planned → Request → Plain → ℕ
+raised_in plan request.Tick plain = raised_by (tick_fires plan.rows plain.work)
+raised_in plan asked plain = 0
 
 -- an alarm's code
 abbrev pub code_of : Alarm → Code

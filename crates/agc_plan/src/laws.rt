@@ -5,7 +5,7 @@
 //! docs/MODEL.md.
 
 ghost use Rattle.std.specs.Prelude.{◌≡◌, ◌↔◌, ◌≤◌, ℕ, ◌+◌, List, Option, Some, None, IsSome, All};
-ghost use Rattle.std.specs.Prelude.{length, true};
+ghost use Rattle.std.specs.Prelude.{length, true, [], ◌∷◌};
 ghost use Rattle.agc_plan.specs.declared.reply.Alarm.{Alarm};
 ghost use Rattle.agc_plan.specs.declared.reply.Alarm.TheVariants.{A1201, A1202, A1203};
 ghost use Rattle.agc_plan.specs.declared.reply.Reply.TheVariants.{Alarmed, Established, Ticked};
@@ -20,10 +20,10 @@ ghost use Rattle.agc_plan.specs.Jobs.{novac, findvac, rouse};
 ghost use Rattle.agc_plan.specs.Tasks.{Pending, due_at, InOrder};
 ghost use Rattle.agc_plan.specs.Base.{Base};
 ghost use Rattle.agc_plan.specs.Begins.{Begins};
-ghost use Rattle.agc_plan.specs.Plans.{Planned, task_twice, phase_twice, all_want};
+ghost use Rattle.agc_plan.specs.Plans.{Planned, Rows, task_twice, phase_twice, all_want};
 ghost use Rattle.agc_plan.specs.Eras.{Work};
 ghost use Rattle.agc_plan.specs.Steps.{Plain, with_listed, later_work, tick_fires, fired_in, step};
-ghost use Rattle.agc_plan.specs.Steps.{reached};
+ghost use Rattle.agc_plan.specs.Steps.{reached, done, all_done, those_done};
 ghost use Rattle.agc_plan.specs.Examples.{Examples};
 ghost use Rattle.agc_plan.specs.Laws.{Lives, IsMostUrgent, NobodyIsAwake, IsLeastUnused};
 ghost use Rattle.agc_plan.specs.Laws.{IsEachUsed, IsLeastUnowned, IsEachOwned, SomeAreaIsUnowned};
@@ -32,6 +32,7 @@ ghost use Rattle.agc_plan.specs.Laws.{SomebodyIsAwake, IsRunnerAwake, IsNoAreaSh
 ghost use Rattle.agc_plan.specs.Laws.{IsEachAreaKnown, IsNothingDue, IsRequestDelayed};
 ghost use Rattle.agc_plan.specs.Laws.{AreActionsDelayed, AreListingsDelayed, FiresThese};
 ghost use Rattle.agc_plan.specs.Laws.{HasTwoRows, HasTwoEntries, HasEachArea, Misses, EndsByLast};
+ghost use Rattle.agc_plan.specs.Laws.{ListsOne};
 ghost use Rattle.agc_plan.specs.Laws.{as_action, living};
 
 /// The best job is awake, no awake job has a greater priority, and none of the same priority a
@@ -133,8 +134,9 @@ pub fn request_is_alarmed_where_it_misses_something()
 {}
 
 /// In every state that a run of requests reaches, a tick ends by the task that fired last: where it
-/// has an alarm, this tells what that task's action missed, in the work in which it was done, and
-/// the tasks before it missed nothing; where it has none, no action missed anything.
+/// has an alarm, this tells what one of that task's actions missed, in the work in which it was
+/// done, and those before it missed nothing, nor did the tasks before it; where it has none, no
+/// action missed anything.
 pub fn tick_ends_by_its_last_task()
     ensures { (plan : Planned) (base : Base) (log : List Request) (told : Option Alarm)
         → (step plan Tick (reached plan base log)).reply ≡ Ticked told
@@ -142,10 +144,16 @@ pub fn tick_ends_by_its_last_task()
         (fired_in plan Tick (reached plan base log)) told }
 {}
 
-/// In every state that a run of requests reaches, a tick never has alarm 1203: the task that fired
-/// made room.
+/// A task with one action does just that, as it would be done by itself.
+pub fn one_action_is_done_as_by_itself()
+    ensures done { (act : Action) (work : Work) → all_done (act ∷ []) work ≡ done act work }
+    ensures those { (act : Action) (work : Work) → those_done (act ∷ []) work ≡ act ∷ [] }
+{}
+
+/// In every state that a run of requests reaches, where each task lists one task at most, a tick
+/// never has alarm 1203: the task that fired made room.
 pub fn tick_has_room_for_listings()
-    ensures { (plan : Planned) (base : Base) (log : List Request)
+    ensures { (plan : Planned) (base : Base) (log : List Request) → ListsOne plan.rows
         → (step plan Tick (reached plan base log)).reply ≡ Ticked (Some A1203) → ⊥ }
 {}
 
@@ -216,7 +224,7 @@ pub fn at_most_nine_tasks_wait()
 /// Where each delay in the plan's rows is at least 1, nothing is due after a tick, unless an alarm
 /// came: what an action lists is due later.
 pub fn tick_leaves_nothing_due()
-    ensures { (rows : List (Task × Action)) (work : Work) → AreActionsDelayed rows
+    ensures { (rows : Rows) (work : Work) → AreActionsDelayed rows
         → (tick_fires rows work).alarm ≡ None → IsNothingDue (tick_fires rows work).work.agenda }
 {}
 
@@ -234,10 +242,10 @@ pub fn nothing_is_due_between_requests()
 /// them, or up to an alarm. The same fire where those due at that time are read off the tasks in
 /// order.
 pub fn due_tasks_fire_in_order_of_arrival()
-    ensures arrival { (rows : List (Task × Action)) (work : Work) → AreActionsDelayed rows
+    ensures arrival { (rows : Rows) (work : Work) → AreActionsDelayed rows
         → IsNothingDue work.agenda
         → FiresThese (due_at (work.agenda.time + 1) work.agenda.tasks) (tick_fires rows work) }
-    ensures in_order { (rows : List (Task × Action)) (work : Work) (ordered : List Pending)
+    ensures in_order { (rows : Rows) (work : Work) (ordered : List Pending)
         → AreActionsDelayed rows → IsNothingDue work.agenda → InOrder work.agenda.tasks ordered
         → FiresThese (due_at (work.agenda.time + 1) ordered) (tick_fires rows work) }
 {}
@@ -246,7 +254,7 @@ pub fn due_tasks_fire_in_order_of_arrival()
 /// entries at two places; each of the six groups has an entry with a FINDVAC job, one more than
 /// there are areas.
 pub fn faults_of_a_plan()
-    ensures task_twice { (rows : List (Task × Action)) → (task_twice rows ≡ true)
+    ensures task_twice { (rows : Rows) → (task_twice rows ≡ true)
         ↔ HasTwoRows rows }
     ensures phase_twice { (entries : List Begins) → (phase_twice entries ≡ true)
         ↔ HasTwoEntries entries }

@@ -2,6 +2,7 @@
 //! request does to the plain lists of jobs, tasks, phases and alarm codes.
 #![tactic(auto)]
 
+mod actions;
 mod fired;
 pub mod laws;
 mod number;
@@ -9,6 +10,7 @@ mod plan;
 mod reply;
 mod request;
 
+pub use actions::Actions;
 pub use fired::Fired;
 pub use number::{Address, Delay, Group, JobNo, Limit, Phase, Place, Priority};
 pub use plan::{Plan, PlanFault};

@@ -1,11 +1,12 @@
 ghost use Rattle.std.specs.Prelude.{◌≡◌, ◌⊎◌, Some, None, IfOk, IfErr, OnOk};
 ghost use Rattle.agc_plan.specs.Plans.{Written, same_task, has_task, task_twice, has_entry};
 ghost use Rattle.agc_plan.specs.Plans.{phase_twice, wants_area, group_wants, all_want, fault_of};
-ghost use Rattle.agc_plan.specs.Plans.{action_in, entry_at, is_for};
+ghost use Rattle.agc_plan.specs.Plans.{actions_in, entry_at, is_for};
 ghost use Rattle.std.specs.Option.{option_copied};
 ghost use Rattle.agc_plan.specs.Quiet.{BeginsQuietly};
 ghost use Rattle.agc_plan.specs.Messages.{plan_fault_text};
 
+use crate::actions::Actions;
 use crate::number::{Group, Phase};
 use crate::request::{Action, JobStart, PhaseEntry, Task};
 use std::alloc::Global;
@@ -56,7 +57,7 @@ impl Error for PlanFault {}
 /// its rows, its entries and its two actions. Source: profile.
 #[derive(Drop)]
 pub struct Plan {
-    rows: Vec<(Task, Action)>,
+    rows: Vec<(Task, Actions)>,
     entries: Vec<PhaseEntry>,
     key: Action,
     radar: Action,
@@ -75,7 +76,7 @@ impl Model for Plan {
 }
 
 /// Whether a task has a row.
-fn has_task(rows: &[(Task, Action)], task: Task) -> bool
+fn has_task(rows: &[(Task, Actions)], task: Task) -> bool
     ensures { result ≡ has_task rows.now task }
 {
     for row in rows {
@@ -87,7 +88,7 @@ fn has_task(rows: &[(Task, Action)], task: Task) -> bool
 }
 
 /// Whether a task has two rows.
-fn task_twice(rows: &[(Task, Action)]) -> bool
+fn task_twice(rows: &[(Task, Actions)]) -> bool
     ensures { result ≡ task_twice rows.now }
 {
     for (k, row) in rows.iter().enumerate() {
@@ -158,7 +159,7 @@ fn all_want(entries: &[PhaseEntry]) -> bool
 }
 
 /// What is wrong with rows and entries, memory aside.
-fn fault_of(rows: &[(Task, Action)], entries: &[PhaseEntry]) -> Option<PlanFault>
+fn fault_of(rows: &[(Task, Actions)], entries: &[PhaseEntry]) -> Option<PlanFault>
     ensures { result ≡ fault_of rows.now entries.now }
 {
     if task_twice(rows) {
@@ -172,8 +173,24 @@ fn fault_of(rows: &[(Task, Action)], entries: &[PhaseEntry]) -> Option<PlanFault
     }
 }
 
+/// The same rows once more.
+fn copied_rows(alloc: Global, rows: &[(Task, Actions)]) -> Result<Vec<(Task, Actions)>, PlanFault>
+    ensures copied { IfOk result (λ own. own.items ≡ rows.now) }
+    ensures refused { IfErr result (λ fault. fault ≡ PlanFault.NoMemory) }
+{
+    let Ok(mut own) = Vec::with_capacity(alloc, rows.len()) else {
+        return Err(PlanFault::NoMemory);
+    };
+    for row in rows {
+        if own.push((row.0, row.1.copied())).is_err() {
+            return Err(PlanFault::NoMemory);
+        }
+    }
+    Ok(own)
+}
+
 impl Plan {
-    /// A plan of these rows, entries and actions, each row the action of one task: copies of them,
+    /// A plan of these rows, entries and actions, each row the actions of one task: copies of them,
     /// in this order.
     ///
     /// # Errors
@@ -181,7 +198,7 @@ impl Plan {
     /// `NoMemory`, or else the first of `TaskTwice`, `PhaseTwice` and `TooManyAreas` that applies.
     pub fn new(
         alloc: Global,
-        rows: &[(Task, Action)],
+        rows: &[(Task, Actions)],
         entries: &[PhaseEntry],
         key: Action,
         radar: Action,
@@ -193,10 +210,7 @@ impl Plan {
             ⊎ (fault_of rows.now entries.now ≡ Some fault)) }
         ensures quiet { IfOk result BeginsQuietly }
     {
-        let mut own_rows = Vec::new(alloc);
-        if own_rows.extend_from_slice(rows).is_err() {
-            return Err(PlanFault::NoMemory);
-        }
+        let own_rows = copied_rows(alloc, rows)?;
         let mut own_entries = Vec::new(alloc);
         if own_entries.extend_from_slice(entries).is_err() {
             return Err(PlanFault::NoMemory);
@@ -221,11 +235,11 @@ impl Plan {
         let _ = &self.rows;
     }
 
-    /// What is done when this task fires: `Nothing` for a task that has no row.
-    pub fn action(&self, task: &Task) -> Action
-        ensures { result ≡ action_in self.now.rows task.now }
+    /// What is done when this task fires, in order: nothing for a task that has no row.
+    pub fn actions(&self, task: &Task) -> &[Action]
+        ensures { result.now ≡ actions_in self.now.rows task.now }
     {
-        action_in(&self.rows, *task)
+        actions_in(&self.rows, *task)
     }
 
     /// What begins again while a group stands in a phase. None where the plan has no entry for
@@ -251,16 +265,16 @@ impl Plan {
     }
 }
 
-/// The action of a task's row, `Nothing` where it has none.
-fn action_in(rows: &[(Task, Action)], task: Task) -> Action
-    ensures { result ≡ action_in rows.now task }
+/// The actions of a task's row, none where it has no row.
+fn actions_in(rows: &[(Task, Actions)], task: Task) -> &[Action]
+    ensures { result.now ≡ actions_in rows.now task }
 {
     for row in rows {
         if row.0 == task {
-            return row.1;
+            return row.1.as_slice();
         }
     }
-    Action::Nothing
+    &[]
 }
 
 /// The entry of a group's phase.

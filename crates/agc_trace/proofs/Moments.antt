@@ -6,7 +6,7 @@ use Rattle.agc_plan.specs.declared.request.Task.{Task}
 use Rattle.std.specs.Option.{option_map_or}
 use Rattle.agc_plan.specs.Seats.{places_acted}
 use Rattle.agc_plan.specs.Base.{Base}
-use Rattle.agc_plan.specs.Steps.{acted, alarm_of, begins, fired_in}
+use Rattle.agc_plan.specs.Steps.{raised_in, acted, alarm_of, begins, fired_in}
 use Rattle.agc_phase.specs.Image.{base_of}
 use Rattle.agc_machine.specs.declared.answer.Refusal.{Refusal}
 use Rattle.agc_machine.specs.Machines.{Machined, refusal_of, result_of, answer_of, fired_of, stepped, after, plain_of, places_of}
@@ -38,6 +38,7 @@ shown_served m asked moment none is = record {
   phases = is.phases;
   base = λ e. is.stands.base;
   reply = λ e. is.reply;
+  number = λ e. is.number;
 }
 
 pub shown_refused : (m : Machined) (asked : Request) (refusal : Refusal) (moment : Acting) → Some refusal ≡ refusal_of m asked → IsMoment m Restart moment → IsShown m asked (Some refusal) moment
@@ -51,6 +52,7 @@ shown_refused m asked refusal moment some is = record {
   phases = is.phases;
   base = λ e. absurd (cc);
   reply = λ e. absurd (cc);
+  number = λ e. absurd (cc);
 }
 
 -- the time after a request
@@ -78,20 +80,21 @@ line_is t asked refusal moment number time refusal_is shown number_is time_is =
     ∙ ap (λ (r : Option Refusal). line_text (one_more t.asked) (time_unless r asked t.time) asked (fired_of t.machine asked) (answer_of t.machine asked) (scene_unless r t.machine asked)) refusal_is
 
 -- what is told of its alarm
-told_is : (t : Traced) (asked : Request) (refusal : Option Refusal) (moment : Acting) → IsShown t.machine asked refusal moment → account_by (told_alarm refusal moment.reply) (after t.machine asked) moment.fired (scene_in moment.words) (base_of moment.words).phases ≡ account_by (told_alarm refusal (acted t.machine.plan asked (plain_of t.machine)).reply) (after t.machine asked) (fired_of t.machine asked) (scene_unless refusal t.machine asked) (acted t.machine.plan asked (plain_of t.machine)).plain.base.phases
+told_is : (t : Traced) (asked : Request) (refusal : Option Refusal) (moment : Acting) → IsShown t.machine asked refusal moment → account_by (told_alarm refusal moment.reply) (after t.machine asked) moment.fired moment.number (scene_in moment.words) (base_of moment.words).phases ≡ account_by (told_alarm refusal (acted t.machine.plan asked (plain_of t.machine)).reply) (after t.machine asked) (fired_of t.machine asked) (raised_in t.machine.plan asked (plain_of t.machine)) (scene_unless refusal t.machine asked) (acted t.machine.plan asked (plain_of t.machine)).plain.base.phases
 told_is t asked (Some refusal) moment shown = refl
 told_is t asked None moment shown =
-    ap (λ (r : Reply). account_by (alarm_of r) (after t.machine asked) moment.fired (scene_in moment.words) (base_of moment.words).phases) (shown.reply refl)
-    ∙ ap (λ (f : List Task). account_by (alarm_of (acted t.machine.plan asked (plain_of t.machine)).reply) (after t.machine asked) f (scene_in moment.words) (base_of moment.words).phases) shown.fired
-    ∙ ap (λ (s : Scene). account_by (alarm_of (acted t.machine.plan asked (plain_of t.machine)).reply) (after t.machine asked) (fired_of t.machine asked) s (base_of moment.words).phases) shown.scene
-    ∙ ap (λ (b : Base). account_by (alarm_of (acted t.machine.plan asked (plain_of t.machine)).reply) (after t.machine asked) (fired_of t.machine asked) (scene_unless None t.machine asked) b.phases) (shown.base refl)
+    ap (λ (r : Reply). account_by (alarm_of r) (after t.machine asked) moment.fired moment.number (scene_in moment.words) (base_of moment.words).phases) (shown.reply refl)
+    ∙ ap (λ (f : List Task). account_by (alarm_of (acted t.machine.plan asked (plain_of t.machine)).reply) (after t.machine asked) f moment.number (scene_in moment.words) (base_of moment.words).phases) shown.fired
+    ∙ ap (λ (n : ℕ). account_by (alarm_of (acted t.machine.plan asked (plain_of t.machine)).reply) (after t.machine asked) (fired_of t.machine asked) n (scene_in moment.words) (base_of moment.words).phases) (shown.number refl)
+    ∙ ap (λ (s : Scene). account_by (alarm_of (acted t.machine.plan asked (plain_of t.machine)).reply) (after t.machine asked) (fired_of t.machine asked) (raised_in t.machine.plan asked (plain_of t.machine)) s (base_of moment.words).phases) shown.scene
+    ∙ ap (λ (b : Base). account_by (alarm_of (acted t.machine.plan asked (plain_of t.machine)).reply) (after t.machine asked) (fired_of t.machine asked) (raised_in t.machine.plan asked (plain_of t.machine)) (scene_unless None t.machine asked) b.phases) (shown.base refl)
 
-pub account_is : (t : Traced) (asked : Request) (refusal : Option Refusal) (moment : Acting) (now : Machined) → refusal ≡ refusal_of t.machine asked → IsShown t.machine asked refusal moment → now ≡ after t.machine asked → account_by (told_alarm refusal moment.reply) now moment.fired (scene_in moment.words) (base_of moment.words).phases ≡ traced_account t asked
+pub account_is : (t : Traced) (asked : Request) (refusal : Option Refusal) (moment : Acting) (now : Machined) → refusal ≡ refusal_of t.machine asked → IsShown t.machine asked refusal moment → now ≡ after t.machine asked → account_by (told_alarm refusal moment.reply) now moment.fired moment.number (scene_in moment.words) (base_of moment.words).phases ≡ traced_account t asked
 unfolding traced_account
 account_is t asked refusal moment now refusal_is shown now_is =
-    ap (λ (m : Machined). account_by (told_alarm refusal moment.reply) m moment.fired (scene_in moment.words) (base_of moment.words).phases) now_is
+    ap (λ (m : Machined). account_by (told_alarm refusal moment.reply) m moment.fired moment.number (scene_in moment.words) (base_of moment.words).phases) now_is
     ∙ told_is t asked refusal moment shown
-    ∙ ap (λ (r : Option Refusal). account_by (told_alarm r (acted t.machine.plan asked (plain_of t.machine)).reply) (after t.machine asked) (fired_of t.machine asked) (scene_unless r t.machine asked) (acted t.machine.plan asked (plain_of t.machine)).plain.base.phases) refusal_is
+    ∙ ap (λ (r : Option Refusal). account_by (told_alarm r (acted t.machine.plan asked (plain_of t.machine)).reply) (after t.machine asked) (fired_of t.machine asked) (raised_in t.machine.plan asked (plain_of t.machine)) (scene_unless r t.machine asked) (acted t.machine.plan asked (plain_of t.machine)).plain.base.phases) refusal_is
 
 -- a restart's moment is the state as it is
 pub scene_now : (m : Machined) (moment : Acting) → IsMoment m Restart moment → scene_in moment.words ≡ scene_of (plain_of m) (places_of m)

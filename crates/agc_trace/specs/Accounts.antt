@@ -3,11 +3,12 @@ use Rattle.std.specs.Prelude.{ℕ, ◌+◌, ◌-◌, ◌==◌, Bool, if◌then�
 use Rattle.std.specs.Prelude.{length, slice_get, Option, Some, None}
 use Rattle.std.specs.Fmt.{decimal}
 use Rattle.std.specs.List.{flat_map}
+use Rattle.std.specs.Option.{option_map_or}
 use Rattle.agc_plan.specs.declared.reply.Alarm.{Alarm}
 use Rattle.agc_plan.specs.declared.reply.Alarm.TheVariants.{A1201, A1202, A1203}
 use Rattle.agc_plan.specs.declared.request.Action.{Action}
 use Rattle.agc_plan.specs.declared.request.Task.{Task}
-use Rattle.agc_plan.specs.Plans.{action_in}
+use Rattle.agc_plan.specs.Plans.{Rows, actions_in}
 use Rattle.agc_text.specs.Lines.{action_line_of}
 use Rattle.agc_text.specs.Numbers.{octal}
 use Rattle.agc_text.specs.Replies.{fired_text}
@@ -22,16 +23,33 @@ full_text A1201 = codes "        alarm 1201: all five VAC areas are owned\n"
 full_text A1202 = codes "        alarm 1202: a job is in each core set\n"
 full_text A1203 = codes "        alarm 1203: nine tasks wait\n"
 
--- the task whose action raised it, and this action
-abbrev pub cause_by : List (Task × Action) → Option Task → List ℕ
-cause_by rows None = []
-cause_by rows (Some task) =
-    codes "        raised by task"
-    ++ (fired_text task ++ (codes ": " ++ (action_line_of (action_in rows task) ++ codes "\n")))
+-- the number of an action, where its task has several
+abbrev pub which_text : List Action → ℕ → List ℕ
+which_text (first ∷ second ∷ acts) number = codes "action " ++ (decimal number ++ codes " of ")
+which_text acts number = []
+
+-- this action, if there is one
+abbrev pub doing_text : Option Action → List ℕ
+doing_text action = option_map_or action_line_of action []
+
+-- a task that fired, and this action of it
+unfoldable pub task_text : Task → Option Action → List ℕ
+task_text task action =
+    codes "task" ++ (fired_text task ++ (codes ": " ++ (doing_text action ++ codes "\n")))
+
+-- of this task the action of this number raised it
+abbrev pub raised_text : List Action → ℕ → Task → List ℕ
+raised_text acts number task =
+    codes "        raised by "
+    ++ (which_text acts number ++ task_text task (slice_get acts (number - 1)))
+
+abbrev pub cause_by : Rows → Option Task → ℕ → List ℕ
+cause_by rows None number = []
+cause_by rows (Some task) number = raised_text (actions_in rows task) number task
 
 -- inside a tick that is the task that fired last
-abbrev pub cause_text : List (Task × Action) → List Task → List ℕ
-cause_text rows fired = cause_by rows (slice_get fired (length fired - 1))
+abbrev pub cause_text : Rows → List Task → ℕ → List ℕ
+cause_text rows fired number = cause_by rows (slice_get fired (length fired - 1)) number
 
 abbrev pub at_text : Bool → List ℕ
 at_text asleep = if asleep then codes ", asleep at " else codes ", at "
@@ -74,8 +92,8 @@ unfoldable pub again_text : List ℕ → Scene → List ℕ
 again_text phases scene = column 72 (phases_text phases) ++ (scene_text scene ++ codes "\n")
 
 -- all of it
-unfoldable pub account_text : List (Task × Action) → List Task → Alarm → List (Option Seated)
-    → List ℕ → Scene → List ℕ
-account_text rows fired alarm seats phases after =
+unfoldable pub account_text : Rows → List Task → ℕ → Alarm → List (Option Seated) → List ℕ → Scene
+    → List ℕ
+account_text rows fired number alarm seats phases after =
     full_text alarm
-    ++ (cause_text rows fired ++ (holders_text alarm seats ++ again_text phases after))
+    ++ (cause_text rows fired number ++ (holders_text alarm seats ++ again_text phases after))

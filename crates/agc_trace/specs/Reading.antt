@@ -3,7 +3,7 @@ use Rattle.std.specs.Prelude.{◌≡◌, ℕ, Bool, false, List, map, Option, So
 use Rattle.agc_word.specs.Layout.{IsSized, sets_in}
 use Rattle.agc_plan.specs.declared.request.Request.{Request}
 use Rattle.agc_plan.specs.declared.reply.Reply.{Reply}
-use Rattle.agc_plan.specs.Steps.{acted, begins}
+use Rattle.agc_plan.specs.Steps.{raised_in, acted, begins}
 use Rattle.agc_exec.specs.Held.{Held}
 use Rattle.agc_exec.specs.Image.{sets_of, jobs_in, runner_in, IsLawfulWords}
 use Rattle.agc_wait.specs.Table.{waits_of}
@@ -51,6 +51,7 @@ pub record IsShown (m : Machined) (asked : Request) (refusal : Option Refusal) (
   pub phases : phases.IsLawfulTable moment.words
   pub base : refusal ≡ None → base_of moment.words ≡ (acted m.plan asked (plain_of m)).plain.base
   pub reply : refusal ≡ None → moment.reply ≡ (acted m.plan asked (plain_of m)).reply
+  pub number : refusal ≡ None → moment.number ≡ raised_in m.plan asked (plain_of m)
 
 -- whether an era begins with an answer
 abbrev pub begins_unless : Option Refusal → Reply → Bool

@@ -7,7 +7,7 @@ use Rattle.agc_plan.specs.declared.request.Task.{Task}
 use Rattle.agc_plan.specs.Seats.{places_acted}
 use Rattle.agc_plan.specs.declared.reply.Alarm.{Alarm}
 use Rattle.agc_plan.specs.declared.reply.Reply.{Reply}
-use Rattle.agc_plan.specs.Steps.{acted, alarm_of, begins}
+use Rattle.agc_plan.specs.Steps.{raised_in, acted, alarm_of, begins}
 use Rattle.agc_machine.specs.Machines.{Machined, after, answer_of, fired_of, refusal_of}
 use Rattle.agc_machine.specs.Machines.{plain_of, places_of}
 use Rattle.agc_machine.specs.declared.answer.Refusal.{Refusal}
@@ -63,10 +63,10 @@ told_alarm (Some refusal) reply = None
 told_alarm None reply = alarm_of reply
 
 -- what is told of it, by the state and the phases in which it came, and the machine as it is now
-abbrev pub account_by : Option Alarm → Machined → List Task → Scene → List ℕ → List ℕ
-account_by None now fired scene phases = []
-account_by (Some alarm) now fired scene phases =
-    account_text now.plan.rows fired alarm scene.seats phases
+abbrev pub account_by : Option Alarm → Machined → List Task → ℕ → Scene → List ℕ → List ℕ
+account_by None now fired number scene phases = []
+account_by (Some alarm) now fired number scene phases =
+    account_text now.plan.rows fired number alarm scene.seats phases
     (scene_of (plain_of now) (places_of now))
 
 -- the account of the next request
@@ -75,6 +75,7 @@ traced_account t asked =
     let did = acted t.machine.plan asked (plain_of t.machine) in
     let refusal = refusal_of t.machine asked in
     account_by (told_alarm refusal did.reply) (after t.machine asked) (fired_of t.machine asked)
+    (raised_in t.machine.plan asked (plain_of t.machine))
     (scene_unless refusal t.machine asked) did.plain.base.phases
 
 -- the line of the next request, and its account

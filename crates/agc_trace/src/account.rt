@@ -1,14 +1,16 @@
 // What is told of an alarm: which table was full, what raised it, who held it, and what begins
 // again.
-ghost use Rattle.std.specs.Prelude.{◌≡◌, ◌+◌, ◌*◌, ◌≤◌, ◌++◌, length};
+ghost use Rattle.std.specs.Prelude.{◌≡◌, ◌+◌, ◌-◌, ◌*◌, ◌≤◌, ◌++◌, length, slice_get};
 ghost use Rattle.std.specs.List.{flat_map};
 ghost use Rattle.agc_word.specs.Layout.{IsSized};
 ghost use Rattle.agc_exec.specs.Image.{IsLawfulWords};
 ghost use Rattle.agc_phase.specs.Image.{base_of, IsLawfulTable};
-ghost use Rattle.agc_plan.specs.Plans.{action_in};
+ghost use Rattle.agc_plan.specs.Plans.{Rows};
 ghost use Rattle.agc_text.specs.Lines.{action_line_of};
 ghost use Rattle.agc_text.specs.Report.{count_text};
-ghost use Rattle.agc_trace.specs.Accounts.{full_text, cause_by, cause_text, at_text, area_text};
+ghost use Rattle.agc_trace.specs.Accounts.{full_text, which_text, doing_text, task_text};
+ghost use Rattle.agc_trace.specs.Accounts.{raised_text};
+ghost use Rattle.agc_trace.specs.Accounts.{cause_by, cause_text, at_text, area_text};
 ghost use Rattle.agc_trace.specs.Accounts.{who_text, where_text, job_text, jobs_text, holders_text};
 ghost use Rattle.agc_trace.specs.Accounts.{phases_text, again_text, account_text};
 ghost use Rattle.agc_trace.specs.Reading.{seats_in, scene_in};
@@ -27,7 +29,7 @@ use arrayvec::ArrayString;
 /// Which table was full.
 fn full_line(alarm: Alarm) -> &'static str
     ensures text { result.now ≡ full_text alarm }
-    ensures len { length result.now ≤ 60 }
+    ensures len { length result.now ≤ 56 }
 {
     match alarm {
         Alarm::A1201 => "        alarm 1201: all five VAC areas are owned\n",
@@ -51,31 +53,87 @@ fn add_action(cell: &mut ArrayString<256>, action: Action)
     }
 }
 
-/// The task whose action raised the alarm, and this action.
-fn cause_cell(plan: &Plan, task: Option<Task>) -> ArrayString<256>
-    ensures text { result.bytes ≡ cause_by plan.now.rows task }
-    ensures len { length result.bytes ≤ 80 }
+/// Appends the number of an action, where its task has several.
+fn add_which(cell: &mut ArrayString<256>, actions: &[Action], number: usize)
+    requires { length cell.old.bytes + 31 ≤ 256 }
+    ensures text { cell.new.bytes ≡ cell.old.bytes ++ which_text actions.now number }
+    ensures len { length cell.new.bytes ≤ length cell.old.bytes + 31 }
+{
+    match actions {
+        [_, _, ..] => {
+            cell.push_str("action ");
+            add_number(cell, number as u64);
+            cell.push_str(" of ");
+        }
+        _ => {}
+    }
+}
+
+/// The action of a number, counted from 1.
+fn action_at(actions: &[Action], number: usize) -> Option<Action>
+    ensures { result ≡ slice_get actions.now (number - 1) }
+{
+    match actions.get(number.saturating_sub(1)) {
+        None => None,
+        Some(action) => Some(*action),
+    }
+}
+
+/// Appends the text of an action, if there is one.
+fn add_doing(cell: &mut ArrayString<256>, action: Option<Action>)
+    requires { length cell.old.bytes + 40 ≤ 256 }
+    ensures text { cell.new.bytes ≡ cell.old.bytes ++ doing_text action }
+    ensures len { length cell.new.bytes ≤ length cell.old.bytes + 40 }
+{
+    match action {
+        None => {}
+        Some(action) => add_action(cell, action),
+    }
+}
+
+/// Appends a task that fired, and an action of it.
+#[tactic(auto, unfolding(crate::specs::Accounts::task_text))]
+fn add_task(cell: &mut ArrayString<256>, task: Task, action: Option<Action>)
+    requires { length cell.old.bytes + 59 ≤ 256 }
+    ensures text { cell.new.bytes ≡ cell.old.bytes ++ task_text task action }
+    ensures len { length cell.new.bytes ≤ length cell.old.bytes + 59 }
+{
+    cell.push_str("task");
+    add_fired(cell, task);
+    cell.push_str(": ");
+    add_doing(cell, action);
+    cell.push_str("\n");
+}
+
+/// Of a task the action of this number raised the alarm.
+fn raised_cell(actions: &[Action], number: usize, task: Task) -> ArrayString<256>
+    ensures text { result.bytes ≡ raised_text actions.now number task }
+    ensures len { length result.bytes ≤ 108 }
 {
     let mut cell = ArrayString::new();
-    match task {
-        None => {}
-        Some(task) => {
-            cell.push_str("        raised by task");
-            add_fired(&mut cell, task);
-            cell.push_str(": ");
-            add_action(&mut cell, plan.action(&task));
-            cell.push_str("\n");
-        }
-    }
+    cell.push_str("        raised by ");
+    add_which(&mut cell, actions, number);
+    add_task(&mut cell, task, action_at(actions, number));
     cell
 }
 
-/// What raised the alarm, where it came inside a tick.
-fn cause_of(plan: &Plan, fired: &Fired) -> ArrayString<256>
-    ensures text { result.bytes ≡ cause_text plan.now.rows fired.now }
-    ensures len { length result.bytes ≤ 80 }
+/// The task whose action raised the alarm, and this action.
+fn cause_cell(plan: &Plan, task: Option<Task>, number: usize) -> ArrayString<256>
+    ensures text { result.bytes ≡ cause_by plan.now.rows task number }
+    ensures len { length result.bytes ≤ 108 }
 {
-    cause_cell(plan, fired.get(fired.len().saturating_sub(1)))
+    match task {
+        None => ArrayString::new(),
+        Some(task) => raised_cell(plan.actions(&task), number, task),
+    }
+}
+
+/// What raised the alarm, where it came inside a tick.
+fn cause_of(plan: &Plan, fired: &Fired, number: usize) -> ArrayString<256>
+    ensures text { result.bytes ≡ cause_text plan.now.rows fired.now number }
+    ensures len { length result.bytes ≤ 108 }
+{
+    cause_cell(plan, fired.get(fired.len().saturating_sub(1)), number)
 }
 
 fn at_text(asleep: bool) -> &'static str
@@ -215,12 +273,13 @@ pub fn account_of(plan: &Plan, moment: &Moment, alarm: Alarm, after: &Moment) ->
     requires sized_after { IsSized after.now.words }
     requires lawful { IsLawfulWords after.now.words }
     ensures { result.bytes
-        ≡ account_text plan.now.rows moment.now.fired alarm (seats_in moment.now.words)
+        ≡ account_text plan.now.rows moment.now.fired moment.now.number alarm
+        (seats_in moment.now.words)
         (base_of moment.now.words).phases (scene_in after.now.words) }
 {
     let mut account = ArrayString::new();
     account.push_str(full_line(alarm));
-    account.push_str(cause_of(plan, moment.fired()).as_str());
+    account.push_str(cause_of(plan, moment.fired(), moment.number()).as_str());
     add_holders(&mut account, alarm, moment.words());
     add_again(&mut account, moment.words(), after.words());
     account

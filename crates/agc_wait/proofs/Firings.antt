@@ -3,6 +3,7 @@ use Rattle.std.proofs.Common.{◌≡◌, ◌≢◌, ℕ, zero, suc, ◌+◌, ◌
 use Rattle.std.proofs.lemmas.Bool.{cases_eq, cases_lt}
 use Rattle.std.proofs.lemmas.List.{append-nil}
 use Rattle.std.proofs.lemmas.Grind.{common_steps}
+use Rattle.agc_plan.specs.declared.request.Action.{Action}
 use Rattle.agc_plan.specs.declared.request.Task.{Task}
 use Rattle.agc_plan.specs.Eras.{Work}
 use Rattle.agc_plan.specs.Steps.{Fires, dispatched_work, later_work, fire, fire_first, tick_fires}
@@ -81,8 +82,8 @@ at_time t i e k l = grind (arith, common_steps)
 pub at_other : (t i : ℕ) → t ≢ i → (k l : List Pending) → cond (t == i) k l ≡ l
 at_other t i ne k l = grind (arith, common_steps)
 
-FiresDue-none : (work : Work) (fired : List Task) → NoneBefore work.agenda.time work.agenda.tasks → due_in work ≡ 0 → FiresDue work fired (record { work = work; fired = fired; alarm = None })
-FiresDue-none work fired before is =
+FiresDue-none : (work : Work) (fired : List Task) (acts : List (List Action)) → NoneBefore work.agenda.time work.agenda.tasks → due_in work ≡ 0 → FiresDue work fired (record { work = work; fired = fired; acts = acts; alarm = None })
+FiresDue-none work fired acts before is =
     let none : length (due_at work.agenda.time work.agenda.tasks) ≡ 0 = sym (count_due-at work.agenda.time work.agenda.tasks before) ∙ is in
     let empty : due_at work.agenda.time work.agenda.tasks ≡ [] = nil_from (due_at work.agenda.time work.agenda.tasks) none in
     record {
@@ -94,18 +95,18 @@ FiresDue-none work fired before is =
       ];
     }
 
-FiresDue-more : (n : ℕ) (work : Work) (fired : List Task) → NoneBefore work.agenda.time work.agenda.tasks → due_in work ≡ suc n → ((w : Work) (f : List Task) → NoneBefore w.agenda.time w.agenda.tasks → due_in w ≡ n → FiresDue w f (fire n [] w f)) → (l : List Pending) → due_at work.agenda.time work.agenda.tasks ≡ l → FiresDue work fired (fire (suc n) [] work fired)
-FiresDue-more n work fired before is again [] e =
+FiresDue-more : (n : ℕ) (work : Work) (fired : List Task) (acts : List (List Action)) → NoneBefore work.agenda.time work.agenda.tasks → due_in work ≡ suc n → ((w : Work) (f : List Task) (a : List (List Action)) → NoneBefore w.agenda.time w.agenda.tasks → due_in w ≡ n → FiresDue w f (fire n [] w f a)) → (l : List Pending) → due_at work.agenda.time work.agenda.tasks ≡ l → FiresDue work fired (fire (suc n) [] work fired acts)
+FiresDue-more n work fired acts before is again [] e =
     let none : count_due work.agenda.time work.agenda.tasks ≡ 0 = count_due-at work.agenda.time work.agenda.tasks before ∙ ap length e in
     absurd (omega arith)
-FiresDue-more n work fired before is again (x ∷ xs) e =
+FiresDue-more n work fired acts before is again (x ∷ xs) e =
     let first : first_due work.agenda.time work.agenda.tasks ≡ Some x.task = first_due-at work.agenda.time work.agenda.tasks before ∙ ap first_of e in
-    let goes : fire (suc n) [] work fired ≡ fire n [] (dispatched_work work) (fired ++ x.task ∷ []) = ap (λ (o : Option Task). fire_first o [] work fired (fire n [])) first in
+    let goes : fire (suc n) [] work fired acts ≡ fire n [] (dispatched_work work) (fired ++ x.task ∷ []) (acts ++ [] ∷ []) = ap (λ (o : Option Task). fire_first o [] work fired acts (fire n [])) first in
     let without : (t : ℕ) → due_at t (without_first_due work.agenda.time work.agenda.tasks) ≡ cond (t == work.agenda.time) (drop 1 (due_at t work.agenda.tasks)) (due_at t work.agenda.tasks) = (λ t. due_at-without work.agenda.time t work.agenda.tasks before) in
     let now : due_at work.agenda.time (without_first_due work.agenda.time work.agenda.tasks) ≡ xs = without work.agenda.time ∙ at_time work.agenda.time work.agenda.time refl _ _ ∙ ap (drop 1) e in
     let still : NoneBefore work.agenda.time (without_first_due work.agenda.time work.agenda.tasks) = (λ earlier lt. without earlier ∙ at_other earlier work.agenda.time (λ z. omega arith) _ _ ∙ before earlier lt) in
     let one : due_in work ≡ suc (due_in (dispatched_work work)) = count_due-without work.agenda.time x.task work.agenda.tasks first in
-    let rest : FiresDue (dispatched_work work) (fired ++ x.task ∷ []) (fire n [] (dispatched_work work) (fired ++ x.task ∷ [])) = again (dispatched_work work) (fired ++ x.task ∷ []) still (omega arith) in
+    let rest : FiresDue (dispatched_work work) (fired ++ x.task ∷ []) (fire n [] (dispatched_work work) (fired ++ x.task ∷ []) (acts ++ [] ∷ [])) = again (dispatched_work work) (fired ++ x.task ∷ []) (acts ++ [] ∷ []) still (omega arith) in
     record {
       time_is = ap (λ (f : Fires). f.work.agenda.time) goes ∙ rest.time_is;
       fired_is = ap (λ (f : Fires). f.fired) goes ∙ rest.fired_is ∙ ap (λ l. (fired ++ x.task ∷ []) ++ tasks_of l) now ∙ append_assoc fired (x.task ∷ []) (tasks_of xs) ∙ ap (λ l. fired ++ tasks_of l) (sym e);
@@ -115,10 +116,10 @@ FiresDue-more n work fired before is again (x ∷ xs) e =
       ];
     }
 
-FiresDue-is : (n : ℕ) (work : Work) (fired : List Task) → NoneBefore work.agenda.time work.agenda.tasks → due_in work ≡ n → FiresDue work fired (fire n [] work fired)
-FiresDue-is zero work fired before is = FiresDue-none work fired before is
-FiresDue-is (suc n) work fired before is =
-    FiresDue-more n work fired before is (λ w f still e. FiresDue-is n w f still e) (due_at work.agenda.time work.agenda.tasks) refl
+FiresDue-is : (n : ℕ) (work : Work) (fired : List Task) (acts : List (List Action)) → NoneBefore work.agenda.time work.agenda.tasks → due_in work ≡ n → FiresDue work fired (fire n [] work fired acts)
+FiresDue-is zero work fired acts before is = FiresDue-none work fired acts before is
+FiresDue-is (suc n) work fired acts before is =
+    FiresDue-more n work fired acts before is (λ w f a still e. FiresDue-is n w f a still e) (due_at work.agenda.time work.agenda.tasks) refl
 
 pub tick_fires-due : (work : Work) → NoneBefore (work.agenda.time + 1) work.agenda.tasks → FiresDue (later_work work) [] (tick_fires [] work)
-tick_fires-due work before = FiresDue-is (due_in (later_work work)) (later_work work) [] before refl
+tick_fires-due work before = FiresDue-is (due_in (later_work work)) (later_work work) [] [] before refl

@@ -24,15 +24,15 @@ abbrev pub action_lists : Task → Action → Bool
 action_lists task (action.List delay listed) = same_task listed task
 action_lists task _ = false
 
--- whether the action of a row does, which is another task's
-abbrev pub row_lists : Task → Task × Action → Bool
-row_lists task row = not (same_task row.0 task) && action_lists task row.1
+-- whether an action of a row does, which is another task's
+abbrev pub row_lists : Task → Task × List Action → Bool
+row_lists task row = not (same_task row.0 task) && list_any (action_lists task) row.1
 
 -- whether a phase entry does
 abbrev pub entry_lists : Task → Begins → Bool
 entry_lists task b = elim b.task [ None ↦ false | Some timed ↦ same_task timed.1 task ]
 
--- whether anything of a bench lists a task, but its own action
+-- whether anything of a bench lists a task, but its own actions
 unfoldable pub is_listed : Benched → Task → Bool
 is_listed bench task =
     requests_list task bench.script

@@ -6,7 +6,7 @@ use Rattle.agc_plan.specs.declared.request.Action.TheVariants as action
 use Rattle.agc_plan.specs.declared.request.Request.{Request}
 use Rattle.agc_plan.specs.declared.request.Request.TheVariants.{List as ListTask, SetPhase}
 use Rattle.agc_plan.specs.Begins.{Begins}
-use Rattle.agc_plan.specs.Plans.{has_task, has_entry}
+use Rattle.agc_plan.specs.Plans.{Rows, has_task, has_entry}
 use Rattle.agc_latch.specs.declared.line.Line.{Line}
 use Rattle.agc_desk.specs.Pulses.{pulse_request}
 use Rattle.agc_document.specs.Benches.{Benched}
@@ -16,7 +16,7 @@ use Rattle.agc_warn.specs.declared.warning.Warning.TheVariants as warning
 use Rattle.agc_warn.specs.Listed.{is_listed}
 
 -- the bank of the first row at an address
-abbrev pub bank_at : List (Task × Action) → ℕ → Option ℕ
+abbrev pub bank_at : Rows → ℕ → Option ℕ
 bank_at [] at = None
 bank_at (row ∷ rows) at = if row.0.at == at then Some row.0.bank else bank_at rows at
 
@@ -26,7 +26,7 @@ rowless task None = warning.NoRow task
 rowless task (Some bank) = warning.OtherBank task bank
 
 -- what is warned of where a task is listed: it has no row, so that it does nothing
-abbrev pub task_warning : List (Task × Action) → Task → Option Warning
+abbrev pub task_warning : Rows → Task → Option Warning
 task_warning [] task = Some warning.NoRows
 task_warning (row ∷ rows) task = if has_task (row ∷ rows) task then None
     else Some (rowless task (bank_at (row ∷ rows) task.at))

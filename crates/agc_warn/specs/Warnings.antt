@@ -41,8 +41,16 @@ abbrev pub of_request : Benched → Option ℕ → ℕ → Request → List Warn
 of_request bench worker n request =
     placed (request_place worker n) (request_warning bench request)
 
-abbrev pub of_row : Benched → ℕ → Task × Action → List Warned
-of_row bench n row = placed (place.Field key.Tasks n key.Action) (action_warning bench row.1)
+-- the place of an action of a row: alone, or one of several
+abbrev pub action_place : List Action → ℕ → ℕ → Place
+action_place (first ∷ second ∷ acts) n k = place.FieldItem key.Tasks n key.Action k
+action_place acts n k = place.Field key.Tasks n key.Action
+
+abbrev pub of_action : Benched → List Action → ℕ → ℕ → Action → List Warned
+of_action bench acts n k act = placed (action_place acts n k) (action_warning bench act)
+
+abbrev pub of_row : Benched → ℕ → Task × List Action → List Warned
+of_row bench n row = numbered (of_action bench row.1 n) 1 row.1
     ++ placed (place.Table key.Tasks n) (row_warning bench row.0)
 
 abbrev pub of_entry : Benched → ℕ → Begins → List Warned

@@ -5,7 +5,7 @@ ghost use Rattle.agc_warn.specs.Listed.{request_lists, requests_list, action_lis
 ghost use Rattle.agc_warn.specs.Listed.{entry_lists, is_listed};
 
 use agc_document::Bench;
-use agc_plan::{Action, PhaseEntry, Request, Task};
+use agc_plan::{Action, Actions, PhaseEntry, Request, Task};
 
 /// Whether a request lists a task.
 fn request_lists(task: &Task, request: &Request) -> bool
@@ -58,12 +58,24 @@ fn action_lists(task: &Task, action: Action) -> bool
     }
 }
 
-/// Whether the action of another task's row does.
-fn rows_list(task: &Task, rows: &[(Task, Action)]) -> bool
+/// Whether one of several does.
+fn actions_list(task: &Task, actions: &[Action]) -> bool
+    ensures { result ≡ list_any (action_lists task.now) actions.now }
+{
+    for action in actions {
+        if action_lists(task, *action) {
+            return true;
+        }
+    }
+    false
+}
+
+/// Whether an action of another task's row does.
+fn rows_list(task: &Task, rows: &[(Task, Actions)]) -> bool
     ensures { result ≡ list_any (row_lists task.now) rows.now }
 {
     for row in rows {
-        if row.0 != *task && action_lists(task, row.1) {
+        if row.0 != *task && actions_list(task, row.1.as_slice()) {
             return true;
         }
     }
@@ -92,7 +104,7 @@ fn entries_list(task: &Task, entries: &[PhaseEntry]) -> bool
     false
 }
 
-/// Whether anything of a bench lists a task, but its own action.
+/// Whether anything of a bench lists a task, but its own actions.
 #[tactic(auto, unfolding(crate::specs::Listed::is_listed))]
 pub(crate) fn is_listed(bench: &Bench, task: &Task) -> bool
     ensures { result ≡ is_listed bench.now task.now }

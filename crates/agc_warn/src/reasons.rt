@@ -11,12 +11,12 @@ use crate::listed::is_listed;
 use crate::warning::Warning;
 use agc_document::Bench;
 use agc_latch::Line;
-use agc_plan::{Action, Group, Phase, PhaseEntry, Request, Task};
+use agc_plan::{Action, Actions, Group, Phase, PhaseEntry, Request, Task};
 use agc_session::pulse_request;
 use agc_word::Word;
 
 /// Whether a task has a row.
-fn has_task(rows: &[(Task, Action)], task: &Task) -> bool
+fn has_task(rows: &[(Task, Actions)], task: &Task) -> bool
     ensures { result ≡ has_task rows.now task.now }
 {
     for row in rows {
@@ -28,7 +28,7 @@ fn has_task(rows: &[(Task, Action)], task: &Task) -> bool
 }
 
 /// The bank of the first row at a task's address.
-fn bank_at(rows: &[(Task, Action)], task: &Task) -> Option<Word>
+fn bank_at(rows: &[(Task, Actions)], task: &Task) -> Option<Word>
     ensures { result ≡ bank_at rows.now task.now.at }
 {
     for row in rows {
@@ -50,7 +50,7 @@ fn rowless(task: &Task, bank: Option<Word>) -> Warning
 }
 
 /// What is warned of where a task is listed.
-fn task_warning(rows: &[(Task, Action)], task: &Task) -> Option<Warning>
+fn task_warning(rows: &[(Task, Actions)], task: &Task) -> Option<Warning>
     ensures { result ≡ task_warning rows.now task.now }
 {
     if rows.is_empty() {

@@ -2,7 +2,8 @@
 ghost use Rattle.std.specs.Prelude.{◌≡◌, [], IfOk};
 ghost use Rattle.std.specs.List.{fold};
 ghost use Rattle.agc_warn.specs.Warnings.{numbered, noted, request_place, of_requests, of_row};
-ghost use Rattle.agc_warn.specs.Warnings.{of_entry, of_worker, of_device, of_actions};
+ghost use Rattle.agc_warn.specs.Warnings.{of_entry, of_worker, of_device, of_actions, of_action};
+ghost use Rattle.agc_warn.specs.Warnings.{action_place};
 ghost use Rattle.agc_warn.specs.Warnings.{of_bench, of_run, warnings_of};
 
 use crate::noting::note;
@@ -15,7 +16,7 @@ use crate::warning::Warned;
 use agc_document::Bench;
 use agc_latch::Line;
 use agc_lint::{Key, Place};
-use agc_plan::{Action, PhaseEntry, Request, Task};
+use agc_plan::{Action, Actions, PhaseEntry, Request, Task};
 use std::alloc::{AllocError, Global};
 
 /// The place of a request: of the script, or of a worker.
@@ -66,13 +67,40 @@ fn note_requests(
 fn note_rows(
     found: &mut Vec<Warned>,
     bench: &Bench,
-    rows: &[(Task, Action)],
+    rows: &[(Task, Actions)],
 ) -> Result<(), AllocError>
     ensures { IfOk result (λ _. found.new.items
         ≡ fold noted found.old.items (numbered (of_row bench.now) 1 rows.now)) }
 {
     for (k, row) in rows.iter().enumerate() {
-        note_row(found, bench, k as u64 + 1, *row)?;
+        note_row(found, bench, k as u64 + 1, row)?;
+    }
+    Ok(())
+}
+
+/// The place of an action of a row: alone, or one of several.
+fn action_place(actions: &[Action], number: u64, k: u64) -> Place
+    ensures { result ≡ action_place actions.now number k }
+{
+    match actions {
+        [_, _, ..] => Place::FieldItem(Key::Tasks, number, Key::Action, k),
+        _ => Place::Field(Key::Tasks, number, Key::Action),
+    }
+}
+
+/// Notes what is warned of the actions of a row.
+fn note_row_actions(
+    found: &mut Vec<Warned>,
+    bench: &Bench,
+    number: u64,
+    actions: &[Action],
+) -> Result<(), AllocError>
+    ensures { IfOk result (λ _. found.new.items ≡ fold noted found.old.items
+        (numbered (of_action bench.now actions.now number) 1 actions.now)) }
+{
+    for (k, action) in actions.iter().enumerate() {
+        let place = action_place(actions, number, k as u64 + 1);
+        note(found, place, action_warning(bench, *action))?;
     }
     Ok(())
 }
@@ -82,13 +110,12 @@ fn note_row(
     found: &mut Vec<Warned>,
     bench: &Bench,
     number: u64,
-    row: (Task, Action),
+    row: &(Task, Actions),
 ) -> Result<(), AllocError>
     ensures { IfOk result (λ _. found.new.items
-        ≡ fold noted found.old.items (of_row bench.now number row)) }
+        ≡ fold noted found.old.items (of_row bench.now number row.now)) }
 {
-    let field = Place::Field(Key::Tasks, number, Key::Action);
-    note(found, field, action_warning(bench, row.1))?;
+    note_row_actions(found, bench, number, row.1.as_slice())?;
     let table = Place::Table(Key::Tasks, number);
     note(found, table, row_warning(bench, &row.0))
 }

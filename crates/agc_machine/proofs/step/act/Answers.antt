@@ -1,4 +1,5 @@
-use Rattle.std.proofs.Common.{refl, sym, subst, ◌∙◌}
+use Rattle.std.proofs.Common.{Option, refl, sym, subst, ◌∙◌}
+use Rattle.agc_plan.specs.declared.reply.Alarm.{Alarm}
 use Rattle.agc_plan.specs.declared.reply.Reply.{Reply}
 use Rattle.agc_plan.specs.declared.reply.Reply.TheVariants.{Phased, Restarted, Ticked}
 use Rattle.agc_plan.specs.declared.request.Request.{Request}
@@ -10,7 +11,7 @@ use Rattle.agc_plan.specs.Places.{placed_end, fronted}
 use Rattle.agc_plan.specs.Plans.{planned_with}
 use Rattle.agc_plan.specs.Seats.{seated_new}
 use Rattle.agc_plan.specs.Steps.{with_jobs, with_listed, ticked}
-use Rattle.agc_machine.specs.Stands.{Acts, Works, places_ticked, same_places}
+use Rattle.agc_machine.specs.Stands.{Acts, Works, places_ticked, same_places, alarm_in}
 use Rattle.agc_machine.proofs.Acting.{acts_work, acts_base}
 use Rattle.agc_machine.proofs.Alarms.{no_alarm}
 use Rattle.agc_machine.proofs.Frames.{works_new, works_end, works_front, works_still, due_by_cores, due_by_phases}
@@ -128,14 +129,14 @@ returns-in-Fresh-clause-acts c =
 pub returns-in-Tick-clause-acts : goal.returns-in-Tick-clause-acts
 returns-in-Tick-clause-acts c =
     let plan = planned_with c.args.plan.now (sets_in c.args.e.now) in
-    subst (λ (r : Request). Acts plan r c.args.e.now (Ticked c.tick.result) c.tick.new.e) (sym c.in-Tick.is)
-    (acts_work plan request.Tick (ticked c.args.plan.now.rows) (places_ticked c.args.plan.now.rows) c.args.e.now (Ticked c.tick.result) c.tick.new.e c.tick.ensures.works (λ p. refl) (λ p places. refl))
+    subst (λ (r : Request). Acts plan r c.args.e.now (Ticked c.alarm_in.result) c.tick.new.e) (sym c.in-Tick.is)
+    (subst (λ (o : Option Alarm). Acts plan request.Tick c.args.e.now (Ticked o) c.tick.new.e) (sym c.alarm_in.ensures) (acts_work plan request.Tick (ticked c.args.plan.now.rows) (places_ticked c.args.plan.now.rows) c.args.e.now (Ticked (alarm_in c.tick.result)) c.tick.new.e c.tick.ensures.works (λ p. refl) (λ p places. refl)))
 
 pub returns-in-Tick-clause-fired : goal.returns-in-Tick-clause-fired
 returns-in-Tick-clause-fired c = λ plain places stands. rw c.in-Tick.is (c.tick.ensures.fired plain.work places stands.work)
 
 pub returns-in-Tick-clause-none_due : goal.returns-in-Tick-clause-none_due
-returns-in-Tick-clause-none_due c = λ goes. c.tick.ensures.none_due (no_alarm c.tick.result goes)
+returns-in-Tick-clause-none_due c = λ goes. c.tick.ensures.none_due (sym c.alarm_in.ensures ∙ no_alarm c.alarm_in.result goes)
 
 pub returns-in-Novac-clause-fired : goal.returns-in-Novac-clause-fired
 returns-in-Novac-clause-fired c = λ plain places stands. rw c.in-Novac.is c.requires.none

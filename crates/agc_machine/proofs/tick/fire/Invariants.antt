@@ -13,7 +13,7 @@ invariant-loop-e l = record {
   sound : IsSound l.e;
   same_length : length l.e ≡ length l.fn.e;
   same_base : base_of l.e ≡ base_of l.fn.e;
-  goes_on : (work : Work) (places : List ℕ) → Stands l.fn.e work places → GoesOn l.plan.rows l.e l.fired (seated_in work places) (fire_all l.plan.rows work []);
+  goes_on : (work : Work) (places : List ℕ) → Stands l.fn.e work places → GoesOn l.plan.rows l.e l.fired (seated_in work places) (fire_all l.plan.rows work [] []);
   few : length l.fired + due_now (waits_of l.e) ≤ 9;
 }
 

@@ -1,4 +1,5 @@
-use Rattle.agc_machine.proofs.Fires.{works_ticked, fires_ticked}
+use Rattle.agc_machine.specs.Stands.{alarm_in, number_in}
+use Rattle.agc_machine.proofs.Fires.{works_ticked, fires_ticked, raises_ticked}
 use Rattle.agc_machine.proofs.Frames.{sound_by_waits, base_by_waits}
 use Rattle.agc_machine.proofs.tick.tick.Goals as goal
 
@@ -8,8 +9,12 @@ fire-requires-clause-sound c =
 
 pub returns-clause-works : goal.returns-clause-works
 returns-clause-works c =
-    works_ticked c.args.plan.now.rows c.args.e.now c.count_time3.new.e c.count_time3.result c.fire.new.fired c.fire.result c.fire.new.e c.count_time3.ensures c.fire.ensures (base_by_waits c.args.e.now c.count_time3.new.e c.count_time3.ensures.others)
+    works_ticked c.args.plan.now.rows c.args.e.now c.count_time3.new.e c.count_time3.result c.fire.new.fired (alarm_in c.fire.result) (number_in c.fire.result) c.fire.new.e c.count_time3.ensures c.fire.ensures (base_by_waits c.args.e.now c.count_time3.new.e c.count_time3.ensures.others)
 
 pub returns-clause-fired : goal.returns-clause-fired
 returns-clause-fired c =
-    fires_ticked c.args.plan.now.rows c.args.e.now c.count_time3.new.e c.count_time3.result c.fire.new.fired c.fire.result c.fire.new.e c.count_time3.ensures c.fire.ensures
+    fires_ticked c.args.plan.now.rows c.args.e.now c.count_time3.new.e c.count_time3.result c.fire.new.fired (alarm_in c.fire.result) (number_in c.fire.result) c.fire.new.e c.count_time3.ensures c.fire.ensures
+
+pub returns-clause-raised : goal.returns-clause-raised
+returns-clause-raised c =
+    raises_ticked c.args.plan.now.rows c.args.e.now c.count_time3.new.e c.count_time3.result c.fire.new.fired (alarm_in c.fire.result) (number_in c.fire.result) c.fire.new.e c.count_time3.ensures c.fire.ensures

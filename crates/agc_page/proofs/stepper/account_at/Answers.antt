@@ -1,8 +1,6 @@
 use Rattle.std.proofs.Common.{ℕ, List, Option, ap, sym, ◌∙◌}
 use Rattle.agc_plan.specs.declared.reply.Alarm.{Alarm}
-use Rattle.agc_plan.specs.declared.request.Action.{Action}
-use Rattle.agc_plan.specs.declared.request.Task.{Task}
-use Rattle.agc_plan.specs.Plans.{Planned}
+use Rattle.agc_plan.specs.Plans.{Planned, Rows}
 use Rattle.agc_phase.specs.Image.{base_of}
 use Rattle.agc_trace.specs.Accounts.{account_text}
 use Rattle.agc_trace.specs.Reading.{seats_in, scene_in}
@@ -16,7 +14,8 @@ returns-in-Some c =
     let m = c.args.machine.now in
     let words = c.args.moment.now.words in
     let fired = c.args.moment.now.fired in
+    let number = c.args.moment.now.number in
     c.account_of.ensures
-    ∙ ap (λ (rows : List (Task × Action)). account_text rows fired c.in-Some.alarm (seats_in words) (base_of words).phases (scene_in c.moment-after.result.words)) (ap (λ (p : Planned). p.rows) c.plan.ensures)
-    ∙ ap (λ (s : Scene). account_text m.plan.rows fired c.in-Some.alarm (seats_in words) (base_of words).phases s) (scene_now m c.moment-after.result c.moment-after.ensures)
-    ∙ ap (λ (a : Option Alarm). account_by a m fired (scene_in words) (base_of words).phases) (sym c.in-Some.is ∙ c.alarm_of.ensures)
+    ∙ ap (λ (rows : Rows). account_text rows fired number c.in-Some.alarm (seats_in words) (base_of words).phases (scene_in c.moment-after.result.words)) (ap (λ (p : Planned). p.rows) c.plan.ensures)
+    ∙ ap (λ (s : Scene). account_text m.plan.rows fired number c.in-Some.alarm (seats_in words) (base_of words).phases s) (scene_now m c.moment-after.result c.moment-after.ensures)
+    ∙ ap (λ (a : Option Alarm). account_by a m fired number (scene_in words) (base_of words).phases) (sym c.in-Some.is ∙ c.alarm_of.ensures)

@@ -11,4 +11,4 @@ moment_of-requires c = record { ready = ready_of _ c.self.inside.erasable c.self
 pub returns : goal.returns
 returns c =
     subst (λ (m : Machined). IsMoment m c.args.request.now c.moment_of.result) c.self.view_is
-    (moment_is _ c.self.inside.erasable c.args.request.now c.moment_of.result c.self.invariant.image c.moment_of.ensures.acts c.moment_of.ensures.fired c.moment_of.ensures.none_due)
+    (moment_is _ c.self.inside.erasable c.args.request.now c.moment_of.result c.self.invariant.image c.moment_of.ensures.acts c.moment_of.ensures.fired c.moment_of.ensures.raised c.moment_of.ensures.none_due)
