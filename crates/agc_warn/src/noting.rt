@@ -1,5 +1,5 @@
 //! Warnings, none of which is told twice.
-ghost use Rattle.std.specs.Prelude.{◌≡◌, IfOk};
+ghost use Rattle.std.specs.Prelude.{◌≡◌, IfOk, length, nat_le};
 ghost use Rattle.std.specs.List.{fold, list_any};
 ghost use Rattle.agc_warn.specs.Warnings.{is_like, is_told, placed, noted};
 
@@ -46,13 +46,20 @@ fn is_told(found: &[Warned], warning: &Warning) -> bool
     false
 }
 
+/// Whether as many are told as may be.
+pub(crate) fn is_full(found: &[Warned]) -> bool
+    ensures { result ≡ nat_le 20 (length found.now) }
+{
+    found.len() >= MOST_TOLD
+}
+
 /// Notes a warning, unless it is told already, or as many are as may be.
 #[tactic(auto, unfolding(crate::specs::Warnings::noted))]
 fn note_once(found: &mut Vec<Warned>, place: Place, warning: Warning) -> Result<(), AllocError>
     ensures { IfOk result (λ _. found.new.items
         ≡ noted found.old.items (record { place = place; warning = warning })) }
 {
-    if found.len() >= MOST_TOLD || is_told(found.as_slice(), &warning) {
+    if is_full(found.as_slice()) || is_told(found.as_slice(), &warning) {
         return Ok(());
     }
     found.push(Warned { place, warning })?;

@@ -6,7 +6,7 @@ ghost use Rattle.agc_warn.specs.Warnings.{of_entry, of_worker, of_device, of_act
 ghost use Rattle.agc_warn.specs.Warnings.{action_place};
 ghost use Rattle.agc_warn.specs.Warnings.{of_bench, of_run, warnings_of};
 
-use crate::noting::note;
+use crate::noting::{is_full, note};
 use crate::reasons::{
     action_warning, device_warning, entry_warning, log_full_warning, request_warning, row_warning,
     spent_warning,
@@ -115,6 +115,10 @@ fn note_row(
     ensures { IfOk result (λ _. found.new.items
         ≡ fold noted found.old.items (of_row bench.now number row.now)) }
 {
+    // Whether anything lists its task is a long search.
+    if is_full(found.as_slice()) {
+        return Ok(());
+    }
     note_row_actions(found, bench, number, row.1.as_slice())?;
     let table = Place::Table(Key::Tasks, number);
     note(found, table, row_warning(bench, &row.0))
