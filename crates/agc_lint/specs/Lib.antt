@@ -7,4 +7,5 @@ pub mod Sentences
 pub mod Scripts
 pub mod Keys
 pub mod Documents
+pub mod Spotting
 pub mod Tellings

@@ -1,16 +1,20 @@
 //! What is wrong with a bench.
-ghost use Rattle.std.specs.Prelude.{◌≡◌, ◌≤◌, ◌+◌, ℕ, List, IfOk, length, take};
+ghost use Rattle.std.specs.Prelude.{◌≡◌, ◌≤◌, ◌+◌, ℕ, List, [], ◌∷◌, IfOk, length, take};
 ghost use Rattle.std.specs.List.{AllByRecursion};
 ghost use Rattle.toml.specs.Parse.{parse_document};
-ghost use Rattle.agc_document.specs.declared.fault.BenchFault.{BenchFault as Refusal};
 ghost use Rattle.agc_document.specs.Faults.{RefusesBench};
 ghost use Rattle.agc_lint.specs.Documents.{line_ends, StandsIn, IsFoundInDocument, IsToldOf};
 ghost use Rattle.agc_lint.specs.Documents.{kind_of, AreOf};
+ghost use Rattle.agc_lint.specs.Spotting.{line_of, found_at, somewhere, or_somewhere};
+ghost use Rattle.agc_lint.specs.Spotting.{added, all_added};
+ghost use Rattle.agc_lint.specs.declared.wrong.Wrong.TheVariants as wrong;
+ghost use Rattle.agc_lint.specs.declared.wrong.KeyFault.TheVariants as key_fault;
+ghost use Rattle.agc_lint.specs.declared.wrong.TextFault.TheVariants as text_fault;
 
 use crate::key::Key;
 use crate::place::Place;
 use crate::script::MOST_TOLD;
-use crate::spots::{Spot, Spots, place_in};
+use crate::spots::{Faulty, Spot, Spots, place_in};
 use crate::twice::{phase_twice, task_twice};
 use crate::wrong::{KeyFault, TextFault, Wrong};
 use agc_document::BenchFault;
@@ -69,7 +73,8 @@ fn has_equals(text: &[u8]) -> bool {
 /// The number of the line in which this byte stands.
 #[tactic(auto, using(crate::proofs::Documents::ends_before))]
 fn line_at(document: &str, at: usize) -> u64
-    ensures { StandsIn document.now result }
+    ensures line { result ≡ line_of document.now at }
+    ensures stands { StandsIn document.now result }
 {
     let bytes = document.as_bytes();
     line_ends(&bytes[..at.min(bytes.len())]) + 1
@@ -83,9 +88,156 @@ pub fn line_in(document: &str, place: Place) -> u64
     line_at(document, place_in(document, place))
 }
 
+/// What is found at one byte of a document.
+fn finding(
+    alloc: Global,
+    document: &str,
+    at: usize,
+    place: Place,
+    text: &str,
+    fault: Wrong,
+) -> Result<BenchFinding, AllocError>
+    ensures { IfOk result (λ f. f ≡ found_at document.now
+        (record { at = at; place = place; text = text.now; fault = fault })) }
+{
+    Ok(BenchFinding {
+        line: line_at(document, at),
+        place,
+        text: String::from_str(alloc, text)?,
+        fault,
+    })
+}
+
+/// What is found at a spot.
+fn finding_at<F: Faulty>(
+    alloc: Global,
+    document: &str,
+    spot: &Spot<'_, F>,
+) -> Result<BenchFinding, AllocError>
+    ensures found { IfOk result (λ f. f ≡ found_at document.now spot.now) }
+    ensures kind { IfOk result (λ f. kind_of f.fault ≡ F.kind) }
+{
+    let fault = spot.fault.wrong();
+    finding(alloc, document, spot.at, spot.place, spot.text, fault)
+}
+
 /// What is found first.
-#[tactic(auto, using(crate::proofs::Documents::are_of_one))]
-fn begun(
+fn begun<F: Faulty>(
+    alloc: Global,
+    document: &str,
+    spot: &Spot<'_, F>,
+) -> Result<Vec<BenchFinding>, AllocError>
+    ensures found { IfOk result (λ v. v.items ≡ found_at document.now spot.now ∷ []) }
+    ensures are { IfOk result (λ v. AreOf document.now F.kind v.items) }
+{
+    let mut findings: Vec<BenchFinding> = Vec::new(alloc);
+    findings.push(finding_at(alloc, document, spot)?)?;
+    Ok(findings)
+}
+
+/// Adds what is found at a spot, unless twenty are found.
+#[tactic(auto, unfolding(crate::specs::Spotting::added))]
+fn add<F: Faulty>(
+    alloc: Global,
+    findings: &mut Vec<BenchFinding>,
+    document: &str,
+    spot: &Spot<'_, F>,
+) -> Result<(), AllocError>
+    ensures { IfOk result (λ _. findings.new.items
+        ≡ added document.now findings.old.items spot.now) }
+{
+    if findings.len() >= MOST_TOLD {
+        return Ok(());
+    }
+    findings.push(finding_at(alloc, document, spot)?)?;
+    Ok(())
+}
+
+/// Adds what is found at spots, up to twenty in all.
+fn add_all<F: Faulty>(
+    alloc: Global,
+    findings: &mut Vec<BenchFinding>,
+    document: &str,
+    spots: &[Spot<'_, F>],
+) -> Result<(), AllocError>
+    ensures { IfOk result (λ _. findings.new.items
+        ≡ all_added document.now findings.old.items spots.now) }
+{
+    for spot in spots {
+        add(alloc, findings, document, spot)?;
+    }
+    Ok(())
+}
+
+/// A spot of which only this is known.
+fn somewhere<'a, F: Faulty>(fault: F) -> Spot<'a, F>
+    ensures { result ≡ somewhere (F.as_wrong fault) }
+{
+    Spot {
+        at: 0,
+        place: Place::Whole,
+        text: "",
+        fault,
+    }
+}
+
+/// What is found at spots, or only that this is so somewhere, where there are none.
+fn found_at_all<F: Faulty>(
+    alloc: Global,
+    document: &str,
+    spots: &[Spot<'_, F>],
+    fault: F,
+) -> Result<Vec<BenchFinding>, AllocError>
+    ensures found { IfOk result (λ v. v.items
+        ≡ all_added document.now [] (or_somewhere spots.now (F.as_wrong fault))) }
+    ensures are { IfOk result (λ v. AreOf document.now F.kind v.items) }
+{
+    match spots {
+        [] => Ok(begun(alloc, document, &somewhere(fault))?),
+        [first, others @ ..] => {
+            let mut findings = begun(alloc, document, first)?;
+            add_all(alloc, &mut findings, document, others)?;
+            Ok(findings)
+        }
+    }
+}
+
+/// What is wrong with keys first, then with texts.
+fn key_findings(
+    alloc: Global,
+    document: &str,
+    spots: &Spots<'_>,
+) -> Result<Vec<BenchFinding>, AllocError>
+    ensures found { IfOk result (λ v. v.items ≡ all_added document.now (all_added document.now []
+        (or_somewhere spots.now.keys.items (wrong.Key key_fault.Somewhere)))
+        spots.now.texts.items) }
+    ensures are { IfOk result (λ v. AreOf document.now BenchFault.Key v.items) }
+{
+    let mut findings = found_at_all(alloc, document, spots.keys.as_slice(), KeyFault::Somewhere)?;
+    add_all(alloc, &mut findings, document, spots.texts.as_slice())?;
+    Ok(findings)
+}
+
+/// What is wrong with texts.
+fn text_findings(
+    alloc: Global,
+    document: &str,
+    spots: &Spots<'_>,
+) -> Result<Vec<BenchFinding>, AllocError>
+    ensures found { IfOk result (λ v. v.items ≡ all_added document.now []
+        (or_somewhere spots.now.texts.items (wrong.Text text_fault.Somewhere))) }
+    ensures are { IfOk result (λ v. AreOf document.now BenchFault.Line v.items) }
+{
+    found_at_all(
+        alloc,
+        document,
+        spots.texts.as_slice(),
+        TextFault::Somewhere,
+    )
+}
+
+/// What is found at one byte, and nothing else.
+fn found_only(
     alloc: Global,
     document: &str,
     at: usize,
@@ -96,115 +248,7 @@ fn begun(
     ensures { IfOk result (λ v. AreOf document.now (kind_of fault) v.items) }
 {
     let mut findings: Vec<BenchFinding> = Vec::new(alloc);
-    let finding = BenchFinding {
-        line: line_at(document, at),
-        place,
-        text: String::from_str(alloc, text)?,
-        fault,
-    };
-    findings.push(finding)?;
-    Ok(findings)
-}
-
-/// Adds what is found next, but no more than twenty.
-#[tactic(auto, using(crate::proofs::Documents::are_of_more))]
-fn add(
-    alloc: Global,
-    findings: &mut Vec<BenchFinding>,
-    document: &str,
-    at: usize,
-    place: Place,
-    text: &str,
-    fault: Wrong,
-) -> Result<(), AllocError>
-    ensures { (k : Refusal) → AreOf document.now k findings.old.items
-        → IfOk result (λ _. AreOf document.now k findings.new.items) }
-{
-    if findings.len() >= MOST_TOLD {
-        return Ok(());
-    }
-    let finding = BenchFinding {
-        line: line_at(document, at),
-        place,
-        text: String::from_str(alloc, text)?,
-        fault,
-    };
-    findings.push(finding)?;
-    Ok(())
-}
-
-fn add_keys(
-    alloc: Global,
-    findings: &mut Vec<BenchFinding>,
-    document: &str,
-    spots: &[Spot<'_, KeyFault>],
-) -> Result<(), AllocError>
-    ensures { (k : Refusal) → AreOf document.now k findings.old.items
-        → IfOk result (λ _. AreOf document.now k findings.new.items) }
-{
-    for spot in spots {
-        let fault = Wrong::Key(spot.fault);
-        add(
-            alloc, findings, document, spot.at, spot.place, spot.text, fault,
-        )?;
-    }
-    Ok(())
-}
-
-fn add_texts(
-    alloc: Global,
-    findings: &mut Vec<BenchFinding>,
-    document: &str,
-    spots: &[Spot<'_, TextFault>],
-) -> Result<(), AllocError>
-    ensures { (k : Refusal) → AreOf document.now k findings.old.items
-        → IfOk result (λ _. AreOf document.now k findings.new.items) }
-{
-    for spot in spots {
-        let fault = Wrong::Text(spot.fault);
-        add(
-            alloc, findings, document, spot.at, spot.place, spot.text, fault,
-        )?;
-    }
-    Ok(())
-}
-
-/// What is wrong with keys first, then with texts.
-fn key_findings(
-    alloc: Global,
-    document: &str,
-    spots: &Spots<'_>,
-) -> Result<Vec<BenchFinding>, AllocError>
-    ensures { IfOk result (λ v. AreOf document.now BenchFault.Key v.items) }
-{
-    let (at, place, text, fault) = match spots.keys.as_slice() {
-        [] => (0, Place::Whole, "", KeyFault::Somewhere),
-        [spot, ..] => (spot.at, spot.place, spot.text, spot.fault),
-    };
-    let mut findings = begun(alloc, document, at, place, text, Wrong::Key(fault))?;
-    if let [_, others @ ..] = spots.keys.as_slice() {
-        add_keys(alloc, &mut findings, document, others)?;
-    }
-    add_texts(alloc, &mut findings, document, spots.texts.as_slice())?;
-    Ok(findings)
-}
-
-/// What is wrong with texts.
-fn text_findings(
-    alloc: Global,
-    document: &str,
-    spots: &Spots<'_>,
-) -> Result<Vec<BenchFinding>, AllocError>
-    ensures { IfOk result (λ v. AreOf document.now BenchFault.Line v.items) }
-{
-    let (at, place, text, fault) = match spots.texts.as_slice() {
-        [] => (0, Place::Whole, "", TextFault::Somewhere),
-        [spot, ..] => (spot.at, spot.place, spot.text, spot.fault),
-    };
-    let mut findings = begun(alloc, document, at, place, text, Wrong::Text(fault))?;
-    if let [_, others @ ..] = spots.texts.as_slice() {
-        add_texts(alloc, &mut findings, document, others)?;
-    }
+    findings.push(finding(alloc, document, at, place, text, fault)?)?;
     Ok(findings)
 }
 
@@ -217,7 +261,7 @@ fn found_at(
 ) -> Result<Vec<BenchFinding>, AllocError>
     ensures { IfOk result (λ v. AreOf document.now (kind_of fault) v.items) }
 {
-    begun(alloc, document, place_in(document, place), place, "", fault)
+    found_only(alloc, document, place_in(document, place), place, "", fault)
 }
 
 /// What is wrong with a document that is refused for this.
@@ -280,13 +324,13 @@ pub fn bench_findings(
                 return Err(AllocError);
             }
             if !has_equals(text.as_bytes()) {
-                return begun(alloc, text, 0, Place::Whole, "", Wrong::NoKeys);
+                return found_only(alloc, text, 0, Place::Whole, "", Wrong::NoKeys);
             }
             let at = match error.span() {
                 Some(span) => span.start,
                 None => 0,
             };
-            return begun(
+            return found_only(
                 alloc,
                 text,
                 at,

@@ -1,4 +1,11 @@
 //! What is wrong with the keys and texts of a document.
+ghost use Rattle.std.specs.Prelude.{◌≡◌};
+ghost use Rattle.agc_document.specs.declared.fault.BenchFault.{BenchFault};
+ghost use Rattle.agc_document.specs.declared.fault.BenchFault.TheVariants as refusal;
+ghost use Rattle.agc_lint.specs.Documents.{kind_of};
+ghost use Rattle.agc_lint.specs.declared.wrong.Wrong.{Wrong};
+ghost use Rattle.agc_lint.specs.declared.wrong.Wrong.TheVariants as wrong;
+
 use crate::key::{BENCH, Key};
 use crate::kind::Kind;
 use crate::line::{LineFault, fault_of};
@@ -7,10 +14,11 @@ use crate::names::is_near;
 use crate::part::Part;
 use crate::place::Place;
 use crate::script::{MOST_TOLD, REQUESTS};
-use crate::wrong::{KeyFault, TextFault};
+use crate::wrong::{KeyFault, TextFault, Wrong};
 use agc_plan::Request;
 use agc_text::{parse_action, parse_address, parse_line, parse_word};
 use std::alloc::{AllocError, Global};
+use std::marker::Model;
 use toml::{Table, Value};
 
 const ACTIONS: [Kind; 5] = [
@@ -29,13 +37,60 @@ const MOST_THREADS: usize = 32;
 
 const MOST_ACTIONS: usize = 4;
 
+/// What is wrong at a spot, with a key or with a text.
+pub(crate) trait Faulty: Copy + Drop {
+    /// Why the document is no bench.
+    ghost as_wrong: { Self → Wrong };
+
+    /// The fault for which it is refused.
+    ghost kind: { BenchFault };
+
+    /// Why the document is no bench.
+    fn wrong(self) -> Wrong
+        ensures wrong { result ≡ as_wrong self }
+        ensures kind { kind_of result ≡ kind };
+}
+
+impl Faulty for KeyFault {
+    ghost as_wrong = { λ f. wrong.Key f };
+
+    ghost kind = { refusal.Key };
+
+    fn wrong(self) -> Wrong {
+        Wrong::Key(self)
+    }
+}
+
+impl Faulty for TextFault {
+    ghost as_wrong = { λ f. wrong.Text f };
+
+    ghost kind = { refusal.Line };
+
+    fn wrong(self) -> Wrong {
+        Wrong::Text(self)
+    }
+}
+
 /// A place where something is wrong: where it stands in the text, and the text that is told of it.
 #[derive(Drop)]
-pub(crate) struct Spot<'a, F: Drop> {
+pub(crate) struct Spot<'a, F: Faulty> {
     pub(crate) at: usize,
     pub(crate) place: Place,
     pub(crate) text: &'a str,
     pub(crate) fault: F,
+}
+
+impl<'a, F: Faulty> Model for Spot<'a, F> {
+    ghost use Rattle.agc_lint.specs.Spotting.{Spotted};
+
+    ghost Value = { Spotted };
+
+    ghost view = { λ s. record {
+      at = s.at;
+      place = s.place;
+      text = s.text.now;
+      fault = F.as_wrong s.fault;
+    } };
 }
 
 /// What is wrong with a document's keys, and with its texts: of either at most twenty.
@@ -248,7 +303,7 @@ impl<'a> Spots<'a> {
     ) -> Result<(), AllocError> {
         for word in table.keys() {
             let word = word.as_str();
-            if called(word, keys).is_none() {
+            if self.keys.len() < MOST_TOLD && called(word, keys).is_none() {
                 let fault = unknown(word, keys, place);
                 self.note_key(way_to_unknown(place, word), place, word, fault)?;
             }
