@@ -1,4 +1,4 @@
-use Rattle.std.proofs.Common.{ℕ, List, ◌++◌, subst}
+use Rattle.std.proofs.Common.{◌++◌}
 use Rattle.agc_text.proofs.Steps.{writes_first, writes_second}
 use Rattle.agc_session.specs.Runs.{bench_requests}
 use Rattle.agc_page.specs.declared.front.TheConstants.{FRONT}
