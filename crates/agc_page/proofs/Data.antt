@@ -75,9 +75,9 @@ state above now h =
     (both (cell_text above.sets now.sets) (cell_text above.areas now.areas ++ cell_text above.tasks now.tasks) (cell above.sets now.sets h.sets)
     (both (cell_text above.areas now.areas) (cell_text above.tasks now.tasks) (cell above.areas now.areas h.areas) (cell above.tasks now.tasks h.tasks)))
 
-row : (number : ℕ) (above now : Celled) → ArePlain now → Plain (row_text number above now)
+row_plain : (number : ℕ) (above now : Celled) → ArePlain now → Plain (row_text number above now)
 unfolding row_text
-row number above now h =
+row_plain number above now h =
     both (front_text number above now) (state_text above now ++ (cell_text above.base now.base ++ (10 ∷ []))) (front number above now h)
     (both (state_text above now) (cell_text above.base now.base ++ (10 ∷ [])) (state above now h)
     (both (cell_text above.base now.base) (10 ∷ []) (cell above.base now.base h.base) refl))
@@ -95,7 +95,7 @@ step : (s : Stepped) (asked : Request) → Plain (stepped_text s asked)
 unfolding stepped_text
 step s asked =
     both (row_text (one_more s.run.asked) s.shown (cells_of s.run asked)) (unless_same s.told (traced_account s.run asked))
-    (row (one_more s.run.asked) s.shown (cells_of s.run asked) (cells s.run asked)) (unless s.told (traced_account s.run asked) (account s.run asked))
+    (row_plain (one_more s.run.asked) s.shown (cells_of s.run asked) (cells s.run asked)) (unless s.told (traced_account s.run asked) (account s.run asked))
 
 rows : (s : Stepped) (requests : List Request) → Plain (texts stepped stepped_text s requests)
 unfolding texts
@@ -107,7 +107,7 @@ unfolding power_text
 power None m = refl
 power (Some ws) m =
     both (row_text 0 blank (power_cells (pairs_agree ws) m)) (power_account ws (plain_of m).base.phases)
-    (row 0 blank (power_cells (pairs_agree ws) m) (cells_with (decimal 0) (codes "power-up") (power_reply (pairs_agree ws)) (scene_of (plain_of m) (places_of m)) (plain_of m).base (decimals 0) refl (powers (pairs_agree ws))))
+    (row_plain 0 blank (power_cells (pairs_agree ws) m) (cells_with (decimal 0) (codes "power-up") (power_reply (pairs_agree ws)) (scene_of (plain_of m) (places_of m)) (plain_of m).base (decimals 0) refl (powers (pairs_agree ws))))
     (both (broken_text (pairs_agree ws) ws) (phases_text (plain_of m).base.phases ++ codes "\n") (broken (pairs_agree ws) ws)
     (both (phases_text (plain_of m).base.phases) (codes "\n") (phases (plain_of m).base.phases) refl))
 
