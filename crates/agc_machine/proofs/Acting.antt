@@ -3,15 +3,18 @@
 use Rattle.std.proofs.Common.{◌≡◌, ℕ, List, Option, refl, ap, sym, subst, ◌∙◌}
 use Rattle.agc_plan.specs.declared.reply.Alarm.{Alarm}
 use Rattle.agc_plan.specs.declared.reply.Reply.{Reply}
+use Rattle.agc_plan.specs.declared.reply.Reply.TheVariants.{Ticked}
 use Rattle.agc_plan.specs.declared.request.Action.{Action}
 use Rattle.agc_plan.specs.declared.request.Request.{Request}
+use Rattle.agc_plan.specs.declared.request.Request.TheVariants.{Tick}
 use Rattle.agc_plan.specs.Base.{Base}
 use Rattle.agc_plan.specs.Eras.{Work}
 use Rattle.agc_plan.specs.Plans.{Planned}
 use Rattle.agc_plan.specs.Seats.{places_acted}
-use Rattle.agc_plan.specs.Steps.{Plain, Stepped, Acted, Did, acted, with_work, done, did_of, alarm_of}
+use Rattle.agc_plan.specs.Steps.{Plain, Stepped, Acted, Did, acted, with_work, done, did_of, alarm_of, ticked}
 use Rattle.agc_phase.specs.Image.{base_of, Becomes}
-use Rattle.agc_machine.specs.Stands.{IsSound, Works, SameDue, Performs, places_done, Steps, Acts}
+use Rattle.agc_machine.specs.Stands.{IsSound, Works, SameDue, Performs, places_done, places_ticked, alarm_in, Steps, Acts}
+use Rattle.agc_machine.specs.declared.tick.Raised.{Raised}
 use Rattle.agc_machine.proofs.Frames.{sound_by_phases, stands_by_phases}
 
 -- a request on jobs and tasks
@@ -59,3 +62,10 @@ performs_work action f seat old reply alarm new works due alarm_is done_is seat_
   alarm_is = λ work places stands. alarm_is ∙ ap alarm_of (works.reply_is work places stands) ∙ ap (λ (d : Did). d.alarm) (done_is work);
   same_due = due;
 }
+
+-- a tick, by what it did to jobs and tasks, and by the alarm that was told of it
+pub acts_ticked : (plan : Planned) (asked : Request) (old : List ℕ) (raised : Option Raised) (alarm : Option Alarm) (new : List ℕ) → Works (ticked plan.rows) (places_ticked plan.rows) old (Ticked (alarm_in raised)) new → alarm ≡ alarm_in raised → asked ≡ Tick → Acts plan asked old (Ticked alarm) new
+acts_ticked plan asked old raised alarm new works told is =
+    subst (λ (r : Request). Acts plan r old (Ticked alarm) new) (sym is)
+    (subst (λ (o : Option Alarm). Acts plan Tick old (Ticked o) new) (sym told)
+    (acts_work plan Tick (ticked plan.rows) (places_ticked plan.rows) old (Ticked (alarm_in raised)) new works (λ p. refl) (λ p places. refl)))

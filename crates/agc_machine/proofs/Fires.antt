@@ -16,6 +16,7 @@ use Rattle.agc_plan.specs.Jobs.{Jobs}
 use Rattle.agc_plan.specs.Seats.{Seated, seated_action, seated_by, seated_through}
 use Rattle.agc_plan.specs.Steps.{Did, Fires, done, and_then, all_done, those_done, dispatched_work, later_work, tick_fires, raised_by, ticked, fire, fire_first, unless_alarm, fire_all}
 use Rattle.agc_plan.specs.Tasks.{first_due, dispatched, later, count_due}
+use Rattle.agc_plan.proofs.Alarms.{one_done, one_those}
 use Rattle.agc_wait.specs.Calls.{Dispatches, Counts}
 use Rattle.agc_wait.specs.Table.{waits_of}
 use Rattle.agc_wait.specs.Waits.{due_now}
@@ -48,14 +49,6 @@ seated_all (act ∷ acts) work places = by_first act acts work places (λ p. sea
 abbrev Goes : List Action → Action → Work → Type 0
 Goes acts act work = (all_done (acts ++ act ∷ []) work ≡ done act (all_done acts work).work) × (those_done (acts ++ act ∷ []) work ≡ those_done acts work ++ act ∷ [])
 
-alone : (work : Work) (alarm : Option Alarm) → and_then (record { work = work; alarm = alarm }) (all_done []) ≡ record { work = work; alarm = alarm }
-alone work None = refl
-alone work (Some alarm) = refl
-
-those_alone : (act : Action) (raised : Bool) → (act ∷ (if raised then [] else [])) ≡ act ∷ []
-those_alone act true = refl
-those_alone act false = refl
-
 goes_first : (first : Action) (acts : List Action) (act : Action) (work : Work) → (all_done (first ∷ acts) work).alarm ≡ None → ((all_done acts (done first work).work).alarm ≡ None → Goes acts act (done first work).work) → (o : Option Alarm) → (done first work).alarm ≡ o → Goes (first ∷ acts) act work
 goes_first first acts act work quiet on None is =
     let (all, those) = on (rw is at quiet) in
@@ -63,7 +56,7 @@ goes_first first acts act work quiet on None is =
 goes_first first acts act work quiet on (Some alarm) is = absurd (let no : Some alarm ≡ None = sym is ∙ (rw is at quiet) in cc)
 
 pub goes : (acts : List Action) (act : Action) (work : Work) → (all_done acts work).alarm ≡ None → Goes acts act work
-goes [] act work quiet = (alone (done act work).work (done act work).alarm, those_alone act (is_some (done act work).alarm))
+goes [] act work quiet = (one_done act work, one_those act work)
 goes (first ∷ acts) act work quiet = goes_first first acts act work quiet (λ off. goes acts act (done first work).work off) (done first work).alarm refl
 
 -- after an alarm nothing more is done

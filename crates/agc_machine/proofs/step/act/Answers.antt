@@ -12,7 +12,7 @@ use Rattle.agc_plan.specs.Plans.{planned_with}
 use Rattle.agc_plan.specs.Seats.{seated_new}
 use Rattle.agc_plan.specs.Steps.{with_jobs, with_listed, ticked}
 use Rattle.agc_machine.specs.Stands.{Acts, Works, places_ticked, same_places, alarm_in}
-use Rattle.agc_machine.proofs.Acting.{acts_work, acts_base}
+use Rattle.agc_machine.proofs.Acting.{acts_work, acts_base, acts_ticked}
 use Rattle.agc_machine.proofs.Alarms.{no_alarm}
 use Rattle.agc_machine.proofs.Frames.{works_new, works_end, works_front, works_still, due_by_cores, due_by_phases}
 use Rattle.agc_machine.proofs.step.act.Goals as goal
@@ -128,9 +128,7 @@ returns-in-Fresh-clause-acts c =
 
 pub returns-in-Tick-clause-acts : goal.returns-in-Tick-clause-acts
 returns-in-Tick-clause-acts c =
-    let plan = planned_with c.args.plan.now (sets_in c.args.e.now) in
-    subst (λ (r : Request). Acts plan r c.args.e.now (Ticked c.alarm_in.result) c.tick.new.e) (sym c.in-Tick.is)
-    (subst (λ (o : Option Alarm). Acts plan request.Tick c.args.e.now (Ticked o) c.tick.new.e) (sym c.alarm_in.ensures) (acts_work plan request.Tick (ticked c.args.plan.now.rows) (places_ticked c.args.plan.now.rows) c.args.e.now (Ticked (alarm_in c.tick.result)) c.tick.new.e c.tick.ensures.works (λ p. refl) (λ p places. refl)))
+    acts_ticked (planned_with c.args.plan.now (sets_in c.args.e.now)) c.args.request.now c.args.e.now c.tick.result c.alarm_in.result c.tick.new.e c.tick.ensures.works c.alarm_in.ensures c.in-Tick.is
 
 pub returns-in-Tick-clause-fired : goal.returns-in-Tick-clause-fired
 returns-in-Tick-clause-fired c = λ plain places stands. rw c.in-Tick.is (c.tick.ensures.fired plain.work places stands.work)
