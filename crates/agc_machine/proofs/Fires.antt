@@ -1,5 +1,5 @@
 -- What fires in a tick, one task at a time.
-use Rattle.std.proofs.Common.{◌≡◌, ℕ, Bool, true, false, if◌then◌else◌, suc, ◌+◌, ◌-◌, slice_index_or, List, [], ◌∷◌, ◌++◌, Option, Some, None, length, refl, ap, sym, ◌∙◌, subst, arith}
+use Rattle.std.proofs.Common.{◌≡◌, ℕ, Bool, if◌then◌else◌, suc, ◌+◌, ◌-◌, slice_index_or, List, [], ◌∷◌, ◌++◌, Option, Some, None, length, refl, ap, sym, ◌∙◌, subst, arith}
 use Rattle.std.specs.Option.{is_some}
 use Rattle.std.proofs.Math.Seq.{get_or-append_seam}
 use Rattle.std.proofs.lemmas.List.{length-append}
@@ -14,7 +14,7 @@ use Rattle.agc_plan.specs.Eras.{Work}
 use Rattle.agc_plan.specs.Plans.{Rows, actions_in}
 use Rattle.agc_plan.specs.Jobs.{Jobs}
 use Rattle.agc_plan.specs.Seats.{Seated, seated_action, seated_by, seated_through}
-use Rattle.agc_plan.specs.Steps.{Did, Fires, done, and_then, all_done, those_done, dispatched_work, later_work, tick_fires, raised_by, ticked, fire, fire_first, unless_alarm, fire_all}
+use Rattle.agc_plan.specs.Steps.{Did, Fires, done, all_done, those_done, dispatched_work, later_work, raised_by, ticked, fire, fire_first, unless_alarm, fire_all}
 use Rattle.agc_plan.specs.Tasks.{first_due, dispatched, later, count_due}
 use Rattle.agc_plan.proofs.Alarms.{one_done, one_those}
 use Rattle.agc_wait.specs.Calls.{Dispatches, Counts}
@@ -22,7 +22,7 @@ use Rattle.agc_wait.specs.Table.{waits_of}
 use Rattle.agc_wait.specs.Waits.{due_now}
 use Rattle.agc_wait.proofs.Dues.{count_due-is}
 use Rattle.agc_phase.specs.Image.{base_of}
-use Rattle.agc_machine.specs.Stands.{IsSound, Stands, Works, Performs, PerformsAll, FiresDue, FiresTick, RaisesTick, number_of, seated_in, places_done, places_all, places_fired, places_ticked}
+use Rattle.agc_machine.specs.Stands.{IsSound, Stands, Works, Performs, PerformsAll, FiresDue, FiresTick, RaisesTick, number_of, seated_in, places_done, places_all, places_ticked}
 use Rattle.agc_machine.proofs.Frames.{stands_by_waits}
 
 -- an action does the same to the jobs, with or without their core sets

@@ -20,7 +20,7 @@ use Rattle.agc_plan.specs.Plans.{Planned, Rows, same_task, actions_in, is_for, e
 use Rattle.agc_plan.specs.Eras.{Work, no_work, active}
 use Rattle.agc_plan.specs.Groups.{agenda_begun, group_begun, begun_from}
 use Rattle.agc_plan.proofs.Groups.{begun_is}
-use Rattle.agc_plan.specs.Steps.{Plain, Did, Fires, Stepped, era, done, and_then, all_done, those_done, dispatched_work, unless_alarm, fire_first, fire, tick_fires, later_work, acted, begins, base_after, ended, step, reached}
+use Rattle.agc_plan.specs.Steps.{Plain, Did, Fires, Stepped, era, done, all_done, those_done, dispatched_work, unless_alarm, fire_first, fire, tick_fires, later_work, acted, begins, base_after, ended, step, reached}
 use Rattle.agc_plan.specs.Laws.{IsNothingDue, IsActionDelayed, IsListingDelayed, IsRequestDelayed, AreActionsDelayed, AreListingsDelayed, FiresThese}
 
 -- the tasks that are due by this time

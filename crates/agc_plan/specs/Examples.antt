@@ -7,7 +7,6 @@ use Rattle.agc_plan.specs.declared.reply.Reply.{Reply}
 use Rattle.agc_plan.specs.declared.reply.Reply.TheVariants.{Established, Left, Roused, NoSleeper}
 use Rattle.agc_plan.specs.declared.reply.Reply.TheVariants.{NoJob, Runs, Stored, Listed, Ticked}
 use Rattle.agc_plan.specs.declared.reply.Reply.TheVariants.{Phased, Restarted, Alarmed}
-use Rattle.agc_plan.specs.declared.request.Action.{Action}
 use Rattle.agc_plan.specs.declared.request.Action.TheVariants as action
 use Rattle.agc_plan.specs.declared.request.Entry.{Entry}
 use Rattle.agc_plan.specs.declared.request.JobStart.TheVariants as start

@@ -43,6 +43,7 @@ raised_text acts number task =
     codes "        raised by "
     ++ (which_text acts number ++ task_text task (slice_get acts (number - 1)))
 
+-- of this task, if there is one, by its actions in the plan
 abbrev pub cause_by : Rows → Option Task → ℕ → List ℕ
 cause_by rows None number = []
 cause_by rows (Some task) number = raised_text (actions_in rows task) number task

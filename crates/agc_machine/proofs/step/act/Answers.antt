@@ -1,7 +1,6 @@
-use Rattle.std.proofs.Common.{Option, refl, sym, subst, ◌∙◌}
-use Rattle.agc_plan.specs.declared.reply.Alarm.{Alarm}
+use Rattle.std.proofs.Common.{refl, sym, subst, ◌∙◌}
 use Rattle.agc_plan.specs.declared.reply.Reply.{Reply}
-use Rattle.agc_plan.specs.declared.reply.Reply.TheVariants.{Phased, Restarted, Ticked}
+use Rattle.agc_plan.specs.declared.reply.Reply.TheVariants.{Phased, Restarted}
 use Rattle.agc_plan.specs.declared.request.Request.{Request}
 use Rattle.agc_plan.specs.declared.request.Request.TheVariants as request
 use Rattle.agc_word.specs.Layout.{sets_in}
@@ -10,8 +9,8 @@ use Rattle.agc_plan.specs.Jobs as plain
 use Rattle.agc_plan.specs.Places.{placed_end, fronted}
 use Rattle.agc_plan.specs.Plans.{planned_with}
 use Rattle.agc_plan.specs.Seats.{seated_new}
-use Rattle.agc_plan.specs.Steps.{with_jobs, with_listed, ticked}
-use Rattle.agc_machine.specs.Stands.{Acts, Works, places_ticked, same_places, alarm_in}
+use Rattle.agc_plan.specs.Steps.{with_jobs, with_listed}
+use Rattle.agc_machine.specs.Stands.{Acts, Works, same_places}
 use Rattle.agc_machine.proofs.Acting.{acts_work, acts_base, acts_ticked}
 use Rattle.agc_machine.proofs.Alarms.{no_alarm}
 use Rattle.agc_machine.proofs.Frames.{works_new, works_end, works_front, works_still, due_by_cores, due_by_phases}

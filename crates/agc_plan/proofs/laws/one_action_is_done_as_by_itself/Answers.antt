@@ -1,4 +1,3 @@
-use Rattle.std.proofs.Common.{refl}
 use Rattle.agc_plan.proofs.Alarms.{one_done, one_those}
 use Rattle.agc_plan.proofs.laws.one_action_is_done_as_by_itself.Goals as goal
 
