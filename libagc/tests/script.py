@@ -33,7 +33,7 @@ CALLS = {
 
 
 class Run:
-    """A bench: an image, the plan, and the totals. Actions of tasks are script lines."""
+    """A bench: an image, the plan, and the totals. Actions of tasks are script lines, in order of their `row` lines."""
 
     def __init__(self, sets):
         self.image, self.entries, self.rows = Image(sets), [], {}
@@ -56,11 +56,11 @@ class Run:
         while self.image.due():
             task = self.image.dispatch()
             text += " {:05o}/{:05o}".format(*task)
-            action = self.rows.get(task, "nothing")
-            reply = None if action == "nothing" else self.ask(action)
-            if reply and reply.kind == Kind.ALARMED:
-                self.begin(reply.number)
-                return f"{text} alarm {reply.number:o}"
+            for action in self.rows.get(task, []):
+                reply = None if action == "nothing" else self.ask(action)
+                if reply and reply.kind == Kind.ALARMED:
+                    self.begin(reply.number)
+                    return f"{text} alarm {reply.number:o}"
         return text
 
     def serve(self, line):
@@ -143,7 +143,7 @@ def main():
             run = Run(int(texts[0]))
         elif name == "row":
             at, bank, *action = texts
-            run.rows[int(at, 8), int(bank, 8)] = " ".join(action)
+            run.rows.setdefault((int(at, 8), int(bank, 8)), []).append(" ".join(action))
         elif name == "entry":
             run.entry(texts)
         elif name == "power":

@@ -69,6 +69,10 @@ class Dice(random.Random):
     def action(self):
         return self.choice(["nothing", self.line("rouse"), self.listing(), self.listing(), self.job(), self.job()])
 
+    def actions(self):
+        """What a task does: a line, or an array of one to four."""
+        return self.action() if self.often(0.4) else [self.action() for _ in range(self.randint(1, model.MOST_ACTIONS))]
+
 
 def script(dice):
     count = 1100 if dice.often(0.05) else dice.length()
@@ -80,7 +84,7 @@ def tables_of_plan(dice):
     """Rows and entries of a plan. Seldom one stands twice, or all groups want an area."""
     tasks = [(at, bank) for at in dice.ats for bank in dice.banks]
     named = dice.sample(tasks, max(dice.randint(0, len(tasks)), dice.randint(0, len(tasks))))
-    rows = [{"at": at, "bank": bank, "action": dice.action()} for at, bank in named]
+    rows = [{"at": at, "bank": bank, "action": dice.actions()} for at, bank in named]
     phases = [(group, phase) for group in range(1, 7) for phase in (1, 2, 127) if dice.often(0.5)]
     spared = dice.randint(1, 6)
     entries = []
@@ -174,7 +178,7 @@ def spelled_value(dice, value):
         return spelled_integer(dice, value)
     if isinstance(value, str):
         return spelled_string(dice, value)
-    parts = [spelled_string(dice, it) for it in value]
+    parts = [spelled_value(dice, it) for it in value]
     if dice.often(0.2):
         return "[\n" + "".join(f"    {it},\n" for it in parts) + "]"
     return "[" + ", ".join(parts) + ("," if parts and dice.often(0.1) else "") + "]"
@@ -249,6 +253,8 @@ def wrong_bench(dice):
             table[name] = dice.choice([-1, 0, 8, 128, 1000001, 2**63 - 1])
         elif isinstance(table[name], str):
             table[name] = dice.choice([*ODD_WORDS[:-6], "nothing", "timers"])
+        elif name == "action":
+            table[name] = dice.choice([[], ["nothing"] * 5, ["nothing", dice.choice(ODD_WORDS[:-6])], ["nothing", 1]])
         else:
             table[dice.choice(["keys", "at", "script"])] = 1
     text = spelled(dice, found)
@@ -286,8 +292,9 @@ def lines_of(bench):
         numbers = [entry["group"], entry["phase"], ["none", "novac", "findvac"].index(kind), *job, *task]
         yield " ".join(["entry", *map(str, numbers)])
     for task in bench["task"]:
-        if task["action"] != "nothing":
-            yield f"row {task['at']} {task['bank']} {task['action']}"
+        action = task["action"]
+        for line in [action] if isinstance(action, str) else action:
+            yield f"row {task['at']} {task['bank']} {line}"
     if "power" in bench:
         yield " ".join(["power", *bench["power"]])
     yield from bench.get("script", [])
