@@ -16,10 +16,11 @@ use Rattle.agc_text.specs.Lines.{line_of}
 use Rattle.agc_text.specs.Replies.{answer_text, words_text}
 use Rattle.agc_text.specs.Report.{count_text}
 use Rattle.agc_trace.specs.Accounts.{phases_text}
+use Rattle.agc_trace.specs.declared.origins.Origin.{Origin}
 use Rattle.agc_trace.specs.Lines.{seat_text}
 use Rattle.agc_trace.specs.Openings.{broken_text, power_reply}
 use Rattle.agc_trace.specs.Scenes.{Scene, scene_of}
-use Rattle.agc_trace.specs.Traces.{Traced, account_by, one_more, scene_unless, time_unless, told_alarm, traced_account}
+use Rattle.agc_trace.specs.Traces.{Traced, account_by, one_more, origins_unless, scene_unless, time_unless, told_alarm, traced_account}
 use Rattle.agc_page.specs.Cells.{Celled, base_text, base_unless, blank, cell_text, celled, cells_of, front_text, row_text, state_text, unless_same}
 use Rattle.agc_page.specs.Rows.{Stepped, data_of, power_account, power_cells, power_text, stepped, stepped_from, stepped_text}
 use Rattle.agc_page.proofs.Plain.{Plain, accounts, answers, both, broken, choose, counts, decimals, each, lines, more, owners, phases, powers, running, seat, waits, words}
@@ -82,14 +83,14 @@ row_plain number above now h =
     (both (state_text above now) (cell_text above.base now.base ++ (10 ∷ [])) (state above now h)
     (both (cell_text above.base now.base) (10 ∷ []) (cell above.base now.base h.base) refl))
 
-account_of : (a : Option Alarm) (m : Machined) (fired : List Task) (number : ℕ) (scene : Scene) (ns : List ℕ) → Plain (account_by a m fired number scene ns)
-account_of None m fired number scene ns = refl
-account_of (Some a) m fired number scene ns = accounts m.plan.rows fired number a scene.seats ns (scene_of (plain_of m) (places_of m))
+account_of : (a : Option Alarm) (m : Machined) (fired : List Task) (number : ℕ) (os : List Origin) (scene : Scene) (ns : List ℕ) → Plain (account_by a m fired number os scene ns)
+account_of None m fired number os scene ns = refl
+account_of (Some a) m fired number os scene ns = accounts m.plan.rows fired number a os scene.seats ns (scene_of (plain_of m) (places_of m))
 
 account : (t : Traced) (asked : Request) → Plain (traced_account t asked)
 unfolding traced_account
 account t asked =
-    account_of (told_alarm (refusal_of t.machine asked) (acted t.machine.plan asked (plain_of t.machine)).reply) (after t.machine asked) (fired_of t.machine asked) (raised_in t.machine.plan asked (plain_of t.machine)) (scene_unless (refusal_of t.machine asked) t.machine asked) (acted t.machine.plan asked (plain_of t.machine)).plain.base.phases
+    account_of (told_alarm (refusal_of t.machine asked) (acted t.machine.plan asked (plain_of t.machine)).reply) (after t.machine asked) (fired_of t.machine asked) (raised_in t.machine.plan asked (plain_of t.machine)) (origins_unless (refusal_of t.machine asked) t asked) (scene_unless (refusal_of t.machine asked) t.machine asked) (acted t.machine.plan asked (plain_of t.machine)).plain.base.phases
 
 step : (s : Stepped) (asked : Request) → Plain (stepped_text s asked)
 unfolding stepped_text

@@ -24,9 +24,11 @@ use Rattle.agc_text.specs.Lines.{entry_text, task_text, line_of, action_line_of}
 use Rattle.agc_text.specs.Numbers.{octal}
 use Rattle.agc_text.specs.Replies.{word_text, words_text, alarm_text, runner_text, fired_text, end_text, reply_text, refusal_text, answer_text}
 use Rattle.agc_text.specs.Report.{count_text}
+use Rattle.agc_trace.specs.declared.origins.Origin.{Origin}
 use Rattle.agc_trace.specs.declared.seats.Seated.{Seated}
 use Rattle.agc_trace.specs.Accounts.{full_text, which_text, doing_text, task_text as its_text, raised_text, cause_by, cause_text, at_text, area_text, who_text, where_text, job_text, jobs_text, holders_text, phases_text, again_text, account_text}
 use Rattle.agc_trace.specs.Lines.{column, running_text, is_named, job_priority_text, seat_text, owner_of, owner_text, owners_text, wait_text, waits_text, scene_text}
+use Rattle.agc_trace.specs.Origins.{known, origin_text, since_text, since_word}
 use Rattle.agc_trace.specs.Openings.{power_reply, group_front, great_text, apart_text, pair_text, group_text, pairs_text, broken_text}
 use Rattle.agc_trace.specs.Scenes.{Scene}
 use Rattle.agc_page.specs.Rows.{is_plain}
@@ -252,21 +254,32 @@ area n = choose (n == 0) [] (codes ", area " ++ decimal n) refl (both (codes ", 
 
 where_is : (s : Seated) → Plain (where_text s)
 where_is s =
-    both (at_text s.asleep) (octal 5 s.at ++ (area_text s.area ++ codes "\n")) (choose s.asleep (codes ", asleep at ") (codes ", at ") refl refl)
-    (both (octal 5 s.at) (area_text s.area ++ codes "\n") (octals 5 s.at) (both (area_text s.area) (codes "\n") (area s.area) refl))
+    both (at_text s.asleep) (octal 5 s.at ++ area_text s.area) (choose s.asleep (codes ", asleep at ") (codes ", at ") refl refl)
+    (both (octal 5 s.at) (area_text s.area) (octals 5 s.at) (area s.area))
 
-job : (k : ℕ) (s : Option Seated) → Plain (job_text k s)
-job k None = refl
-job k (Some s) = both (who_text k s) (where_text s) (who k s) (where_is s)
+origin : (o : Origin) → Plain (origin_text o)
+origin o =
+    choose (o.request == 0) (codes ", since power-up") (since_word o.restart ++ decimal o.request) refl
+    (both (since_word o.restart) (decimal o.request) (choose o.restart (codes ", since the restart of request ") (codes ", since request ") refl refl) (decimals o.request))
 
-jobs : (k : ℕ) (seats : List (Option Seated)) → Plain (jobs_text k seats)
-jobs k [] = refl
-jobs k (s ∷ seats) = both (job_text k s) (jobs_text (k + 1) seats) (job k s) (jobs (k + 1) seats)
+since : (o : Option Origin) → Plain (since_text o)
+since None = refl
+since (Some o) = origin o
 
-holders : (a : Alarm) (seats : List (Option Seated)) → Plain (holders_text a seats)
-holders A1201 seats = jobs 0 seats
-holders A1202 seats = jobs 0 seats
-holders A1203 seats = refl
+job : (os : List Origin) (k : ℕ) (s : Option Seated) → Plain (job_text os k s)
+job os k None = refl
+job os k (Some s) =
+    both (who_text k s) (where_text s ++ (since_text (known os s.number) ++ codes "\n")) (who k s)
+    (both (where_text s) (since_text (known os s.number) ++ codes "\n") (where_is s) (both (since_text (known os s.number)) (codes "\n") (since (known os s.number)) refl))
+
+jobs : (os : List Origin) (k : ℕ) (seats : List (Option Seated)) → Plain (jobs_text os k seats)
+jobs os k [] = refl
+jobs os k (s ∷ seats) = both (job_text os k s) (jobs_text os (k + 1) seats) (job os k s) (jobs os (k + 1) seats)
+
+holders : (a : Alarm) (os : List Origin) (seats : List (Option Seated)) → Plain (holders_text a os seats)
+holders A1201 os seats = jobs os 0 seats
+holders A1202 os seats = jobs os 0 seats
+holders A1203 os seats = refl
 
 pub phases : (ns : List ℕ) → Plain (phases_text ns)
 phases ns = both (codes "        restart by phases") (flat_map count_text ns) refl (counts ns)
@@ -275,12 +288,12 @@ again : (ns : List ℕ) (s : Scene) → Plain (again_text ns s)
 unfolding again_text
 again ns s = both (column 72 (phases_text ns)) (scene_text s ++ codes "\n") (columns 72 (phases_text ns) (phases ns)) (both (scene_text s) (codes "\n") (scenes s) refl)
 
-pub accounts : (rows : Rows) (tasks : List Task) (number : ℕ) (a : Alarm) (seats : List (Option Seated)) (ns : List ℕ) (s : Scene) → Plain (account_text rows tasks number a seats ns s)
+pub accounts : (rows : Rows) (tasks : List Task) (number : ℕ) (a : Alarm) (os : List Origin) (seats : List (Option Seated)) (ns : List ℕ) (s : Scene) → Plain (account_text rows tasks number a os seats ns s)
 unfolding account_text
-accounts rows tasks number a seats ns s =
-    both (full_text a) (cause_text rows tasks number ++ (holders_text a seats ++ again_text ns s)) (full a)
-    (both (cause_text rows tasks number) (holders_text a seats ++ again_text ns s) (cause rows (slice_get tasks (length tasks - 1)) number)
-    (both (holders_text a seats) (again_text ns s) (holders a seats) (again ns s)))
+accounts rows tasks number a os seats ns s =
+    both (full_text a) (cause_text rows tasks number ++ (holders_text a os seats ++ again_text ns s)) (full a)
+    (both (cause_text rows tasks number) (holders_text a os seats ++ again_text ns s) (cause rows (slice_get tasks (length tasks - 1)) number)
+    (both (holders_text a os seats) (again_text ns s) (holders a os seats) (again ns s)))
 
 -- power-up
 pub powers : (agree : Bool) → Plain (power_reply agree)

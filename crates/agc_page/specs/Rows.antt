@@ -9,7 +9,7 @@ use Rattle.agc_session.specs.Walks.{texts}
 use Rattle.agc_trace.specs.Accounts.{phases_text}
 use Rattle.agc_trace.specs.Openings.{broken_text, power_reply}
 use Rattle.agc_trace.specs.Scenes.{scene_of}
-use Rattle.agc_trace.specs.Traces.{Traced, one_more, traced, traced_account}
+use Rattle.agc_trace.specs.Traces.{Traced, one_more, traced, traced_account, traced_from}
 use Rattle.agc_page.specs.Cells.{Celled, base_text, blank, celled, cells_of, row_text, unless_same}
 
 -- what came of power-up with these phase words, as request 0
@@ -39,7 +39,7 @@ pub record Stepped : Type 0 where
 -- nothing was asked
 abbrev pub stepped_from : Machined → Stepped
 stepped_from m = record {
-  run = record { machine = m; asked = 0; time = 0 };
+  run = traced_from m;
   shown = blank;
   told = [];
 }

@@ -18,22 +18,24 @@ use agc_plan::Request;
 use agc_session::Asks;
 use agc_text::{Output, put};
 use agc_trace::{
-    account_of, alarm_of, answer_cell, next_time, number_cell, one_more, request_cell, shown,
-    time_at,
+    Origins, account_of, alarm_of, answer_cell, begun_by, next_origins, next_time, number_cell,
+    one_more, origins_at, request_cell, shown, time_at,
 };
 use arrayvec::ArrayString;
 use std::io::Write;
 use std::marker::Model;
 
 /// A run that is stepped through: the machine, how many requests were asked, how many ticks were
-/// served since the era began, the cells of the last request, and the last account.
+/// served since the era began, by which request each job came, the cells of the last request, and
+/// the last account.
 #[derive(Drop)]
 pub(crate) struct Stepper {
     machine: Machine,
     asked: u64,
     time: u64,
+    origins: Origins,
     shown: Cells,
-    told: ArrayString<2048>,
+    told: ArrayString<4096>,
 }
 
 impl Model for Stepper {
@@ -42,7 +44,7 @@ impl Model for Stepper {
     ghost Value = { Stepped };
 
     ghost view = { λ s. record {
-      run = record { machine = s.machine; asked = s.asked; time = s.time };
+      run = record { machine = s.machine; asked = s.asked; time = s.time; origins = s.origins };
       shown = s.shown;
       told = s.told.bytes;
     } };
@@ -52,10 +54,12 @@ impl Model for Stepper {
 pub(crate) fn stepper_of(machine: Machine) -> Stepper
     ensures { result ≡ stepped_from machine }
 {
+    let origins = begun_by(0, &machine);
     Stepper {
         machine,
         asked: 0,
         time: 0,
+        origins,
         shown: blank(),
         told: ArrayString::new(),
     }
@@ -63,25 +67,31 @@ pub(crate) fn stepper_of(machine: Machine) -> Stepper
 
 /// The account of an alarm, if there was one: of the moment in which it came, and of the machine as
 /// it is now.
-fn account_at(machine: &Machine, refusal: Option<Refusal>, moment: &Moment) -> ArrayString<2048>
+fn account_at(
+    machine: &Machine,
+    refusal: Option<Refusal>,
+    moment: &Moment,
+    origins: &Origins,
+) -> ArrayString<4096>
     requires sized { IsSized moment.now.words }
     requires phases { IsLawfulTable moment.now.words }
     ensures { result.bytes
         ≡ account_by (told_alarm refusal moment.now.reply) machine.now moment.now.fired
-        moment.now.number (scene_in moment.now.words) (base_of moment.now.words).phases }
+        moment.now.number origins.now (scene_in moment.now.words)
+        (base_of moment.now.words).phases }
 {
     match alarm_of(refusal, moment) {
         None => ArrayString::new(),
         Some(alarm) => {
             let after = machine.moment(&Request::Restart);
-            account_of(machine.plan(), moment, alarm, &after)
+            account_of(machine.plan(), moment, alarm, origins, &after)
         }
     }
 }
 
 /// Appends an account, unless it is the last one again.
-fn add_account(text: &mut ArrayString<8192>, told: &ArrayString<2048>, account: &ArrayString<2048>)
-    requires { length text.old.bytes + 2048 ≤ 8192 }
+fn add_account(text: &mut ArrayString<8192>, told: &ArrayString<4096>, account: &ArrayString<4096>)
+    requires { length text.old.bytes + 4096 ≤ 8192 }
     ensures { text.new.bytes ≡ text.old.bytes ++ unless_same told.now.bytes account.now.bytes }
 {
     if told == account {
@@ -91,7 +101,7 @@ fn add_account(text: &mut ArrayString<8192>, told: &ArrayString<2048>, account: 
 }
 
 /// Keeps an account, where there is one.
-fn keep(told: &mut ArrayString<2048>, account: ArrayString<2048>)
+fn keep(told: &mut ArrayString<4096>, account: ArrayString<4096>)
     ensures { told.new.bytes ≡ told_after told.old.bytes account.bytes }
 {
     if account.len() != 0 {
@@ -135,12 +145,14 @@ impl Asks for Stepper {
         let moment = shown(&self.machine, request, refusal);
         let asked = one_more(self.asked);
         let time = time_at(refusal, request, self.time);
+        let origins = origins_at(asked, &self.origins, &moment);
         let cells = cells_at(&self.machine, request, refusal, &moment, time);
         let mut text = row_of(asked, &self.shown, &cells);
         self.time = next_time(refusal, &moment, time);
         self.asked = asked;
         let _ = self.machine.apply(*request);
-        let account = account_at(&self.machine, refusal, &moment);
+        self.origins = next_origins(asked, refusal, &moment, &origins, &self.machine);
+        let account = account_at(&self.machine, refusal, &moment, &origins);
         add_account(&mut text, &self.told, &account);
         self.shown = cells;
         keep(&mut self.told, account);

@@ -15,6 +15,7 @@ use Rattle.agc_session.specs.declared.run_fault.RunFault.TheVariants.{Lost}
 use Rattle.agc_trace.specs.Reading.{begins_unless}
 use Rattle.agc_trace.specs.Scenes.{Scene, scene_of}
 use Rattle.agc_trace.specs.Traces.{Traced, one_more, scene_unless, time_unless, told_alarm, traced}
+use Rattle.agc_trace.specs.Traces.{traced_from}
 use Rattle.agc_picture.specs.Frames.{width_of, head_text}
 use Rattle.agc_picture.specs.Lanes.{changes_text}
 use Rattle.agc_picture.specs.Marks.{axis_text, era_text}
@@ -72,7 +73,7 @@ count_of bench = fold (λ count asked. one_more count) 0 (bench_requests bench)
 
 -- nothing was asked
 abbrev pub drawn_from : ℕ → Machined → Drawn
-drawn_from width m = record { run = record { machine = m; asked = 0; time = 0 }; width = width }
+drawn_from width m = record { run = traced_from m; width = width }
 
 -- the picture of so many requests, asked of this machine
 unfoldable pub picture_of : ℕ → Machined → List Request → List ℕ

@@ -19,19 +19,23 @@ use agc_machine::{Machine, Moment, Refusal};
 use agc_plan::{Alarm, Request};
 use agc_session::Asks;
 use agc_text::{Output, put};
-use agc_trace::{alarm_of, begins, next_time, one_more, shown, time_at};
+use agc_trace::{
+    Origins, alarm_of, begins, begun_by, next_origins, next_time, one_more, origins_at, shown,
+    time_at,
+};
 use agc_word::Erasable;
 use arrayvec::ArrayString;
 use std::io::Write;
 use std::marker::Model;
 
 /// A run that is drawn: the machine, how many requests were asked, how many ticks were served since
-/// the era began, and how wide columns are.
+/// the era began, by which request each job came, and how wide columns are.
 #[derive(Drop)]
 pub(crate) struct Drawing {
     machine: Machine,
     asked: u64,
     time: u64,
+    origins: Origins,
     width: u64,
 }
 
@@ -41,7 +45,7 @@ impl Model for Drawing {
     ghost Value = { Drawn };
 
     ghost view = { λ d. record {
-      run = record { machine = d.machine; asked = d.asked; time = d.time };
+      run = record { machine = d.machine; asked = d.asked; time = d.time; origins = d.origins };
       width = d.width;
     } };
 }
@@ -50,10 +54,12 @@ impl Model for Drawing {
 pub(crate) fn drawing_of(machine: Machine, width: u64) -> Drawing
     ensures { result ≡ drawn_from width machine }
 {
+    let origins = begun_by(0, &machine);
     Drawing {
         machine,
         asked: 0,
         time: 0,
+        origins,
         width,
     }
 }
@@ -142,7 +148,9 @@ fn draw_request<W: Write>(
     let next = column_at(drawing.width, one_more(number));
     drawing.time = next_time(refusal, &moment, time);
     drawing.asked = number;
+    let origins = origins_at(number, &drawing.origins, &moment);
     let _ = drawing.machine.apply(*request);
+    drawing.origins = next_origins(number, refusal, &moment, &origins, &drawing.machine);
     put(writer, text.as_bytes())?;
     put_era(&drawing.machine, next, number, refusal, &moment, writer)
 }

@@ -21,9 +21,11 @@ use Rattle.agc_trace.specs.Briefs.{left_after, left_before, left_told, loud, not
 use Rattle.agc_trace.specs.Choices.{alarm_at, is_told, quiet_at}
 use Rattle.agc_trace.specs.Quiets.{quiet_of, quiet_reply}
 use Rattle.agc_trace.specs.Lines.{line_text}
-use Rattle.agc_trace.specs.Reading.{IsShown, begins_unless, scene_in}
+use Rattle.agc_trace.specs.declared.origins.Origin.{Origin}
+use Rattle.agc_trace.specs.Origins.{origins_after}
+use Rattle.agc_trace.specs.Reading.{IsShown, begins_unless, scene_in, seats_in}
 use Rattle.agc_trace.specs.Scenes.{Scene, scene_of}
-use Rattle.agc_trace.specs.Traces.{Traced, Counted, one_more, scene_unless, time_unless, time_after, told_alarm, account_by, traced, traced_line, traced_account, traced_text, is_spent, is_log_full, counted_if, counted}
+use Rattle.agc_trace.specs.Traces.{Traced, Counted, begun_by, one_more, origins_unless, origins_next, scene_unless, time_unless, time_after, told_alarm, account_by, traced, traced_line, traced_account, traced_text, is_spent, is_log_full, counted_if, counted}
 use Rattle.agc_trace.specs.Openings.{heading, power_text, opening_text}
 use Rattle.agc_trace.proofs.Scenes.{scene_is}
 
@@ -60,13 +62,29 @@ next_time_is : (t : Traced) (asked : Request) (refusal : Option Refusal) (moment
 next_time_is t asked None moment shown = ap (λ (r : Reply). if begins r then 0 else time_unless None asked t.time) (shown.reply refl)
 next_time_is t asked (Some refusal) moment shown = refl
 
+-- by which request each job came, in its moment and after it
+pub origins_are : (t : Traced) (asked : Request) (refusal : Option Refusal) (moment : Acting) (number : ℕ) (origins : List Origin) → IsShown t.machine asked refusal moment → number ≡ one_more t.asked → origins ≡ origins_after number false t.origins (seats_in moment.words) → origins ≡ origins_unless refusal t asked
+origins_are t asked refusal moment number origins shown number_is origins_is =
+    origins_is
+    ∙ ap (λ (n : ℕ). origins_after n false t.origins (seats_in moment.words)) number_is
+    ∙ ap (λ (s : Scene). origins_after (one_more t.asked) false t.origins s.seats) shown.scene
+
+next_origins_is : (t : Traced) (asked : Request) (refusal : Option Refusal) (moment : Acting) → IsShown t.machine asked refusal moment → (if begins_unless refusal moment.reply then begun_by (one_more t.asked) (after t.machine asked) else origins_unless refusal t asked) ≡ origins_next refusal t asked
+next_origins_is t asked None moment shown = ap (λ (r : Reply). if begins r then begun_by (one_more t.asked) (after t.machine asked) else origins_unless None t asked) (shown.reply refl)
+next_origins_is t asked (Some refusal) moment shown = refl
+
 -- the run after it
-pub traced_is : (t : Traced) (asked : Request) (refusal : Option Refusal) (moment : Acting) (machine : Machined) (number time next : ℕ) → refusal ≡ refusal_of t.machine asked → IsShown t.machine asked refusal moment → machine ≡ after t.machine asked → number ≡ one_more t.asked → time ≡ time_unless refusal asked t.time → next ≡ (if begins_unless refusal moment.reply then 0 else time) → record { machine = machine; asked = number; time = next } ≡ traced t asked
-traced_is t asked refusal moment machine number time next refusal_is shown machine_is number_is time_is next_is =
-    ap (λ (m : Machined). record { machine = m; asked = number; time = next }) machine_is
-    ∙ ap (λ (n : ℕ). record { machine = after t.machine asked; asked = n; time = next }) number_is
-    ∙ ap (λ (n : ℕ). record { machine = after t.machine asked; asked = one_more t.asked; time = n })
+pub traced_is : (t : Traced) (asked : Request) (refusal : Option Refusal) (moment : Acting) (machine : Machined) (number time next : ℕ) (origins then_origins : List Origin) → refusal ≡ refusal_of t.machine asked → IsShown t.machine asked refusal moment → machine ≡ after t.machine asked → number ≡ one_more t.asked → time ≡ time_unless refusal asked t.time → next ≡ (if begins_unless refusal moment.reply then 0 else time) → origins ≡ origins_after number false t.origins (seats_in moment.words) → then_origins ≡ (if begins_unless refusal moment.reply then begun_by number machine else origins) → record { machine = machine; asked = number; time = next; origins = then_origins } ≡ traced t asked
+traced_is t asked refusal moment machine number time next origins then_origins refusal_is shown machine_is number_is time_is next_is origins_is then_is =
+    ap (λ (m : Machined). record { machine = m; asked = number; time = next; origins = then_origins }) machine_is
+    ∙ ap (λ (n : ℕ). record { machine = after t.machine asked; asked = n; time = next; origins = then_origins }) number_is
+    ∙ ap (λ (n : ℕ). record { machine = after t.machine asked; asked = one_more t.asked; time = n; origins = then_origins })
     (next_is ∙ ap (λ (n : ℕ). if begins_unless refusal moment.reply then 0 else n) time_is ∙ next_time_is t asked refusal moment shown ∙ ap (λ (r : Option Refusal). time_after r t asked) refusal_is)
+    ∙ ap (λ (o : List Origin). record { machine = after t.machine asked; asked = one_more t.asked; time = time_after (refusal_of t.machine asked) t asked; origins = o })
+    (then_is ∙ ap (λ (m : Machined). if begins_unless refusal moment.reply then begun_by number m else origins) machine_is
+    ∙ ap (λ (n : ℕ). if begins_unless refusal moment.reply then begun_by n (after t.machine asked) else origins) number_is
+    ∙ ap (λ (o : List Origin). if begins_unless refusal moment.reply then begun_by (one_more t.asked) (after t.machine asked) else o) (origins_are t asked refusal moment number origins shown number_is origins_is)
+    ∙ next_origins_is t asked refusal moment shown ∙ ap (λ (r : Option Refusal). origins_next r t asked) refusal_is)
 
 -- its line
 pub line_is : (t : Traced) (asked : Request) (refusal : Option Refusal) (moment : Acting) (number time : ℕ) → refusal ≡ refusal_of t.machine asked → IsShown t.machine asked refusal moment → number ≡ one_more t.asked → time ≡ time_unless refusal asked t.time → line_text number time asked moment.fired (result_of refusal moment.reply) (scene_in moment.words) ≡ traced_line t asked
@@ -80,21 +98,22 @@ line_is t asked refusal moment number time refusal_is shown number_is time_is =
     ∙ ap (λ (r : Option Refusal). line_text (one_more t.asked) (time_unless r asked t.time) asked (fired_of t.machine asked) (answer_of t.machine asked) (scene_unless r t.machine asked)) refusal_is
 
 -- what is told of its alarm
-told_is : (t : Traced) (asked : Request) (refusal : Option Refusal) (moment : Acting) → IsShown t.machine asked refusal moment → account_by (told_alarm refusal moment.reply) (after t.machine asked) moment.fired moment.number (scene_in moment.words) (base_of moment.words).phases ≡ account_by (told_alarm refusal (acted t.machine.plan asked (plain_of t.machine)).reply) (after t.machine asked) (fired_of t.machine asked) (raised_in t.machine.plan asked (plain_of t.machine)) (scene_unless refusal t.machine asked) (acted t.machine.plan asked (plain_of t.machine)).plain.base.phases
-told_is t asked (Some refusal) moment shown = refl
-told_is t asked None moment shown =
-    ap (λ (r : Reply). account_by (alarm_of r) (after t.machine asked) moment.fired moment.number (scene_in moment.words) (base_of moment.words).phases) (shown.reply refl)
-    ∙ ap (λ (f : List Task). account_by (alarm_of (acted t.machine.plan asked (plain_of t.machine)).reply) (after t.machine asked) f moment.number (scene_in moment.words) (base_of moment.words).phases) shown.fired
-    ∙ ap (λ (n : ℕ). account_by (alarm_of (acted t.machine.plan asked (plain_of t.machine)).reply) (after t.machine asked) (fired_of t.machine asked) n (scene_in moment.words) (base_of moment.words).phases) (shown.number refl)
-    ∙ ap (λ (s : Scene). account_by (alarm_of (acted t.machine.plan asked (plain_of t.machine)).reply) (after t.machine asked) (fired_of t.machine asked) (raised_in t.machine.plan asked (plain_of t.machine)) s (base_of moment.words).phases) shown.scene
-    ∙ ap (λ (b : Base). account_by (alarm_of (acted t.machine.plan asked (plain_of t.machine)).reply) (after t.machine asked) (fired_of t.machine asked) (raised_in t.machine.plan asked (plain_of t.machine)) (scene_unless None t.machine asked) b.phases) (shown.base refl)
+told_is : (t : Traced) (asked : Request) (refusal : Option Refusal) (moment : Acting) (o : List Origin) → IsShown t.machine asked refusal moment → account_by (told_alarm refusal moment.reply) (after t.machine asked) moment.fired moment.number o (scene_in moment.words) (base_of moment.words).phases ≡ account_by (told_alarm refusal (acted t.machine.plan asked (plain_of t.machine)).reply) (after t.machine asked) (fired_of t.machine asked) (raised_in t.machine.plan asked (plain_of t.machine)) o (scene_unless refusal t.machine asked) (acted t.machine.plan asked (plain_of t.machine)).plain.base.phases
+told_is t asked (Some refusal) moment o shown = refl
+told_is t asked None moment o shown =
+    ap (λ (r : Reply). account_by (alarm_of r) (after t.machine asked) moment.fired moment.number o (scene_in moment.words) (base_of moment.words).phases) (shown.reply refl)
+    ∙ ap (λ (f : List Task). account_by (alarm_of (acted t.machine.plan asked (plain_of t.machine)).reply) (after t.machine asked) f moment.number o (scene_in moment.words) (base_of moment.words).phases) shown.fired
+    ∙ ap (λ (n : ℕ). account_by (alarm_of (acted t.machine.plan asked (plain_of t.machine)).reply) (after t.machine asked) (fired_of t.machine asked) n o (scene_in moment.words) (base_of moment.words).phases) (shown.number refl)
+    ∙ ap (λ (s : Scene). account_by (alarm_of (acted t.machine.plan asked (plain_of t.machine)).reply) (after t.machine asked) (fired_of t.machine asked) (raised_in t.machine.plan asked (plain_of t.machine)) o s (base_of moment.words).phases) shown.scene
+    ∙ ap (λ (b : Base). account_by (alarm_of (acted t.machine.plan asked (plain_of t.machine)).reply) (after t.machine asked) (fired_of t.machine asked) (raised_in t.machine.plan asked (plain_of t.machine)) o (scene_unless None t.machine asked) b.phases) (shown.base refl)
 
-pub account_is : (t : Traced) (asked : Request) (refusal : Option Refusal) (moment : Acting) (now : Machined) → refusal ≡ refusal_of t.machine asked → IsShown t.machine asked refusal moment → now ≡ after t.machine asked → account_by (told_alarm refusal moment.reply) now moment.fired moment.number (scene_in moment.words) (base_of moment.words).phases ≡ traced_account t asked
+pub account_is : (t : Traced) (asked : Request) (refusal : Option Refusal) (moment : Acting) (now : Machined) (number : ℕ) (origins : List Origin) → refusal ≡ refusal_of t.machine asked → IsShown t.machine asked refusal moment → now ≡ after t.machine asked → number ≡ one_more t.asked → origins ≡ origins_after number false t.origins (seats_in moment.words) → account_by (told_alarm refusal moment.reply) now moment.fired moment.number origins (scene_in moment.words) (base_of moment.words).phases ≡ traced_account t asked
 unfolding traced_account
-account_is t asked refusal moment now refusal_is shown now_is =
-    ap (λ (m : Machined). account_by (told_alarm refusal moment.reply) m moment.fired moment.number (scene_in moment.words) (base_of moment.words).phases) now_is
-    ∙ told_is t asked refusal moment shown
-    ∙ ap (λ (r : Option Refusal). account_by (told_alarm r (acted t.machine.plan asked (plain_of t.machine)).reply) (after t.machine asked) (fired_of t.machine asked) (raised_in t.machine.plan asked (plain_of t.machine)) (scene_unless r t.machine asked) (acted t.machine.plan asked (plain_of t.machine)).plain.base.phases) refusal_is
+account_is t asked refusal moment now number origins refusal_is shown now_is number_is origins_is =
+    ap (λ (m : Machined). account_by (told_alarm refusal moment.reply) m moment.fired moment.number origins (scene_in moment.words) (base_of moment.words).phases) now_is
+    ∙ ap (λ (o : List Origin). account_by (told_alarm refusal moment.reply) (after t.machine asked) moment.fired moment.number o (scene_in moment.words) (base_of moment.words).phases) (origins_are t asked refusal moment number origins shown number_is origins_is)
+    ∙ told_is t asked refusal moment (origins_unless refusal t asked) shown
+    ∙ ap (λ (r : Option Refusal). account_by (told_alarm r (acted t.machine.plan asked (plain_of t.machine)).reply) (after t.machine asked) (fired_of t.machine asked) (raised_in t.machine.plan asked (plain_of t.machine)) (origins_unless r t asked) (scene_unless r t.machine asked) (acted t.machine.plan asked (plain_of t.machine)).plain.base.phases) refusal_is
 
 -- a restart's moment is the state as it is
 pub scene_now : (m : Machined) (moment : Acting) → IsMoment m Restart moment → scene_in moment.words ≡ scene_of (plain_of m) (places_of m)

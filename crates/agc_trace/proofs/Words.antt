@@ -2,6 +2,7 @@
 use Rattle.std.proofs.Common.{◌≡◌, ◌≢◌, ℕ, zero, suc, ◌+◌, ◌-◌, ◌/◌, ◌%◌, ◌<◌, ◌≤◌, ◌==◌, Bool, true, false, if◌then◌else◌, List, [], ◌∷◌, ◌++◌, codes, length, drop, drop-cons, add-one, zero-add, Option, Some, None, option_map, slice_get, slice_index, refl, sym, ap, ◌∙◌, append_assoc, append-nil, arith}
 use Rattle.std.proofs.lemmas.Grind.{common_steps}
 use Rattle.std.proofs.lemmas.List.{length-map, length-drop, nil_from_length}
+use Rattle.std.proofs.lemmas.List.Concat.{flat_map-cons}
 use Rattle.std.proofs.lemmas.Option.{slice_get-map, slice_get-get_or, slice_get_within, get_or_from_slice_get}
 use Rattle.std.specs.Fmt.{decimal}
 use Rattle.std.specs.List.{flat_map}
@@ -16,6 +17,7 @@ use Rattle.agc_exec.proofs.Ranks.{at_words, held_by-free, held_by-awake, held_by
 use Rattle.agc_exec.proofs.Reading.{get-block_in}
 use Rattle.agc_plan.specs.Tasks.{Waiting}
 use Rattle.agc_wait.specs.Table.{waits_from, waits_of, at_in, lst1, gap_of, distance_of, time3}
+use Rattle.agc_trace.specs.declared.origins.Origin.{Origin}
 use Rattle.agc_trace.specs.declared.seats.Seated.{Seated}
 use Rattle.agc_trace.specs.Accounts.{job_text, jobs_text}
 use Rattle.agc_trace.specs.Lines.{owner_of, wait_text, waits_text}
@@ -118,16 +120,29 @@ some_waits words some =
     rw there refl
 
 -- the next job, and no more
-pub jobs_next : (seats : List (Option Seated)) (k : ℕ) (seat : Option Seated) (old new whole : List ℕ) → slice_get seats k ≡ Some seat → new ≡ old ++ job_text k seat → old ++ jobs_text k (drop k seats) ≡ whole → new ++ jobs_text (k + 1) (drop (k + 1) seats) ≡ whole
-jobs_next seats k seat old new whole is made rest =
-    ap (λ (t : List ℕ). t ++ jobs_text (k + 1) (drop (k + 1) seats)) made
-    ∙ append_assoc old (job_text k seat) (jobs_text (k + 1) (drop (k + 1) seats))
-    ∙ ap (λ (l : List (Option Seated)). old ++ jobs_text k l) (sym (next seats k seat is)) ∙ rest
+pub jobs_next : (origins : List Origin) (seats : List (Option Seated)) (k : ℕ) (seat : Option Seated) (old new whole : List ℕ) → slice_get seats k ≡ Some seat → new ≡ old ++ job_text origins k seat → old ++ jobs_text origins k (drop k seats) ≡ whole → new ++ jobs_text origins (k + 1) (drop (k + 1) seats) ≡ whole
+jobs_next origins seats k seat old new whole is made rest =
+    ap (λ (t : List ℕ). t ++ jobs_text origins (k + 1) (drop (k + 1) seats)) made
+    ∙ append_assoc old (job_text origins k seat) (jobs_text origins (k + 1) (drop (k + 1) seats))
+    ∙ ap (λ (l : List (Option Seated)). old ++ jobs_text origins k l) (sym (next seats k seat is)) ∙ rest
 
-pub jobs_end : (seats : List (Option Seated)) (k : ℕ) (text whole : List ℕ) → length seats ≤ k → text ++ jobs_text k (drop k seats) ≡ whole → text ≡ whole
-jobs_end seats k text whole past rest =
+pub jobs_end : (origins : List Origin) (seats : List (Option Seated)) (k : ℕ) (text whole : List ℕ) → length seats ≤ k → text ++ jobs_text origins k (drop k seats) ≡ whole → text ≡ whole
+jobs_end origins seats k text whole past rest =
     let nothing : drop k seats ≡ [] = nil_from_length _ (simp length-drop (omega arith)) in
-    sym (append-nil text) ∙ ap (λ (l : List (Option Seated)). text ++ jobs_text k l) (sym nothing) ∙ rest
+    sym (append-nil text) ∙ ap (λ (l : List (Option Seated)). text ++ jobs_text origins k l) (sym nothing) ∙ rest
+
+-- the same of what comes of each core set by itself
+pub mapped_next : {X : Type 0} (f : Option Seated → List X) (seats : List (Option Seated)) (k : ℕ) (seat : Option Seated) (old new whole : List X) → slice_get seats k ≡ Some seat → new ≡ old ++ f seat → old ++ flat_map f (drop k seats) ≡ whole → new ++ flat_map f (drop (k + 1) seats) ≡ whole
+mapped_next {X} f seats k seat old new whole is made rest =
+    ap (λ (t : List X). t ++ flat_map f (drop (k + 1) seats)) made
+    ∙ append_assoc old (f seat) (flat_map f (drop (k + 1) seats))
+    ∙ ap (λ (t : List X). old ++ t) (sym (flat_map-cons f seat (drop (k + 1) seats)))
+    ∙ ap (λ (l : List (Option Seated)). old ++ flat_map f l) (sym (next seats k seat is)) ∙ rest
+
+pub mapped_end : {X : Type 0} (f : Option Seated → List X) (seats : List (Option Seated)) (k : ℕ) (found whole : List X) → length seats ≤ k → found ++ flat_map f (drop k seats) ≡ whole → found ≡ whole
+mapped_end {X} f seats k found whole past rest =
+    let nothing : drop k seats ≡ [] = nil_from_length _ (simp length-drop (omega arith)) in
+    sym (append-nil found) ∙ ap (λ (l : List (Option Seated)). found ++ flat_map f l) (sym nothing) ∙ rest
 
 -- how many tasks wait does not depend on when they are due
 count_by : (b : Bool) (x y : Waiting) (xs ys : List Waiting) → length xs ≡ length ys → length (if b then [] else x ∷ xs) ≡ length (if b then [] else y ∷ ys)

@@ -14,7 +14,9 @@ use Rattle.agc_text.specs.Numbers.{octal}
 use Rattle.agc_text.specs.Replies.{fired_text}
 use Rattle.agc_text.specs.Report.{count_text}
 use Rattle.agc_trace.specs.declared.seats.Seated.{Seated}
+use Rattle.agc_trace.specs.declared.origins.Origin.{Origin}
 use Rattle.agc_trace.specs.Lines.{column, scene_text}
+use Rattle.agc_trace.specs.Origins.{known, since_text}
 use Rattle.agc_trace.specs.Scenes.{Scene}
 
 -- which table was full
@@ -67,22 +69,23 @@ who_text k seat =
 
 -- where that job is, and its area
 abbrev pub where_text : Seated → List ℕ
-where_text seat = at_text seat.asleep ++ (octal 5 seat.at ++ (area_text seat.area ++ codes "\n"))
+where_text seat = at_text seat.asleep ++ (octal 5 seat.at ++ area_text seat.area)
 
--- the job of core set k, if one is there
-abbrev pub job_text : ℕ → Option Seated → List ℕ
-job_text k None = []
-job_text k (Some seat) = who_text k seat ++ where_text seat
+-- the job of core set k, if one is there, and by which request it came
+abbrev pub job_text : List Origin → ℕ → Option Seated → List ℕ
+job_text origins k None = []
+job_text origins k (Some seat) =
+    who_text k seat ++ (where_text seat ++ (since_text (known origins seat.number) ++ codes "\n"))
 
 -- the jobs of the core sets from set k on
-abbrev pub jobs_text : ℕ → List (Option Seated) → List ℕ
-jobs_text k [] = []
-jobs_text k (seat ∷ seats) = job_text k seat ++ jobs_text (k + 1) seats
+abbrev pub jobs_text : List Origin → ℕ → List (Option Seated) → List ℕ
+jobs_text origins k [] = []
+jobs_text origins k (seat ∷ seats) = job_text origins k seat ++ jobs_text origins (k + 1) seats
 
 -- who held a full table; the nine tasks stand in the line itself
-abbrev pub holders_text : Alarm → List (Option Seated) → List ℕ
-holders_text A1203 seats = []
-holders_text alarm seats = jobs_text 0 seats
+abbrev pub holders_text : Alarm → List Origin → List (Option Seated) → List ℕ
+holders_text A1203 origins seats = []
+holders_text alarm origins seats = jobs_text origins 0 seats
 
 -- the phases with which the era begins
 abbrev pub phases_text : List ℕ → List ℕ
@@ -93,8 +96,9 @@ unfoldable pub again_text : List ℕ → Scene → List ℕ
 again_text phases scene = column 72 (phases_text phases) ++ (scene_text scene ++ codes "\n")
 
 -- all of it
-unfoldable pub account_text : Rows → List Task → ℕ → Alarm → List (Option Seated) → List ℕ → Scene
-    → List ℕ
-account_text rows fired number alarm seats phases after =
+unfoldable pub account_text : Rows → List Task → ℕ → Alarm → List Origin → List (Option Seated)
+    → List ℕ → Scene → List ℕ
+account_text rows fired number alarm origins seats phases after =
     full_text alarm
-    ++ (cause_text rows fired number ++ (holders_text alarm seats ++ again_text phases after))
+    ++ (cause_text rows fired number
+    ++ (holders_text alarm origins seats ++ again_text phases after))

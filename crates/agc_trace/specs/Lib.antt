@@ -1,5 +1,6 @@
 pub mod Scenes
 pub mod Lines
+pub mod Origins
 pub mod Accounts
 pub mod Traces
 pub mod Openings

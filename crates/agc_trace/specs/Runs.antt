@@ -15,12 +15,12 @@ use Rattle.agc_trace.specs.declared.choice.Choice.{Choice}
 use Rattle.agc_trace.specs.Briefs.{Telling, text_of}
 use Rattle.agc_trace.specs.Choices.{all_told, chosen}
 use Rattle.agc_trace.specs.Openings.{opening_text, ending_text, idle_devices}
-use Rattle.agc_trace.specs.Traces.{Counted, counted, traced_text}
+use Rattle.agc_trace.specs.Traces.{Counted, counted, traced_from, traced_text}
 
 -- the run's machine, and nothing was asked, nor refused
 abbrev pub counted_from : Machined → Counted
 counted_from m = record {
-  run = record { machine = m; asked = 0; time = 0 };
+  run = traced_from m;
   spent = 0;
   log_full = 0;
 }

@@ -13,19 +13,30 @@ use Rattle.agc_machine.specs.Machines.{plain_of, places_of}
 use Rattle.agc_machine.specs.declared.answer.Refusal.{Refusal}
 use Rattle.agc_machine.specs.declared.answer.Refusal.TheVariants.{Spent, LogFull}
 use Rattle.agc_trace.specs.Accounts.{account_text}
+use Rattle.agc_trace.specs.declared.origins.Origin.{Origin}
 use Rattle.agc_trace.specs.Lines.{line_text}
+use Rattle.agc_trace.specs.Origins.{origins_after}
 use Rattle.agc_trace.specs.Scenes.{Scene, scene_of}
 
 -- one more, up to the greatest number of 64 bits
 abbrev pub one_more : ℕ → ℕ
 one_more n = if n == 18446744073709551615 then n else n + 1
 
--- a run that is traced: the machine, how many requests were asked, and how many ticks were served
--- since the era began
+-- a run that is traced: the machine, how many requests were asked, how many ticks were served since
+-- the era began, and by which request each job came
 pub record Traced : Type 0 where
   pub machine : Machined
   pub asked : ℕ
   pub time : ℕ
+  pub origins : List Origin
+
+-- of a machine: with this request an era has just begun
+abbrev pub begun_by : ℕ → Machined → List Origin
+begun_by asked m = origins_after asked true [] (scene_of (plain_of m) (places_of m)).seats
+
+-- nothing was asked of it yet
+abbrev pub traced_from : Machined → Traced
+traced_from m = record { machine = m; asked = 0; time = 0; origins = begun_by 0 m }
 
 -- the state in which a request is answered: what it did, before an era begins with it; a refused
 -- one did nothing
@@ -50,6 +61,17 @@ time_after (Some refusal) t asked = t.time
 time_after None t asked = if begins (acted t.machine.plan asked (plain_of t.machine)).reply then 0
     else time_unless None asked t.time
 
+-- by which request each job came, where a request is answered
+abbrev pub origins_unless : Option Refusal → Traced → Request → List Origin
+origins_unless refusal t asked =
+    origins_after (one_more t.asked) false t.origins (scene_unless refusal t.machine asked).seats
+
+-- and after it
+abbrev pub origins_next : Option Refusal → Traced → Request → List Origin
+origins_next (Some refusal) t asked = origins_unless (Some refusal) t asked
+origins_next None t asked = if begins (acted t.machine.plan asked (plain_of t.machine)).reply
+    then begun_by (one_more t.asked) (after t.machine asked) else origins_unless None t asked
+
 -- the line of the next request
 unfoldable pub traced_line : Traced → Request → List ℕ
 traced_line t asked =
@@ -63,10 +85,11 @@ told_alarm (Some refusal) reply = None
 told_alarm None reply = alarm_of reply
 
 -- what is told of it, by the state and the phases in which it came, and the machine as it is now
-abbrev pub account_by : Option Alarm → Machined → List Task → ℕ → Scene → List ℕ → List ℕ
-account_by None now fired number scene phases = []
-account_by (Some alarm) now fired number scene phases =
-    account_text now.plan.rows fired number alarm scene.seats phases
+abbrev pub account_by : Option Alarm → Machined → List Task → ℕ → List Origin → Scene → List ℕ
+    → List ℕ
+account_by None now fired number origins scene phases = []
+account_by (Some alarm) now fired number origins scene phases =
+    account_text now.plan.rows fired number alarm origins scene.seats phases
     (scene_of (plain_of now) (places_of now))
 
 -- the account of the next request
@@ -75,7 +98,7 @@ traced_account t asked =
     let did = acted t.machine.plan asked (plain_of t.machine) in
     let refusal = refusal_of t.machine asked in
     account_by (told_alarm refusal did.reply) (after t.machine asked) (fired_of t.machine asked)
-    (raised_in t.machine.plan asked (plain_of t.machine))
+    (raised_in t.machine.plan asked (plain_of t.machine)) (origins_unless refusal t asked)
     (scene_unless refusal t.machine asked) did.plain.base.phases
 
 -- the line of the next request, and its account
@@ -89,6 +112,7 @@ traced t asked =
       machine = after t.machine asked;
       asked = one_more t.asked;
       time = time_after (refusal_of t.machine asked) t asked;
+      origins = origins_next (refusal_of t.machine asked) t asked;
     }
 
 -- whether a request was refused because all of the allowance was served, or because the log is full

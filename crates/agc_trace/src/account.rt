@@ -13,11 +13,13 @@ ghost use Rattle.agc_trace.specs.Accounts.{raised_text};
 ghost use Rattle.agc_trace.specs.Accounts.{cause_by, cause_text, at_text, area_text};
 ghost use Rattle.agc_trace.specs.Accounts.{who_text, where_text, job_text, jobs_text, holders_text};
 ghost use Rattle.agc_trace.specs.Accounts.{phases_text, again_text, account_text};
+ghost use Rattle.agc_trace.specs.Origins.{origin_text, since_text, since_word};
 ghost use Rattle.agc_trace.specs.Reading.{seats_in, scene_in};
 
 use crate::cells::{add_fired, add_request};
 use crate::columns::add_column;
 use crate::lines::add_scene;
+use crate::origins::{Origin, Origins, known};
 use crate::seats::{Seated, seat};
 use agc_machine::Moment;
 use agc_phase::phases;
@@ -171,20 +173,57 @@ fn add_who(cell: &mut ArrayString<256>, k: usize, seat: Seated)
 
 /// The rest of it: where the job is, and its area.
 fn add_where(cell: &mut ArrayString<256>, seat: Seated)
-    requires { length cell.old.bytes + 45 ≤ 256 }
+    requires { length cell.old.bytes + 44 ≤ 256 }
     ensures text { cell.new.bytes ≡ cell.old.bytes ++ where_text seat }
-    ensures len { length cell.new.bytes ≤ length cell.old.bytes + 45 }
+    ensures len { length cell.new.bytes ≤ length cell.old.bytes + 44 }
 {
     cell.push_str(at_text(seat.asleep));
     add_word(cell, seat.at);
     add_area(cell, seat.area);
-    cell.push_str("\n");
+}
+
+/// What stands before the number of the request by which a job came.
+fn since_word(restart: bool) -> &'static str
+    ensures text { result.now ≡ since_word restart }
+    ensures len { length result.now ≤ 31 }
+{
+    if restart {
+        ", since the restart of request "
+    } else {
+        ", since request "
+    }
+}
+
+/// Appends by which request a job came.
+fn add_origin(cell: &mut ArrayString<256>, origin: Origin)
+    requires { length cell.old.bytes + 51 ≤ 256 }
+    ensures text { cell.new.bytes ≡ cell.old.bytes ++ origin_text origin }
+    ensures len { length cell.new.bytes ≤ length cell.old.bytes + 51 }
+{
+    if origin.request == 0 {
+        cell.push_str(", since power-up");
+    } else {
+        cell.push_str(since_word(origin.restart));
+        add_number(cell, origin.request);
+    }
+}
+
+/// Appends it, where it is known.
+fn add_since(cell: &mut ArrayString<256>, origin: Option<Origin>)
+    requires { length cell.old.bytes + 51 ≤ 256 }
+    ensures text { cell.new.bytes ≡ cell.old.bytes ++ since_text origin }
+    ensures len { length cell.new.bytes ≤ length cell.old.bytes + 51 }
+{
+    match origin {
+        None => {}
+        Some(origin) => add_origin(cell, origin),
+    }
 }
 
 /// The line of a core set's job, if one is there.
-fn job_cell(k: usize, seat: Option<Seated>) -> ArrayString<256>
-    ensures text { result.bytes ≡ job_text k seat }
-    ensures len { length result.bytes ≤ 125 }
+fn job_cell(origins: &Origins, k: usize, seat: Option<Seated>) -> ArrayString<256>
+    ensures text { result.bytes ≡ job_text origins.now k seat }
+    ensures len { length result.bytes ≤ 176 }
 {
     let mut cell = ArrayString::new();
     match seat {
@@ -192,34 +231,36 @@ fn job_cell(k: usize, seat: Option<Seated>) -> ArrayString<256>
         Some(seat) => {
             add_who(&mut cell, k, seat);
             add_where(&mut cell, seat);
+            add_since(&mut cell, known(origins, seat.number));
+            cell.push_str("\n");
         }
     }
     cell
 }
 
-/// Appends the lines of all jobs in core sets.
-fn add_jobs(line: &mut ArrayString<2048>, e: &Erasable)
-    requires sized { IsSized e.now }
-    requires room { length line.old.bytes + 1000 ≤ 2048 }
-    ensures text { line.new.bytes ≡ line.old.bytes ++ jobs_text 0 (seats_in e.now) }
-    ensures len { length line.new.bytes ≤ length line.old.bytes + 1000 }
+/// The lines of all jobs in core sets.
+fn jobs_of(origins: &Origins, e: &Erasable) -> ArrayString<2048>
+    requires { IsSized e.now }
+    ensures text { result.bytes ≡ jobs_text origins.now 0 (seats_in e.now) }
+    ensures len { length result.bytes ≤ 1408 }
 {
+    let mut jobs = ArrayString::new();
     for k in 0..e.sets().count() {
-        line.push_str(job_cell(k, seat(e, k)).as_str());
+        jobs.push_str(job_cell(origins, k, seat(e, k)).as_str());
     }
+    jobs
 }
 
-/// Appends who held the full table.
-fn add_holders(line: &mut ArrayString<2048>, alarm: Alarm, e: &Erasable)
-    requires sized { IsSized e.now }
-    requires room { length line.old.bytes + 1000 ≤ 2048 }
-    ensures text { line.new.bytes ≡ line.old.bytes ++ holders_text alarm (seats_in e.now) }
-    ensures len { length line.new.bytes ≤ length line.old.bytes + 1000 }
+/// Who held the full table.
+fn holders_of(alarm: Alarm, origins: &Origins, e: &Erasable) -> ArrayString<2048>
+    requires { IsSized e.now }
+    ensures text { result.bytes ≡ holders_text alarm origins.now (seats_in e.now) }
+    ensures len { length result.bytes ≤ 1408 }
 {
     match alarm {
-        Alarm::A1201 => add_jobs(line, e),
-        Alarm::A1202 => add_jobs(line, e),
-        Alarm::A1203 => {}
+        Alarm::A1201 => jobs_of(origins, e),
+        Alarm::A1202 => jobs_of(origins, e),
+        Alarm::A1203 => ArrayString::new(),
     }
 }
 
@@ -248,39 +289,45 @@ pub fn add_phases(cell: &mut ArrayString<256>, phases: &[Phase])
     }
 }
 
-/// Appends the phases with which the era begins, and the state with which it does.
+/// The phases with which the era begins, and the state with which it does.
 #[tactic(auto, unfolding(crate::specs::Accounts::again_text))]
-fn add_again(line: &mut ArrayString<2048>, e: &Erasable, after: &Erasable)
+fn again_of(e: &Erasable, after: &Erasable) -> ArrayString<2048>
     requires phases { IsLawfulTable e.now }
     requires sized { IsSized after.now }
     requires lawful { IsLawfulWords after.now }
-    requires room { length line.old.bytes + 881 ≤ 2048 }
-    ensures text { line.new.bytes ≡ line.old.bytes
-        ++ again_text (base_of e.now).phases (scene_in after.now) }
-    ensures len { length line.new.bytes ≤ length line.old.bytes + 881 }
+    ensures text { result.bytes ≡ again_text (base_of e.now).phases (scene_in after.now) }
+    ensures len { length result.bytes ≤ 881 }
 {
-    add_column(line, 72, phases_cell(e).as_str());
-    add_scene(line, after);
-    line.push_str("\n");
+    let mut again = ArrayString::new();
+    add_column(&mut again, 72, phases_cell(e).as_str());
+    add_scene(&mut again, after);
+    again.push_str("\n");
+    again
 }
 
-/// What is told of an alarm: of the moment in which it came, and of the state with which the era
-/// began. Source: profile.
+/// What is told of an alarm: of the moment in which it came, by which request each job came that
+/// was there then, and of the state with which the era began. Source: profile.
 #[tactic(auto, unfolding(crate::specs::Accounts::account_text))]
-pub fn account_of(plan: &Plan, moment: &Moment, alarm: Alarm, after: &Moment) -> ArrayString<2048>
+pub fn account_of(
+    plan: &Plan,
+    moment: &Moment,
+    alarm: Alarm,
+    origins: &Origins,
+    after: &Moment,
+) -> ArrayString<4096>
     requires sized { IsSized moment.now.words }
     requires phases { IsLawfulTable moment.now.words }
     requires sized_after { IsSized after.now.words }
     requires lawful { IsLawfulWords after.now.words }
     ensures { result.bytes
         ≡ account_text plan.now.rows moment.now.fired moment.now.number alarm
-        (seats_in moment.now.words)
+        origins.now (seats_in moment.now.words)
         (base_of moment.now.words).phases (scene_in after.now.words) }
 {
     let mut account = ArrayString::new();
     account.push_str(full_line(alarm));
     account.push_str(cause_of(plan, moment.fired(), moment.number()).as_str());
-    add_holders(&mut account, alarm, moment.words());
-    add_again(&mut account, moment.words(), after.words());
+    account.push_str(holders_of(alarm, origins, moment.words()).as_str());
+    account.push_str(again_of(moment.words(), after.words()).as_str());
     account
 }

@@ -11,6 +11,7 @@ mod idle;
 mod lines;
 mod newjob;
 mod opening;
+mod origins;
 mod quiet;
 mod runs;
 mod seats;
@@ -24,6 +25,7 @@ pub use lines::{
 };
 pub use newjob::named;
 pub use opening::{add_broken, add_phases_line, pairs_agree, power_reply};
+pub use origins::{Origins, begun_by, next_origins, origins_at};
 pub use runs::{Tracer, alarm_of, begins, next_time, one_more, shown, time_at, tracer_of};
 pub use seats::{Seated, owner, seat};
 pub use tracing::{trace, trace_script};

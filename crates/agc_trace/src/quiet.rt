@@ -150,7 +150,7 @@ fn joins(left: Option<Left>, quiet: Option<Quiet>) -> bool
 }
 
 /// What is told of them before one more.
-pub(crate) fn before_cell(left: Option<Left>, quiet: Option<Quiet>) -> ArrayString<256>
+fn before_cell(left: Option<Left>, quiet: Option<Quiet>) -> ArrayString<256>
     ensures { result.bytes ≡ left_before left quiet }
 {
     if joins(left, quiet) {
@@ -175,7 +175,7 @@ fn counted_on(left: Left, quiet: Quiet) -> Left
 }
 
 /// Those that were not told yet, after one more that is quiet or isn't.
-pub(crate) fn left_after(left: Option<Left>, quiet: Option<Quiet>) -> Option<Left>
+fn left_after(left: Option<Left>, quiet: Option<Quiet>) -> Option<Left>
     ensures { result ≡ left_after left quiet }
 {
     match quiet {
@@ -185,4 +185,14 @@ pub(crate) fn left_after(left: Option<Left>, quiet: Option<Quiet>) -> Option<Lef
             Some(left) => Some(counted_on(left, quiet)),
         },
     }
+}
+
+/// The same, in place; and what is told of those that were left, before that one.
+pub(crate) fn pass_on(left: &mut Option<Left>, quiet: Option<Quiet>) -> ArrayString<256>
+    ensures before { result.bytes ≡ left_before left.old quiet }
+    ensures left { left.new ≡ left_after left.old quiet }
+{
+    let before = before_cell(*left, quiet);
+    *left = left_after(*left, quiet);
+    before
 }

@@ -16,6 +16,6 @@ returns-in-Some c =
     let fired = c.args.moment.now.fired in
     let number = c.args.moment.now.number in
     c.account_of.ensures
-    ∙ ap (λ (rows : Rows). account_text rows fired number c.in-Some.alarm (seats_in words) (base_of words).phases (scene_in c.moment-after.result.words)) (ap (λ (p : Planned). p.rows) c.plan.ensures)
-    ∙ ap (λ (s : Scene). account_text m.plan.rows fired number c.in-Some.alarm (seats_in words) (base_of words).phases s) (scene_now m c.moment-after.result c.moment-after.ensures)
-    ∙ ap (λ (a : Option Alarm). account_by a m fired number (scene_in words) (base_of words).phases) (sym c.in-Some.is ∙ c.alarm_of.ensures)
+    ∙ ap (λ (rows : Rows). account_text rows fired number c.in-Some.alarm c.args.origins.now (seats_in words) (base_of words).phases (scene_in c.moment-after.result.words)) (ap (λ (p : Planned). p.rows) c.plan.ensures)
+    ∙ ap (λ (s : Scene). account_text m.plan.rows fired number c.in-Some.alarm c.args.origins.now (seats_in words) (base_of words).phases s) (scene_now m c.moment-after.result c.moment-after.ensures)
+    ∙ ap (λ (a : Option Alarm). account_by a m fired number c.args.origins.now (scene_in words) (base_of words).phases) (sym c.in-Some.is ∙ c.alarm_of.ensures)

@@ -19,23 +19,23 @@ put_era-requires-clause-sets g c = c.shown-moment.ensures.sets ∙ sym (sets_aft
 
 pub returns-in_err-put-clause-after : goal.returns-in_err-put-clause-after
 returns-in_err-put-clause-after g c =
-    let t : Traced = record { machine = c.drawing.inside.machine; asked = c.drawing.inside.asked; time = c.drawing.inside.time } in
-    subst (λ (x : Drawn). record { run = record { machine = c.apply.new.self; asked = c.one_more-number.result; time = c.next_time-drawing-inside.result }; width = c.drawing.inside.width } ≡ drawn x c.args.request.now) c.drawing.view_is
+    let t : Traced = record { machine = c.drawing.inside.machine; asked = c.drawing.inside.asked; time = c.drawing.inside.time; origins = c.drawing.inside.origins } in
+    subst (λ (x : Drawn). record { run = record { machine = c.apply.new.self; asked = c.one_more-number.result; time = c.next_time-drawing-inside.result; origins = c.next_origins-drawing-inside.result }; width = c.drawing.inside.width } ≡ drawn x c.args.request.now) c.drawing.view_is
     (ap (λ (r : Traced). record { run = r; width = c.drawing.inside.width })
-    (traced_is t c.args.request.now c.refusal-refusal.result c.shown-moment.result c.apply.new.self c.one_more-number.result c.time_at-time.result c.next_time-drawing-inside.result
-    c.refusal-refusal.ensures.refusal c.shown-moment.ensures c.apply.ensures.after c.one_more-number.ensures c.time_at-time.ensures c.next_time-drawing-inside.ensures))
+    (traced_is t c.args.request.now c.refusal-refusal.result c.shown-moment.result c.apply.new.self c.one_more-number.result c.time_at-time.result c.next_time-drawing-inside.result c.origins_at-origins.result c.next_origins-drawing-inside.result
+    c.refusal-refusal.ensures.refusal c.shown-moment.ensures c.apply.ensures.after c.one_more-number.ensures c.time_at-time.ensures c.next_time-drawing-inside.ensures c.origins_at-origins.ensures c.next_origins-drawing-inside.ensures))
 
 pub returns-clause-after : goal.returns-clause-after
 returns-clause-after g c =
-    let t : Traced = record { machine = c.drawing.inside.machine; asked = c.drawing.inside.asked; time = c.drawing.inside.time } in
-    subst (λ (x : Drawn). record { run = record { machine = c.apply.new.self; asked = c.one_more-number.result; time = c.next_time-drawing-inside.result }; width = c.drawing.inside.width } ≡ drawn x c.args.request.now) c.drawing.view_is
+    let t : Traced = record { machine = c.drawing.inside.machine; asked = c.drawing.inside.asked; time = c.drawing.inside.time; origins = c.drawing.inside.origins } in
+    subst (λ (x : Drawn). record { run = record { machine = c.apply.new.self; asked = c.one_more-number.result; time = c.next_time-drawing-inside.result; origins = c.next_origins-drawing-inside.result }; width = c.drawing.inside.width } ≡ drawn x c.args.request.now) c.drawing.view_is
     (ap (λ (r : Traced). record { run = r; width = c.drawing.inside.width })
-    (traced_is t c.args.request.now c.refusal-refusal.result c.shown-moment.result c.apply.new.self c.one_more-number.result c.time_at-time.result c.next_time-drawing-inside.result
-    c.refusal-refusal.ensures.refusal c.shown-moment.ensures c.apply.ensures.after c.one_more-number.ensures c.time_at-time.ensures c.next_time-drawing-inside.ensures))
+    (traced_is t c.args.request.now c.refusal-refusal.result c.shown-moment.result c.apply.new.self c.one_more-number.result c.time_at-time.result c.next_time-drawing-inside.result c.origins_at-origins.result c.next_origins-drawing-inside.result
+    c.refusal-refusal.ensures.refusal c.shown-moment.ensures c.apply.ensures.after c.one_more-number.ensures c.time_at-time.ensures c.next_time-drawing-inside.ensures c.origins_at-origins.ensures c.next_origins-drawing-inside.ensures))
 
 pub returns-in_err-put-clause-writes : goal.returns-in_err-put-clause-writes
 returns-in_err-put-clause-writes g c =
-    let t : Traced = record { machine = c.drawing.inside.machine; asked = c.drawing.inside.asked; time = c.drawing.inside.time } in
+    let t : Traced = record { machine = c.drawing.inside.machine; asked = c.drawing.inside.asked; time = c.drawing.inside.time; origins = c.drawing.inside.origins } in
     let d : Drawn = record { run = t; width = c.drawing.inside.width } in
     let column : c.as_bytes.result.now ≡ drawn_column d c.args.request.now =
     c.as_bytes.ensures.value ∙ c.deref.ensures.0 ∙ c.column_text-text.ensures
@@ -47,7 +47,7 @@ returns-in_err-put-clause-writes g c =
 
 pub returns-clause-writes : goal.returns-clause-writes
 returns-clause-writes g c =
-    let t : Traced = record { machine = c.drawing.inside.machine; asked = c.drawing.inside.asked; time = c.drawing.inside.time } in
+    let t : Traced = record { machine = c.drawing.inside.machine; asked = c.drawing.inside.asked; time = c.drawing.inside.time; origins = c.drawing.inside.origins } in
     let d : Drawn = record { run = t; width = c.drawing.inside.width } in
     let column : c.as_bytes.result.now ≡ drawn_column d c.args.request.now =
     c.as_bytes.ensures.value ∙ c.deref.ensures.0 ∙ c.column_text-text.ensures

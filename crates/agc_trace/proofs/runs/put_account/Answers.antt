@@ -14,7 +14,7 @@ use Rattle.agc_trace.proofs.runs.put_account.Goals as goal
 
 pub returns-in-None : goal.returns-in-None
 returns-in-None g c =
-    subst (λ (a : Option Alarm). Appends (g.W.Write.contents c.args.writer.now) (g.W.Write.contents c.args.writer.now) (account_by a c.args.machine.now c.args.moment.now.fired c.args.moment.now.number (scene_in c.args.moment.now.words) (base_of c.args.moment.now.words).phases))
+    subst (λ (a : Option Alarm). Appends (g.W.Write.contents c.args.writer.now) (g.W.Write.contents c.args.writer.now) (account_by a c.args.machine.now c.args.moment.now.fired c.args.moment.now.number c.args.origins.now (scene_in c.args.moment.now.words) (base_of c.args.moment.now.words).phases))
     (sym c.in-None.is ∙ c.alarm_of.ensures) (appends_none (g.W.Write.contents c.args.writer.now))
 
 pub returns-in-Some : goal.returns-in-Some
@@ -25,7 +25,7 @@ returns-in-Some g c =
     let number = c.args.moment.now.number in
     subst (λ (text : List ℕ). Writes (g.W.Write.contents c.args.writer.now) (g.W.Write.contents c.put.new.writer) text c.put.result)
     (c.as_bytes.ensures.value ∙ c.deref.ensures.0 ∙ c.account_of-account.ensures
-    ∙ ap (λ (rows : Rows). account_text rows fired number c.in-Some.alarm (seats_in words) (base_of words).phases (scene_in c.moment-after.result.words)) (ap (λ (p : Planned). p.rows) c.plan.ensures)
-    ∙ ap (λ (s : Scene). account_text m.plan.rows fired number c.in-Some.alarm (seats_in words) (base_of words).phases s) (scene_now m c.moment-after.result c.moment-after.ensures)
-    ∙ ap (λ (a : Option Alarm). account_by a m fired number (scene_in words) (base_of words).phases) (sym c.in-Some.is ∙ c.alarm_of.ensures))
+    ∙ ap (λ (rows : Rows). account_text rows fired number c.in-Some.alarm c.args.origins.now (seats_in words) (base_of words).phases (scene_in c.moment-after.result.words)) (ap (λ (p : Planned). p.rows) c.plan.ensures)
+    ∙ ap (λ (s : Scene). account_text m.plan.rows fired number c.in-Some.alarm c.args.origins.now (seats_in words) (base_of words).phases s) (scene_now m c.moment-after.result c.moment-after.ensures)
+    ∙ ap (λ (a : Option Alarm). account_by a m fired number c.args.origins.now (scene_in words) (base_of words).phases) (sym c.in-Some.is ∙ c.alarm_of.ensures))
     c.put.ensures
