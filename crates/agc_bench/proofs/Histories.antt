@@ -1,10 +1,9 @@
 -- The history of a run: the script's calls, and those of the threads.
-use Rattle.std.proofs.Common.{rules, ◌≡◌, ℕ, zero, suc, ◌+◌, ◌<◌, ◌≤◌, ◌==◌, true, false, ◌&&◌, Bool, cond, is_ok, nat_eq, List, [], ◌∷◌, ◌++◌, length, get_or, take, drop, arith, refl, sym, ap, subst, ◌∙◌, append_assoc}
+use Rattle.std.proofs.Common.{rules, ◌≡◌, ℕ, zero, suc, ◌+◌, ◌<◌, ◌≤◌, ◌==◌, true, false, ◌&&◌, Bool, cond, is_ok, nat_eq, List, [], ◌∷◌, ◌++◌, length, map, get_or, take, drop, arith, refl, sym, ap, subst, ◌∙◌, append_assoc}
 use Rattle.std.specs.List.{Contains, filter}
 use Rattle.std.proofs.lemmas.Bool.Decides.{nat_tests}
 use Rattle.std.proofs.lemmas.List.{append-nil, append_cancel_left, get_or-map, length-map, take-append-drop}
 use Rattle.std.proofs.lemmas.List.Elements.{All-drop}
-use Rattle.std.proofs.lemmas.List.Sums.{length-filter}
 use Rattle.agc_plan.specs.declared.request.Request.{Request}
 use Rattle.atomic_table.specs.Seated.{TableId}
 use Rattle.agc_latch.specs.Ends.{Posting}
@@ -16,7 +15,7 @@ use Rattle.agc_machine.specs.Machines.{Machined, after, after_all, said_of}
 use Rattle.agc_machine.specs.Said.{Said}
 use Rattle.agc_desk.specs.declared.ties.Call.{Call}
 use Rattle.agc_desk.specs.Desks.{ArePulses}
-use Rattle.agc_desk.specs.History.{Holder, IsHistory, Leads, applied_in, calls_by, is_of, new_holder, numbers_of, own_call, with_heard}
+use Rattle.agc_desk.specs.History.{Holder, IsHistory, Leads, calls_by, new_holder, numbers_of, own_call, served_on, serves_line, with_heard}
 use Rattle.agc_desk.proofs.Calls.{calls_by_append}
 use Rattle.agc_text.proofs.Sessions.{rest_is, nothing_left}
 use Rattle.agc_document.specs.Benches.{Benched}
@@ -78,35 +77,34 @@ number_at : (calls : List Call) (may_answer : ℕ → ℕ → Bool → Type 0) (
 number_at calls may_answer bench starts back begun asked many i d below =
     (asked i d d below).with_it.number ∙ ap (λ h. h.number) (begun i d (omega (arith, many, below)))
 
--- a call of no pulse is not counted
-none_counted : (line : Line) (number : ℕ) (said : Said) (calls : List Call)
-    → applied_in line (own_call number said ∷ calls) ≡ applied_in line calls
-none_counted line number said calls =
+-- a call of no pulse is not served on a line
+none_served : (line : Line) (number : ℕ) (said : Said) (calls : List Call)
+    → served_on line (own_call number said ∷ calls) ≡ served_on line calls
+none_served line number said calls =
     let call : Call = own_call number said in
-    sym (length-filter (λ (c : Call). is_ok c.answer.outcome && is_of line c.pulse) (call ∷ calls))
-    ∙ (ap (λ (b : Bool). length (cond b (call ∷ filter (λ (c : Call). is_ok c.answer.outcome && is_of line c.pulse) calls) (filter (λ (c : Call). is_ok c.answer.outcome && is_of line c.pulse) calls))) (and_off (is_ok said.outcome))
-    ∙ length-filter (λ (c : Call). is_ok c.answer.outcome && is_of line c.pulse) calls)
+    ap (λ (b : Bool). map (λ (c : Call). c.answer.request) (cond b (call ∷ filter (serves_line line) calls) (filter (serves_line line) calls))) (and_off (is_ok said.outcome))
   where
     and_off : (b : Bool) → (b && false) ≡ false
     and_off true = refl
     and_off false = refl
 
 -- the script's calls are no pulses
-pulses_past : (plan : Planned) (told : List Said) (rest : List Call) (applied : List ℕ) → ArePulses plan (first_calls told ++ rest) applied → ArePulses plan rest applied
-pulses_past plan [] rest applied pulses = pulses
-pulses_past plan (said ∷ more) rest applied pulses =
-    pulses_past plan more rest applied (record {
+pulses_past : (plan : Planned) (told : List Said) (rest : List Call) (applied begun : List ℕ) → ArePulses plan (first_calls told ++ rest) applied begun → ArePulses plan rest applied begun
+pulses_past plan [] rest applied begun pulses = pulses
+pulses_past plan (said ∷ more) rest applied begun pulses =
+    pulses_past plan more rest applied begun (record {
       each = λ k d below. pulses.each (suc k) d (omega (arith, below));
-      counted = λ line some. pulses.counted line some ∙ none_counted line 0 said (first_calls more ++ rest);
+      served = λ line. sym (none_served line 0 said (first_calls more ++ rest)) ∙ pulses.served line;
+      not_all = pulses.not_all;
     })
 
 -- where a history begins with the script's calls, and each share's holder asked then what is its own, it is a run
-pub run_of : (may_answer : ℕ → ℕ → Bool → Type 0) (bench : Benched) (first : Machined) (history : List Call) (last : Machined) (starts back : List Holder) (applied : List ℕ)
-    → first ≡ bench_machine bench → IsHistory first back history last → ArePulses (bench_plan bench) history applied
+pub run_of : (may_answer : ℕ → ℕ → Bool → Type 0) (bench : Benched) (first : Machined) (history : List Call) (last : Machined) (starts back : List Holder) (applied begun : List ℕ)
+    → first ≡ bench_machine bench → IsHistory first back history last → ArePulses (bench_plan bench) history applied begun
     → take (length (first_calls (answers_to first bench.script))) history ≡ first_calls (answers_to first bench.script)
     → HaveMade (first_calls (answers_to first bench.script)) starts → EachAsks may_answer (asker_at bench) starts back
     → length back ≡ length starts → length starts ≡ length (askers_of bench) → IsRun may_answer bench last applied
-run_of may_answer bench first history last starts back applied is whole pulses begins begun asked many for_each =
+run_of may_answer bench first history last starts back applied begun_by is whole pulses begins begun asked many for_each =
     let begin : List Call = first_calls (answers_to first bench.script) in
     let rest : List Call = drop (length begin) history in
     let parts : history ≡ begin ++ rest = sym (take-append-drop (length begin) history) ∙ ap (λ l. l ++ rest) begins in
@@ -132,7 +130,8 @@ run_of may_answer bench first history last starts back applied is whole pulses b
           let place = get_or-map (λ (h : Holder). h.number) back among.0 d0 (get_or rest k d).by far in
           let number = number_at begin may_answer bench starts back begun asked many among.0 d0 far in
           omega (arith, far, among.2, place, number, many, for_each);
-      pulses = pulses_past (bench_plan bench) (answers_to first bench.script) rest applied (subst (λ l. ArePulses (bench_plan bench) l applied) parts pulses);
+      begun = begun_by;
+      pulses = pulses_past (bench_plan bench) (answers_to first bench.script) rest applied begun_by (subst (λ l. ArePulses (bench_plan bench) l applied begun_by) parts pulses);
     }
 
 -- a number is equal to itself, and to those that the test says
@@ -191,6 +190,6 @@ run_finished may_answer bench first latch calls caller shares devices last appli
     ran.ready.caller_is ∙ ap (λ l. with_heard l (new_holder 0)) (sym (calls_by_first answers)) in
     let begun : HaveMade (first_calls answers) starts = made (first_calls answers) caller ran.starts caller_is (λ n. calls_by_others n answers) ran.ready.fresh in
     let asked : EachAsks may_answer (asker_at bench) starts (ends.now ∷ shares) = each_all may_answer bench caller ends.now ran.starts shares ends.attended ran.asked.each in
-    run_of may_answer bench first (calls ++ ends.more) last starts (ends.now ∷ shares) applied is ends.whole
-    (subst (λ p. ArePulses p (calls ++ ends.more) applied) (plan_is bench first is) ends.pulses)
+    run_of may_answer bench first (calls ++ ends.more) last starts (ends.now ∷ shares) applied ends.begun is ends.whole
+    (subst (λ p. ArePulses p (calls ++ ends.more) applied ends.begun) (plan_is bench first is) ends.pulses)
     (begins_on (first_calls answers) calls ends.more begins) begun asked (omega (arith, ran.asked.for_each)) (omega (arith, ran.ready.for_each))

@@ -1,5 +1,5 @@
 -- What is asked as one attends is asked for pulses.
-use Rattle.std.proofs.Common.{◌≡◌, ℕ, ◌+◌, List, [], ◌∷◌, ◌++◌, Some, IsSome, arith, refl, sym, ap, ◌∙◌, append_assoc, append-nil}
+use Rattle.std.proofs.Common.{◌≡◌, ℕ, ◌+◌, List, [], ◌∷◌, ◌++◌, take, Some, IsSome, arith, refl, sym, ap, ◌∙◌, append_assoc, append-nil}
 use Rattle.std.specs.List.{All}
 use Rattle.std.proofs.lemmas.List.Elements.{All-append, All-cons, All-nil}
 use Rattle.atomic_table.specs.Seated.{TableId}
@@ -7,7 +7,7 @@ use Rattle.agc_machine.specs.Machines.{Machined, after, said_of}
 use Rattle.agc_desk.specs.declared.ties.Call.{Call}
 use Rattle.agc_desk.specs.declared.drain.Drained.{Drained}
 use Rattle.agc_desk.specs.Desks.{Desked}
-use Rattle.agc_desk.specs.Draining.{Attends, Drains, calls_of, drained_by}
+use Rattle.agc_desk.specs.Draining.{Attends, Drains, calls_of, left_by}
 use Rattle.agc_desk.specs.History.{Holder}
 use Rattle.agc_desk.specs.Pulses.{Pulse}
 use Rattle.agc_bench.specs.Sharing.{AsksPulses, GoesOnWith}
@@ -42,7 +42,7 @@ pulses_none share = record {
 pub drained_pulses : (old : Desked) (share : Holder) (result : Drained) (now : Desked) (new : Holder)
     → Drains old share result now new → AsksPulses 1 share new
 drained_pulses old share result now new drains =
-    let asked = drained_by old result.applied now.lines in
+    let asked = drains.served ++ take 1 (left_by old.machine.plan now.lines) in
     record {
       calls = calls_of share.number old.machine asked;
       own = calls_pulses share.number old.machine asked;

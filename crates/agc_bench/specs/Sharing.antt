@@ -139,4 +139,5 @@ pub record Finishes (first : Machined) (calls : List Call) (caller : Holder) (sh
   pub now : Holder
   pub attended : AsksPulses 1 caller now
   pub whole : IsHistory first (now ∷ shares) (calls ++ more) machine
-  pub pulses : ArePulses first.plan (calls ++ more) applied
+  pub begun : List ℕ
+  pub pulses : ArePulses first.plan (calls ++ more) applied begun

@@ -48,9 +48,9 @@ AskedOwn may_answer (Attends times) calls = All (λ call. IsSome call.pulse) cal
 
 -- The machine that a run leaves: the script was asked of the bench's machine, and then, in some
 -- order, each worker asked what is its own, in its own order; all other calls are pulses, by the
--- thread that attends and by the caller. A call that is a line's pulse has the request of its
--- pulses; and on a line whose pulses ask for something, so many are told to be applied as there are
--- calls that are its pulses and were not refused.
+-- thread that attends and by the caller. A call that is a line's pulse has a request of its pulses;
+-- and what was served of those calls is all for which the line's applied pulses ask, and the first
+-- requests of one more that is begun.
 pub record IsRun (may_answer : ℕ → ℕ → Bool → Type 0) (bench : Benched)
     (machine : Machined) (applied : List ℕ) : Type 0 where
   pub calls : List Call
@@ -58,7 +58,8 @@ pub record IsRun (may_answer : ℕ → ℕ → Bool → Type 0) (bench : Benched
   pub each : All (λ asker. AskedOwn may_answer asker.1 (calls_by asker.0 calls))
       (enumerate_from 0 (askers_of bench))
   pub no_other : All (λ call. call.by < length (askers_of bench)) calls
-  pub pulses : ArePulses (bench_plan bench) calls applied
+  pub begun : List ℕ
+  pub pulses : ArePulses (bench_plan bench) calls applied begun
 
 -- how many pulses of a line the devices of a bench have
 abbrev pub pulses_of : Line → Benched → ℕ

@@ -61,7 +61,8 @@ fn gather_all<N: Names>(
     requires { desk.given ≡ vec_len shares + 1 }
     ensures history { IfOk result (λ r. IsHistory N.first (first ∷ shares.items) desk.history r.0) }
     ensures grown { IfOk result (λ r. add r.1 N.first.totals ≡ r.0.totals) }
-    ensures pulses { IfOk result (λ _. ArePulses N.first.plan desk.history desk.lines.applied) }
+    ensures pulses { IfOk result (λ _. ArePulses N.first.plan desk.history
+        desk.lines.applied desk.lines.begun) }
     ensures early { IfErr result (λ fault. fault ≡ RunFault.NoMemory) }
 {
     let all = with_first(first, shares)?;

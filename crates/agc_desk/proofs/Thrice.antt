@@ -1,7 +1,6 @@
 -- All three lines are drained, one after another.
-use Rattle.std.proofs.Common.{◌≡◌, ◌≢◌, ◌↔◌, ℕ, ◌+◌, ◌<◌, ◌==◌, Bool, true, false, true≢false, if◌then◌else◌, List, [], ◌∷◌, ◌++◌, Option, None, Some, IsNone, IsOk, is_some, zero, suc, refl, sym, ap, ◌∙◌, subst, append_assoc, append-nil, arith}
-use Rattle.std.specs.Option.{option_and_then, option_or, option_to_list}
-use Rattle.std.proofs.lemmas.Bool.Decides.{nat_tests}
+use Rattle.std.proofs.Common.{◌≡◌, ◌≢◌, ◌↔◌, ℕ, ◌+◌, ◌<◌, true, false, true≢false, List, [], ◌∷◌, ◌++◌, slice_get, take, Option, None, Some, IsNone, IsOk, is_some, zero, suc, refl, sym, ap, ◌∙◌, subst, append_assoc, append-nil, arith}
+use Rattle.std.specs.Option.{option_and_then, option_or}
 use Rattle.std.proofs.lemmas.List.Elements.{All-append}
 use Rattle.agc_latch.specs.declared.line.Line.{Line}
 use Rattle.agc_latch.specs.declared.line.Line.TheVariants.{Timer, Key, Radar}
@@ -13,11 +12,11 @@ use Rattle.agc_machine.specs.declared.answer.Refusal.{Refusal}
 use Rattle.agc_machine.specs.Machines.{Machined, after_all}
 use Rattle.agc_machine.specs.Said.{Said}
 use Rattle.agc_desk.specs.Desks.{Desked, with_lines}
-use Rattle.agc_desk.specs.Draining.{Drains, Moves, NoneRefused, ServesAll, calls_of, pulse_refusal, with_asked}
+use Rattle.agc_desk.specs.Draining.{Drains, Moves, NoneRefused, ServesAll, calls_of, left_by, pulse_refusal, with_asked}
 use Rattle.agc_desk.specs.History.{Holder, with_drain, with_heard}
-use Rattle.agc_desk.specs.Pulses.{Pulse, first_line, first_pulse, line_if_any, pulse_of, pulses_of, repeated}
-use Rattle.agc_desk.specs.Stages.{DrainsLine, next_pulse}
-use Rattle.agc_desk.proofs.Emptying.{after_by, next_none, repeated_none, same_plan, serves_append, told_by, told_by_append}
+use Rattle.agc_desk.specs.Pulses.{Pulse, left_of, left_on}
+use Rattle.agc_desk.specs.Stages.{DrainsLine, line_left, tried_after}
+use Rattle.agc_desk.proofs.Emptying.{after_by, none_owed, same_plan, serves_append, told_by, told_by_append}
 
 timer_key : Timer ≢ Key
 timer_key e = omega (arith, ap word_of e)
@@ -71,40 +70,6 @@ moves found n1 n2 n3 l l0 l1 l2 l3 c a b d tk tr kr =
     in_order t k Radar Key below left = omega (arith, below)
     in_order t k Radar Radar below left = omega (arith, below)
 
--- the line of the first pulse that is owed
-if_none : (line : Line) (owed : List ℕ) → on line owed ≡ 0 → line_if_any line owed ≡ None
-if_none line owed none =
-    let test : (on line owed == 0) ≡ true = grind (arith, nat_tests, none) in
-    ap (λ (b : Bool). if b then None else Some line) test
-
-if_some : (line : Line) (owed : List ℕ) → 0 < on line owed → line_if_any line owed ≡ Some line
-if_some line owed some =
-    let test : (on line owed == 0) ≡ false = grind (arith, nat_tests, some) in
-    ap (λ (b : Bool). if b then None else Some line) test
-
-first_timer : (owed : List ℕ) → 0 < on Timer owed → first_line owed ≡ line_if_any Timer owed
-first_timer owed some =
-    let is = if_some Timer owed some in
-    ap (λ o. option_or o (option_or (line_if_any Key owed) (line_if_any Radar owed))) is ∙ sym is
-
-first_key : (owed : List ℕ) → on Timer owed ≡ 0 → 0 < on Key owed → first_line owed ≡ line_if_any Key owed
-first_key owed none some =
-    let is = if_some Key owed some in
-    ap (λ o. option_or o (option_or (line_if_any Key owed) (line_if_any Radar owed))) (if_none Timer owed none)
-    ∙ (ap (λ o. option_or o (line_if_any Radar owed)) is ∙ sym is)
-
-first_radar : (owed : List ℕ) → on Timer owed ≡ 0 → on Key owed ≡ 0 → first_line owed ≡ line_if_any Radar owed
-first_radar owed none no_key =
-    ap (λ o. option_or o (option_or (line_if_any Key owed) (line_if_any Radar owed))) (if_none Timer owed none)
-    ∙ ap (λ o. option_or o (line_if_any Radar owed)) (if_none Key owed no_key)
-
--- requests of three lines with one that is tried
-last_tried : (a b c t : List Pulse) → (a ++ []) ++ ((b ++ []) ++ (c ++ t)) ≡ (a ++ (b ++ c)) ++ t
-last_tried a b c t =
-    ap (λ l. l ++ ((b ++ []) ++ (c ++ t))) (append-nil a)
-    ∙ (ap (λ l. a ++ (l ++ (c ++ t))) (append-nil b)
-    ∙ sym (append_assoc a (b ++ c) t ∙ ap (λ l. a ++ l) (append_assoc b c t)))
-
 -- the requests of the desk before what was posted was taken
 serves_from : (asked : List Pulse) (d d0 : Desked) (s : Holder) (now : Desked) (new : Holder) → d0 ≡ with_lines d0.lines d
     → ServesAll asked d0 s now new → ServesAll asked d s now new
@@ -113,21 +78,63 @@ serves_from asked d d0 s now new is all = record {
   heard = all.heard ∙ ap (λ (x : Desked). with_heard (calls_of s.number x.machine asked) s) is;
 }
 
-key_tried : (a b c t : List Pulse) → c ≡ [] → (a ++ []) ++ ((b ++ t) ++ (c ++ [])) ≡ (a ++ (b ++ c)) ++ t
-key_tried a b c t none =
-    let empty : (a ++ []) ++ ((b ++ t) ++ ([] ++ [])) ≡ (a ++ (b ++ [])) ++ t =
-    ap (λ l. l ++ ((b ++ t) ++ [])) (append-nil a)
-    ∙ (ap (λ l. a ++ l) (append-nil (b ++ t)) ∙ sym (ap (λ l. (a ++ l) ++ t) (append-nil b) ∙ append_assoc a b t)) in
-    subst (λ (l : List Pulse). (a ++ []) ++ ((b ++ t) ++ (l ++ [])) ≡ (a ++ (b ++ l)) ++ t) (sym none) empty
+-- what another line leaves is the same
+same_left : (plan : Planned) (line other : Line) (n : ℕ) (old now : LineAccounts) → other ≢ line → Applies line n old now
+    → line_left plan other now ≡ line_left plan other old
+same_left plan line other n old now apart applies =
+    ap (λ k. left_on plan other k (on other now.begun)) (applies.other_owed other apart)
+    ∙ ap (λ k. left_on plan other (on other old.owed) k) (applies.other_begun other apart)
 
-timer_tried : (a b c t : List Pulse) → b ≡ [] → c ≡ [] → (a ++ t) ++ ((b ++ []) ++ (c ++ [])) ≡ (a ++ (b ++ c)) ++ t
-timer_tried a b c t empty_b empty_c =
-    let both : (a ++ t) ++ [] ≡ (a ++ []) ++ t = append-nil (a ++ t) ∙ ap (λ l. l ++ t) (sym (append-nil a)) in
-    subst (λ (l : List Pulse). (a ++ t) ++ ((b ++ []) ++ (l ++ [])) ≡ (a ++ (b ++ l)) ++ t) (sym empty_c)
-    (subst (λ (l : List Pulse). (a ++ t) ++ ((l ++ []) ++ ([] ++ [])) ≡ (a ++ (l ++ [])) ++ t) (sym empty_b) both)
+-- what was to be asked for, with what was found
+all_owed : (plan : Planned) (found : List ℕ) (l l0 : LineAccounts) → Collects found l l0
+    → left_of plan (λ line. on line l.owed + on line found) (λ line. on line l.begun) ≡ left_by plan l0
+all_owed plan found l l0 c = λ i. left_of plan (λ line. sym (c.owed line) i) (λ line. on line (sym c.begun i))
 
-next_same : (plan : Planned) (line : Line) (a b : List ℕ) → on line a ≡ on line b → next_pulse plan line a ≡ next_pulse plan line b
-next_same plan line a b same = ap (λ (n : ℕ). option_and_then (pulse_of plan) (if n == 0 then None else Some line)) same
+-- a refused request is left
+some_first : (m : Machined) (left : List Pulse) (r : Refusal) → Some r ≡ option_and_then (pulse_refusal m) (slice_get left 0)
+    → (p : Pulse) × (rest : List Pulse) × (left ≡ p ∷ rest)
+some_first m [] r is = cc
+some_first m (p ∷ rest) r is = (p, rest, refl)
+
+-- of each line some were served and some are left: all in order; and what was tried last is the first of those that are left
+abbrev Whole : (a b c k l m : List Pulse) → Type 0
+Whole a b c k l m = (a ++ k) ++ ((b ++ l) ++ (c ++ m)) ≡ (a ++ (b ++ c)) ++ (k ++ (l ++ m))
+
+abbrev Tried : (a b c t u w k l m : List Pulse) → Type 0
+Tried a b c t u w k l m = (a ++ t) ++ ((b ++ u) ++ (c ++ w)) ≡ (a ++ (b ++ c)) ++ take 1 (k ++ (l ++ m))
+
+last_three : (a b c t : List Pulse) → (a ++ []) ++ ((b ++ []) ++ (c ++ t)) ≡ (a ++ (b ++ c)) ++ t
+last_three a b c t =
+    ap (λ l. l ++ ((b ++ []) ++ (c ++ t))) (append-nil a)
+    ∙ (ap (λ l. a ++ (l ++ (c ++ t))) (append-nil b)
+    ∙ sym (append_assoc a (b ++ c) t ∙ ap (λ l. a ++ l) (append_assoc b c t)))
+
+last_two : (a b t u : List Pulse) → (a ++ []) ++ ((b ++ t) ++ u) ≡ (a ++ (b ++ [])) ++ (t ++ u)
+last_two a b t u =
+    ap (λ l. l ++ ((b ++ t) ++ u)) (append-nil a)
+    ∙ (ap (λ l. a ++ l) (append_assoc b t u)
+    ∙ sym (append_assoc a (b ++ []) (t ++ u) ∙ ap (λ l. a ++ (l ++ (t ++ u))) (append-nil b)))
+
+last_one : (a t u : List Pulse) → (a ++ t) ++ u ≡ (a ++ []) ++ (t ++ u)
+last_one a t u = append_assoc a t u ∙ ap (λ l. l ++ (t ++ u)) (sym (append-nil a))
+
+-- the drain ended on the radar's line, on the keyboard's, on the timer's
+radar_last : (a b c k l m : List Pulse) → k ≡ [] → l ≡ [] → Whole a b c k l m × Tried a b c (take 1 k) (take 1 l) (take 1 m) k l m
+radar_last a b c k l m no_k no_l =
+    subst (λ (x : List Pulse × List Pulse). Whole a b c x.0 x.1 m × Tried a b c (take 1 x.0) (take 1 x.1) (take 1 m) x.0 x.1 m)
+    (λ i. (sym no_k i, sym no_l i)) (last_three a b c m, last_three a b c (take 1 m))
+
+key_last : (a b c k l m : List Pulse) (p : Pulse) (rest : List Pulse) → k ≡ [] → l ≡ p ∷ rest → c ≡ []
+    → Whole a b c k l m × Tried a b c (take 1 k) (take 1 l) [] k l m
+key_last a b c k l m p rest no_k some no_c =
+    subst (λ (x : List Pulse × (List Pulse × List Pulse)). Whole a b x.0 x.1.0 x.1.1 m × Tried a b x.0 (take 1 x.1.0) (take 1 x.1.1) [] x.1.0 x.1.1 m)
+    (λ i. (sym no_c i, (sym no_k i, sym some i))) (last_two a b (p ∷ rest) m, last_two a b (p ∷ []) [])
+
+timer_last : (a b c k l m : List Pulse) (p : Pulse) (rest : List Pulse) → k ≡ p ∷ rest → b ≡ [] → c ≡ []
+    → Whole a b c k l m × Tried a b c (take 1 k) [] [] k l m
+timer_last a b c k l m p rest some no_b no_c =
+    subst (λ (x : List Pulse × (List Pulse × List Pulse)). Whole a x.0 x.1.0 x.1.1 l m × Tried a x.0 x.1.0 (take 1 x.1.1) [] [] x.1.1 l m)
+    (λ i. (sym no_b i, (sym no_c i, sym some i))) (last_one a (p ∷ rest) (l ++ m), last_one a (p ∷ []) [])
 
 some_left : (n : ℕ) (r : Refusal) → (IsNone (Some r) ↔ n ≡ 0) → 0 < n
 some_left n r left = by_test n refl
@@ -147,126 +154,139 @@ served_thrice a b c m m1 m2 first second one two three =
     subst NoneRefused (sym (told_by_append m a (b ++ c)))
     (All-append (λ (x : Said). IsOk x.outcome) _ _ one (subst (λ (x : Machined). NoneRefused (told_by x (b ++ c))) first later))
 
--- what is left to say once the line is known on which the drain ended
-finish : (last : Line) (asked : List Pulse) (found done : List ℕ) (r : Option Refusal) (d d0 d3 : Desked) (s s3 : Holder)
-    → d0 ≡ with_lines d0.lines d → Moves found done d.lines d3.lines → ServesAll asked d0 (with_drain s) d3 s3
-    → first_line d3.lines.owed ≡ line_if_any last d3.lines.owed
-    → asked ≡ pulses_of d.machine.plan done ++ option_to_list (next_pulse d.machine.plan last d3.lines.owed)
-    → NoneRefused (told_by d0.machine (pulses_of d.machine.plan done))
-    → r ≡ option_and_then (pulse_refusal d3.machine) (next_pulse d.machine.plan last d3.lines.owed)
-    → (IsNone r ↔ ((line : Line) → on line d3.lines.owed ≡ 0))
-    → Drains d s (record { taken = found; applied = done; refused = r }) d3 s3
-finish last asked found done r d d0 d3 s s3 start lines serves first is served refusal left =
-    let request : next_pulse d.machine.plan last d3.lines.owed ≡ first_pulse d.machine.plan d3.lines.owed =
-    ap (λ o. option_and_then (pulse_of d.machine.plan) o) (sym first) in
-    record {
-      lines = lines;
-      asked = subst (λ (l : List Pulse). ServesAll l d (with_drain s) d3 s3)
-          (is ∙ ap (λ (o : Option Pulse). pulses_of d.machine.plan done ++ option_to_list o) request)
-          (serves_from asked d d0 (with_drain s) d3 s3 start serves);
-      served = subst (λ (x : Desked). NoneRefused (told_by x.machine (pulses_of d.machine.plan done))) start served;
-      refused = refusal ∙ ap (λ (o : Option Pulse). option_and_then (pulse_refusal d3.machine) o) request;
-      none_left = left;
-    }
-
--- no pulse, and no request
-no_requests : (plan : Planned) (line : Line) (n : ℕ) → n ≡ 0 → repeated (pulse_of plan line) n ≡ []
-no_requests plan line n is = ap (repeated (pulse_of plan line)) is ∙ repeated_none (pulse_of plan line)
-
-nothing_tried : (plan : Planned) (line : Line) (owed : List ℕ) → on line owed ≡ 0 → option_to_list (next_pulse plan line owed) ≡ []
-nothing_tried plan line owed is = ap option_to_list (next_none plan line owed is)
-
 same_machine : (m n : Machined) (asked : List Pulse) → n ≡ after_by m asked → asked ≡ [] → n ≡ m
 unfolding after_all
 same_machine m n asked is empty = is ∙ ap (after_by m) empty
 
--- three lines, by the requests of one plan
+-- three lines that were drained one after another, by the requests of one plan
+record Drained3 (r1 r2 r3 : Option Refusal) (found : List ℕ) (n1 n2 n3 : ℕ) (d d0 d1 d2 d3 : Desked) (s s1 s2 s3 : Holder) : Type 0 where
+  start : d0 ≡ with_lines d0.lines d
+  collects : Collects found d.lines d0.lines
+  timer : DrainsLine None d.machine.plan Timer d0 (with_drain s) n1 r1 d1 s1
+  key : DrainsLine r1 d.machine.plan Key d1 s1 n2 r2 d2 s2
+  radar : DrainsLine r2 d.machine.plan Radar d2 s2 n3 r3 d3 s3
+
+module _ (r1 r2 r3 : Option Refusal) (found : List ℕ) (n1 n2 n3 : ℕ) (d d0 d1 d2 d3 : Desked) (s s1 s2 s3 : Holder) where
+  -- what each line leaves at the end
+  abbrev left_at : Line → List Pulse
+  left_at line = line_left d.machine.plan line d3.lines
+
+  timer_stays : Drained3 r1 r2 r3 found n1 n2 n3 d d0 d1 d2 d3 s s1 s2 s3 → line_left d.machine.plan Timer d1.lines ≡ left_at Timer
+  timer_stays it =
+      sym (same_left d.machine.plan Radar Timer n3 d2.lines d3.lines timer_radar it.radar.lines
+      ∙ same_left d.machine.plan Key Timer n2 d1.lines d2.lines timer_key it.key.lines)
+
+  key_stays : Drained3 r1 r2 r3 found n1 n2 n3 d d0 d1 d2 d3 s s1 s2 s3 → line_left d.machine.plan Key d2.lines ≡ left_at Key
+  key_stays it = sym (same_left d.machine.plan Radar Key n3 d2.lines d3.lines key_radar it.radar.lines)
+
+  -- what was to be asked for is what was served of each line and what it leaves
+  by_lines : (it : Drained3 r1 r2 r3 found n1 n2 n3 d d0 d1 d2 d3 s s1 s2 s3)
+      → left_by d.machine.plan d0.lines ≡ (it.timer.served ++ left_at Timer) ++ ((it.key.served ++ left_at Key) ++ (it.radar.served ++ left_at Radar))
+  by_lines it =
+      let plan = d.machine.plan in
+      let timer : line_left plan Timer d0.lines ≡ it.timer.served ++ left_at Timer = it.timer.left ∙ ap (λ l. it.timer.served ++ l) (timer_stays it) in
+      let key : line_left plan Key d0.lines ≡ it.key.served ++ left_at Key =
+      sym (same_left plan Timer Key n1 d0.lines d1.lines (λ e. timer_key (sym e)) it.timer.lines) ∙ (it.key.left ∙ ap (λ l. it.key.served ++ l) (key_stays it)) in
+      let radar : line_left plan Radar d0.lines ≡ it.radar.served ++ left_at Radar =
+      sym (same_left plan Key Radar n2 d1.lines d2.lines (λ e. key_radar (sym e)) it.key.lines
+      ∙ same_left plan Timer Radar n1 d0.lines d1.lines (λ e. timer_radar (sym e)) it.timer.lines) ∙ it.radar.left in
+      λ i. timer i ++ (key i ++ radar i)
+
+  -- what was asked, line after line
+  all_asked : (it : Drained3 r1 r2 r3 found n1 n2 n3 d d0 d1 d2 d3 s s1 s2 s3)
+      → ServesAll ((it.timer.served ++ take 1 (left_at Timer)) ++ ((it.key.served ++ tried_after r1 (left_at Key)) ++ (it.radar.served ++ tried_after r2 (left_at Radar)))) d0 (with_drain s) d3 s3
+  all_asked it =
+      let timer : ServesAll (it.timer.served ++ take 1 (left_at Timer)) d0 (with_drain s) d1 s1 =
+      subst (λ (l : List Pulse). ServesAll (it.timer.served ++ take 1 l) d0 (with_drain s) d1 s1) (timer_stays it) it.timer.asked in
+      let key : ServesAll (it.key.served ++ tried_after r1 (left_at Key)) d1 s1 d2 s2 =
+      subst (λ (l : List Pulse). ServesAll (it.key.served ++ tried_after r1 l) d1 s1 d2 s2) (key_stays it) it.key.asked in
+      serves_append _ _ d0 (with_drain s) d1 s1 d3 s3 timer (serves_append _ _ d1 s1 d2 s2 d3 s3 key it.radar.asked)
+
+  -- what is left to say once the line is known on which the drain ended
+  finish : (it : Drained3 r1 r2 r3 found n1 n2 n3 d d0 d1 d2 d3 s s1 s2 s3)
+      → Moves found (n1 ∷ n2 ∷ n3 ∷ []) d.lines d3.lines
+      → Whole it.timer.served it.key.served it.radar.served (left_at Timer) (left_at Key) (left_at Radar)
+      → Tried it.timer.served it.key.served it.radar.served (take 1 (left_at Timer)) (tried_after r1 (left_at Key)) (tried_after r2 (left_at Radar)) (left_at Timer) (left_at Key) (left_at Radar)
+      → r3 ≡ option_and_then (pulse_refusal d3.machine) (slice_get (left_by d.machine.plan d3.lines) 0)
+      → (IsNone r3 ↔ ((line : Line) → on line d3.lines.owed ≡ 0))
+      → Drains d s (record { taken = found; applied = n1 ∷ n2 ∷ n3 ∷ []; refused = r3 }) d3 s3
+  finish it lines whole tried refusal none_left =
+      let served = it.timer.served ++ (it.key.served ++ it.radar.served) in
+      record {
+        lines = lines;
+        served = served;
+        left = all_owed d.machine.plan found d.lines d0.lines it.collects ∙ (by_lines it ∙ whole);
+        asked = serves_from _ d d0 (with_drain s) d3 s3 it.start (subst (λ (l : List Pulse). ServesAll l d0 (with_drain s) d3 s3) tried (all_asked it));
+        none_refused = subst (λ (x : Desked). NoneRefused (told_by x.machine served)) it.start
+            (served_thrice _ _ _ d0.machine d1.machine d2.machine it.timer.machine it.key.machine it.timer.none_refused it.key.none_refused it.radar.none_refused);
+        refused = refusal;
+        none_left = none_left;
+      }
+
+-- by where a request was refused
 of_plan : (r1 r2 r3 : Option Refusal) (found : List ℕ) (n1 n2 n3 : ℕ) (d d0 d1 d2 d3 : Desked) (s s1 s2 s3 : Holder)
-    → d0 ≡ with_lines d0.lines d → Collects found d.lines d0.lines
-    → DrainsLine None d.machine.plan Timer d0 (with_drain s) n1 r1 d1 s1 → DrainsLine r1 d.machine.plan Key d1 s1 n2 r2 d2 s2
-    → DrainsLine r2 d.machine.plan Radar d2 s2 n3 r3 d3 s3
+    → Drained3 r1 r2 r3 found n1 n2 n3 d d0 d1 d2 d3 s s1 s2 s3
     → Drains d s (record { taken = found; applied = n1 ∷ n2 ∷ n3 ∷ []; refused = r3 }) d3 s3
-of_plan None None r3 found n1 n2 n3 d d0 d1 d2 d3 s s1 s2 s3 start collects a b c =
+of_plan None None r3 found n1 n2 n3 d d0 d1 d2 d3 s s1 s2 s3 it =
     let plan = d.machine.plan in
-    let timer : on Timer d1.lines.owed ≡ 0 = (a.none_left refl).0 refl in
-    let key : on Key d2.lines.owed ≡ 0 = (b.none_left refl).0 refl in
-    let timer_last : on Timer d3.lines.owed ≡ 0 = c.lines.other_owed Timer timer_radar ∙ (b.lines.other_owed Timer timer_key ∙ timer) in
-    let key_last : on Key d3.lines.owed ≡ 0 = c.lines.other_owed Key key_radar ∙ key in
-    let all = serves_append _ _ d0 (with_drain s) d1 s1 d3 s3 a.asked (serves_append _ _ d1 s1 d2 s2 d3 s3 b.asked c.asked) in
-    let one = repeated (pulse_of plan Timer) n1 in
-    let two = repeated (pulse_of plan Key) n2 in
-    let three = repeated (pulse_of plan Radar) n3 in
-    let last = option_to_list (next_pulse plan Radar d3.lines.owed) in
-    let asked : (one ++ option_to_list (next_pulse plan Timer d1.lines.owed)) ++ ((two ++ option_to_list (next_pulse plan Key d2.lines.owed)) ++ (three ++ last)) ≡ (one ++ (two ++ three)) ++ last =
-    ap (λ (l : List Pulse). (one ++ l) ++ ((two ++ option_to_list (next_pulse plan Key d2.lines.owed)) ++ (three ++ last))) (nothing_tried plan Timer d1.lines.owed timer)
-    ∙ (ap (λ (l : List Pulse). (one ++ []) ++ ((two ++ l) ++ (three ++ last))) (nothing_tried plan Key d2.lines.owed key)
-    ∙ last_tried one two three last) in
-    finish Radar _ found (n1 ∷ n2 ∷ n3 ∷ []) r3 d d0 d3 s s3 start
-    (moves found n1 n2 n3 d.lines d0.lines d1.lines d2.lines d3.lines collects a.lines b.lines c.lines
+    let timer : on Timer d1.lines.owed ≡ 0 = (it.timer.none_left refl).0 refl in
+    let key : on Key d2.lines.owed ≡ 0 = (it.key.none_left refl).0 refl in
+    let timer_owed : on Timer d3.lines.owed ≡ 0 = it.radar.lines.other_owed Timer timer_radar ∙ (it.key.lines.other_owed Timer timer_key ∙ timer) in
+    let key_owed : on Key d3.lines.owed ≡ 0 = it.radar.lines.other_owed Key key_radar ∙ key in
+    let no_timer : line_left plan Timer d3.lines ≡ [] = none_owed plan Timer (on Timer d3.lines.owed) (on Timer d3.lines.begun) timer_owed in
+    let no_key : line_left plan Key d3.lines ≡ [] = none_owed plan Key (on Key d3.lines.owed) (on Key d3.lines.begun) key_owed in
+    let both = radar_last it.timer.served it.key.served it.radar.served (line_left plan Timer d3.lines) (line_left plan Key d3.lines) (line_left plan Radar d3.lines) no_timer no_key in
+    finish None None r3 found n1 n2 n3 d d0 d1 d2 d3 s s1 s2 s3 it
+    (moves found n1 n2 n3 d.lines d0.lines d1.lines d2.lines d3.lines it.collects it.timer.lines it.key.lines it.radar.lines
     (λ left. absurd (omega (arith, left, timer))) (λ left. absurd (omega (arith, left, timer))) (λ left. absurd (omega (arith, left, key))))
-    all (first_radar d3.lines.owed timer_last key_last) asked
-    (served_thrice _ _ _ d0.machine d1.machine d2.machine a.machine b.machine a.served b.served c.served)
-    c.refusal
-    (λ is. left_none timer_last key_last ((c.none_left refl).0 is), λ each. (c.none_left refl).1 (each Radar))
+    both.0 both.1
+    (it.radar.refusal ∙ λ i. option_and_then (pulse_refusal d3.machine) (slice_get (sym no_timer i ++ (sym no_key i ++ line_left plan Radar d3.lines)) 0))
+    (λ is. left_none timer_owed key_owed ((it.radar.none_left refl).0 is), λ each. (it.radar.none_left refl).1 (each Radar))
   where
     left_none : on Timer d3.lines.owed ≡ 0 → on Key d3.lines.owed ≡ 0 → on Radar d3.lines.owed ≡ 0 → (line : Line) → on line d3.lines.owed ≡ 0
     left_none t k r Timer = t
     left_none t k r Key = k
     left_none t k r Radar = r
-of_plan None (Some r) r3 found n1 n2 n3 d d0 d1 d2 d3 s s1 s2 s3 start collects a b c =
+of_plan None (Some r) r3 found n1 n2 n3 d d0 d1 d2 d3 s s1 s2 s3 it =
     let plan = d.machine.plan in
-    let timer : on Timer d1.lines.owed ≡ 0 = (a.none_left refl).0 refl in
-    let key : 0 < on Key d2.lines.owed = some_left (on Key d2.lines.owed) r (b.none_left refl) in
-    let radar : n3 ≡ 0 = c.stopped r refl in
-    let timer_last : on Timer d3.lines.owed ≡ 0 = c.lines.other_owed Timer timer_radar ∙ (b.lines.other_owed Timer timer_key ∙ timer) in
-    let same_key : on Key d3.lines.owed ≡ on Key d2.lines.owed = c.lines.other_owed Key key_radar in
-    let key_last : 0 < on Key d3.lines.owed = omega (arith, key, same_key) in
-    let all = serves_append _ _ d0 (with_drain s) d1 s1 d3 s3 a.asked (serves_append _ _ d1 s1 d2 s2 d3 s3 b.asked c.asked) in
-    let one = repeated (pulse_of plan Timer) n1 in
-    let two = repeated (pulse_of plan Key) n2 in
-    let three = repeated (pulse_of plan Radar) n3 in
-    let empty : three ≡ [] = no_requests plan Radar n3 radar in
-    let next : next_pulse plan Key d2.lines.owed ≡ next_pulse plan Key d3.lines.owed = next_same plan Key d2.lines.owed d3.lines.owed (sym same_key) in
-    let asked : (one ++ option_to_list (next_pulse plan Timer d1.lines.owed)) ++ ((two ++ option_to_list (next_pulse plan Key d2.lines.owed)) ++ (three ++ [])) ≡ (one ++ (two ++ three)) ++ option_to_list (next_pulse plan Key d3.lines.owed) =
-    ap (λ (l : List Pulse). (one ++ l) ++ ((two ++ option_to_list (next_pulse plan Key d2.lines.owed)) ++ (three ++ []))) (nothing_tried plan Timer d1.lines.owed timer)
-    ∙ (ap (λ (o : Option Pulse). (one ++ []) ++ ((two ++ option_to_list o) ++ (three ++ []))) next
-    ∙ key_tried one two three (option_to_list (next_pulse plan Key d3.lines.owed)) empty) in
-    let machine : d3.machine ≡ d2.machine = same_machine d2.machine d3.machine three c.machine empty in
-    finish Key _ found (n1 ∷ n2 ∷ n3 ∷ []) r3 d d0 d3 s s3 start
-    (moves found n1 n2 n3 d.lines d0.lines d1.lines d2.lines d3.lines collects a.lines b.lines c.lines
-    (λ left. absurd (omega (arith, left, timer))) (λ left. radar) (λ left. radar))
-    all (first_key d3.lines.owed timer_last key_last) asked
-    (served_thrice _ _ _ d0.machine d1.machine d2.machine a.machine b.machine a.served b.served c.served)
-    (c.refusal ∙ (b.refusal ∙ (ap (λ (o : Option Pulse). option_and_then (pulse_refusal d2.machine) o) next
-    ∙ ap (λ (m : Machined). option_and_then (pulse_refusal m) (next_pulse plan Key d3.lines.owed)) (sym machine))))
-    (λ is. absurd (true≢false (sym (ap is_some c.refusal) ∙ is)), λ each. absurd (omega (arith, each Key, key_last)))
-of_plan (Some r) None r3 found n1 n2 n3 d d0 d1 d2 d3 s s1 s2 s3 start collects a b c = absurd (true≢false (sym (ap is_some b.refusal)))
-of_plan (Some r) (Some q) r3 found n1 n2 n3 d d0 d1 d2 d3 s s1 s2 s3 start collects a b c =
+    let timer : on Timer d1.lines.owed ≡ 0 = (it.timer.none_left refl).0 refl in
+    let key : 0 < on Key d2.lines.owed = some_left (on Key d2.lines.owed) r (it.key.none_left refl) in
+    let radar = it.radar.stopped r refl in
+    let timer_owed : on Timer d3.lines.owed ≡ 0 = it.radar.lines.other_owed Timer timer_radar ∙ (it.key.lines.other_owed Timer timer_key ∙ timer) in
+    let key_owed : 0 < on Key d3.lines.owed = omega (arith, key, it.radar.lines.other_owed Key key_radar) in
+    let no_timer : line_left plan Timer d3.lines ≡ [] = none_owed plan Timer (on Timer d3.lines.owed) (on Timer d3.lines.begun) timer_owed in
+    let machine : d3.machine ≡ d2.machine = same_machine d2.machine d3.machine it.radar.served it.radar.machine radar.1 in
+    let refused : Some r ≡ option_and_then (pulse_refusal d3.machine) (slice_get (line_left plan Key d3.lines) 0) =
+    it.key.refusal ∙ (λ i. option_and_then (pulse_refusal (sym machine i)) (slice_get (key_stays None (Some r) r3 found n1 n2 n3 d d0 d1 d2 d3 s s1 s2 s3 it i) 0)) in
+    let first = some_first d3.machine (line_left plan Key d3.lines) r refused in
+    let both = key_last it.timer.served it.key.served it.radar.served (line_left plan Timer d3.lines) (line_left plan Key d3.lines) (line_left plan Radar d3.lines) first.0 first.1 no_timer first.2 radar.1 in
+    finish None (Some r) r3 found n1 n2 n3 d d0 d1 d2 d3 s s1 s2 s3 it
+    (moves found n1 n2 n3 d.lines d0.lines d1.lines d2.lines d3.lines it.collects it.timer.lines it.key.lines it.radar.lines
+    (λ left. absurd (omega (arith, left, timer))) (λ left. radar.0) (λ left. radar.0))
+    both.0 both.1
+    (it.radar.refusal ∙ (refused ∙ (λ i. option_and_then (pulse_refusal d3.machine) (slice_get (first.2 i) 0))
+    ∙ λ i. option_and_then (pulse_refusal d3.machine) (slice_get (sym no_timer i ++ (sym first.2 i ++ line_left plan Radar d3.lines)) 0)))
+    (λ is. absurd (true≢false (sym (ap is_some it.radar.refusal) ∙ is)), λ each. absurd (omega (arith, each Key, key_owed)))
+of_plan (Some r) None r3 found n1 n2 n3 d d0 d1 d2 d3 s s1 s2 s3 it = absurd (true≢false (sym (ap is_some it.key.refusal)))
+of_plan (Some r) (Some q) r3 found n1 n2 n3 d d0 d1 d2 d3 s s1 s2 s3 it =
     let plan = d.machine.plan in
-    let timer : 0 < on Timer d1.lines.owed = some_left (on Timer d1.lines.owed) r (a.none_left refl) in
-    let no_key : n2 ≡ 0 = b.stopped r refl in
-    let no_radar : n3 ≡ 0 = c.stopped q refl in
-    let same_timer : on Timer d3.lines.owed ≡ on Timer d1.lines.owed = c.lines.other_owed Timer timer_radar ∙ b.lines.other_owed Timer timer_key in
-    let timer_last : 0 < on Timer d3.lines.owed = omega (arith, timer, same_timer) in
-    let all = serves_append _ _ d0 (with_drain s) d1 s1 d3 s3 a.asked (serves_append _ _ d1 s1 d2 s2 d3 s3 b.asked c.asked) in
-    let one = repeated (pulse_of plan Timer) n1 in
-    let two = repeated (pulse_of plan Key) n2 in
-    let three = repeated (pulse_of plan Radar) n3 in
-    let empty_two : two ≡ [] = no_requests plan Key n2 no_key in
-    let empty_three : three ≡ [] = no_requests plan Radar n3 no_radar in
-    let next : next_pulse plan Timer d1.lines.owed ≡ next_pulse plan Timer d3.lines.owed = next_same plan Timer d1.lines.owed d3.lines.owed (sym same_timer) in
-    let asked : (one ++ option_to_list (next_pulse plan Timer d1.lines.owed)) ++ ((two ++ []) ++ (three ++ [])) ≡ (one ++ (two ++ three)) ++ option_to_list (next_pulse plan Timer d3.lines.owed) =
-    ap (λ (o : Option Pulse). (one ++ option_to_list o) ++ ((two ++ []) ++ (three ++ []))) next
-    ∙ timer_tried one two three (option_to_list (next_pulse plan Timer d3.lines.owed)) empty_two empty_three in
-    let machine : d3.machine ≡ d1.machine = same_machine d2.machine d3.machine three c.machine empty_three ∙ same_machine d1.machine d2.machine two b.machine empty_two in
-    finish Timer _ found (n1 ∷ n2 ∷ n3 ∷ []) r3 d d0 d3 s s3 start
-    (moves found n1 n2 n3 d.lines d0.lines d1.lines d2.lines d3.lines collects a.lines b.lines c.lines
-    (λ left. no_key) (λ left. no_radar) (λ left. no_radar))
-    all (first_timer d3.lines.owed timer_last) asked
-    (served_thrice _ _ _ d0.machine d1.machine d2.machine a.machine b.machine a.served b.served c.served)
-    (c.refusal ∙ (b.refusal ∙ (a.refusal ∙ (ap (λ (o : Option Pulse). option_and_then (pulse_refusal d1.machine) o) next
-    ∙ ap (λ (m : Machined). option_and_then (pulse_refusal m) (next_pulse plan Timer d3.lines.owed)) (sym machine)))))
-    (λ is. absurd (true≢false (sym (ap is_some c.refusal) ∙ is)), λ each. absurd (omega (arith, each Timer, timer_last)))
+    let timer : 0 < on Timer d1.lines.owed = some_left (on Timer d1.lines.owed) r (it.timer.none_left refl) in
+    let key = it.key.stopped r refl in
+    let radar = it.radar.stopped q refl in
+    let timer_owed : 0 < on Timer d3.lines.owed = omega (arith, timer, it.radar.lines.other_owed Timer timer_radar, it.key.lines.other_owed Timer timer_key) in
+    let machine : d3.machine ≡ d1.machine =
+    same_machine d2.machine d3.machine it.radar.served it.radar.machine radar.1 ∙ same_machine d1.machine d2.machine it.key.served it.key.machine key.1 in
+    let refused : Some r ≡ option_and_then (pulse_refusal d3.machine) (slice_get (line_left plan Timer d3.lines) 0) =
+    it.timer.refusal ∙ (λ i. option_and_then (pulse_refusal (sym machine i)) (slice_get (timer_stays (Some r) (Some q) r3 found n1 n2 n3 d d0 d1 d2 d3 s s1 s2 s3 it i) 0)) in
+    let first = some_first d3.machine (line_left plan Timer d3.lines) r refused in
+    let both = timer_last it.timer.served it.key.served it.radar.served (line_left plan Timer d3.lines) (line_left plan Key d3.lines) (line_left plan Radar d3.lines) first.0 first.1 first.2 key.1 radar.1 in
+    finish (Some r) (Some q) r3 found n1 n2 n3 d d0 d1 d2 d3 s s1 s2 s3 it
+    (moves found n1 n2 n3 d.lines d0.lines d1.lines d2.lines d3.lines it.collects it.timer.lines it.key.lines it.radar.lines
+    (λ left. key.0) (λ left. radar.0) (λ left. radar.0))
+    both.0 both.1
+    (it.radar.refusal ∙ (it.key.refusal ∙ (refused ∙ (λ i. option_and_then (pulse_refusal d3.machine) (slice_get (first.2 i) 0))
+    ∙ λ i. option_and_then (pulse_refusal d3.machine) (slice_get (sym first.2 i ++ (line_left plan Key d3.lines ++ line_left plan Radar d3.lines)) 0))))
+    (λ is. absurd (true≢false (sym (ap is_some it.radar.refusal) ∙ is)), λ each. absurd (omega (arith, each Timer, timer_owed)))
 
 -- the three lines of a desk from which what was posted was taken
 pub drains : (r1 r2 r3 : Option Refusal) (found : List ℕ) (n1 n2 n3 : ℕ) (d d0 d1 d2 d3 : Desked) (s s1 s2 s3 : Holder)
@@ -278,7 +298,10 @@ drains r1 r2 r3 found n1 n2 n3 d d0 d1 d2 d3 s s1 s2 s3 start collects a b c =
     let first : d0.machine.plan ≡ d.machine.plan = ap (λ (x : Desked). x.machine.plan) start in
     let second : d1.machine.plan ≡ d.machine.plan = ap (λ (m : Machined). m.plan) a.machine ∙ (same_plan d0.machine _ ∙ first) in
     let third : d2.machine.plan ≡ d.machine.plan = ap (λ (m : Machined). m.plan) b.machine ∙ (same_plan d1.machine _ ∙ second) in
-    of_plan r1 r2 r3 found n1 n2 n3 d d0 d1 d2 d3 s s1 s2 s3 start collects
-    (subst (λ (p : Planned). DrainsLine None p Timer d0 (with_drain s) n1 r1 d1 s1) first a)
-    (subst (λ (p : Planned). DrainsLine r1 p Key d1 s1 n2 r2 d2 s2) second b)
-    (subst (λ (p : Planned). DrainsLine r2 p Radar d2 s2 n3 r3 d3 s3) third c)
+    of_plan r1 r2 r3 found n1 n2 n3 d d0 d1 d2 d3 s s1 s2 s3 (record {
+      start = start;
+      collects = collects;
+      timer = subst (λ (p : Planned). DrainsLine None p Timer d0 (with_drain s) n1 r1 d1 s1) first a;
+      key = subst (λ (p : Planned). DrainsLine r1 p Key d1 s1 n2 r2 d2 s2) second b;
+      radar = subst (λ (p : Planned). DrainsLine r2 p Radar d2 s2 n3 r3 d3 s3) third c;
+    })

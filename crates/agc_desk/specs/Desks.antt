@@ -1,6 +1,6 @@
 -- The desk, as callers see it.
-use Rattle.std.specs.Prelude.{◌≡◌, ℕ, ◌+◌, ◌≤◌, List, [], Some, IfSome, IsSome}
-use Rattle.std.specs.List.{All}
+use Rattle.std.specs.Prelude.{◌≡◌, ℕ, ◌+◌, ◌<◌, ◌≤◌, List, [], ◌++◌, IfSome, length, take}
+use Rattle.std.specs.List.{All, Contains}
 use Rattle.agc_latch.specs.declared.line.Line.{Line}
 use Rattle.agc_latch.specs.Lines.{on}
 use Rattle.agc_plan.specs.Plans.{Planned}
@@ -10,8 +10,8 @@ use Rattle.agc_machine.specs.Machines.{Machined}
 use Rattle.agc_machine.specs.Told.{add, nothing}
 use Rattle.agc_desk.specs.declared.ties.Call.{Call}
 use Rattle.agc_desk.specs.Books.{Ledgered}
-use Rattle.agc_desk.specs.History.{Known, Leads, applied_in}
-use Rattle.agc_desk.specs.Pulses.{pulse_request}
+use Rattle.agc_desk.specs.History.{Known, Leads, served_on}
+use Rattle.agc_desk.specs.Pulses.{pulse_requests, repeated}
 
 -- a desk: its machine, the calls that led to it, the books, how many shares were given out, and the
 -- accounts of the lines on which devices post
@@ -36,21 +36,25 @@ new_desk machine = record {
 abbrev pub with_lines : LineAccounts → Desked → Desked
 with_lines lines d = record d { lines = lines }
 
--- The pulses of these calls: each asks for what pulses of its line ask for; and on a line whose
--- pulses ask for something, those that are told as applied are those that were asked for, and not
--- refused
-pub record ArePulses (plan : Planned) (calls : List Call) (applied : List ℕ) : Type 0 where
+-- The pulses of these calls: each call asks for something for which pulses of its line ask; and what
+-- was asked on a line, and not refused, is all for which its applied pulses ask, one after the
+-- other, and then the first requests of one more, so many as that one is begun, and not all
+pub record ArePulses (plan : Planned) (calls : List Call) (applied begun : List ℕ)
+    : Type 0 where
   pub each : All (λ call. IfSome call.pulse
-      (λ line. pulse_request plan line ≡ Some call.answer.request)) calls
-  pub counted : (line : Line) → IsSome (pulse_request plan line)
-      → on line applied ≡ applied_in line calls
+      (λ line. Contains (pulse_requests plan line) call.answer.request)) calls
+  pub served : (line : Line) → served_on line calls
+      ≡ repeated (pulse_requests plan line) (on line applied)
+      ++ take (on line begun) (pulse_requests plan line)
+  pub not_all : (line : Line) → 0 < on line begun
+      → on line begun < length (pulse_requests plan line)
 
 -- what a desk keeps that was made with the first machine: its history leads from that one to its
 -- machine, and no share was gathered; each book is the machine's total less its value as the desk
 -- was made; with each share went one of the 65 parts of each ledger, the desk keeps at least one,
 -- and no share is back; and its lines tell of the pulses of its history
 pub record IsBooked (first machine : Machined) (known : Known) (since : Totals)
-    (ledgers : Ledgered) (applied : List ℕ) : Type 0 where
+    (ledgers : Ledgered) (lines : LineAccounts) : Type 0 where
   pub leads : Leads first known.calls machine
   pub none_gathered : known.gathered ≡ []
   pub since_is : since ≡ first.totals
@@ -58,4 +62,4 @@ pub record IsBooked (first machine : Machined) (known : Known) (since : Totals)
   pub parts : ledgers.left + known.given ≡ 65
   pub one : 1 ≤ ledgers.left
   pub none_back : ledgers.back ≡ nothing
-  pub pulses : ArePulses first.plan known.calls applied
+  pub pulses : ArePulses first.plan known.calls lines.applied lines.begun

@@ -1,9 +1,10 @@
 -- The history of one machine: who asked what, and what was answered.
 use Rattle.std.specs.Prelude.{◌≡◌, ℕ, ◌+◌, ◌++◌, ◌==◌, ◌&&◌, Bool, false, is_ok, List, [], ◌∷◌, map}
 use Rattle.std.specs.Prelude.{nat_eq, Option, Some, None}
-use Rattle.std.specs.List.{All, Contains, IsDistinct, count_by, filter}
+use Rattle.std.specs.List.{All, Contains, IsDistinct, filter}
 use Rattle.agc_latch.specs.declared.line.Line.{Line}
 use Rattle.agc_latch.specs.Lines.{word_of}
+use Rattle.agc_plan.specs.declared.request.Request.{Request}
 use Rattle.agc_machine.specs.Said.{Said}
 use Rattle.agc_machine.specs.Machines.{Machined, after, said_of}
 use Rattle.agc_desk.specs.declared.ties.Call.{Call}
@@ -25,9 +26,13 @@ abbrev pub is_of : Line → Option Line → Bool
 is_of line None = false
 is_of line (Some other) = word_of other == word_of line
 
--- how many pulses of a line these calls applied: those of its pulses that were not refused
-abbrev pub applied_in : Line → List Call → ℕ
-applied_in line calls = count_by (λ call. is_ok call.answer.outcome && is_of line call.pulse) calls
+-- whether a call is for a pulse of the line, and not refused
+abbrev pub serves_line : Line → Call → Bool
+serves_line line call = is_ok call.answer.outcome && is_of line call.pulse
+
+-- what was asked for pulses of a line by these calls, and not refused, in order
+abbrev pub served_on : Line → List Call → List Request
+served_on line calls = map (λ call. call.answer.request) (filter (serves_line line) calls)
 
 -- a request that its holder asks with the share of this number, of its own accord and not for a
 -- pulse, and the answer

@@ -1,9 +1,10 @@
 -- What pulses ask for.
-use Rattle.std.specs.Prelude.{ℕ, ◌==◌, if◌then◌else◌, List, [], ◌++◌, Option, Some, None, replicate}
-use Rattle.std.specs.Option.{option_and_then, option_map, option_or}
+use Rattle.std.specs.Prelude.{ℕ, ◌==◌, Bool, List, [], ◌∷◌, ◌++◌, Option, Some, None, drop}
+use Rattle.std.specs.Prelude.{length, map, replicate}
+use Rattle.std.specs.List.{flat_map}
+use Rattle.std.specs.Option.{option_to_list}
 use Rattle.agc_latch.specs.declared.line.Line.{Line}
 use Rattle.agc_latch.specs.declared.line.Line.TheVariants.{Timer, Key, Radar}
-use Rattle.agc_latch.specs.Lines.{on}
 use Rattle.agc_plan.specs.declared.request.Action.{Action}
 use Rattle.agc_plan.specs.declared.request.Action.TheVariants as action
 use Rattle.agc_plan.specs.declared.request.Request.{Request}
@@ -18,45 +19,42 @@ action_request (action.Findvac priority entry) = Some (request.Findvac priority 
 action_request (action.Rouse at) = Some (request.Rouse at)
 action_request (action.List delay task) = Some (request.List delay task)
 
--- what a pulse of a line asks for, if anything: a tick, or the plan's action
-abbrev pub pulse_request : Planned → Line → Option Request
-pulse_request plan Timer = Some request.Tick
-pulse_request plan Key = action_request plan.key
-pulse_request plan Radar = action_request plan.radar
+-- and the requests by which actions are asked for, in order
+abbrev pub requests_for : List Action → List Request
+requests_for actions = flat_map (λ act. option_to_list (action_request act)) actions
 
--- a pulse that asks for something: its line, and what it asks for
+-- what a pulse of a line asks for, in order: a tick, or the plan's actions
+abbrev pub pulse_requests : Planned → Line → List Request
+pulse_requests plan Timer = request.Tick ∷ []
+pulse_requests plan Key = requests_for plan.key
+pulse_requests plan Radar = requests_for plan.radar
+
+-- whether pulses of a line ask for nothing
+abbrev pub asks_nothing : Planned → Line → Bool
+asks_nothing plan line = length (pulse_requests plan line) == 0
+
+-- the same so many times, one after the other
+abbrev pub repeated : {A : Type 0} → List A → ℕ → List A
+repeated asked times = flat_map (λ all. all) (replicate times asked)
+
+-- a request for which a pulse asks, and the pulse's line
 pub record Pulse : Type 0 where
   pub line : Line
   pub request : Request
 
--- a pulse of a line, if it asks for anything
-abbrev pub pulse_of : Planned → Line → Option Pulse
+-- those of a pulse of the line, in order
+abbrev pub pulse_of : Planned → Line → List Pulse
 pulse_of plan line =
-    option_map (λ asked. record { line = line; request = asked }) (pulse_request plan line)
+    map (λ asked. record { line = line; request = asked }) (pulse_requests plan line)
 
--- the same so many times, if there is one
-abbrev pub repeated : {A : Type 0} → Option A → ℕ → List A
-repeated None times = []
-repeated (Some asked) times = replicate times asked
+-- what so many pulses of a line still ask for, where so many requests of the first were served
+abbrev pub left_on : Planned → Line → ℕ → ℕ → List Pulse
+left_on plan line owed begun = drop begun (repeated (pulse_of plan line) owed)
 
--- of so many pulses of each line those that ask for something, in the order in which they are
--- applied: the timer's all come first, then the keyboard's, then the radar's
-abbrev pub pulses_of : Planned → List ℕ → List Pulse
-pulses_of plan pulses =
-    repeated (pulse_of plan Timer) (on Timer pulses)
-    ++ (repeated (pulse_of plan Key) (on Key pulses)
-    ++ repeated (pulse_of plan Radar) (on Radar pulses))
-
--- the line, if there are any of these pulses on it
-abbrev pub line_if_any : Line → List ℕ → Option Line
-line_if_any line pulses = if on line pulses == 0 then None else Some line
-
--- the line of the first of these pulses, if there is any
-abbrev pub first_line : List ℕ → Option Line
-first_line pulses =
-    option_or (line_if_any Timer pulses)
-    (option_or (line_if_any Key pulses) (line_if_any Radar pulses))
-
--- and that pulse, if it asks for anything
-abbrev pub first_pulse : Planned → List ℕ → Option Pulse
-first_pulse plan pulses = option_and_then (pulse_of plan) (first_line pulses)
+-- and so many of each line, in the order in which they are asked for: the timer's all come first,
+-- then the keyboard's, then the radar's
+abbrev pub left_of : Planned → (Line → ℕ) → (Line → ℕ) → List Pulse
+left_of plan owed begun =
+    left_on plan Timer (owed Timer) (begun Timer)
+    ++ (left_on plan Key (owed Key) (begun Key)
+    ++ left_on plan Radar (owed Radar) (begun Radar))

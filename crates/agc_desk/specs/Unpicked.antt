@@ -1,7 +1,6 @@
 -- Helpers of proofs: what stands where nothing is picked.
 use Rattle.std.specs.Prelude.{[], Err}
 use Rattle.atomic_table.specs.Seated.{TableId}
-use Rattle.agc_plan.specs.declared.request.Action.TheVariants.{Nothing}
 use Rattle.agc_plan.specs.declared.request.Request.TheVariants.{Fresh}
 use Rattle.agc_plan.specs.Base.{fresh_base}
 use Rattle.agc_machine.specs.declared.answer.Refusal.TheVariants.{Spent}
@@ -35,7 +34,7 @@ no_names = record {
 -- a machine for where nothing is picked
 abbrev pub no_machine : Machined
 no_machine = begun_with
-    (record { rows = []; entries = []; key = Nothing; radar = Nothing; sets = 7 }) 1 0 fresh_base
+    (record { rows = []; entries = []; key = []; radar = []; sets = 7 }) 1 0 fresh_base
 
 -- an answer for where nothing is picked
 abbrev pub no_answer : Said

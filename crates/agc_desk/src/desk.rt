@@ -1,4 +1,4 @@
-ghost use Rattle.std.specs.Prelude.{◌≡◌, ◌+◌, ◌++◌, ◌∷◌, ◌↔◌, ◌≤◌, ◌⊎◌, [], None, Some};
+ghost use Rattle.std.specs.Prelude.{◌≡◌, ◌+◌, ◌++◌, ◌∷◌, ◌↔◌, ◌<◌, ◌≤◌, ◌⊎◌, [], None, length};
 ghost use Rattle.std.specs.Prelude.{All, IsOk, IsNone, IfOk, IfErr, IfSome, IfNone, OnErr, OnOk};
 ghost use Rattle.std.specs.Prelude.{vec_len};
 ghost use Rattle.agc_latch.specs.Accounts.{Applies, AreAll, Collects, Gives, Settles};
@@ -12,13 +12,14 @@ ghost use Rattle.agc_desk.specs.Desks.{ArePulses, new_desk, with_lines};
 ghost use Rattle.agc_desk.specs.History.{IsHistory, Leads, new_holder, own_call};
 ghost use Rattle.agc_desk.specs.History.{with_drain, with_heard};
 ghost use Rattle.agc_desk.specs.Opening.{names_of};
-ghost use Rattle.agc_desk.specs.Pulses.{pulse_request};
+ghost use Rattle.agc_desk.specs.Pulses.{pulse_requests};
 ghost use Rattle.agc_desk.specs.Runs.{IsGiven};
-ghost use Rattle.agc_desk.specs.Stages.{Marks};
+ghost use Rattle.agc_desk.specs.Stages.{Marks, NextIs};
 
 use crate::history::{History, Own};
 use crate::ledgers::{Amounts, Ledgers, growth};
 use crate::names::{Blanks, Names};
+use crate::pulse::pulse_request;
 use agc_latch::{Accounts, Device, Latch, Line, Settled, Taker, Unjoined};
 use agc_machine::{Answer, Machine, Totals};
 use agc_plan::Request;
@@ -33,9 +34,9 @@ const SHARES: u64 = 64;
 ///
 /// Of every desk it holds that the history leads to its machine from the one with which it was
 /// made, that each book is the machine's total less that one's, and that on each line what is
-/// applied and what is owed are the pulses of settled latches and those that its taker took. On a
-/// line whose pulses ask for something, the applied ones are those of its history that were not
-/// refused. The history has no bytes. Source: profile.
+/// applied and what is owed are the pulses of settled latches and those that its taker took. What its
+/// history asked for pulses of a line, and was not refused, is all for which the applied ones ask,
+/// and the first requests of one more that is begun. The history has no bytes. Source: profile.
 #[derive(Drop)]
 pub struct Desk<N: Names> {
     machine: Machine,
@@ -59,7 +60,7 @@ impl<N: Names> Model for Desk<N> {
     } };
 
     ghost invariant = { λ d.
-        IsBooked N.first d.machine d.history d.since d.ledgers d.lines.applied };
+        IsBooked N.first d.machine d.history d.since d.ledgers d.lines };
 }
 
 /// What its holder asked of one desk, and was answered. Contracts see it as its number and these
@@ -128,7 +129,8 @@ impl<N: Names> Desk<N> {
         ensures leads { Leads N.first self.now.history self.now.machine }
         ensures lawful { IsLawful self.now.machine }
         ensures kept { IsKept self.now.lines }
-        ensures pulses { ArePulses N.first.plan self.now.history self.now.lines.applied }
+        ensures pulses { ArePulses N.first.plan self.now.history
+            self.now.lines.applied self.now.lines.begun }
     {
         // Reading a field brings what its type always says into the proof.
         let _ = self.machine.totals();
@@ -179,7 +181,7 @@ impl<N: Names> Desk<N> {
         pulse: Option<Line>,
     ) -> Answer
         requires asks { IfSome pulse (λ line.
-            pulse_request self.old.machine.plan line ≡ Some request) }
+            NextIs self.old.machine.plan line self.old.lines request) }
         requires owed { IfSome pulse (λ line. 1 ≤ on line self.old.lines.owed) }
         ensures answer { result ≡ said_of self.old.machine request }
         ensures lawful { IsLawful self.old.machine }
@@ -194,30 +196,37 @@ impl<N: Names> Desk<N> {
                   ++ record { by = share.old.number; answer = result; pulse = pulse } ∷ [];
               booked = add self.old.booked (told result.outcome);
             }) }
-        ensures lines { Marks pulse result.outcome self.old.lines self.new.lines }
+        ensures lines { Marks self.old.machine.plan pulse result.outcome
+            self.old.lines self.new.lines }
     {
         let before = self.machine.totals();
         let answer = self.machine.apply(request);
         let told = growth(before, self.machine.totals());
         self.ledgers.add(&mut share.amounts, told);
         self.history.note(&mut share.own, &answer, pulse);
-        mark_served(&mut self.lines, pulse, &answer);
+        mark_served(&mut self.lines, &self.machine, pulse, &answer);
         answer
     }
 }
 
-// One pulse of the line is applied, if there is one, and its answer is no refusal.
-fn mark_served(lines: &mut Accounts, pulse: Option<Line>, answer: &Answer)
-    requires { IfSome pulse (λ line. 1 ≤ on line lines.old.owed) }
-    ensures { Marks pulse answer.now.outcome lines.old lines.new }
+// A request of a pulse was answered, if there is a pulse: where it wasn't refused, the pulse is begun
+// further, or applied if it asks for no more.
+fn mark_served(lines: &mut Accounts, machine: &Machine, pulse: Option<Line>, answer: &Answer)
+    requires owed { IfSome pulse (λ line. 1 ≤ on line lines.old.owed) }
+    requires begun { IfSome pulse (λ line.
+        on line lines.old.begun < length (pulse_requests machine.now.plan line)) }
+    ensures { Marks machine.now.plan pulse answer.now.outcome lines.old lines.new }
 {
-    match pulse {
-        Some(line) => {
-            if !answer.is_refused() {
-                lines.apply(line, 1);
-            }
-        }
-        None => {}
+    let Some(line) = pulse else {
+        return;
+    };
+    if answer.is_refused() {
+        return;
+    }
+    if pulse_request(machine.plan(), line, lines.begun_on(line) + 1).is_some() {
+        lines.begin(line);
+    } else {
+        lines.apply(line, 1);
     }
 }
 
@@ -252,7 +261,8 @@ impl<N: Names> Desk<N> {
     pub fn applied(&self) -> [u64; 3]
         ensures applied { result ≡ self.now.lines.applied }
         ensures kept { IsKept self.now.lines }
-        ensures pulses { ArePulses N.first.plan self.now.history self.now.lines.applied }
+        ensures pulses { ArePulses N.first.plan self.now.history
+            self.now.lines.applied self.now.lines.begun }
     {
         self.lines.applied()
     }
@@ -288,9 +298,23 @@ impl<N: Names> Desk<N> {
         self.lines.owed_on(line)
     }
 
+    /// The next request for which owed pulses of a line ask.
+    pub(crate) fn next_request(&self, line: Line) -> Option<Request>
+        ensures some { IfSome result (λ request.
+            NextIs self.now.machine.plan line self.now.lines request) }
+        ensures owed { IfSome result (λ _. 1 ≤ on line self.now.lines.owed) }
+        ensures none { IfNone result ((on line self.now.lines.owed ≡ 0)
+            ⊎ (pulse_requests self.now.machine.plan line ≡ [])) }
+    {
+        if self.lines.owed_on(line) == 0 {
+            return None;
+        }
+        pulse_request(self.machine.plan(), line, self.lines.begun_on(line))
+    }
+
     /// So many pulses of a line that were owed are applied from now on: they ask for nothing.
     pub(crate) fn mark_applied(&mut self, line: Line, pulses: u64)
-        requires idle { pulse_request self.old.machine.plan line ≡ None }
+        requires idle { pulse_requests self.old.machine.plan line ≡ [] }
         requires owed { pulses ≤ on line self.old.lines.owed }
         ensures lines { Applies line pulses self.old.lines self.new.lines }
         ensures desk { self.new ≡ with_lines self.new.lines self.old }
@@ -348,7 +372,8 @@ pub fn gather<N: Names>(
     ensures history { IfOk result (λ r. IsHistory N.first shares.items desk.history r.0) }
     ensures told { IfOk result (λ r. r.1 ≡ told_to shares.items) }
     ensures booked { IfOk result (λ r. r.1 ≡ desk.booked) }
-    ensures pulses { IfOk result (λ _. ArePulses N.first.plan desk.history desk.lines.applied) }
+    ensures pulses { IfOk result (λ _. ArePulses N.first.plan desk.history
+        desk.lines.applied desk.lines.begun) }
     ensures grown { IfOk result (λ r. add r.1 N.first.totals ≡ r.0.totals) }
     ensures back { IfErr result (λ u. (u.desk ≡ desk) × (u.shares ≡ shares)) }
 {

@@ -1,7 +1,7 @@
-ghost use Rattle.std.specs.Prelude.{◌≡◌, None, Some};
+ghost use Rattle.std.specs.Prelude.{◌<◌, None, length};
 ghost use Rattle.agc_latch.specs.Accounts.{IsOf};
 ghost use Rattle.agc_desk.specs.Draining.{Drains};
-ghost use Rattle.agc_desk.specs.Pulses.{pulse_request};
+ghost use Rattle.agc_desk.specs.Pulses.{pulse_requests};
 ghost use Rattle.agc_desk.specs.Stages.{DrainsLine};
 
 use crate::desk::{Desk, Share};
@@ -9,7 +9,6 @@ use crate::names::Names;
 use crate::pulse::pulse_request;
 use agc_latch::{Latch, Line};
 use agc_machine::Refusal;
-use agc_plan::Request;
 
 /// What a drain did. Source: profile.
 #[derive(Clone, Copy, PartialEq, Eq, Debug)]
@@ -24,31 +23,25 @@ pub struct Drained {
 }
 
 impl<N: Names> Desk<N> {
-    // Applies what is owed on a line, whose pulses ask for this request, up to the first that is
-    // refused.
-    fn ask_owed(
-        &mut self,
-        line: Line,
-        request: &Request,
-        share: &mut Share<N>,
-    ) -> (u64, Option<Refusal>)
-        requires { pulse_request self.old.machine.plan line ≡ Some request.now }
+    // Asks for what owed pulses of a line ask for, up to the first request that is refused.
+    fn ask_owed(&mut self, line: Line, share: &mut Share<N>) -> (u64, Option<Refusal>)
+        requires { 0 < length (pulse_requests self.old.machine.plan line) }
         ensures { DrainsLine None self.old.machine.plan line
             self.old share.old result.0 result.1 self.new share.new }
     {
         let owed = self.owed_on(line);
-        for applied in 0..owed {
-            let answer = self.ask_for(share, *request, Some(line));
+        while let Some(request) = self.next_request(line) {
+            let answer = self.ask_for(share, request, Some(line));
             match answer.result() {
                 Ok(_reply) => {}
-                Err(refusal) => return (applied, Some(refusal)),
+                Err(refusal) => return (owed - self.owed_on(line), Some(refusal)),
             }
         }
         (owed, None)
     }
 
-    // Applies what is owed on a line, up to the first pulse that is refused; nothing where a pulse
-    // of an earlier line was.
+    // Applies what is owed on a line, up to the first request that is refused; nothing where a
+    // request of an earlier line was.
     fn drain_line(
         &mut self,
         line: Line,
@@ -61,22 +54,22 @@ impl<N: Names> Desk<N> {
         if refused.is_some() {
             return (0, refused);
         }
-        match pulse_request(self.machine().plan(), line) {
-            Some(request) => self.ask_owed(line, &request, share),
-            None => {
-                let pulses = self.owed_on(line);
-                self.mark_applied(line, pulses);
-                (pulses, None)
-            }
+        if pulse_request(self.machine().plan(), line, 0).is_some() {
+            return self.ask_owed(line, share);
         }
+        let pulses = self.owed_on(line);
+        self.mark_applied(line, pulses);
+        (pulses, None)
     }
 
     /// Takes what devices posted on the timer's, the keyboard's and the radar's line, and adds it
     /// to what is owed; a desk without a taker takes nothing. Then applies what is owed, all of the
-    /// timer's pulses first, then the keyboard's, then the radar's, up to the first that is
-    /// refused; the rest stays owed. A timer pulse is a tick, a key or radar pulse the request of
-    /// the plan's action; one whose action is nothing is applied by no request. An alarm stops
-    /// nothing. The requests, the refused one too, are served with this share. Source: profile.
+    /// timer's pulses first, then the keyboard's, then the radar's. A timer pulse asks for a tick, a
+    /// key or radar pulse for the plan's actions, one request after the other; it is applied when
+    /// the last is served, and one that asks for nothing is applied by no request. The first request
+    /// that is refused ends the drain: the rest stays owed, a pulse of which some requests were
+    /// served with what it still asks for. An alarm stops nothing. The requests, the refused one
+    /// too, are served with this share. Source: profile.
     pub fn drain(&mut self, latch: &Latch, share: &mut Share<N>) -> Drained
         requires { IsOf latch.now self.old.lines.taker }
         ensures { Drains self.old share.old result self.new share.new }

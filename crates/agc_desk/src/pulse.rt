@@ -1,6 +1,6 @@
-ghost use Rattle.std.specs.Prelude.{◌≡◌, ℕ};
+ghost use Rattle.std.specs.Prelude.{◌≡◌, ◌<◌, ℕ, IfSome, slice_get};
 ghost use Rattle.agc_plan.specs.Plans.{planned_with};
-ghost use Rattle.agc_desk.specs.Pulses.{action_request, pulse_request};
+ghost use Rattle.agc_desk.specs.Pulses.{action_request, pulse_requests, requests_for};
 
 use agc_latch::Line;
 use agc_plan::{Action, Plan, Request};
@@ -18,14 +18,38 @@ pub fn action_request(action: Action) -> Option<Request>
     }
 }
 
-/// What a pulse of a line asks for: the timer's a tick, the others' the plan's action; none where
-/// that is [`Action::Nothing`]. Source: profile.
-pub fn pulse_request(plan: &Plan, line: Line) -> Option<Request>
-    ensures { (sets : ℕ) → result ≡ pulse_request (planned_with plan.now sets) line }
+/// The request before which so many others are asked for these actions.
+fn request_after(actions: &[Action], others: u64) -> Option<Request>
+    ensures { result ≡ slice_get (requests_for actions.now) others }
+{
+    let mut left = others;
+    for action in actions {
+        if let Some(request) = action_request(*action) {
+            if left == 0 {
+                return Some(request);
+            }
+            left -= 1;
+        }
+    }
+    None
+}
+
+/// What a pulse of a line asks for after so many others of its requests: the timer's asks for a
+/// tick, the others' for the plan's actions in order; none after the last. Source: profile.
+pub fn pulse_request(plan: &Plan, line: Line, others: u64) -> Option<Request>
+    ensures request { (sets : ℕ)
+        → result ≡ slice_get (pulse_requests (planned_with plan.now sets) line) others }
+    ensures few { IfSome result (λ _. others < 4) }
 {
     match line {
-        Line::Timer => Some(Request::Tick),
-        Line::Key => action_request(plan.key()),
-        Line::Radar => action_request(plan.radar()),
+        Line::Timer => {
+            if others == 0 {
+                Some(Request::Tick)
+            } else {
+                None
+            }
+        }
+        Line::Key => request_after(plan.key(), others),
+        Line::Radar => request_after(plan.radar(), others),
     }
 }

@@ -26,8 +26,8 @@ pub record Benched : Type 0 where
   pub limit : ℕ
   pub allowance : ℕ
   pub attends : ℕ
-  pub key : Action
-  pub radar : Action
+  pub key : List Action
+  pub radar : List Action
   pub power : Option (List ℕ)
   pub script : List Request
   pub rows : Rows
@@ -78,8 +78,8 @@ settings_texts b =
       limit = b.limit;
       allowance = b.allowance;
       attends = b.attends;
-      key = action_line_of b.key;
-      radar = action_line_of b.radar;
+      key = map action_line_of b.key;
+      radar = map action_line_of b.radar;
       power = option_map (map (octal 5)) b.power;
     }
 
@@ -98,9 +98,13 @@ lists_texts b =
 abbrev pub bench_texts : Benched → Texts
 bench_texts b = record { settings = settings_texts b; lists = lists_texts b }
 
+-- one to four actions, whose numbers are in their ranges
+abbrev pub AreActions : List Action → Type 0
+AreActions actions = AllByRecursion IsAction actions × IsBetween 1 4 (length actions)
+
 -- a row's numbers are in their ranges
 abbrev pub IsRow : Task × List Action → Type 0
-IsRow r = IsTask r.0 × AllByRecursion IsAction r.1 × IsBetween 1 4 (length r.1)
+IsRow r = IsTask r.0 × AreActions r.1
 
 -- a job's numbers are in their ranges
 abbrev pub IsJob : Option JobStart → Type 0
@@ -134,8 +138,8 @@ pub record IsInRange (b : Benched) : Type 0 where
   pub limit : IsBetween 1 1000000 b.limit
   pub allowance : b.allowance ≤ 9223372036854775807
   pub attends : b.attends ≤ 1000
-  pub key : IsAction b.key
-  pub radar : IsAction b.radar
+  pub key : AreActions b.key
+  pub radar : AreActions b.radar
   pub power : IsPower b.power
   pub script : AllByRecursion IsRequest b.script
   pub rows : AllByRecursion IsRow b.rows

@@ -109,8 +109,8 @@ settings_in ms = do
   limit ← read_or 1000 (number_in 1 1000000) (get_member (codes "limit") ms)
   allowance ← read_or 1000000 (number_in 0 9223372036854775807) (get_member (codes "allowance") ms)
   attends ← read_or 16 (number_in 0 1000) (get_member (codes "attends") ms)
-  key ← read_or (codes "nothing") as_str (get_member (codes "key") ms)
-  radar ← read_or (codes "nothing") as_str (get_member (codes "radar") ms)
+  key ← read_or (codes "nothing" ∷ []) action_texts (get_member (codes "key") ms)
+  radar ← read_or (codes "nothing" ∷ []) action_texts (get_member (codes "radar") ms)
   power ← read_or None twelve_texts (get_member (codes "power") ms)
   Some (record {
     sets = sets;

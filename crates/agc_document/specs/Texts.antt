@@ -19,15 +19,16 @@ pub record DeviceTexts : Type 0 where
   pub line : List ℕ
   pub pulses : ℕ
 
--- what a bench has once, and whether it says how many core sets there are
+-- what a bench has once, of both pulses a text for each action, and whether it says how many core
+-- sets there are
 pub record Settings : Type 0 where
   pub sets : ℕ
   pub names_sets : Bool
   pub limit : ℕ
   pub allowance : ℕ
   pub attends : ℕ
-  pub key : List ℕ
-  pub radar : List ℕ
+  pub key : List (List ℕ)
+  pub radar : List (List ℕ)
   pub power : Option (List (List ℕ))
 
 -- what a bench has many of

@@ -2,6 +2,7 @@ ghost use Rattle.std.specs.Prelude.{◌≡◌, ◌≢◌, ◌≤◌, ◌⊎◌, 
 ghost use Rattle.toml.specs.Parse.{parse_document};
 ghost use Rattle.agc_word.specs.Profiles.{count_of};
 ghost use Rattle.agc_plan.specs.Plans.{fault_of};
+ghost use Rattle.agc_plan.specs.Ranges.{IsBetween};
 ghost use Rattle.agc_plan.specs.declared.plan.PlanFault.{PlanFault};
 ghost use Rattle.agc_document.specs.Benches.{Benched, bench_texts, IsInRange, IsBench};
 ghost use Rattle.agc_document.specs.Faults.{bench_fault, HasTexts, RefusesBench};
@@ -10,10 +11,11 @@ ghost use Rattle.agc_document.specs.Gives.{RefusedLine};
 use crate::fault::BenchFault;
 use crate::keys::texts_in;
 use crate::texts::Texts;
-use crate::values::{devices_of, entries_of, power_of, requests_of, rows_of, workers_of};
+use crate::values::{
+    actions_of, devices_of, entries_of, power_of, requests_of, rows_of, workers_of,
+};
 use agc_latch::Line;
-use agc_plan::{Action, Actions, Limit, PhaseEntry, Plan, Request, Task};
-use agc_text::parse_action;
+use agc_plan::{Actions, Limit, PhaseEntry, Plan, Request, Task};
 use agc_word::{Sets, Word};
 use std::alloc::Global;
 use std::marker::Model;
@@ -25,8 +27,8 @@ struct Parts {
     limit: Limit,
     allowance: u64,
     attends: u32,
-    key: Action,
-    radar: Action,
+    key: Actions,
+    radar: Actions,
     power: Option<[Word; 12]>,
     script: Vec<Request>,
     rows: Vec<(Task, Actions)>,
@@ -115,18 +117,20 @@ impl Bench {
         self.parts.attends
     }
 
-    /// What is done for a key pulse. Source: profile.
-    pub fn key(&self) -> Action
-        ensures { result ≡ self.now.key }
+    /// What is done for a key pulse, in order: one to four actions. Source: profile.
+    pub fn key(&self) -> &Actions
+        ensures value { result.now ≡ self.now.key }
+        ensures range { IsBetween 1 4 (length result.now) }
     {
-        self.parts.key
+        &self.parts.key
     }
 
-    /// What is done for a radar pulse. Source: profile.
-    pub fn radar(&self) -> Action
-        ensures { result ≡ self.now.radar }
+    /// What is done for a radar pulse, in order: one to four actions. Source: profile.
+    pub fn radar(&self) -> &Actions
+        ensures value { result.now ≡ self.now.radar }
+        ensures range { IsBetween 1 4 (length result.now) }
     {
-        self.parts.radar
+        &self.parts.radar
     }
 
     /// The twelve phase words of a power-up, -PHASE1 first. None for a fresh start. Source:
@@ -197,8 +201,8 @@ fn parts_of(alloc: Global, texts: &Texts<'_>) -> Result<Parts, BenchFault>
         ((b : Benched) → IsInRange b → texts.now ≢ bench_texts b)) }
 {
     let limit = or_line(Limit::new(texts.settings.limit))?;
-    let key = or_line(parse_action(texts.settings.key))?;
-    let radar = or_line(parse_action(texts.settings.radar))?;
+    let key = or_line(actions_of(texts.settings.key.as_slice()))?;
+    let radar = or_line(actions_of(texts.settings.radar.as_slice()))?;
     let power = or_line(power_of(&texts.settings.power))?;
     let script = requests_of(alloc, texts.lists.script.as_slice())?;
     let rows = rows_of(alloc, texts.lists.rows.as_slice())?;
@@ -234,8 +238,8 @@ fn planned(alloc: Global, parts: Parts) -> Result<Bench, BenchFault>
         alloc,
         parts.rows.as_slice(),
         parts.entries.as_slice(),
-        parts.key,
-        parts.radar,
+        parts.key.copied(),
+        parts.radar.copied(),
     ) {
         Ok(_plan) => Ok(Bench { parts }),
         Err(fault) => Err(BenchFault::from(fault)),

@@ -1,5 +1,5 @@
 //! The numbers and texts of a document, by its keys and the kinds of their values.
-ghost use Rattle.std.specs.Prelude.{◌≡◌, ◌≤◌, ℕ, [], map, length, codes, Option, Some, None};
+ghost use Rattle.std.specs.Prelude.{◌≡◌, ◌≤◌, ℕ, [], ◌∷◌, map, length, codes, Option, Some, None};
 ghost use Rattle.std.specs.Prelude.{string_bytes, is_some, IfSome, IfOk};
 ghost use Rattle.std.specs.Option.{option_map};
 ghost use Rattle.std.specs.List.{list_all};
@@ -118,17 +118,6 @@ fn text_at<'a>(table: &'a Table, key: &str) -> Option<&'a str>
     ensures { option_map (λ s. s.now) result ≡ read_at as_str key.now (table_view table.now) }
 {
     value_at(table, key)?.as_str()
-}
-
-/// A text, or `missing` where the key is missing.
-fn text_or<'a>(value: Option<&'a Value>, missing: &'a str) -> Option<&'a str>
-    ensures { option_map (λ s. s.now) result
-        ≡ read_or missing.now as_str (option_map (λ v. view v.now) value.entry) }
-{
-    match value {
-        None => Some(missing),
-        Some(value) => value.as_str(),
-    }
 }
 
 /// A text, if its key is there. None where the value is no text.
@@ -276,21 +265,40 @@ fn items_at<'a, T: FromData<'a>>(
     }
 }
 
+/// This text alone.
+fn one_text<'a>(alloc: Global, text: &'a str) -> Result<Vec<Text<'a>>, BenchFault>
+    ensures { GivesOrKey (λ v. v.items) result (Some (text.now ∷ [])) }
+{
+    let mut alone = Vec::new(alloc);
+    alone.push(Text::new(text))?;
+    Ok(alone)
+}
+
 /// The texts of actions: one text alone, or an array of one to four.
 fn actions_at<'a>(alloc: Global, value: &'a Value) -> Result<Vec<Text<'a>>, BenchFault>
     ensures value { GivesOrKey (λ v. v.items) result (action_texts (view value.now)) }
     ensures few { IfOk result (λ v. IsBetween 1 4 (length v.items)) }
 {
     if let Some(text) = value.as_str() {
-        let mut alone = Vec::new(alloc);
-        alone.push(Text::new(text))?;
-        return Ok(alone);
+        return one_text(alloc, text);
     }
     let texts: Vec<Text<'a>> = items_at(alloc, Some(value))?;
     if texts.is_empty() || texts.len() > MOST_ACTIONS {
         return Err(BenchFault::Key);
     }
     Ok(texts)
+}
+
+/// The texts of the actions of a pulse: `nothing` alone where the key is missing.
+fn pulse_at<'a>(alloc: Global, value: Option<&'a Value>) -> Result<Vec<Text<'a>>, BenchFault>
+    ensures value { GivesOrKey (λ v. v.items) result
+        (read_or (codes "nothing" ∷ []) action_texts (option_map (λ v. view v.now) value.entry)) }
+    ensures few { IfOk result (λ v. IsBetween 1 4 (length v.items)) }
+{
+    match value {
+        None => one_text(alloc, "nothing"),
+        Some(value) => actions_at(alloc, value),
+    }
 }
 
 /// The items of an array, at most 32; none where the key is missing.
@@ -381,8 +389,8 @@ fn settings_in(alloc: Global, table: &Table) -> Result<Settings<'_>, BenchFault>
     let limit = or_key(limit_of(value_at(table, "limit")))?;
     let allowance = or_key(allowance_of(value_at(table, "allowance")))?;
     let attends = or_key(attends_of(value_at(table, "attends")))?;
-    let key = or_key(text_or(value_at(table, "key"), "nothing"))?;
-    let radar = or_key(text_or(value_at(table, "radar"), "nothing"))?;
+    let key = pulse_at(alloc, value_at(table, "key"))?;
+    let radar = pulse_at(alloc, value_at(table, "radar"))?;
     let power = power_at(alloc, value_at(table, "power"))?;
     Ok(Settings {
         sets,

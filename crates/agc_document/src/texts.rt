@@ -107,7 +107,8 @@ impl<'a> Model for DeviceTexts<'a> {
     ghost invariant = { λ t. t.pulses ≤ 1000000 };
 }
 
-/// What a bench has once, and whether it says how many core sets there are.
+/// What a bench has once, of both pulses a text for each action, and whether it says how many core
+/// sets there are.
 #[derive(Drop)]
 pub(crate) struct Settings<'a> {
     pub(crate) sets: Sets,
@@ -115,13 +116,13 @@ pub(crate) struct Settings<'a> {
     pub(crate) limit: u32,
     pub(crate) allowance: u64,
     pub(crate) attends: u32,
-    pub(crate) key: &'a str,
-    pub(crate) radar: &'a str,
+    pub(crate) key: Vec<Text<'a>>,
+    pub(crate) radar: Vec<Text<'a>>,
     pub(crate) power: Option<Vec<Text<'a>>>,
 }
 
 impl<'a> Model for Settings<'a> {
-    ghost use Rattle.std.specs.Prelude.{◌≤◌};
+    ghost use Rattle.std.specs.Prelude.{◌≤◌, length};
     ghost use Rattle.std.specs.Option.{option_map};
     ghost use Rattle.agc_word.specs.Profiles.{count_of};
     ghost use Rattle.agc_plan.specs.Ranges.{IsBetween};
@@ -135,13 +136,14 @@ impl<'a> Model for Settings<'a> {
       limit = t.limit;
       allowance = t.allowance;
       attends = t.attends;
-      key = t.key.now;
-      radar = t.radar.now;
+      key = t.key.items;
+      radar = t.radar.items;
       power = option_map (λ v. v.items) t.power;
     } };
 
     ghost invariant = { λ t. IsBetween 7 8 (count_of t.sets)
-        × (t.allowance ≤ 9223372036854775807) × (t.attends ≤ 1000) };
+        × (t.allowance ≤ 9223372036854775807) × (t.attends ≤ 1000)
+        × IsBetween 1 4 (length t.key.items) × IsBetween 1 4 (length t.radar.items) };
 }
 
 /// What a bench has many of.

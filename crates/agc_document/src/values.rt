@@ -45,7 +45,7 @@ pub(crate) fn requests_of(alloc: Global, texts: &[Text<'_>]) -> Result<Vec<Reque
 }
 
 /// The actions that texts spell, in order.
-fn actions_of(texts: &[Text<'_>]) -> Option<Actions>
+pub(crate) fn actions_of(texts: &[Text<'_>]) -> Option<Actions>
     requires { length texts.now ≤ 4 }
     ensures found { IfSome result (λ a. AllByRecursion IsAction a
         × (texts.now ≡ map action_line_of a)) }

@@ -1,6 +1,6 @@
 -- The accounts of lines: what contracts see of them, what their type keeps, and how calls change
 -- them.
-use Rattle.std.specs.Prelude.{◌≡◌, ◌≢◌, ℕ, ◌+◌, ◌*◌, ◌≤◌, List, length, sum_by, Option, Some, None}
+use Rattle.std.specs.Prelude.{◌≡◌, ◌≢◌, ℕ, ◌+◌, ◌*◌, ◌<◌, ◌≤◌, List, length, sum_by, Option, Some, None}
 use Rattle.std.specs.Prelude.{IfSome}
 use Rattle.atomic_table.specs.Seated.{TableId}
 use Rattle.agc_latch.specs.declared.line.Line.{Line}
@@ -8,16 +8,25 @@ use Rattle.agc_latch.specs.Lines.{on, zeros}
 use Rattle.agc_latch.specs.Ends.{Posting, Taking, new_taker}
 
 -- the taker, if there is one; how many devices were given out in all; and per line the pulses that
--- are applied, that are owed, and that were posted on the latches that were settled
+-- are applied, that are owed, and that were posted on the latches that were settled, and how far the
+-- first one is begun that is owed: how many of the requests for which it asks were served
 pub record LineAccounts : Type 0 where
   pub taker : Option Taking
   pub devices : ℕ
   pub applied : List ℕ
   pub owed : List ℕ
+  pub begun : List ℕ
   pub settled : List ℕ
 
 abbrev pub no_accounts : LineAccounts
-no_accounts = record { taker = None; devices = 0; applied = zeros; owed = zeros; settled = zeros }
+no_accounts = record {
+  taker = None;
+  devices = 0;
+  applied = zeros;
+  owed = zeros;
+  begun = zeros;
+  settled = zeros;
+}
 
 -- the accounts with the taker of a latch, which is new
 abbrev pub with_taker : TableId → LineAccounts → LineAccounts
@@ -62,14 +71,17 @@ abbrev pub IsBalanced : LineAccounts → Type 0
 IsBalanced a = (line : Line)
     → on line a.applied + on line a.owed ≡ on line a.settled + taken_on line a.taker
 
--- what the accounts keep: they are balanced, at most 64 devices were given out in all, and no line
--- has more pulses than these may post
+-- what the accounts keep: they are balanced, at most 64 devices were given out in all, no line has
+-- more pulses than these may post, no pulse is begun where none is owed, and fewer than four of its
+-- requests were served
 pub record IsKept (a : LineAccounts) : Type 0 where
   pub balanced : IsBalanced a
   pub most : a.devices ≤ 64
   pub settled_below : (line : Line)
       → on line a.settled + 4294967295 * given_of a.taker ≤ 4294967295 * a.devices
   pub taken_below : (line : Line) → taken_on line a.taker ≤ 4294967295 * given_of a.taker
+  pub few_begun : (line : Line) → on line a.begun < 4
+  pub none_begun : (line : Line) → on line a.owed ≡ 0 → on line a.begun ≡ 0
 
 -- one more device is given out under the taker, and nothing else changed
 pub record Gives (old now : LineAccounts) : Type 0 where
@@ -79,6 +91,7 @@ pub record Gives (old now : LineAccounts) : Type 0 where
   pub taken : (line : Line) → taken_on line now.taker ≡ taken_on line old.taker
   pub applied : now.applied ≡ old.applied
   pub owed : now.owed ≡ old.owed
+  pub begun : now.begun ≡ old.begun
   pub settled : now.settled ≡ old.settled
 
 -- each line was taken once, what was found there is owed, and nothing else changed
@@ -90,17 +103,25 @@ pub record Collects (found : List ℕ) (old now : LineAccounts) : Type 0 where
   pub given : given_of now.taker ≡ given_of old.taker
   pub devices : now.devices ≡ old.devices
   pub applied : now.applied ≡ old.applied
+  pub begun : now.begun ≡ old.begun
   pub settled : now.settled ≡ old.settled
 
--- n pulses of a line that were owed are applied, and nothing else changed
+-- n pulses of a line that were owed are applied, and nothing of the other lines changed, nor else
 pub record Applies (line : Line) (n : ℕ) (old now : LineAccounts) : Type 0 where
   pub owed : on line now.owed + n ≡ on line old.owed
   pub applied : on line now.applied ≡ on line old.applied + n
   pub other_owed : (other : Line) → other ≢ line → on other now.owed ≡ on other old.owed
   pub other_applied : (other : Line) → other ≢ line → on other now.applied ≡ on other old.applied
+  pub other_begun : (other : Line) → other ≢ line → on other now.begun ≡ on other old.begun
   pub taker : now.taker ≡ old.taker
   pub devices : now.devices ≡ old.devices
   pub settled : now.settled ≡ old.settled
+
+-- the first pulse of a line that is owed is begun further by one request, and nothing else changed
+pub record Begins (line : Line) (old now : LineAccounts) : Type 0 where
+  pub begun : on line now.begun ≡ on line old.begun + 1
+  pub other_begun : (other : Line) → other ≢ line → on other now.begun ≡ on other old.begun
+  pub rest : now ≡ record old { begun = now.begun }
 
 -- there is a taker, and as many devices are back as were given out under it
 abbrev pub AreAll : List Posting → Option Taking → Type 0
@@ -115,3 +136,4 @@ pub record Settles (back : List Posting) (old now : LineAccounts) : Type 0 where
   pub whole : (line : Line) → on line now.settled ≡ on line now.applied + on line now.owed
   pub devices : now.devices ≡ old.devices
   pub applied : now.applied ≡ old.applied
+  pub begun : now.begun ≡ old.begun

@@ -1,6 +1,6 @@
 ghost use Rattle.std.specs.Prelude.{◌≡◌, ◌+◌, ◌<◌, ◌≤◌, ◌^◌, ◌↔◌, ◌⊎◌, All, None, IfErr, IfNone};
 ghost use Rattle.std.specs.Prelude.{IfOk, IfSome, IsNone, IsOk, OnErr, OnOk};
-ghost use Rattle.agc_latch.specs.Accounts.{AreAll, Applies, Collects, Gives, Settles};
+ghost use Rattle.agc_latch.specs.Accounts.{AreAll, Applies, Begins, Collects, Gives, Settles};
 ghost use Rattle.agc_latch.specs.Accounts.{IsKept, IsOf, given_of, no_accounts, with_taker};
 ghost use Rattle.agc_latch.specs.Ends.{new_device};
 ghost use Rattle.agc_latch.specs.Lines.{on};
@@ -25,16 +25,18 @@ fn sums(some: [u64; 3], more: [u64; 3]) -> [u64; 3]
 
 /// The accounts of lines: the taker of a latch, if one is attached, how many devices were given out
 /// in all, and per line the pulses that are applied, that are owed, and that were posted on the
-/// latches that were settled.
+/// latches that were settled; and how far the first one is begun that is owed.
 ///
 /// Of all accounts it holds that on each line what is applied and what is owed are the pulses of
-/// settled latches and those that the taker took. Source: profile.
+/// settled latches and those that the taker took, and that none is begun where none is owed. Source:
+/// profile.
 #[derive(Drop)]
 pub struct Accounts {
     taker: Option<AttachedTaker>,
     devices: u32,
     applied: [u64; 3],
     owed: [u64; 3],
+    begun: [u64; 3],
     settled: [u64; 3],
 }
 
@@ -48,6 +50,7 @@ impl Model for Accounts {
       devices = a.devices;
       applied = a.applied;
       owed = a.owed;
+      begun = a.begun;
       settled = a.settled;
     } };
 
@@ -56,6 +59,7 @@ impl Model for Accounts {
       devices = a.devices;
       applied = a.applied;
       owed = a.owed;
+      begun = a.begun;
       settled = a.settled;
     } };
 }
@@ -71,6 +75,7 @@ impl Accounts {
             devices: 0,
             applied: [0; 3],
             owed: [0; 3],
+            begun: [0; 3],
             settled: [0; 3],
         }
     }
@@ -134,14 +139,35 @@ impl Accounts {
         self.owed[line.word()]
     }
 
-    /// So many pulses of a line that were owed are applied from now on. Source: profile.
+    /// So many pulses of a line that were owed are applied from now on, and the next one isn't begun.
+    /// Source: profile.
     pub fn apply(&mut self, line: Line, pulses: u64)
         requires { pulses ≤ on line self.old.owed }
-        ensures { Applies line pulses self.old self.new }
+        ensures applies { Applies line pulses self.old self.new }
+        ensures begun { on line self.new.begun ≡ 0 }
     {
         let word = line.word();
         self.owed[word] -= pulses;
         self.applied[word] += pulses;
+        self.begun[word] = 0;
+    }
+
+    /// How many of the requests for which the first owed pulse of a line asks were served, 0 to 3.
+    /// Source: profile.
+    pub fn begun_on(&self, line: Line) -> u64
+        ensures value { result ≡ on line self.now.begun }
+        ensures range { result < 4 }
+    {
+        self.begun[line.word()]
+    }
+
+    /// One more of these requests was served, and the pulse still asks for others. Source: profile.
+    pub fn begin(&mut self, line: Line)
+        requires owed { 1 ≤ on line self.old.owed }
+        requires few { on line self.old.begun < 3 }
+        ensures { Begins line self.old self.new }
+    {
+        self.begun[line.word()] += 1;
     }
 
     /// The pulses that were applied, per line: the timer's, the keyboard's, the radar's. Source:

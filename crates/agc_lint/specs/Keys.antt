@@ -28,6 +28,10 @@ key_name key.Requests = codes "script"
 key_name key.Line = codes "line"
 key_name key.Pulses = codes "pulses"
 
+-- what is told of one to four texts
+abbrev pub one_to_four : List ℕ
+one_to_four = codes "expected a string, or an array of 1 to 4 strings"
+
 -- what its value has to be
 abbrev pub expected : BenchKey → List ℕ
 expected key.Sets = codes "expected an integer, 7 or 8"
@@ -44,7 +48,9 @@ expected key.Tasks = codes "expected an array of tables, each below its line [[t
 expected key.Phases = codes "expected an array of tables, each below its line [[phase]]"
 expected key.Workers = codes "expected at most 32 tables, each below its line [[worker]]"
 expected key.Devices = codes "expected at most 32 tables, each below its line [[device]]"
-expected key.Action = codes "expected a string, or an array of 1 to 4 strings"
+expected key.Action = one_to_four
+expected key.Key = one_to_four
+expected key.Radar = one_to_four
 expected _ = codes "expected a string"
 
 -- what an item of its array has to be

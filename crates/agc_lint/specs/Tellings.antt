@@ -22,6 +22,8 @@ item_name key.Power = codes "word"
 item_name key.Script = codes "request"
 item_name key.Requests = codes "request"
 item_name key.Action = codes "action"
+item_name key.Key = codes "action"
+item_name key.Radar = codes "action"
 item_name _ = codes "item"
 
 -- the first word of a place

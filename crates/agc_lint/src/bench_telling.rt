@@ -24,7 +24,7 @@ fn item_name(key: Key) -> &'static str
     match key {
         Key::Power => "word",
         Key::Script | Key::Requests => "request",
-        Key::Action => "action",
+        Key::Action | Key::Key | Key::Radar => "action",
         _ => "item",
     }
 }

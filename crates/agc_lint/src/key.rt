@@ -103,7 +103,9 @@ impl Key {
             Key::Phases => "expected an array of tables, each below its line [[phase]]",
             Key::Workers => "expected at most 32 tables, each below its line [[worker]]",
             Key::Devices => "expected at most 32 tables, each below its line [[device]]",
-            Key::Action => "expected a string, or an array of 1 to 4 strings",
+            Key::Key | Key::Radar | Key::Action => {
+                "expected a string, or an array of 1 to 4 strings"
+            }
             _ => "expected a string",
         }
     }

@@ -362,7 +362,7 @@ impl<'a> Spots<'a> {
             Key::Workers | Key::Devices => has_items(value, 0, MOST_THREADS),
             Key::Power => return self.look_at_items(value, key, place, has_items(value, 12, 12)),
             Key::Script | Key::Requests => return self.look_at_items(value, key, place, true),
-            Key::Action if value.as_array().is_some() => {
+            Key::Action | Key::Key | Key::Radar if value.as_array().is_some() => {
                 let is_of_length = has_items(value, 1, MOST_ACTIONS);
                 return self.look_at_items(value, key, place, is_of_length);
             }

@@ -34,7 +34,7 @@ task at = record { at = at; bank = 5 }
 -- a plan with these rows and entries, in which key and radar do nothing, on seven core sets
 abbrev pub planned : Rows → List Begins → Planned
 planned rows entries = record
-    { rows = rows; entries = entries; key = action.Nothing; radar = action.Nothing; sets = 7 }
+    { rows = rows; entries = entries; key = []; radar = []; sets = 7 }
 
 -- the replies to these requests, one after another
 abbrev pub replies_from : Planned → Plain → List Request → List Reply

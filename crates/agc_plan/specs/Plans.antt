@@ -14,19 +14,19 @@ abbrev pub Rows : Type 0
 Rows = List (Task × List Action)
 
 -- a plan, as it is written: a row for each task that does something, an entry for each phase with
--- which something begins, and two actions
+-- which something begins, and what is done for a key or radar pulse, in order
 pub record Written : Type 0 where
   pub rows : Rows
   pub entries : List Begins
-  pub key : Action
-  pub radar : Action
+  pub key : List Action
+  pub radar : List Action
 
 -- a plan on a computer with so many core sets
 pub record Planned : Type 0 where
   pub rows : Rows
   pub entries : List Begins
-  pub key : Action
-  pub radar : Action
+  pub key : List Action
+  pub radar : List Action
   pub sets : ℕ
 
 -- the plan that is written so, on a computer with so many core sets

@@ -1,4 +1,4 @@
-ghost use Rattle.std.specs.Prelude.{◌≡◌, ◌⊎◌, Some, None, IfOk, IfErr, OnOk};
+ghost use Rattle.std.specs.Prelude.{◌≡◌, ◌≤◌, ◌⊎◌, Some, None, IfOk, IfErr, OnOk, length};
 ghost use Rattle.agc_plan.specs.Plans.{Written, same_task, has_task, task_twice, has_entry};
 ghost use Rattle.agc_plan.specs.Plans.{phase_twice, wants_area, group_wants, all_want, fault_of};
 ghost use Rattle.agc_plan.specs.Plans.{actions_in, entry_at, is_for};
@@ -54,13 +54,13 @@ impl fmt::Display for PlanFault {
 impl Error for PlanFault {}
 
 /// What is done when a task fires, when an era begins, and for a key or radar pulse. Contracts see
-/// its rows, its entries and its two actions. Source: profile.
+/// its rows, its entries, and the actions of both pulses. Source: profile.
 #[derive(Drop)]
 pub struct Plan {
     rows: Vec<(Task, Actions)>,
     entries: Vec<PhaseEntry>,
-    key: Action,
-    radar: Action,
+    key: Actions,
+    radar: Actions,
 }
 
 impl Model for Plan {
@@ -190,8 +190,8 @@ fn copied_rows(alloc: Global, rows: &[(Task, Actions)]) -> Result<Vec<(Task, Act
 }
 
 impl Plan {
-    /// A plan of these rows, entries and actions, each row the actions of one task: copies of them,
-    /// in this order.
+    /// A plan of these rows, entries and actions of pulses, each row the actions of one task: copies
+    /// of them, in this order.
     ///
     /// # Errors
     ///
@@ -200,8 +200,8 @@ impl Plan {
         alloc: Global,
         rows: &[(Task, Actions)],
         entries: &[PhaseEntry],
-        key: Action,
-        radar: Action,
+        key: Actions,
+        radar: Actions,
     ) -> Result<Plan, PlanFault>
         ensures plan { IfOk result (λ p. p
             ≡ record { rows = rows.now; entries = entries.now; key = key; radar = radar }) }
@@ -250,18 +250,20 @@ impl Plan {
         entry_at(&self.entries, group, phase)
     }
 
-    /// What is done for a key pulse.
-    pub fn key(&self) -> Action
-        ensures { result ≡ self.now.key }
+    /// What is done for a key pulse, in order: at most four actions.
+    pub fn key(&self) -> &[Action]
+        ensures value { result.now ≡ self.now.key }
+        ensures most { length result.now ≤ 4 }
     {
-        self.key
+        self.key.as_slice()
     }
 
-    /// What is done for a radar pulse.
-    pub fn radar(&self) -> Action
-        ensures { result ≡ self.now.radar }
+    /// What is done for a radar pulse, in order: at most four actions.
+    pub fn radar(&self) -> &[Action]
+        ensures value { result.now ≡ self.now.radar }
+        ensures most { length result.now ≤ 4 }
     {
-        self.radar
+        self.radar.as_slice()
     }
 }
 

@@ -9,9 +9,8 @@ use Rattle.std.proofs.lemmas.List.Sums.{fold-append}
 use Rattle.std.proofs.lemmas.List.{nil_from_length}
 use Rattle.agc_plan.specs.declared.request.Request.{Request}
 use Rattle.agc_text.specs.Writing.{AppendsUpTo, AppendsFront, Writes}
-use Rattle.agc_text.proofs.Steps.{appends_none, up_to_start, up_to_more, up_to_front, up_to_end, fails_next}
+use Rattle.agc_text.proofs.Steps.{up_to_start, up_to_more, up_to_front, up_to_end, fails_next}
 use Rattle.agc_document.specs.Benches.{Benched}
-use Rattle.agc_desk.specs.Pulses.{repeated}
 use Rattle.agc_session.specs.Runs.{device_requests, bench_requests}
 use Rattle.agc_session.specs.Walks.{texts}
 
@@ -95,15 +94,10 @@ none_left xs i l = nil_from_length _ (simp length-drop (omega arith))
 pub no_item : {X : Type 0} → (f : X → List Request) (xs : List X) (i : ℕ) → length xs ≤ i → flat_map f (drop i xs) ≡ []
 no_item f xs i l = ap (flat_map f) (none_left xs i l)
 
--- a pulse that asks for nothing
-pub nothing_after : {S : Type 0} → (next : S → Request → S) (s : S) (asked : Option Request) (times : ℕ) → asked ≡ None → s ≡ fold next s (repeated asked times)
-nothing_after next s None times e = refl
-nothing_after next s (Some r) times e = cc
-
-pub nothing_written : {S : Type 0} → (next : S → Request → S) (text : S → Request → List ℕ) (o : Option (List ℕ)) (s : S) (asked : Option Request) (times : ℕ) → asked ≡ None → Appends o o (texts next text s (repeated asked times))
+-- one request that is asked alone
+pub alone : {S T E : Type 0} → (next : S → Request → S) (text : S → Request → List ℕ) (o n : Option (List ℕ)) (s : S) (q : Request) (result : Result T E) → Writes o n (text s q) result → Writes o n (texts next text s (q ∷ [])) result
 unfolding texts
-nothing_written next text o s None times e = appends_none o
-nothing_written next text o s (Some r) times e = cc
+alone next text o n s q result written = subst (λ (l : List ℕ). Writes o n l result) (sym (append-nil (text s q))) written
 
 -- the requests of a bench, its workers' as their lists hold them
 pub bench_is : {V : Type 0} → (f : V → List Request) (bench : Benched) (workers : List V) → map f workers ≡ bench.workers → bench_requests bench ≡ bench.script ++ (flat_map f workers ++ flat_map (device_requests bench) bench.devices)

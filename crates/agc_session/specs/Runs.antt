@@ -2,19 +2,18 @@
 use Rattle.std.specs.Prelude.{ℕ, ◌==◌, ◌&&◌, nat_le, Bool, List, [], ◌++◌, Option, Some, None}
 use Rattle.std.specs.List.{flat_map}
 use Rattle.agc_word.specs.Words.{complement}
-use Rattle.agc_plan.specs.declared.request.Action.TheVariants as action
 use Rattle.agc_plan.specs.declared.request.Request.{Request}
 use Rattle.agc_plan.specs.Base.{Base, fresh_base}
 use Rattle.agc_plan.specs.Plans.{Written, Planned, planned_with}
 use Rattle.agc_phase.specs.Image.{minus_in, phase_in}
 use Rattle.agc_machine.specs.Machines.{Machined, begun_with, power_base}
 use Rattle.agc_latch.specs.declared.line.Line.{Line}
-use Rattle.agc_desk.specs.Pulses.{pulse_request, repeated}
+use Rattle.agc_desk.specs.Pulses.{pulse_requests, repeated}
 use Rattle.agc_document.specs.Benches.{Benched}
 
 -- a plan in which nothing is planned
 abbrev pub empty_plan : Written
-empty_plan = record { rows = []; entries = []; key = action.Nothing; radar = action.Nothing }
+empty_plan = record { rows = []; entries = []; key = []; radar = [] }
 
 -- the machine of a script: it has seven core sets, nothing is planned, the log holds 1000 requests,
 -- and 1,000,000 are served
@@ -56,9 +55,9 @@ machine_on sets bench = begun_with (planned_with (plan_of bench) sets) bench.lim
 unfoldable pub bench_machine : Benched → Machined
 bench_machine bench = machine_on bench.sets bench
 
--- the requests of a device, one for each of its pulses
+-- the requests of a device: all for which each of its pulses asks, one pulse after the other
 abbrev pub device_requests : Benched → Line × ℕ → List Request
-device_requests bench device = repeated (pulse_request (bench_plan bench) device.0) device.1
+device_requests bench device = repeated (pulse_requests (bench_plan bench) device.0) device.1
 
 -- the requests of a bench: its script, then each worker's, then each device's, in order
 unfoldable pub bench_requests : Benched → List Request

@@ -1,27 +1,39 @@
 // One walk of a bench, whoever is asked.
-ghost use Rattle.std.specs.Prelude.{◌≡◌, OnOk, replicate};
+ghost use Rattle.std.specs.Prelude.{◌≡◌, ◌==◌, OnOk, length};
 ghost use Rattle.std.specs.List.{flat_map, fold};
 ghost use Rattle.agc_text.specs.Writing.{Writes};
-ghost use Rattle.agc_desk.specs.Pulses.{pulse_request};
+ghost use Rattle.agc_desk.specs.Pulses.{asks_nothing, pulse_requests, requests_for};
 ghost use Rattle.agc_session.specs.Runs.{bench_plan, bench_requests, device_requests};
 ghost use Rattle.agc_session.specs.Walks.{texts};
 
 use crate::asks::Asks;
 use agc_desk::{Line, action_request};
 use agc_document::Bench;
-use agc_plan::Request;
+use agc_plan::{Action, Request};
 use agc_text::Output;
 use std::io::Write;
 
-/// The request for which a pulse of the line asks, if it asks for any: a tick for a timer's, else
-/// the request of the plan's action. Source: profile.
-pub fn pulse_request(bench: &Bench, line: Line) -> Option<Request>
-    ensures { result ≡ pulse_request (bench_plan bench.now) line }
+/// Whether none of these actions does anything.
+fn all_idle(actions: &[Action]) -> bool
+    ensures { result ≡ (length (requests_for actions.now) == 0) }
+{
+    for action in actions {
+        if action_request(*action).is_some() {
+            return false;
+        }
+    }
+    true
+}
+
+/// Whether pulses of the line ask for nothing: a timer's ask for ticks, the others' for what the
+/// plan's actions do. Source: profile.
+pub fn asks_nothing(bench: &Bench, line: Line) -> bool
+    ensures { result ≡ asks_nothing (bench_plan bench.now) line }
 {
     match line {
-        Line::Timer => Some(Request::Tick),
-        Line::Key => action_request(bench.key()),
-        Line::Radar => action_request(bench.radar()),
+        Line::Timer => false,
+        Line::Key => all_idle(bench.key().as_slice()),
+        Line::Radar => all_idle(bench.radar().as_slice()),
     }
 }
 
@@ -45,22 +57,42 @@ pub fn ask_all<A: Asks, W: Write>(
     Ok(())
 }
 
-/// Asks for the same request so many times.
-fn ask_times<A: Asks, W: Write>(
+/// Asks for what these actions are asked for.
+fn ask_actions<A: Asks, W: Write>(
     asker: &mut A,
-    request: &Request,
-    times: u32,
+    actions: &[Action],
     writer: &mut W,
 ) -> Result<(), Output>
     ensures after { OnOk result
-        (asker.new ≡ fold A.next asker.old (replicate times request.now)) }
+        (asker.new ≡ fold A.next asker.old (requests_for actions.now)) }
     ensures writes { Writes (W.contents writer.old) (W.contents writer.new)
-        (texts A.next A.text asker.old (replicate times request.now)) result }
+        (texts A.next A.text asker.old (requests_for actions.now)) result }
 {
-    for _pulse in 0..times {
-        asker.ask(request, writer)?;
+    for action in actions {
+        if let Some(request) = action_request(*action) {
+            asker.ask(&request, writer)?;
+        }
     }
     Ok(())
+}
+
+/// Asks for what a pulse of the line asks for: a tick for a timer's, else the plan's actions.
+fn ask_pulse<A: Asks, W: Write>(
+    asker: &mut A,
+    bench: &Bench,
+    line: Line,
+    writer: &mut W,
+) -> Result<(), Output>
+    ensures after { OnOk result
+        (asker.new ≡ fold A.next asker.old (pulse_requests (bench_plan bench.now) line)) }
+    ensures writes { Writes (W.contents writer.old) (W.contents writer.new)
+        (texts A.next A.text asker.old (pulse_requests (bench_plan bench.now) line)) result }
+{
+    match line {
+        Line::Timer => asker.ask(&Request::Tick, writer),
+        Line::Key => ask_actions(asker, bench.key().as_slice(), writer),
+        Line::Radar => ask_actions(asker, bench.radar().as_slice(), writer),
+    }
 }
 
 /// Asks for a device's requests.
@@ -75,10 +107,10 @@ fn ask_device<A: Asks, W: Write>(
     ensures writes { Writes (W.contents writer.old) (W.contents writer.new)
         (texts A.next A.text asker.old (device_requests bench.now device)) result }
 {
-    match pulse_request(bench, device.0) {
-        Some(request) => ask_times(asker, &request, device.1, writer),
-        None => Ok(()),
+    for _pulse in 0..device.1 {
+        ask_pulse(asker, bench, device.0, writer)?;
     }
+    Ok(())
 }
 
 /// Asks for each worker's requests.

@@ -6,7 +6,7 @@ mod asks;
 mod run;
 mod run_fault;
 
-pub use asking::{ask_all, ask_bench, pulse_request};
+pub use asking::{ask_all, ask_bench, asks_nothing};
 pub use asks::Asks;
 pub use run::{machine_of, machine_on, run_script, script_machine, serial};
 pub use run_fault::RunFault;

@@ -1,7 +1,6 @@
 -- What a trace tells before the first request, and behind the last.
 use Rattle.std.specs.Prelude.{ℕ, ◌+◌, ◌==◌, nat_le, Bool, if◌then◌else◌, List, [], ◌∷◌, ◌++◌, codes}
 use Rattle.std.specs.Prelude.{Option, Some, None, ◌&&◌, nat_lt}
-use Rattle.std.specs.Option.{is_none}
 use Rattle.std.specs.Fmt.{decimal}
 use Rattle.std.specs.List.{flat_map, range_with_len}
 use Rattle.agc_word.specs.Words.{complement}
@@ -9,7 +8,7 @@ use Rattle.agc_phase.specs.Image.{minus_in, phase_in}
 use Rattle.agc_machine.specs.Machines.{Machined, plain_of, places_of}
 use Rattle.agc_text.specs.Numbers.{octal}
 use Rattle.agc_latch.specs.declared.line.Line.{Line}
-use Rattle.agc_desk.specs.Pulses.{pulse_request}
+use Rattle.agc_desk.specs.Pulses.{asks_nothing}
 use Rattle.agc_document.specs.Benches.{Benched, kind_text}
 use Rattle.agc_session.specs.Runs.{bench_plan, pairs_agree}
 use Rattle.agc_trace.specs.Accounts.{phases_text}
@@ -90,13 +89,9 @@ abbrev pub pulses_text : ℕ → Line → List ℕ
 pulses_text count line = decimal count
     ++ (codes " " ++ (kind_text line ++ (if count == 1 then codes " pulse" else codes " pulses")))
 
--- whether pulses of a line ask for nothing
-abbrev pub is_idle : Benched → Line → Bool
-is_idle bench line = is_none (pulse_request (bench_plan bench) line)
-
 -- a device whose pulses ask for nothing, if it sent some
 abbrev pub idle_text : Benched → Line × ℕ → List ℕ
-idle_text bench device = if is_idle bench device.0 && nat_lt 0 device.1
+idle_text bench device = if asks_nothing (bench_plan bench) device.0 && nat_lt 0 device.1
     then codes "        " ++ (pulses_text device.1 device.0 ++ codes " asked for nothing\n")
     else []
 

@@ -3,10 +3,10 @@ ghost use Rattle.std.specs.Prelude.{◌≡◌, ◌+◌, ◌≤◌, ◌++◌, len
 ghost use Rattle.std.specs.List.{flat_map};
 ghost use Rattle.agc_document.specs.Benches.{kind_text};
 ghost use Rattle.agc_text.specs.Writing.{Writes};
-ghost use Rattle.agc_trace.specs.Openings.{idle_devices, idle_text, is_idle, pulses_text};
+ghost use Rattle.agc_trace.specs.Openings.{idle_devices, idle_text, pulses_text};
 
 use agc_document::{Bench, Line};
-use agc_session::pulse_request;
+use agc_session::asks_nothing;
 use agc_text::{Output, add_number, put};
 use arrayvec::ArrayString;
 use std::io::Write;
@@ -39,22 +39,12 @@ fn add_pulses(cell: &mut ArrayString<256>, count: u32, line: Line)
     }
 }
 
-/// Whether pulses of a line ask for nothing.
-fn is_idle(bench: &Bench, line: Line) -> bool
-    ensures { result ≡ is_idle bench.now line }
-{
-    match pulse_request(bench, line) {
-        Some(_request) => false,
-        None => true,
-    }
-}
-
 /// The line of a device whose pulses ask for nothing, if it sent some.
 fn idle_cell(bench: &Bench, device: (Line, u32)) -> ArrayString<256>
     ensures { result.bytes ≡ idle_text bench.now device }
 {
     let mut cell = ArrayString::new();
-    if is_idle(bench, device.0) && device.1 > 0 {
+    if asks_nothing(bench, device.0) && device.1 > 0 {
         cell.push_str("        ");
         add_pulses(&mut cell, device.1, device.0);
         cell.push_str(" asked for nothing\n");

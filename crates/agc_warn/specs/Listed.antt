@@ -37,6 +37,6 @@ unfoldable pub is_listed : Benched → Task → Bool
 is_listed bench task =
     requests_list task bench.script
     || (list_any (requests_list task) bench.workers
-    || (action_lists task bench.key
-    || (action_lists task bench.radar
+    || (list_any (action_lists task) bench.key
+    || (list_any (action_lists task) bench.radar
     || (list_any (row_lists task) bench.rows || list_any (entry_lists task) bench.entries))))

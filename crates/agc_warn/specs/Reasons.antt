@@ -8,7 +8,7 @@ use Rattle.agc_plan.specs.declared.request.Request.TheVariants.{List as ListTask
 use Rattle.agc_plan.specs.Begins.{Begins}
 use Rattle.agc_plan.specs.Plans.{Rows, has_task, has_entry}
 use Rattle.agc_latch.specs.declared.line.Line.{Line}
-use Rattle.agc_desk.specs.Pulses.{pulse_request}
+use Rattle.agc_desk.specs.Pulses.{asks_nothing}
 use Rattle.agc_document.specs.Benches.{Benched}
 use Rattle.agc_session.specs.Runs.{bench_plan}
 use Rattle.agc_warn.specs.declared.warning.Warning.{Warning}
@@ -56,10 +56,8 @@ row_warning bench task = if is_listed bench task then None else Some warning.Nev
 
 -- what is warned of a device on a line: its pulses ask for nothing
 abbrev pub device_warning : Benched → Line → Option Warning
-device_warning bench line = elim (pulse_request (bench_plan bench) line) [
-  | Some request ↦ None
-  | None ↦ Some (warning.NoRequest line)
-]
+device_warning bench line = if asks_nothing (bench_plan bench) line
+    then Some (warning.NoRequest line) else None
 
 -- what is warned of a run in which this request was the first that was refused as the log is full,
 -- and in which this was the first that was as all of the allowance was served

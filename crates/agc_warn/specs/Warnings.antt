@@ -41,16 +41,25 @@ abbrev pub of_request : Benched → Option ℕ → ℕ → Request → List Warn
 of_request bench worker n request =
     placed (request_place worker n) (request_warning bench request)
 
--- the place of an action of a row: alone, or one of several
-abbrev pub action_place : List Action → ℕ → ℕ → Place
-action_place (first ∷ second ∷ acts) n k = place.FieldItem key.Tasks n key.Action k
-action_place acts n k = place.Field key.Tasks n key.Action
+-- the place of an item of the array at a place
+abbrev pub item_place : Place → ℕ → Place
+item_place (place.Value k) n = place.Item k n
+item_place (place.Field tables m k) n = place.FieldItem tables m k n
+item_place at n = at
 
-abbrev pub of_action : Benched → List Action → ℕ → ℕ → Action → List Warned
-of_action bench acts n k act = placed (action_place acts n k) (action_warning bench act)
+-- the place of an action of those at a place: it stands there alone, or is one of several
+abbrev pub action_place : List Action → Place → ℕ → Place
+action_place (first ∷ second ∷ acts) at n = item_place at n
+action_place acts at n = at
+
+abbrev pub of_action : Benched → List Action → Place → ℕ → Action → List Warned
+of_action bench acts at n act = placed (action_place acts at n) (action_warning bench act)
+
+abbrev pub of_actions : Benched → Place → List Action → List Warned
+of_actions bench at acts = numbered (of_action bench acts at) 1 acts
 
 abbrev pub of_row : Benched → ℕ → Task × List Action → List Warned
-of_row bench n row = numbered (of_action bench row.1 n) 1 row.1
+of_row bench n row = of_actions bench (place.Field key.Tasks n key.Action) row.1
     ++ placed (place.Table key.Tasks n) (row_warning bench row.0)
 
 abbrev pub of_entry : Benched → ℕ → Begins → List Warned
@@ -69,13 +78,13 @@ abbrev pub of_worker : Benched → ℕ → List Request → List Warned
 of_worker bench n requests = of_requests bench (Some n) requests
 
 -- what is warned of the actions of the key and of the radar
-abbrev pub of_actions : Benched → List Warned
-of_actions bench = placed (place.Value key.Key) (action_warning bench bench.key)
-    ++ placed (place.Value key.Radar) (action_warning bench bench.radar)
+abbrev pub of_pulses : Benched → List Warned
+of_pulses bench = of_actions bench (place.Value key.Key) bench.key
+    ++ of_actions bench (place.Value key.Radar) bench.radar
 
 -- of all of a bench, in the order of its keys
 abbrev pub of_bench : Benched → List Warned
-of_bench bench = of_actions bench
+of_bench bench = of_pulses bench
     ++ (of_requests bench None bench.script
     ++ (numbered (of_row bench) 1 bench.rows
     ++ (numbered (of_entry bench) 1 bench.entries

@@ -111,8 +111,8 @@ pub(crate) fn is_listed(bench: &Bench, task: &Task) -> bool
 {
     requests_list(task, bench.script())
         || workers_list(task, bench)
-        || action_lists(task, bench.key())
-        || action_lists(task, bench.radar())
+        || actions_list(task, bench.key().as_slice())
+        || actions_list(task, bench.radar().as_slice())
         || rows_list(task, bench.rows())
         || entries_list(task, bench.entries())
 }

@@ -12,7 +12,7 @@ use crate::warning::Warning;
 use agc_document::Bench;
 use agc_latch::Line;
 use agc_plan::{Action, Actions, Group, Phase, PhaseEntry, Request, Task};
-use agc_session::pulse_request;
+use agc_session::asks_nothing;
 use agc_word::Word;
 
 /// Whether a task has a row.
@@ -131,9 +131,10 @@ pub(crate) fn row_warning(bench: &Bench, task: &Task) -> Option<Warning>
 pub(crate) fn device_warning(bench: &Bench, line: Line) -> Option<Warning>
     ensures { result ≡ device_warning bench.now line }
 {
-    match pulse_request(bench, line) {
-        Some(_request) => None,
-        None => Some(Warning::NoRequest(line)),
+    if asks_nothing(bench, line) {
+        Some(Warning::NoRequest(line))
+    } else {
+        None
     }
 }
 

@@ -2,8 +2,8 @@
 ghost use Rattle.std.specs.Prelude.{◌≡◌, [], IfOk};
 ghost use Rattle.std.specs.List.{fold};
 ghost use Rattle.agc_warn.specs.Warnings.{numbered, noted, request_place, of_requests, of_row};
-ghost use Rattle.agc_warn.specs.Warnings.{of_entry, of_worker, of_device, of_actions, of_action};
-ghost use Rattle.agc_warn.specs.Warnings.{action_place};
+ghost use Rattle.agc_warn.specs.Warnings.{of_entry, of_worker, of_device, of_actions, of_pulses};
+ghost use Rattle.agc_warn.specs.Warnings.{action_place, item_place};
 ghost use Rattle.agc_warn.specs.Warnings.{of_bench, of_run, warnings_of};
 
 use crate::noting::{is_full, note};
@@ -29,21 +29,52 @@ fn request_place(worker: Option<u64>, number: u64) -> Place
     }
 }
 
-/// Notes what is warned of the actions of the key and of the radar.
-fn note_actions(found: &mut Vec<Warned>, bench: &Bench) -> Result<(), AllocError>
-    ensures { IfOk result (λ _. found.new.items
-        ≡ fold noted found.old.items (of_actions bench.now)) }
+/// The place of an item of the array at a place.
+fn item_place(at: Place, number: u64) -> Place
+    ensures { result ≡ item_place at number }
 {
-    note(
-        found,
-        Place::Value(Key::Key),
-        action_warning(bench, bench.key()),
-    )?;
-    note(
-        found,
-        Place::Value(Key::Radar),
-        action_warning(bench, bench.radar()),
-    )
+    match at {
+        Place::Value(key) => Place::Item(key, number),
+        Place::Field(tables, table, key) => Place::FieldItem(tables, table, key, number),
+        _ => at,
+    }
+}
+
+/// The place of an action of those at a place: it stands there alone, or is one of several.
+fn action_place(actions: &[Action], at: Place, number: u64) -> Place
+    ensures { result ≡ action_place actions.now at number }
+{
+    match actions {
+        [_, _, ..] => item_place(at, number),
+        _ => at,
+    }
+}
+
+/// Notes what is warned of the actions at a place.
+fn note_actions(
+    found: &mut Vec<Warned>,
+    bench: &Bench,
+    at: Place,
+    actions: &[Action],
+) -> Result<(), AllocError>
+    ensures { IfOk result (λ _. found.new.items
+        ≡ fold noted found.old.items (of_actions bench.now at actions.now)) }
+{
+    for (k, action) in actions.iter().enumerate() {
+        let place = action_place(actions, at, k as u64 + 1);
+        note(found, place, action_warning(bench, *action))?;
+    }
+    Ok(())
+}
+
+/// Notes what is warned of the actions of the key and of the radar.
+fn note_pulses(found: &mut Vec<Warned>, bench: &Bench) -> Result<(), AllocError>
+    ensures { IfOk result (λ _. found.new.items
+        ≡ fold noted found.old.items (of_pulses bench.now)) }
+{
+    let (key, radar) = (bench.key().as_slice(), bench.radar().as_slice());
+    note_actions(found, bench, Place::Value(Key::Key), key)?;
+    note_actions(found, bench, Place::Value(Key::Radar), radar)
 }
 
 /// Notes what is warned of requests.
@@ -78,33 +109,6 @@ fn note_rows(
     Ok(())
 }
 
-/// The place of an action of a row: alone, or one of several.
-fn action_place(actions: &[Action], number: u64, k: u64) -> Place
-    ensures { result ≡ action_place actions.now number k }
-{
-    match actions {
-        [_, _, ..] => Place::FieldItem(Key::Tasks, number, Key::Action, k),
-        _ => Place::Field(Key::Tasks, number, Key::Action),
-    }
-}
-
-/// Notes what is warned of the actions of a row.
-fn note_row_actions(
-    found: &mut Vec<Warned>,
-    bench: &Bench,
-    number: u64,
-    actions: &[Action],
-) -> Result<(), AllocError>
-    ensures { IfOk result (λ _. found.new.items ≡ fold noted found.old.items
-        (numbered (of_action bench.now actions.now number) 1 actions.now)) }
-{
-    for (k, action) in actions.iter().enumerate() {
-        let place = action_place(actions, number, k as u64 + 1);
-        note(found, place, action_warning(bench, *action))?;
-    }
-    Ok(())
-}
-
 /// Notes what is warned of a row.
 fn note_row(
     found: &mut Vec<Warned>,
@@ -119,7 +123,8 @@ fn note_row(
     if is_full(found.as_slice()) {
         return Ok(());
     }
-    note_row_actions(found, bench, number, row.1.as_slice())?;
+    let actions = Place::Field(Key::Tasks, number, Key::Action);
+    note_actions(found, bench, actions, row.1.as_slice())?;
     let table = Place::Table(Key::Tasks, number);
     note(found, table, row_warning(bench, &row.0))
 }
@@ -176,7 +181,7 @@ fn note_bench(found: &mut Vec<Warned>, bench: &Bench) -> Result<(), AllocError>
     ensures { IfOk result (λ _. found.new.items
         ≡ fold noted found.old.items (of_bench bench.now)) }
 {
-    note_actions(found, bench)?;
+    note_pulses(found, bench)?;
     note_requests(found, bench, None, bench.script())?;
     note_rows(found, bench, bench.rows())?;
     note_entries(found, bench, bench.entries())?;

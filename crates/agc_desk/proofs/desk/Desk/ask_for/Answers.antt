@@ -1,17 +1,21 @@
-use Rattle.std.proofs.Common.{rules, ◌≡◌, ap, sym, subst, ◌∙◌, ◌∷◌, [], ◌++◌, ◌≤◌, IfSome, Some}
+use Rattle.std.proofs.Common.{rules, ◌≡◌, ap, sym, subst, ◌∙◌, ◌∷◌, [], ◌++◌, ◌<◌, ◌≤◌, length, IfSome, Option, None, Some}
+use Rattle.std.proofs.lemmas.Option.{slice_get_within}
+use Rattle.agc_latch.specs.declared.line.Line.{Line}
+use Rattle.agc_latch.specs.Accounts.{LineAccounts}
 use Rattle.agc_latch.specs.Lines.{on}
 use Rattle.agc_plan.specs.declared.request.Request.{Request}
 use Rattle.agc_plan.specs.Plans.{Planned}
-use Rattle.agc_machine.specs.Machines.{after, answer_of, said_of}
+use Rattle.agc_machine.specs.Machines.{Machined, after, answer_of, said_of}
 use Rattle.agc_machine.specs.Said.{Said}
 use Rattle.agc_machine.specs.Told.{add, told}
 use Rattle.agc_desk.specs.declared.ties.Call.{Call}
 use Rattle.agc_desk.specs.Books.{told_in}
 use Rattle.agc_desk.specs.Desks.{ArePulses, Desked}
 use Rattle.agc_desk.specs.History.{Leads}
-use Rattle.agc_desk.specs.Pulses.{pulse_request}
-use Rattle.agc_desk.specs.Stages.{Marks}
+use Rattle.agc_desk.specs.Pulses.{pulse_requests}
+use Rattle.agc_desk.specs.Stages.{Marks, NextIs}
 use Rattle.agc_desk.proofs.Calls.{leads_on, same_growth, same_setting, told_after, told_push}
+use Rattle.agc_desk.proofs.Emptying.{plan_after}
 use Rattle.agc_desk.proofs.Marking.{marked}
 use Rattle.agc_desk.proofs.desk.Desk.ask_for.Goals as goal
 
@@ -24,10 +28,14 @@ invariant_of-self g c =
     let led = leads_on g.N.Names.first calls machine call c.self.invariant.leads (c.apply-answer.ensures.answer ∙ ap (λ q. said_of machine q) (sym asked)) in
     let there = ap (λ q. after machine q) asked ∙ sym c.apply-answer.ensures.after in
     let plan = same_setting g.N.Names.first calls machine c.self.invariant.leads in
-    let asks : IfSome c.args.pulse (λ line. pulse_request g.N.Names.first.plan line ≡ Some c.apply-answer.result.request) =
-    subst (λ (p : Planned). IfSome c.args.pulse (λ line. pulse_request p line ≡ Some c.apply-answer.result.request)) plan.plan
-    (subst (λ (q : Request). IfSome c.args.pulse (λ line. pulse_request machine.plan line ≡ Some q)) (sym asked)
-    (subst (λ (d : Desked). IfSome c.args.pulse (λ line. pulse_request d.machine.plan line ≡ Some c.args.request)) (sym c.self.view_is) c.requires.asks)) in
+    let stays : c.apply-answer.new.self.plan ≡ machine.plan = ap (λ (m : Machined). m.plan) c.apply-answer.ensures.after ∙ plan_after machine c.args.request in
+    let asks : IfSome c.args.pulse (λ line. NextIs machine.plan line c.self.inside.lines c.args.request) =
+    subst (λ (d : Desked). IfSome c.args.pulse (λ line. NextIs d.machine.plan line d.lines c.args.request)) (sym c.self.view_is) c.requires.asks in
+    let next : IfSome c.args.pulse (λ line. NextIs g.N.Names.first.plan line c.self.inside.lines c.apply-answer.result.request) =
+    subst (λ (p : Planned). IfSome c.args.pulse (λ line. NextIs p line c.self.inside.lines c.apply-answer.result.request)) plan.plan
+    (subst (λ (q : Request). IfSome c.args.pulse (λ line. NextIs machine.plan line c.self.inside.lines q)) (sym asked) asks) in
+    let marks : Marks g.N.Names.first.plan c.args.pulse c.apply-answer.result.outcome c.self.inside.lines c.mark_served.new.lines =
+    subst (λ (p : Planned). Marks p c.args.pulse c.apply-answer.result.outcome c.self.inside.lines c.mark_served.new.lines) (stays ∙ plan.plan) c.mark_served.ensures in
     record {
       leads = subst (λ l. Leads g.N.Names.first l c.apply-answer.new.self) (sym (ap (λ k. k.calls) c.note.ensures.calls)) (subst (λ m. Leads g.N.Names.first (calls ++ call ∷ []) m) there led);
       none_gathered = ap (λ k. k.gathered) c.note.ensures.calls ∙ c.self.invariant.none_gathered;
@@ -36,18 +44,34 @@ invariant_of-self g c =
       parts = search rules;
       one = search rules;
       none_back = search rules;
-      pulses = subst (λ l. ArePulses g.N.Names.first.plan l c.mark_served.new.lines.applied) (sym (ap (λ k. k.calls) c.note.ensures.calls))
+      pulses = subst (λ l. ArePulses g.N.Names.first.plan l c.mark_served.new.lines.applied c.mark_served.new.lines.begun) (sym (ap (λ k. k.calls) c.note.ensures.calls))
           (marked g.N.Names.first.plan calls c.share.inside.own.number c.apply-answer.result c.args.pulse c.self.inside.lines c.mark_served.new.lines
-          c.self.invariant.pulses asks c.mark_served.ensures);
+          c.self.invariant.pulses next marks);
     }
 
-pub mark_served-requires : goal.mark_served-requires
-mark_served-requires g c =
+pub mark_served-requires-clause-owed : goal.mark_served-requires-clause-owed
+mark_served-requires-clause-owed g c =
     subst (λ (d : Desked). IfSome c.args.pulse (λ line. 1 ≤ on line d.lines.owed)) (sym c.self.view_is) c.requires.owed
+
+within : (plan : Planned) (pulse : Option Line) (lines : LineAccounts) (q : Request) → IfSome pulse (λ line. NextIs plan line lines q)
+    → IfSome pulse (λ line. on line lines.begun < length (pulse_requests plan line))
+within plan None lines q next = next
+within plan (Some line) lines q next = slice_get_within (pulse_requests plan line) (on line lines.begun) q next
+
+pub mark_served-requires-clause-begun : goal.mark_served-requires-clause-begun
+mark_served-requires-clause-begun g c =
+    let machine = c.self.inside.machine in
+    let stays : c.apply-answer.new.self.plan ≡ machine.plan = ap (λ (m : Machined). m.plan) c.apply-answer.ensures.after ∙ plan_after machine c.args.request in
+    within c.apply-answer.new.self.plan c.args.pulse c.self.inside.lines c.args.request
+    (subst (λ (p : Planned). IfSome c.args.pulse (λ line. NextIs p line c.self.inside.lines c.args.request)) (sym stays)
+    (subst (λ (d : Desked). IfSome c.args.pulse (λ line. NextIs d.machine.plan line d.lines c.args.request)) (sym c.self.view_is) c.requires.asks))
 
 pub returns-clause-lines : goal.returns-clause-lines
 returns-clause-lines g c =
-    subst (λ (d : Desked). Marks c.args.pulse c.apply-answer.result.outcome d.lines c.mark_served.new.lines) c.self.view_is c.mark_served.ensures
+    let machine = c.self.inside.machine in
+    let stays : c.apply-answer.new.self.plan ≡ machine.plan = ap (λ (m : Machined). m.plan) c.apply-answer.ensures.after ∙ plan_after machine c.args.request in
+    subst (λ (d : Desked). Marks d.machine.plan c.args.pulse c.apply-answer.result.outcome d.lines c.mark_served.new.lines) c.self.view_is
+    (subst (λ (p : Planned). Marks p c.args.pulse c.apply-answer.result.outcome c.self.inside.lines c.mark_served.new.lines) stays c.mark_served.ensures)
 
 pub invariant_of-share : goal.invariant_of-share
 invariant_of-share g c =
