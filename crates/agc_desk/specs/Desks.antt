@@ -36,8 +36,8 @@ new_desk machine = record {
 abbrev pub with_lines : LineAccounts → Desked → Desked
 with_lines lines d = record d { lines = lines }
 
--- The pulses of these calls: each call asks for something for which pulses of its line ask; and what
--- was asked on a line, and not refused, is all for which its applied pulses ask, one after the
+-- The pulses of these calls: each call asks for something for which pulses of its line ask; and
+-- what was asked on a line, and not refused, is all for which its applied pulses ask, one after the
 -- other, and then the first requests of one more, so many as that one is begun, and not all
 pub record ArePulses (plan : Planned) (calls : List Call) (applied begun : List ℕ)
     : Type 0 where

@@ -1,6 +1,6 @@
 -- What a desk does as it is drained.
-use Rattle.std.specs.Prelude.{◌≡◌, ◌↔◌, ℕ, ◌+◌, ◌*◌, ◌<◌, ◌≤◌, List, [], ◌∷◌, ◌++◌, map, take, Option}
-use Rattle.std.specs.Prelude.{Some, IsNone, IsOk, slice_get}
+use Rattle.std.specs.Prelude.{◌≡◌, ◌↔◌, ℕ, ◌+◌, ◌*◌, ◌<◌, ◌≤◌, List, [], ◌∷◌, ◌++◌, map, take}
+use Rattle.std.specs.Prelude.{Option, Some, IsNone, IsOk, slice_get}
 use Rattle.std.specs.List.{All}
 use Rattle.std.specs.Option.{option_and_then}
 use Rattle.atomic_table.specs.Seated.{TableId}
@@ -30,7 +30,7 @@ answers_to m (asked ∷ more) = said_of m asked ∷ answers_to (after m asked) m
 abbrev pub requests_by : List Pulse → List Request
 requests_by pulses = map (λ pulse. pulse.request) pulses
 
--- the calls by which a machine is asked for these requests of pulses, in order, with the share of this number
+-- the calls by which a machine is asked for these, in order, with the share of this number
 unfoldable pub calls_of : ℕ → Machined → List Pulse → List Call
 calls_of number m [] = []
 calls_of number m (pulse ∷ more) = record {
@@ -83,10 +83,9 @@ pulse_refusal m pulse = refusal_of m pulse.request
 
 -- The desk is drained with a share: it takes pulses, and asks in order for what they and those that
 -- were owed before ask for, up to the first request that is refused. What was served and what is
--- left are together what was to be asked for; of pulses of which only some requests were served, and
--- of all that come after it, what is left stays owed. The requests, the refused one too, come with
--- their answers into the history, as those of pulses of their lines, to the share's holder and into
--- the books, and nothing else of the desk changes; and the holder counts one drain more.
+-- left are together what was to be asked for. The requests, the refused one too, come with their
+-- answers into the history, as those of pulses of their lines, to the share's holder and into the
+-- books, and nothing else of the desk changes; and the holder counts one drain more.
 pub record Drains (old : Desked) (share : Holder)
     (result : Drained) (now : Desked) (new : Holder) : Type 0 where
   pub lines : Moves result.taken result.applied old.lines now.lines

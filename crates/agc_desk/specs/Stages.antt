@@ -35,8 +35,8 @@ Proceeds plan line old now =
     × Applies line 1 old now × (on line now.begun ≡ 0))
     ⊎ ((on line old.begun + 1 < length (pulse_requests plan line)) × Begins line old now)
 
--- the accounts of lines proceed so, if this is the outcome of a pulse's request and no refusal; else
--- nothing changes
+-- the accounts of lines proceed so, if this is the outcome of a pulse's request and no refusal;
+-- else nothing changes
 abbrev pub Marks : Planned → Option Line → Result Reply Refusal → LineAccounts → LineAccounts
     → Type 0
 Marks plan (Some line) (Ok reply) old now = Proceeds plan line old now

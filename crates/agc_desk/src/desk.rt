@@ -34,9 +34,10 @@ const SHARES: u64 = 64;
 ///
 /// Of every desk it holds that the history leads to its machine from the one with which it was
 /// made, that each book is the machine's total less that one's, and that on each line what is
-/// applied and what is owed are the pulses of settled latches and those that its taker took. What its
-/// history asked for pulses of a line, and was not refused, is all for which the applied ones ask,
-/// and the first requests of one more that is begun. The history has no bytes. Source: profile.
+/// applied and what is owed are the pulses of settled latches and those that its taker took. What
+/// its history asked for pulses of a line, and was not refused, is all for which the applied ones
+/// ask, and the first requests of one more that is begun. The history has no bytes. Source:
+/// profile.
 #[derive(Drop)]
 pub struct Desk<N: Names> {
     machine: Machine,
@@ -209,8 +210,8 @@ impl<N: Names> Desk<N> {
     }
 }
 
-// A request of a pulse was answered, if there is a pulse: where it wasn't refused, the pulse is begun
-// further, or applied if it asks for no more.
+// A request of a pulse was answered, if there is a pulse: where it wasn't refused, the pulse is
+// begun further, or applied if it asks for no more.
 fn mark_served(lines: &mut Accounts, machine: &Machine, pulse: Option<Line>, answer: &Answer)
     requires owed { IfSome pulse (λ line. 1 ≤ on line lines.old.owed) }
     requires begun { IfSome pulse (λ line.

@@ -64,12 +64,12 @@ impl<N: Names> Desk<N> {
 
     /// Takes what devices posted on the timer's, the keyboard's and the radar's line, and adds it
     /// to what is owed; a desk without a taker takes nothing. Then applies what is owed, all of the
-    /// timer's pulses first, then the keyboard's, then the radar's. A timer pulse asks for a tick, a
-    /// key or radar pulse for the plan's actions, one request after the other; it is applied when
-    /// the last is served, and one that asks for nothing is applied by no request. The first request
-    /// that is refused ends the drain: the rest stays owed, a pulse of which some requests were
-    /// served with what it still asks for. An alarm stops nothing. The requests, the refused one
-    /// too, are served with this share. Source: profile.
+    /// timer's pulses first, then the keyboard's, then the radar's. A timer pulse asks for a tick,
+    /// a key or radar pulse for the plan's actions, one request after the other; it is applied when
+    /// the last is served, and one that asks for nothing is applied by no request. The first
+    /// request that is refused ends the drain: the rest stays owed, a pulse of which some requests
+    /// were served with what it still asks for. An alarm stops nothing. The requests, the refused
+    /// one too, are served with this share. Source: profile.
     pub fn drain(&mut self, latch: &Latch, share: &mut Share<N>) -> Drained
         requires { IsOf latch.now self.old.lines.taker }
         ensures { Drains self.old share.old result self.new share.new }

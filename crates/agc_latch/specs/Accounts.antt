@@ -1,15 +1,15 @@
 -- The accounts of lines: what contracts see of them, what their type keeps, and how calls change
 -- them.
-use Rattle.std.specs.Prelude.{◌≡◌, ◌≢◌, ℕ, ◌+◌, ◌*◌, ◌<◌, ◌≤◌, List, length, sum_by, Option, Some, None}
-use Rattle.std.specs.Prelude.{IfSome}
+use Rattle.std.specs.Prelude.{◌≡◌, ◌≢◌, ℕ, ◌+◌, ◌*◌, ◌<◌, ◌≤◌, List, length, sum_by}
+use Rattle.std.specs.Prelude.{Option, Some, None, IfSome}
 use Rattle.atomic_table.specs.Seated.{TableId}
 use Rattle.agc_latch.specs.declared.line.Line.{Line}
 use Rattle.agc_latch.specs.Lines.{on, zeros}
 use Rattle.agc_latch.specs.Ends.{Posting, Taking, new_taker}
 
 -- the taker, if there is one; how many devices were given out in all; and per line the pulses that
--- are applied, that are owed, and that were posted on the latches that were settled, and how far the
--- first one is begun that is owed: how many of the requests for which it asks were served
+-- are applied, that are owed, and that were posted on the latches that were settled, and how far
+-- the first one is begun that is owed: how many of the requests for which it asks were served
 pub record LineAccounts : Type 0 where
   pub taker : Option Taking
   pub devices : ℕ

@@ -28,8 +28,8 @@ fn sums(some: [u64; 3], more: [u64; 3]) -> [u64; 3]
 /// latches that were settled; and how far the first one is begun that is owed.
 ///
 /// Of all accounts it holds that on each line what is applied and what is owed are the pulses of
-/// settled latches and those that the taker took, and that none is begun where none is owed. Source:
-/// profile.
+/// settled latches and those that the taker took, and that none is begun where none is owed.
+/// Source: profile.
 #[derive(Drop)]
 pub struct Accounts {
     taker: Option<AttachedTaker>,
@@ -139,8 +139,8 @@ impl Accounts {
         self.owed[line.word()]
     }
 
-    /// So many pulses of a line that were owed are applied from now on, and the next one isn't begun.
-    /// Source: profile.
+    /// So many pulses of a line that were owed are applied from now on, and the next one isn't
+    /// begun. Source: profile.
     pub fn apply(&mut self, line: Line, pulses: u64)
         requires { pulses ≤ on line self.old.owed }
         ensures applies { Applies line pulses self.old self.new }
@@ -167,7 +167,8 @@ impl Accounts {
         requires few { on line self.old.begun < 3 }
         ensures { Begins line self.old self.new }
     {
-        self.begun[line.word()] += 1;
+        let word = line.word();
+        self.begun[word] += 1;
     }
 
     /// The pulses that were applied, per line: the timer's, the keyboard's, the radar's. Source:

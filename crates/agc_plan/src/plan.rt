@@ -190,8 +190,8 @@ fn copied_rows(alloc: Global, rows: &[(Task, Actions)]) -> Result<Vec<(Task, Act
 }
 
 impl Plan {
-    /// A plan of these rows, entries and actions of pulses, each row the actions of one task: copies
-    /// of them, in this order.
+    /// A plan of these rows, entries and actions of pulses, each row the actions of one task:
+    /// copies of them, in this order.
     ///
     /// # Errors
     ///
