@@ -24,13 +24,8 @@ pub record Desked : Type 0 where
 
 -- a desk as it is made: nothing was asked, booked, given out or posted
 abbrev pub new_desk : Machined → Desked
-new_desk machine = record {
-  machine = machine;
-  history = [];
-  booked = nothing;
-  given = 0;
-  lines = no_accounts;
-}
+new_desk machine = record
+    { machine = machine; history = []; booked = nothing; given = 0; lines = no_accounts }
 
 -- the desk with these accounts of lines, and nothing else changed
 abbrev pub with_lines : LineAccounts → Desked → Desked

@@ -33,11 +33,9 @@ requests_by pulses = map (λ pulse. pulse.request) pulses
 -- the calls by which a machine is asked for these, in order, with the share of this number
 unfoldable pub calls_of : ℕ → Machined → List Pulse → List Call
 calls_of number m [] = []
-calls_of number m (pulse ∷ more) = record {
-  by = number;
-  answer = said_of m pulse.request;
-  pulse = Some pulse.line;
-} ∷ calls_of number (after m pulse.request) more
+calls_of number m (pulse ∷ more) = record
+    { by = number; answer = said_of m pulse.request; pulse = Some pulse.line }
+    ∷ calls_of number (after m pulse.request) more
 
 -- the desk after it was asked for these, in order, with the share of this number
 abbrev pub with_asked : ℕ → List Pulse → Desked → Desked

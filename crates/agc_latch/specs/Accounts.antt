@@ -19,14 +19,8 @@ pub record LineAccounts : Type 0 where
   pub settled : List ℕ
 
 abbrev pub no_accounts : LineAccounts
-no_accounts = record {
-  taker = None;
-  devices = 0;
-  applied = zeros;
-  owed = zeros;
-  begun = zeros;
-  settled = zeros;
-}
+no_accounts = record
+    { taker = None; devices = 0; applied = zeros; owed = zeros; begun = zeros; settled = zeros }
 
 -- the accounts with the taker of a latch, which is new
 abbrev pub with_taker : TableId → LineAccounts → LineAccounts
