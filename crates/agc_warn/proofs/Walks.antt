@@ -8,7 +8,7 @@ use Rattle.agc_session.proofs.Walks.{next_is, none_left}
 use Rattle.agc_document.specs.Benches.{Benched}
 use Rattle.agc_warn.specs.declared.warning.Warned.{Warned}
 use Rattle.agc_warn.specs.declared.warning.Warning.{Warning}
-use Rattle.agc_warn.specs.Warnings.{numbered, noted, placed, of_actions, of_requests, of_row, of_entry, of_worker, of_device, of_bench, of_run, warnings_of}
+use Rattle.agc_warn.specs.Warnings.{numbered, noted, placed, of_pulses, of_requests, of_row, of_entry, of_worker, of_device, of_bench, of_run, warnings_of}
 
 -- what the next item is warned of, and what the rest is
 pub next_numbered : {X : Type 0} → (f : ℕ → X → List Warned) (xs : List X) (i : ℕ) (x : X) → i < length xs → x ≡ get_or xs i x → numbered f (i + 1) (drop i xs) ≡ f (i + 1) x ++ numbered f (i + 1 + 1) (drop (i + 1) xs)
@@ -47,14 +47,14 @@ numbered_seen f see n [] = refl
 numbered_seen f see n (x ∷ xs) = ap (λ rest. f n (see x) ++ rest) (numbered_seen f see (n + 1) xs)
 
 -- the six parts of a bench were
-pub all_warned : (b : Benched) (s0 s1 s2 s3 s4 s5 s6 : List Warned) → s1 ≡ fold noted s0 (of_actions b) → s2 ≡ fold noted s1 (of_requests b None b.script) → s3 ≡ fold noted s2 (numbered (of_row b) 1 b.rows) → s4 ≡ fold noted s3 (numbered (of_entry b) 1 b.entries) → s5 ≡ fold noted s4 (numbered (of_worker b) 1 b.workers) → s6 ≡ fold noted s5 (numbered (of_device b) 1 b.devices) → s6 ≡ fold noted s0 (of_bench b)
+pub all_warned : (b : Benched) (s0 s1 s2 s3 s4 s5 s6 : List Warned) → s1 ≡ fold noted s0 (of_pulses b) → s2 ≡ fold noted s1 (of_requests b None b.script) → s3 ≡ fold noted s2 (numbered (of_row b) 1 b.rows) → s4 ≡ fold noted s3 (numbered (of_entry b) 1 b.entries) → s5 ≡ fold noted s4 (numbered (of_worker b) 1 b.workers) → s6 ≡ fold noted s5 (numbered (of_device b) 1 b.devices) → s6 ≡ fold noted s0 (of_bench b)
 all_warned b s0 s1 s2 s3 s4 s5 s6 e1 e2 e3 e4 e5 e6 =
     let script = of_requests b None b.script in
     let rows = numbered (of_row b) 1 b.rows in
     let entries = numbered (of_entry b) 1 b.entries in
     let workers = numbered (of_worker b) 1 b.workers in
     let devices = numbered (of_device b) 1 b.devices in
-    both_noted s0 s1 s6 (of_actions b) (script ++ (rows ++ (entries ++ (workers ++ devices)))) e1
+    both_noted s0 s1 s6 (of_pulses b) (script ++ (rows ++ (entries ++ (workers ++ devices)))) e1
     (both_noted s1 s2 s6 script (rows ++ (entries ++ (workers ++ devices))) e2
     (both_noted s2 s3 s6 rows (entries ++ (workers ++ devices)) e3
     (both_noted s3 s4 s6 entries (workers ++ devices) e4
