@@ -5,3 +5,6 @@ pub mod Words
 pub mod Pieces
 pub mod Joined
 pub mod Whole
+pub mod Fronts
+pub mod Still
+pub mod Quieted

@@ -1,11 +1,12 @@
 -- Requests after which nothing changed but the time.
-use Rattle.std.specs.Prelude.{ℕ, ◌==◌, nat_le, Bool, false, if◌then◌else◌, List, length}
+use Rattle.std.specs.Prelude.{ℕ, ◌+◌, ◌==◌, nat_le, Bool, false, if◌then◌else◌, List, length}
 use Rattle.std.specs.Prelude.{◌++◌, codes, Option, Some, None}
 use Rattle.std.specs.Fmt.{decimal}
 use Rattle.agc_plan.specs.declared.request.Task.{Task}
 use Rattle.agc_plan.specs.declared.reply.Alarm.{Alarm}
 use Rattle.agc_plan.specs.declared.reply.Reply.{Reply}
 use Rattle.agc_plan.specs.declared.reply.Reply.TheVariants as reply
+use Rattle.agc_plan.specs.Steps.{Plain}
 use Rattle.agc_machine.specs.declared.answer.Refusal.{Refusal}
 use Rattle.agc_machine.specs.declared.answer.Refusal.TheVariants as refusal
 use Rattle.agc_trace.specs.declared.quiet.Quiet.{Quiet}
@@ -59,3 +60,16 @@ capped n = if nat_le n 18446744073709551615 then n else 18446744073709551615
 abbrev pub times_text : Quiet → ℕ → List ℕ
 times_text quiet count = codes "        "
     ++ (quiet_text quiet ++ (codes " x " ++ (decimal (capped count) ++ codes "\n")))
+
+-- how many centiseconds pass with such a request
+abbrev pub time_of : Quiet → ℕ
+time_of Tick = 1
+time_of quiet = 0
+
+-- a state so many centiseconds later, with nothing else changed: tasks are due when they were
+abbrev pub later_by : ℕ → Plain → Plain
+later_by count plain =
+    let agenda = plain.work.agenda in
+    record plain {
+      work = record plain.work { agenda = record agenda { time = agenda.time + count } };
+    }

@@ -8,6 +8,7 @@ mod choice;
 mod columns;
 mod ending;
 mod idle;
+mod laws;
 mod lines;
 mod newjob;
 mod opening;
@@ -20,6 +21,7 @@ mod waits;
 
 pub use account::{account_of, add_phases};
 pub use choice::Choice;
+pub use laws::quiet_request_changes_the_time_alone;
 pub use lines::{
     answer_cell, number_cell, owners_cell, request_cell, running_cell, seats_cell, waits_cell,
 };
