@@ -70,7 +70,7 @@ class Dice(random.Random):
         return self.choice(["nothing", self.line("rouse"), self.listing(), self.listing(), self.job(), self.job()])
 
     def actions(self):
-        """What a task does: a line, or an array of one to four."""
+        """What a task or pulse does: a line, or an array of one to four."""
         return self.action() if self.often(0.4) else [self.action() for _ in range(self.randint(1, model.MOST_ACTIONS))]
 
 
@@ -121,7 +121,7 @@ def bench_of(dice, script_of, limits=True):
         found["allowance"] = dice.choice([0, dice.randint(1, 100), 2**63 - 1])
     for name in ("key", "radar"):
         if dice.often(0.5):
-            found[name] = dice.action()
+            found[name] = dice.actions()
     if dice.often(0.3):
         found["power"] = power(dice)
     if script_of:
@@ -253,7 +253,7 @@ def wrong_bench(dice):
             table[name] = dice.choice([-1, 0, 8, 128, 1000001, 2**63 - 1])
         elif isinstance(table[name], str):
             table[name] = dice.choice([*ODD_WORDS[:-6], "nothing", "timers"])
-        elif name == "action":
+        elif name in ("action", "key", "radar"):
             table[name] = dice.choice([[], ["nothing"] * 5, ["nothing", dice.choice(ODD_WORDS[:-6])], ["nothing", 1]])
         else:
             table[dice.choice(["keys", "at", "script"])] = 1
