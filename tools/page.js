@@ -38,7 +38,7 @@ for (const found of page.matchAll(/<(\w+)[^>]*? id="(\w[\w-]*)"[^>]*>/g)) {
   named[found[2]] = new Element(found[1]);
   named[found[2]].hidden = / hidden[ >]/.test(found[0]);
 }
-for (const found of page.matchAll(/<script type="text\/plain" id="(\w+)">\n([^<]*)<\/script>/g)) {
+for (const found of page.matchAll(/<script type="text\/plain" id="(\w+)">(\n[^<]*)<\/script>/g)) {
   named[found[1]].textContent = found[2];
 }
 
@@ -71,13 +71,19 @@ const press = (key, target) => {
 const shown = (id) => named[id].textContent;
 const at = () => Number(world.address.slice(1));
 
-// The rows of a run: a cell that is empty is that of the row above.
+// The rows of a run: a cell that is empty is that of the row above; behind ~ it begins with so many
+// letters of that, behind ^ with so many of the row's above that.
 const rows_of = (id) => {
-  let above = [];
-  return shown(id).split('\n').filter((line) => /^[0-9]/.test(line)).map((line) => {
-    above = line.split('\t').map((cell, k) => cell.trim() || above[k]);
-    return above;
-  });
+  const rows = [];
+  for (const line of shown(id).split('\n').filter((text) => text.includes('\t'))) {
+    rows.push(line.split('\t').map((cell, k) => {
+      const [above, older] = [1, 2].map((back) => (rows[rows.length - back] || [])[k] || '');
+      const told = /^([0-9]+)([~^])(.*)/.exec(cell);
+      if (k === 0) { return cell; }
+      return told ? (told[2] === '~' ? above : older).slice(0, told[1]) + told[3] : above;
+    }));
+  }
+  return rows.map((row) => row.map((cell) => cell.trim()));
 };
 
 const own = rows_of('own');

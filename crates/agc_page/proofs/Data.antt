@@ -1,6 +1,5 @@
 -- The data of a page are plain.
-use Rattle.std.proofs.Common.{◌≡◌, ℕ, Bool, List, [], ◌∷◌, ◌++◌, codes, map, nat_eq, Option, Some, None, refl}
-use Rattle.std.specs.Cmp.Lexicographic.{pointwise}
+use Rattle.std.proofs.Common.{ℕ, List, [], ◌∷◌, ◌++◌, codes, map, Option, Some, None, refl}
 use Rattle.std.specs.Fmt.{decimal}
 use Rattle.std.specs.List.{flat_map}
 use Rattle.agc_plan.specs.declared.request.Request.{Request}
@@ -21,9 +20,11 @@ use Rattle.agc_trace.specs.Lines.{seat_text}
 use Rattle.agc_trace.specs.Openings.{broken_text, power_reply}
 use Rattle.agc_trace.specs.Scenes.{Scene, scene_of}
 use Rattle.agc_trace.specs.Traces.{Traced, account_by, one_more, origins_unless, scene_unless, time_unless, told_alarm, traced_account}
-use Rattle.agc_page.specs.Cells.{Celled, base_text, base_unless, blank, cell_text, celled, cells_of, front_text, row_text, state_text, unless_same}
+use Rattle.agc_page.specs.Cells.{Celled, base_text, base_unless, blank, cell_text, celled, cells_of, front_text, row_text, state_text}
 use Rattle.agc_page.specs.Rows.{Stepped, data_of, power_account, power_cells, power_text, stepped, stepped_from, stepped_text}
-use Rattle.agc_page.proofs.Plain.{Plain, accounts, answers, both, broken, choose, counts, decimals, each, lines, more, owners, phases, powers, running, seat, waits, words}
+use Rattle.agc_page.specs.Told.{lines_told, told_by}
+use Rattle.agc_page.proofs.Plain.{Plain, accounts, answers, both, broken, counts, decimals, each, lines, more, owners, phases, powers, running, seat, waits, words}
+use Rattle.agc_page.proofs.PlainTold.{told, told_lines}
 
 record ArePlain (c : Celled) : Type 0 where
   pub time : Plain c.time
@@ -56,32 +57,29 @@ cells t asked =
     cells_with (decimal (time_unless (refusal_of t.machine asked) asked t.time)) (line_of asked) (answer_text (fired_of t.machine asked) (answer_of t.machine asked)) (scene_unless (refusal_of t.machine asked) t.machine asked) (base_unless (refusal_of t.machine asked) t.machine asked)
     (decimals (time_unless (refusal_of t.machine asked) asked t.time)) (lines asked) (answers (fired_of t.machine asked) (answer_of t.machine asked))
 
-unless : (before now : List ℕ) → Plain now → Plain (unless_same before now)
-unless before now h = choose (pointwise nat_eq before now) [] now refl h
+cell : (older above now : List ℕ) → Plain now → Plain (cell_text older above now)
+cell older above now h = more 9 (told_by older above now) refl (told older above now h)
 
-cell : (above now : List ℕ) → Plain now → Plain (cell_text above now)
-cell above now h = more 9 (unless_same above now) refl (unless above now h)
-
-front : (number : ℕ) (above now : Celled) → ArePlain now → Plain (front_text number above now)
+front : (number : ℕ) (older above now : Celled) → ArePlain now → Plain (front_text number older above now)
 unfolding front_text
-front number above now h =
-    both (decimal number) (cell_text above.time now.time ++ (cell_text above.request now.request ++ cell_text above.reply now.reply)) (decimals number)
-    (both (cell_text above.time now.time) (cell_text above.request now.request ++ cell_text above.reply now.reply) (cell above.time now.time h.time)
-    (both (cell_text above.request now.request) (cell_text above.reply now.reply) (cell above.request now.request h.request) (cell above.reply now.reply h.reply)))
+front number older above now h =
+    both (decimal number) (cell_text older.time above.time now.time ++ (cell_text older.request above.request now.request ++ cell_text older.reply above.reply now.reply)) (decimals number)
+    (both (cell_text older.time above.time now.time) (cell_text older.request above.request now.request ++ cell_text older.reply above.reply now.reply) (cell older.time above.time now.time h.time)
+    (both (cell_text older.request above.request now.request) (cell_text older.reply above.reply now.reply) (cell older.request above.request now.request h.request) (cell older.reply above.reply now.reply h.reply)))
 
-state : (above now : Celled) → ArePlain now → Plain (state_text above now)
+state : (older above now : Celled) → ArePlain now → Plain (state_text older above now)
 unfolding state_text
-state above now h =
-    both (cell_text above.running now.running) (cell_text above.sets now.sets ++ (cell_text above.areas now.areas ++ cell_text above.tasks now.tasks)) (cell above.running now.running h.running)
-    (both (cell_text above.sets now.sets) (cell_text above.areas now.areas ++ cell_text above.tasks now.tasks) (cell above.sets now.sets h.sets)
-    (both (cell_text above.areas now.areas) (cell_text above.tasks now.tasks) (cell above.areas now.areas h.areas) (cell above.tasks now.tasks h.tasks)))
+state older above now h =
+    both (cell_text older.running above.running now.running) (cell_text older.sets above.sets now.sets ++ (cell_text older.areas above.areas now.areas ++ cell_text older.tasks above.tasks now.tasks)) (cell older.running above.running now.running h.running)
+    (both (cell_text older.sets above.sets now.sets) (cell_text older.areas above.areas now.areas ++ cell_text older.tasks above.tasks now.tasks) (cell older.sets above.sets now.sets h.sets)
+    (both (cell_text older.areas above.areas now.areas) (cell_text older.tasks above.tasks now.tasks) (cell older.areas above.areas now.areas h.areas) (cell older.tasks above.tasks now.tasks h.tasks)))
 
-row_plain : (number : ℕ) (above now : Celled) → ArePlain now → Plain (row_text number above now)
+row_plain : (number : ℕ) (older above now : Celled) → ArePlain now → Plain (row_text number older above now)
 unfolding row_text
-row_plain number above now h =
-    both (front_text number above now) (state_text above now ++ (cell_text above.base now.base ++ (10 ∷ []))) (front number above now h)
-    (both (state_text above now) (cell_text above.base now.base ++ (10 ∷ [])) (state above now h)
-    (both (cell_text above.base now.base) (10 ∷ []) (cell above.base now.base h.base) refl))
+row_plain number older above now h =
+    both (front_text number older above now) (state_text older above now ++ (cell_text older.base above.base now.base ++ (10 ∷ []))) (front number older above now h)
+    (both (state_text older above now) (cell_text older.base above.base now.base ++ (10 ∷ [])) (state older above now h)
+    (both (cell_text older.base above.base now.base) (10 ∷ []) (cell older.base above.base now.base h.base) refl))
 
 account_of : (a : Option Alarm) (m : Machined) (fired : List Task) (number : ℕ) (os : List Origin) (scene : Scene) (ns : List ℕ) → Plain (account_by a m fired number os scene ns)
 account_of None m fired number os scene ns = refl
@@ -95,8 +93,8 @@ account t asked =
 step : (s : Stepped) (asked : Request) → Plain (stepped_text s asked)
 unfolding stepped_text
 step s asked =
-    both (row_text (one_more s.run.asked) s.shown (cells_of s.run asked)) (unless_same s.told (traced_account s.run asked))
-    (row_plain (one_more s.run.asked) s.shown (cells_of s.run asked) (cells s.run asked)) (unless s.told (traced_account s.run asked) (account s.run asked))
+    both (row_text (one_more s.run.asked) s.older s.shown (cells_of s.run asked)) (lines_told s.before s.told (traced_account s.run asked))
+    (row_plain (one_more s.run.asked) s.older s.shown (cells_of s.run asked) (cells s.run asked)) (told_lines s.before s.told (traced_account s.run asked) (account s.run asked))
 
 rows : (s : Stepped) (requests : List Request) → Plain (texts stepped stepped_text s requests)
 unfolding texts
@@ -107,10 +105,11 @@ power : (p : Option (List ℕ)) (m : Machined) → Plain (power_text p m)
 unfolding power_text
 power None m = refl
 power (Some ws) m =
-    both (row_text 0 blank (power_cells (pairs_agree ws) m)) (power_account ws (plain_of m).base.phases)
-    (row_plain 0 blank (power_cells (pairs_agree ws) m) (cells_with (decimal 0) (codes "power-up") (power_reply (pairs_agree ws)) (scene_of (plain_of m) (places_of m)) (plain_of m).base (decimals 0) refl (powers (pairs_agree ws))))
+    both (row_text 0 blank blank (power_cells (pairs_agree ws) m)) (lines_told [] [] (power_account ws (plain_of m).base.phases))
+    (row_plain 0 blank blank (power_cells (pairs_agree ws) m) (cells_with (decimal 0) (codes "power-up") (power_reply (pairs_agree ws)) (scene_of (plain_of m) (places_of m)) (plain_of m).base (decimals 0) refl (powers (pairs_agree ws))))
+    (told_lines [] [] (power_account ws (plain_of m).base.phases)
     (both (broken_text (pairs_agree ws) ws) (phases_text (plain_of m).base.phases ++ codes "\n") (broken (pairs_agree ws) ws)
-    (both (phases_text (plain_of m).base.phases) (codes "\n") (phases (plain_of m).base.phases) refl))
+    (both (phases_text (plain_of m).base.phases) (codes "\n") (phases (plain_of m).base.phases) refl)))
 
 pub data_plain : (p : Option (List ℕ)) (m : Machined) (requests : List Request) → Plain (data_of p m requests)
 unfolding data_of

@@ -1,6 +1,5 @@
 -- The cells of a request: those of its line in a trace, and what a restart keeps.
-use Rattle.std.specs.Prelude.{ℕ, List, [], ◌∷◌, ◌++◌, map, if◌then◌else◌, nat_eq}
-use Rattle.std.specs.Cmp.Lexicographic.{pointwise}
+use Rattle.std.specs.Prelude.{ℕ, List, [], ◌∷◌, ◌++◌, map}
 use Rattle.std.specs.Prelude.{Option, Some, None}
 use Rattle.std.specs.Fmt.{decimal}
 use Rattle.std.specs.List.{flat_map}
@@ -16,6 +15,7 @@ use Rattle.agc_text.specs.Report.{count_text}
 use Rattle.agc_trace.specs.Lines.{running_text, seat_text, owners_text, waits_text}
 use Rattle.agc_trace.specs.Scenes.{Scene}
 use Rattle.agc_trace.specs.Traces.{Traced, scene_unless, time_unless}
+use Rattle.agc_page.specs.Told.{told_by}
 
 -- the phases of the six groups, and the three words of FAILREG
 abbrev pub base_text : Base → List ℕ
@@ -73,30 +73,28 @@ cells_of t asked =
     (answer_text (fired_of t.machine asked) (answer_of t.machine asked))
     (scene_unless refusal t.machine asked) (base_text (base_unless refusal t.machine asked))
 
--- a text, or nothing where the one before was the same
-abbrev pub unless_same : List ℕ → List ℕ → List ℕ
-unless_same before now = if pointwise nat_eq before now then [] else now
+-- a cell behind a tab, by those above it in the last two rows
+abbrev pub cell_text : (older above now : List ℕ) → List ℕ
+cell_text older above now = 9 ∷ told_by older above now
 
--- a cell behind a tab; nothing stands there where the one above it has the same text
-abbrev pub cell_text : List ℕ → List ℕ → List ℕ
-cell_text above now = 9 ∷ unless_same above now
-
--- a request's number, time, line and reply, by the cells above it and its own
-unfoldable pub front_text : ℕ → Celled → Celled → List ℕ
-front_text number above now =
+-- a request's number, time, line and reply, by the cells of the last two rows and its own
+unfoldable pub front_text : ℕ → (older above now : Celled) → List ℕ
+front_text number older above now =
     decimal number
-    ++ (cell_text above.time now.time
-    ++ (cell_text above.request now.request ++ cell_text above.reply now.reply))
+    ++ (cell_text older.time above.time now.time
+    ++ (cell_text older.request above.request now.request
+    ++ cell_text older.reply above.reply now.reply))
 
 -- the state in which it is answered
-unfoldable pub state_text : Celled → Celled → List ℕ
-state_text above now =
-    cell_text above.running now.running
-    ++ (cell_text above.sets now.sets
-    ++ (cell_text above.areas now.areas ++ cell_text above.tasks now.tasks))
+unfoldable pub state_text : (older above now : Celled) → List ℕ
+state_text older above now =
+    cell_text older.running above.running now.running
+    ++ (cell_text older.sets above.sets now.sets
+    ++ (cell_text older.areas above.areas now.areas
+    ++ cell_text older.tasks above.tasks now.tasks))
 
 -- a row
-unfoldable pub row_text : ℕ → Celled → Celled → List ℕ
-row_text number above now =
-    front_text number above now
-    ++ (state_text above now ++ (cell_text above.base now.base ++ 10 ∷ []))
+unfoldable pub row_text : ℕ → (older above now : Celled) → List ℕ
+row_text number older above now =
+    front_text number older above now
+    ++ (state_text older above now ++ (cell_text older.base above.base now.base ++ 10 ∷ []))

@@ -1,3 +1,4 @@
+pub mod Told
 pub mod Cells
 pub mod Rows
 pub mod Pages

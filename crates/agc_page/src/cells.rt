@@ -9,13 +9,14 @@ ghost use Rattle.agc_trace.specs.Reading.{scene_in};
 ghost use Rattle.agc_page.specs.Cells.{base_text, base_unless, blank, cell_text, celled};
 ghost use Rattle.agc_page.specs.Cells.{front_text, row_text, state_text};
 
+use crate::told::{Piece, add, add_count, add_told};
 use agc_machine::{Machine, Refusal};
 use agc_phase::{failreg, phases};
 use agc_plan::Request;
-use agc_text::{add_number, add_word};
+use agc_text::add_word;
 use agc_trace::{add_phases, owners_cell, running_cell, seats_cell, waits_cell};
 use agc_word::{Erasable, Word};
-use arrayvec::ArrayString;
+use arrayvec::{ArrayString, ArrayVec};
 use std::marker::Model;
 
 /// What is told of a request, but for its number: contracts see the eight texts.
@@ -132,55 +133,59 @@ pub(crate) fn cells_with(
     }
 }
 
-/// Appends a cell behind a tab; nothing where the one above it is the same.
-fn add_cell(row: &mut ArrayString<8192>, above: &ArrayString<256>, now: &ArrayString<256>)
-    requires { length row.old.bytes + 257 ≤ 8192 }
-    ensures text { row.new.bytes ≡ row.old.bytes ++ cell_text above.now.bytes now.now.bytes }
-    ensures len { length row.new.bytes ≤ length row.old.bytes + 257 }
+/// Appends a cell behind a tab, by those above it in the last two rows.
+fn add_cell(
+    row: &mut Piece,
+    older: &ArrayString<256>,
+    above: &ArrayString<256>,
+    now: &ArrayString<256>,
+)
+    requires { length row.old.items + 279 ≤ 20480 }
+    ensures text { row.new.items
+        ≡ row.old.items ++ cell_text older.now.bytes above.now.bytes now.now.bytes }
+    ensures len { length row.new.items ≤ length row.old.items + 259 }
 {
-    row.push('\t');
-    if above == now {
-        return;
-    }
-    row.push_str(now.as_str());
+    add(row, b"\t");
+    add_told(row, older.as_str(), above.as_str(), now.as_str());
 }
 
 /// Appends a request's number, time, line and reply.
 #[tactic(auto, unfolding(crate::specs::Cells::front_text))]
-fn add_front(row: &mut ArrayString<8192>, number: u64, above: &Cells, now: &Cells)
-    requires { length row.old.bytes + 791 ≤ 8192 }
-    ensures text { row.new.bytes ≡ row.old.bytes ++ front_text number above.now now.now }
-    ensures len { length row.new.bytes ≤ length row.old.bytes + 791 }
+fn add_front(row: &mut Piece, number: u64, older: &Cells, above: &Cells, now: &Cells)
+    requires { length row.old.items + 817 ≤ 20480 }
+    ensures text { row.new.items
+        ≡ row.old.items ++ front_text number older.now above.now now.now }
+    ensures len { length row.new.items ≤ length row.old.items + 797 }
 {
-    add_number(row, number);
-    add_cell(row, &above.time, &now.time);
-    add_cell(row, &above.request, &now.request);
-    add_cell(row, &above.reply, &now.reply);
+    add_count(row, number);
+    add_cell(row, &older.time, &above.time, &now.time);
+    add_cell(row, &older.request, &above.request, &now.request);
+    add_cell(row, &older.reply, &above.reply, &now.reply);
 }
 
 /// Appends the state in which it is answered.
 #[tactic(auto, unfolding(crate::specs::Cells::state_text))]
-fn add_state(row: &mut ArrayString<8192>, above: &Cells, now: &Cells)
-    requires { length row.old.bytes + 1028 ≤ 8192 }
-    ensures text { row.new.bytes ≡ row.old.bytes ++ state_text above.now now.now }
-    ensures len { length row.new.bytes ≤ length row.old.bytes + 1028 }
+fn add_state(row: &mut Piece, older: &Cells, above: &Cells, now: &Cells)
+    requires { length row.old.items + 1056 ≤ 20480 }
+    ensures text { row.new.items ≡ row.old.items ++ state_text older.now above.now now.now }
+    ensures len { length row.new.items ≤ length row.old.items + 1036 }
 {
-    add_cell(row, &above.running, &now.running);
-    add_cell(row, &above.sets, &now.sets);
-    add_cell(row, &above.areas, &now.areas);
-    add_cell(row, &above.tasks, &now.tasks);
+    add_cell(row, &older.running, &above.running, &now.running);
+    add_cell(row, &older.sets, &above.sets, &now.sets);
+    add_cell(row, &older.areas, &above.areas, &now.areas);
+    add_cell(row, &older.tasks, &above.tasks, &now.tasks);
 }
 
-/// A row, by the cells above it and its own.
+/// A row, by the cells of the last two and its own.
 #[tactic(auto, unfolding(crate::specs::Cells::row_text))]
-pub(crate) fn row_of(number: u64, above: &Cells, now: &Cells) -> ArrayString<8192>
-    ensures text { result.bytes ≡ row_text number above.now now.now }
-    ensures len { length result.bytes ≤ 2080 }
+pub(crate) fn row_of(number: u64, older: &Cells, above: &Cells, now: &Cells) -> Piece
+    ensures text { result.items ≡ row_text number older.now above.now now.now }
+    ensures len { length result.items ≤ 2093 }
 {
-    let mut row = ArrayString::new();
-    add_front(&mut row, number, above, now);
-    add_state(&mut row, above, now);
-    add_cell(&mut row, &above.base, &now.base);
-    row.push('\n');
+    let mut row = ArrayVec::new();
+    add_front(&mut row, number, older, above, now);
+    add_state(&mut row, older, above, now);
+    add_cell(&mut row, &older.base, &above.base, &now.base);
+    add(&mut row, b"\n");
     row
 }

@@ -8,7 +8,7 @@ pub(crate) const FRONT: &str = r#"<!DOCTYPE html>
 <meta charset="utf-8">
 <meta http-equiv="Content-Security-Policy" content="default-src 'none';
 base-uri 'none'; form-action 'none';
-script-src 'sha256-Uc/i1KNCeQF6L3cv0NBmU9L3IRn0Ns3jcDTtUYnMN6I=';
+script-src 'sha256-09HU0voS1cH71ZivY3grf+hfhaaH3c5ilhgIZR7JQXo=';
 style-src 'sha256-fdYiGawdS5/UK2vfImcK3e4p+ekkMhWivUdB+wugmSc='">
 <meta name="viewport" content="width=device-width, initial-scale=1">
 <title>A run, request by request</title>
@@ -75,20 +75,31 @@ var runs = [], run, at = 0, first = 1, last = 0, around = 6, later;
 
 function by(id) { return document.getElementById(id); }
 
-// A run: of each request the cells, and at an alarm its account. A cell that is empty is that of
-// the row above; an alarm below whose row no account stands has the account of the one before it.
+// A text, by two that were told before it: nothing is the last again; 12~x is twelve letters of the
+// last and then x; 12^x is twelve of the one before that, and x.
+function told_by(older, last, text) {
+  var m = /^([0-9]+)([~^])(.*)$/.exec(text);
+  return m ? (m[2] === '~' ? last : older).slice(0, Number(m[1])) + m[3] : last;
+}
+
+// A run: of each request the cells, by those of the last two rows; at an alarm its account, line by
+// line, by the last two accounts.
 function read(id) {
-  var rows = [], cells = [], why = [], told = false;
-  by(id).textContent.split('\n').forEach(function (line) {
-    if (/^[0-9]/.test(line)) {
-      cells = line.split('\t').map(function (cell, k) { return cell || cells[k]; });
-      rows.push({ cells: cells, why: /alarm/.test(cells[3]) ? why : [] });
-      told = false;
-    } else if (line !== '') {
-      if (!told) { why = []; rows[rows.length - 1].why = why; }
-      why.push(line);
-      told = true;
+  var rows = [], older = [], above = [], before = [], last = [], why = [];
+  by(id).textContent.split('\n').slice(1, -1).forEach(function (line) {
+    var cells, k = why.length;
+    if (line.indexOf('\t') < 0) {
+      why.push(told_by(before[k] || '', last[k] || '', line));
+      return;
     }
+    if (k > 0) { before = last; last = why; }
+    why = [];
+    cells = line.split('\t').map(function (cell, at_cell) {
+      return at_cell === 0 ? cell : told_by(older[at_cell] || '', above[at_cell] || '', cell);
+    });
+    rows.push({ cells: cells, why: why });
+    older = above;
+    above = cells;
   });
   return rows;
 }

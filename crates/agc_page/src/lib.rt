@@ -7,5 +7,6 @@ pub mod laws;
 mod pages;
 mod power;
 mod stepper;
+mod told;
 
 pub use pages::page;

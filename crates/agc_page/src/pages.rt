@@ -42,7 +42,7 @@ fn put_run<W: Write>(
     let power = power_of(bench, &machine);
     let mut stepper = stepper_of(machine);
     put(writer, text.as_bytes())?;
-    put(writer, power.as_bytes())?;
+    put(writer, power.as_slice())?;
     ask_bench(&mut stepper, bench, writer)
 }
 

@@ -1,5 +1,5 @@
 // The walk through a run, request by request.
-ghost use Rattle.std.specs.Prelude.{◌≡◌, ◌+◌, ◌≤◌, ◌++◌, length};
+ghost use Rattle.std.specs.Prelude.{◌≡◌, ◌≤◌, ◌++◌, length};
 ghost use Rattle.std.specs.Fmt.{decimal};
 ghost use Rattle.agc_word.specs.Layout.{IsSized};
 ghost use Rattle.agc_exec.specs.Image.{IsLawfulWords};
@@ -9,10 +9,12 @@ ghost use Rattle.agc_text.specs.Lines.{line_of};
 ghost use Rattle.agc_text.specs.Replies.{answer_text};
 ghost use Rattle.agc_trace.specs.Reading.{scene_in};
 ghost use Rattle.agc_trace.specs.Traces.{account_by, told_alarm};
-ghost use Rattle.agc_page.specs.Cells.{base_text, base_unless, celled, unless_same};
-ghost use Rattle.agc_page.specs.Rows.{stepped_from, told_after};
+ghost use Rattle.agc_page.specs.Cells.{base_text, base_unless, celled};
+ghost use Rattle.agc_page.specs.Rows.{before_after, stepped_from, told_after};
+ghost use Rattle.agc_page.specs.Told.{lines_told};
 
 use crate::cells::{Cells, blank, cells_with, kept_at, row_of};
+use crate::told::{Piece, add_lines};
 use agc_machine::{Machine, Moment, Refusal};
 use agc_plan::Request;
 use agc_session::Asks;
@@ -24,17 +26,20 @@ use agc_trace::{
 use arrayvec::ArrayString;
 use std::io::Write;
 use std::marker::Model;
+use std::mem;
 
 /// A run that is stepped through: the machine, how many requests were asked, how many ticks were
-/// served since the era began, by which request each job came, the cells of the last request, and
-/// the last account.
+/// served since the era began, by which request each job came, the cells of the last two requests,
+/// and the last two accounts.
 #[derive(Drop)]
 pub(crate) struct Stepper {
     machine: Machine,
     asked: u64,
     time: u64,
     origins: Origins,
+    older: Cells,
     shown: Cells,
+    before: ArrayString<4096>,
     told: ArrayString<4096>,
 }
 
@@ -45,7 +50,9 @@ impl Model for Stepper {
 
     ghost view = { λ s. record {
       run = record { machine = s.machine; asked = s.asked; time = s.time; origins = s.origins };
+      older = s.older;
       shown = s.shown;
+      before = s.before.bytes;
       told = s.told.bytes;
     } };
 }
@@ -60,7 +67,9 @@ pub(crate) fn stepper_of(machine: Machine) -> Stepper
         asked: 0,
         time: 0,
         origins,
+        older: blank(),
         shown: blank(),
+        before: ArrayString::new(),
         told: ArrayString::new(),
     }
 }
@@ -89,22 +98,36 @@ fn account_at(
     }
 }
 
-/// Appends an account, unless it is the last one again.
-fn add_account(text: &mut ArrayString<8192>, told: &ArrayString<4096>, account: &ArrayString<4096>)
-    requires { length text.old.bytes + 4096 ≤ 8192 }
-    ensures { text.new.bytes ≡ text.old.bytes ++ unless_same told.now.bytes account.now.bytes }
+/// Appends the lines of an account, by those of the last two.
+fn add_account(
+    text: &mut Piece,
+    before: &ArrayString<4096>,
+    told: &ArrayString<4096>,
+    account: &ArrayString<4096>,
+)
+    requires { length text.old.items ≤ 2093 }
+    ensures { text.new.items
+        ≡ text.old.items ++ lines_told before.now.bytes told.now.bytes account.now.bytes }
 {
-    if told == account {
-        return;
-    }
-    text.push_str(account.as_str());
+    add_lines(text, before.as_str(), told.as_str(), account.as_str());
 }
 
-/// Keeps an account, where there is one.
-fn keep(told: &mut ArrayString<4096>, account: ArrayString<4096>)
-    ensures { told.new.bytes ≡ told_after told.old.bytes account.bytes }
+/// Keeps the cells of a request, and those of the one before it.
+fn keep_cells(older: &mut Cells, shown: &mut Cells, cells: Cells)
+    ensures older { older.new ≡ shown.old }
+    ensures shown { shown.new ≡ cells }
+{
+    *older = mem::replace(shown, cells);
+}
+
+/// Keeps an account, where there is one, and the one before it.
+fn keep(before: &mut ArrayString<4096>, told: &mut ArrayString<4096>, account: ArrayString<4096>)
+    ensures before { before.new.bytes
+        ≡ before_after before.old.bytes told.old.bytes account.bytes }
+    ensures told { told.new.bytes ≡ told_after told.old.bytes account.bytes }
 {
     if account.len() != 0 {
+        *before = *told;
         *told = account;
     }
 }
@@ -147,15 +170,15 @@ impl Asks for Stepper {
         let time = time_at(refusal, request, self.time);
         let origins = origins_at(asked, &self.origins, &moment);
         let cells = cells_at(&self.machine, request, refusal, &moment, time);
-        let mut text = row_of(asked, &self.shown, &cells);
+        let mut text = row_of(asked, &self.older, &self.shown, &cells);
         self.time = next_time(refusal, &moment, time);
         self.asked = asked;
         let _ = self.machine.apply(*request);
         self.origins = next_origins(asked, refusal, &moment, &origins, &self.machine);
         let account = account_at(&self.machine, refusal, &moment, &origins);
-        add_account(&mut text, &self.told, &account);
-        self.shown = cells;
-        keep(&mut self.told, account);
-        put(writer, text.as_bytes())
+        add_account(&mut text, &self.before, &self.told, &account);
+        keep_cells(&mut self.older, &mut self.shown, cells);
+        keep(&mut self.before, &mut self.told, account);
+        put(writer, text.as_slice())
     }
 }

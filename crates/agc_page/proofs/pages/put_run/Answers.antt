@@ -20,7 +20,7 @@ returns-in_err-put-2 g c =
     writes_second _ _ _ c.args.text.now (power ++ rows) c.from_residual-in_err-put-2.result
     (subst (λ (t : List ℕ). Appends (g.W.Write.contents c.args.writer.now) (g.W.Write.contents c.put.new.writer) t) c.as_bytes.ensures.value c.in_ok-put.ensures)
     (writes_first _ _ power rows c.from_residual-in_err-put-2.result
-    (subst (λ (t : List ℕ). AppendsFront (g.W.Write.contents c.put.new.writer) (g.W.Write.contents c.put-2.new.writer) t) (c.as_bytes-2.ensures.value ∙ c.deref.ensures.0 ∙ c.power_of-power.ensures) c.in_err-put-2.ensures) c.from_residual-in_err-put-2.ensures.0)
+    (subst (λ (t : List ℕ). AppendsFront (g.W.Write.contents c.put.new.writer) (g.W.Write.contents c.put-2.new.writer) t) (c.as_slice.ensures.value ∙ c.power_of-power.ensures) c.in_err-put-2.ensures) c.from_residual-in_err-put-2.ensures.0)
 
 pub returns : goal.returns
 unfolding data_of
@@ -30,5 +30,5 @@ returns g c =
     writes_second _ _ _ c.args.text.now (power ++ rows) c.ask_bench.result
     (subst (λ (t : List ℕ). Appends (g.W.Write.contents c.args.writer.now) (g.W.Write.contents c.put.new.writer) t) c.as_bytes.ensures.value c.in_ok-put.ensures)
     (writes_second _ _ _ power rows c.ask_bench.result
-    (subst (λ (t : List ℕ). Appends (g.W.Write.contents c.put.new.writer) (g.W.Write.contents c.put-2.new.writer) t) (c.as_bytes-2.ensures.value ∙ c.deref.ensures.0 ∙ c.power_of-power.ensures) c.in_ok-put-2.ensures)
+    (subst (λ (t : List ℕ). Appends (g.W.Write.contents c.put.new.writer) (g.W.Write.contents c.put-2.new.writer) t) (c.as_slice.ensures.value ∙ c.power_of-power.ensures) c.in_ok-put-2.ensures)
     (subst (λ (s : Stepped). Writes (g.W.Write.contents c.put-2.new.writer) (g.W.Write.contents c.ask_bench.new.writer) (texts stepped stepped_text s (bench_requests c.args.bench.now)) c.ask_bench.result) c.stepper_of-stepper.ensures c.ask_bench.ensures.writes))

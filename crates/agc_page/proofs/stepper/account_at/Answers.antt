@@ -1,4 +1,4 @@
-use Rattle.std.proofs.Common.{ℕ, List, Option, ap, sym, ◌∙◌}
+use Rattle.std.proofs.Common.{Option, ap, sym, ◌∙◌}
 use Rattle.agc_plan.specs.declared.reply.Alarm.{Alarm}
 use Rattle.agc_plan.specs.Plans.{Planned, Rows}
 use Rattle.agc_phase.specs.Image.{base_of}
