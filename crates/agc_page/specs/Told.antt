@@ -1,6 +1,6 @@
 -- A text, told by two that were told before it.
-use Rattle.std.specs.Prelude.{ℕ, nat_eq, nat_lt, if◌then◌else◌, List, [], ◌∷◌, ◌++◌, drop}
-use Rattle.std.specs.Prelude.{slice_index_or}
+use Rattle.std.specs.Prelude.{ℕ, ◌+◌, ◌-◌, ◌*◌, ◌==◌, nat_eq, nat_lt, if◌then◌else◌, List, [], ◌∷◌}
+use Rattle.std.specs.Prelude.{◌++◌, drop, take, slice_index_or}
 use Rattle.std.specs.Cmp.Lexicographic.{pointwise}
 use Rattle.std.specs.Fmt.{decimal}
 use Rattle.std.specs.List.{common_prefix_len}
@@ -31,3 +31,14 @@ each_told older last (line ∷ lines) =
 -- the lines of a text, by those of two that were told before it
 unfoldable pub lines_told : (older last now : List ℕ) → List ℕ
 lines_told older last now = each_told (lines_of older) (lines_of last) (lines_of now)
+
+-- what such a text is read as: the digits of a number, a mark, and the other bytes
+abbrev pub read_on : (older last : List ℕ) → (count : ℕ) → List ℕ → List ℕ
+read_on older last count [] = []
+read_on older last count (byte ∷ bytes) = if byte == 126 then take count last ++ bytes
+    else if byte == 94 then take count older ++ bytes
+    else read_on older last (count * 10 + (byte - 48)) bytes
+
+abbrev pub read_by : (older last told : List ℕ) → List ℕ
+read_by older last [] = last
+read_by older last (byte ∷ bytes) = read_on older last 0 (byte ∷ bytes)
