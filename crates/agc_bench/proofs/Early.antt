@@ -33,7 +33,7 @@ settled_written old new machine totals settled sets words result same image writ
 
 -- the text of a run was written
 pub run_written : (may_answer : ℕ → ℕ → Bool → Type 0) (bench : Benched) (machine : Machined) (totals : Totals) (settled : Settled) (old new : Option (List ℕ))
-    → IsRun may_answer bench machine settled.applied → totals ≡ machine.totals → AreSettled bench settled
+    → IsRun may_answer bench machine settled → totals ≡ machine.totals → AreSettled bench settled
     → (words : List ℕ) × HandsOut machine words × Appends old new (report_text machine.plan.sets words totals ++ pulses_text settled.posted settled.applied settled.owed)
     → (text : List ℕ) × IsRunReport may_answer bench text × Appends old new text
 run_written may_answer bench machine totals settled old new run same pulses written = (
@@ -52,7 +52,7 @@ run_written may_answer bench machine totals settled old new run same pulses writ
 
 -- a front of it was written where a write failed
 pub output_writes : {T : Type 0} (may_answer : ℕ → ℕ → Bool → Type 0) (bench : Benched) (machine : Machined) (totals : Totals) (settled : Settled) (old new : Option (List ℕ)) (result : Result T RunFault)
-    → IsRun may_answer bench machine settled.applied → totals ≡ machine.totals → AreSettled bench settled
+    → IsRun may_answer bench machine settled → totals ≡ machine.totals → AreSettled bench settled
     → (words : List ℕ) × HandsOut machine words × AppendsFront old new (report_text machine.plan.sets words totals ++ pulses_text settled.posted settled.applied settled.owed)
     → IsErr result → IsErrAnd result (λ e. e ≡ Output) → WritesRun may_answer bench old new result
 output_writes may_answer bench machine totals settled old new (Ok x) run same pulses written is output = absurd cc

@@ -6,7 +6,9 @@ use Rattle.std.proofs.lemmas.List.{append-nil, append_cancel_left, get_or-map, l
 use Rattle.std.proofs.lemmas.List.Elements.{All-drop}
 use Rattle.agc_plan.specs.declared.request.Request.{Request}
 use Rattle.atomic_table.specs.Seated.{TableId}
+use Rattle.agc_latch.specs.declared.accounts.Settled.{Settled}
 use Rattle.agc_latch.specs.Ends.{Posting}
+use Rattle.agc_latch.specs.Lines.{on}
 use Rattle.agc_latch.specs.declared.line.Line.{Line}
 use Rattle.agc_plan.specs.Plans.{Planned}
 use Rattle.agc_machine.specs.declared.totals.Totals.{Totals}
@@ -99,12 +101,13 @@ pulses_past plan (said ∷ more) rest applied begun pulses =
     })
 
 -- where a history begins with the script's calls, and each share's holder asked then what is its own, it is a run
-pub run_of : (may_answer : ℕ → ℕ → Bool → Type 0) (bench : Benched) (first : Machined) (history : List Call) (last : Machined) (starts back : List Holder) (applied begun : List ℕ)
-    → first ≡ bench_machine bench → IsHistory first back history last → ArePulses (bench_plan bench) history applied begun
+pub run_of : (may_answer : ℕ → ℕ → Bool → Type 0) (bench : Benched) (first : Machined) (history : List Call) (last : Machined) (starts back : List Holder) (settled : Settled) (begun : List ℕ)
+    → first ≡ bench_machine bench → IsHistory first back history last → ArePulses (bench_plan bench) history settled.applied begun
+    → ((line : Line) → on line settled.owed ≡ 0 → on line begun ≡ 0)
     → take (length (first_calls (answers_to first bench.script))) history ≡ first_calls (answers_to first bench.script)
     → HaveMade (first_calls (answers_to first bench.script)) starts → EachAsks may_answer (asker_at bench) starts back
-    → length back ≡ length starts → length starts ≡ length (askers_of bench) → IsRun may_answer bench last applied
-run_of may_answer bench first history last starts back applied begun_by is whole pulses begins begun asked many for_each =
+    → length back ≡ length starts → length starts ≡ length (askers_of bench) → IsRun may_answer bench last settled
+run_of may_answer bench first history last starts back settled begun_by is whole pulses none begins begun asked many for_each =
     let begin : List Call = first_calls (answers_to first bench.script) in
     let rest : List Call = drop (length begin) history in
     let parts : history ≡ begin ++ rest = sym (take-append-drop (length begin) history) ∙ ap (λ l. l ++ rest) begins in
@@ -131,7 +134,8 @@ run_of may_answer bench first history last starts back applied begun_by is whole
           let number = number_at begin may_answer bench starts back begun asked many among.0 d0 far in
           omega (arith, far, among.2, place, number, many, for_each);
       begun = begun_by;
-      pulses = pulses_past (bench_plan bench) (answers_to first bench.script) rest applied begun_by (subst (λ l. ArePulses (bench_plan bench) l applied begun_by) parts pulses);
+      pulses = pulses_past (bench_plan bench) (answers_to first bench.script) rest settled.applied begun_by (subst (λ l. ArePulses (bench_plan bench) l settled.applied begun_by) parts pulses);
+      none_begun = none;
     }
 
 -- a number is equal to itself, and to those that the test says
@@ -179,17 +183,18 @@ unfolding bench_machine
 none_before bench first told total is grown = sym (with_nothing told) ∙ (sym (ap (λ (m : Machined). add told m.totals) is) ∙ grown)
 
 -- when the threads have ended, and then the caller attended, it is a run
-pub run_finished : (may_answer : ℕ → ℕ → Bool → Type 0) (bench : Benched) (first : Machined) (latch : TableId) (calls : List Call) (caller : Holder) (shares : List Holder) (devices : List Posting) (last : Machined) (applied : List ℕ)
+pub run_finished : (may_answer : ℕ → ℕ → Bool → Type 0) (bench : Benched) (first : Machined) (latch : TableId) (calls : List Call) (caller : Holder) (shares : List Holder) (devices : List Posting) (last : Machined) (settled : Settled)
     → first ≡ bench_machine bench
     → take (length (first_calls (answers_to first bench.script))) calls ≡ first_calls (answers_to first bench.script)
-    → HaveRun may_answer first bench latch caller shares devices → Finishes first calls caller shares last applied → IsRun may_answer bench last applied
-run_finished may_answer bench first latch calls caller shares devices last applied is begins ran ends =
+    → HaveRun may_answer first bench latch caller shares devices → Finishes first calls caller shares last settled → IsRun may_answer bench last settled
+run_finished may_answer bench first latch calls caller shares devices last settled is begins ran ends =
     let answers : List Said = answers_to first bench.script in
     let starts : List Holder = caller ∷ ran.starts in
     let caller_is : caller ≡ with_heard (calls_by 0 (first_calls answers)) (new_holder 0) =
     ran.ready.caller_is ∙ ap (λ l. with_heard l (new_holder 0)) (sym (calls_by_first answers)) in
     let begun : HaveMade (first_calls answers) starts = made (first_calls answers) caller ran.starts caller_is (λ n. calls_by_others n answers) ran.ready.fresh in
     let asked : EachAsks may_answer (asker_at bench) starts (ends.now ∷ shares) = each_all may_answer bench caller ends.now ran.starts shares ends.attended ran.asked.each in
-    run_of may_answer bench first (calls ++ ends.more) last starts (ends.now ∷ shares) applied ends.begun is ends.whole
-    (subst (λ p. ArePulses p (calls ++ ends.more) applied ends.begun) (plan_is bench first is) ends.pulses)
+    run_of may_answer bench first (calls ++ ends.more) last starts (ends.now ∷ shares) settled ends.begun is ends.whole
+    (subst (λ p. ArePulses p (calls ++ ends.more) settled.applied ends.begun) (plan_is bench first is) ends.pulses)
+    ends.none_begun
     (begins_on (first_calls answers) calls ends.more begins) begun asked (omega (arith, ran.asked.for_each)) (omega (arith, ran.ready.for_each))

@@ -132,12 +132,13 @@ pub record HaveSettled (devices : List Posting) (settled : Settled) : Type 0 whe
 
 -- after these calls the caller attends once with its share, and then the calls that were made with
 -- that share and with these are one history, which leads to the machine, and of whose pulses so
--- many are told to be applied
+-- many are told to be applied; none is begun where none is owed
 pub record Finishes (first : Machined) (calls : List Call) (caller : Holder) (shares : List Holder)
-    (machine : Machined) (applied : List ℕ) : Type 0 where
+    (machine : Machined) (settled : Settled) : Type 0 where
   pub more : List Call
   pub now : Holder
   pub attended : AsksPulses 1 caller now
   pub whole : IsHistory first (now ∷ shares) (calls ++ more) machine
   pub begun : List ℕ
-  pub pulses : ArePulses first.plan (calls ++ more) applied begun
+  pub pulses : ArePulses first.plan (calls ++ more) settled.applied begun
+  pub none_begun : (line : Line) → on line settled.owed ≡ 0 → on line begun ≡ 0

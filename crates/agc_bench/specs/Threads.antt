@@ -50,16 +50,17 @@ AskedOwn may_answer (Attends times) calls = All (λ call. IsSome call.pulse) cal
 -- order, each worker asked what is its own, in its own order; all other calls are pulses, by the
 -- thread that attends and by the caller. A call that is a line's pulse has a request of its pulses;
 -- and what was served of those calls is all for which the line's applied pulses ask, and the first
--- requests of one more that is begun.
+-- requests of one more that is begun, and owed.
 pub record IsRun (may_answer : ℕ → ℕ → Bool → Type 0) (bench : Benched)
-    (machine : Machined) (applied : List ℕ) : Type 0 where
+    (machine : Machined) (settled : Settled) : Type 0 where
   pub calls : List Call
   pub leads : Leads (after_all (bench_machine bench) bench.script) calls machine
   pub each : All (λ asker. AskedOwn may_answer asker.1 (calls_by asker.0 calls))
       (enumerate_from 0 (askers_of bench))
   pub no_other : All (λ call. call.by < length (askers_of bench)) calls
   pub begun : List ℕ
-  pub pulses : ArePulses (bench_plan bench) calls applied begun
+  pub pulses : ArePulses (bench_plan bench) calls settled.applied begun
+  pub none_begun : (line : Line) → on line settled.owed ≡ 0 → on line begun ≡ 0
 
 -- how many pulses of a line the devices of a bench have
 abbrev pub pulses_of : Line → Benched → ℕ
@@ -77,7 +78,7 @@ pub record IsRunReport (may_answer : ℕ → ℕ → Bool → Type 0) (bench : B
     0 where
   pub machine : Machined
   pub settled : Settled
-  pub run : IsRun may_answer bench machine settled.applied
+  pub run : IsRun may_answer bench machine settled
   pub words : List ℕ
   pub words_are : HandsOut machine words
   pub pulses : AreSettled bench settled

@@ -1,5 +1,5 @@
 ghost use Rattle.std.specs.Prelude.{◌≡◌, ◌+◌, ◌++◌, ◌∷◌, All, IfOk, IfErr, IsOk, Some, vec_len};
-ghost use Rattle.agc_latch.specs.Accounts.{IsOf};
+ghost use Rattle.agc_latch.specs.Accounts.{IsKept, IsOf};
 ghost use Rattle.agc_latch.specs.Lines.{zeros};
 ghost use Rattle.agc_machine.specs.Told.{add};
 ghost use Rattle.agc_desk.specs.Desks.{ArePulses, with_lines};
@@ -35,6 +35,7 @@ fn settle_all<N: Names>(
     ensures desk { IfOk result (λ r. r.0 ≡ with_lines r.0.lines desk) }
     ensures settled { IfOk result (λ r. HaveSettled devices.items r.1) }
     ensures applied { IfOk result (λ r. r.1.applied ≡ r.0.lines.applied) }
+    ensures owed { IfOk result (λ r. r.1.owed ≡ r.0.lines.owed) }
 {
     match settle(desk, latch, devices) {
         Ok(settled) => Ok(settled),
@@ -63,6 +64,7 @@ fn gather_all<N: Names>(
     ensures grown { IfOk result (λ r. add r.1 N.first.totals ≡ r.0.totals) }
     ensures pulses { IfOk result (λ _. ArePulses N.first.plan desk.history
         desk.lines.applied desk.lines.begun) }
+    ensures kept { IfOk result (λ _. IsKept desk.lines) }
     ensures early { IfErr result (λ fault. fault ≡ RunFault.NoMemory) }
 {
     let all = with_first(first, shares)?;
@@ -86,7 +88,7 @@ pub(crate) fn finish<N: Names>(
         { latch = Some latch; given = vec_len devices; settled = zeros } }
     requires devices { All (λ d. d.latch ≡ latch) devices.items }
     ensures run { IfOk result (λ r. Finishes N.first desk.history first shares.items r.0
-        r.2.applied) }
+        r.2) }
     ensures grown { IfOk result (λ r. add r.1 N.first.totals ≡ r.0.totals) }
     ensures settled { IfOk result (λ r. HaveSettled devices.items r.2) }
     ensures early { IfErr result (λ fault. fault ≡ RunFault.NoMemory) }

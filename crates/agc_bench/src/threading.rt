@@ -260,7 +260,7 @@ fn gathered<N: Sharing + Send + Sync, G: Gate + Sync, W: Threads + Wait + Sync>(
       settled = zeros;
     } }
     ensures run { IfOk result (λ r. IsRun (λ n call answer. G.may_answer gate.now n call answer)
-        bench.now r.0 r.2.applied) }
+        bench.now r.0 r.2) }
     ensures totals { IfOk result (λ r. r.1 ≡ r.0.totals) }
     ensures pulses { IfOk result (λ r. AreSettled bench.now r.2) }
     ensures early { IfErr result (λ fault. IsEarly fault) }

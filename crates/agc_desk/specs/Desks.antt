@@ -34,8 +34,7 @@ with_lines lines d = record d { lines = lines }
 -- The pulses of these calls: each call asks for something for which pulses of its line ask; and
 -- what was asked on a line, and not refused, is all for which its applied pulses ask, one after the
 -- other, and then the first requests of one more, so many as that one is begun, and not all
-pub record ArePulses (plan : Planned) (calls : List Call) (applied begun : List ℕ)
-    : Type 0 where
+pub record ArePulses (plan : Planned) (calls : List Call) (applied begun : List ℕ) : Type 0 where
   pub each : All (λ call. IfSome call.pulse
       (λ line. Contains (pulse_requests plan line) call.answer.request)) calls
   pub served : (line : Line) → served_on line calls

@@ -1,24 +1,12 @@
 -- Helpers of proofs: what stands where nothing is picked.
 use Rattle.std.specs.Prelude.{[], Err}
-use Rattle.atomic_table.specs.Seated.{TableId}
+use Rattle.agc_latch.specs.Holders.{no_latch}
 use Rattle.agc_plan.specs.declared.request.Request.TheVariants.{Fresh}
 use Rattle.agc_plan.specs.Base.{fresh_base}
 use Rattle.agc_machine.specs.declared.answer.Refusal.TheVariants.{Spent}
 use Rattle.agc_machine.specs.Machines.{Machined, begun_with}
 use Rattle.agc_machine.specs.Said.{Said}
 use Rattle.agc_desk.specs.Naming.{DeskNames}
-
--- a name of no history
-abbrev pub no_history : TableId
-no_history = record {
-  words = 0;
-  slots = 0;
-  views_name = 0;
-  atom = 0;
-  block = 0;
-  offset = 0;
-  slot_names = [];
-}
 
 -- names for where nothing is picked
 abbrev pub no_names : DeskNames
@@ -28,7 +16,7 @@ no_names = record {
   a1202 = 0;
   a1203 = 0;
   restarts = 0;
-  history = no_history;
+  history = no_latch;
 }
 
 -- a machine for where nothing is picked

@@ -375,12 +375,14 @@ pub fn gather<N: Names>(
     ensures booked { IfOk result (λ r. r.1 ≡ desk.booked) }
     ensures pulses { IfOk result (λ _. ArePulses N.first.plan desk.history
         desk.lines.applied desk.lines.begun) }
+    ensures kept { IfOk result (λ _. IsKept desk.lines) }
     ensures grown { IfOk result (λ r. add r.1 N.first.totals ≡ r.0.totals) }
     ensures back { IfErr result (λ u. (u.desk ≡ desk) × (u.shares ≡ shares)) }
 {
     if shares.len() as u64 != desk.history.given() {
         return Err(Ungathered { desk, shares });
     }
+    desk.tell_law();
     let Desk {
         machine,
         since,
