@@ -1,4 +1,4 @@
-ghost use Rattle.std.specs.Prelude.{◌≡◌, ◌+◌, ◌++◌, ◌∷◌, All, IfOk, IfErr, IsOk, Some, vec_len};
+ghost use Rattle.std.specs.Prelude.{◌≡◌, ◌+◌, ◌++◌, ◌∷◌, All, IfOk, IfErr, Some, vec_len};
 ghost use Rattle.agc_latch.specs.Accounts.{IsKept, IsOf};
 ghost use Rattle.agc_latch.specs.Lines.{zeros};
 ghost use Rattle.agc_machine.specs.Told.{add};
@@ -23,23 +23,18 @@ fn attend_last<N: Names>(desk: &mut Desk<N>, latch: &Latch, share: &mut Share<N>
 }
 
 /// Settles the desk's latch, to which all its devices come back.
-fn settle_all<N: Names>(
-    desk: Desk<N>,
-    latch: Latch,
-    devices: Vec<Device>,
-) -> Result<(Desk<N>, Settled), RunFault>
+fn settle_all<N: Names>(desk: Desk<N>, latch: Latch, devices: Vec<Device>) -> (Desk<N>, Settled)
     requires lent { lent_of desk.lines ≡ record
         { latch = Some latch; given = vec_len devices; settled = zeros } }
     requires devices { All (λ d. d.latch ≡ latch) devices.items }
-    ensures ok { IsOk result }
-    ensures desk { IfOk result (λ r. r.0 ≡ with_lines r.0.lines desk) }
-    ensures settled { IfOk result (λ r. HaveSettled devices.items r.1) }
-    ensures applied { IfOk result (λ r. r.1.applied ≡ r.0.lines.applied) }
-    ensures owed { IfOk result (λ r. r.1.owed ≡ r.0.lines.owed) }
+    ensures desk { result.0 ≡ with_lines result.0.lines desk }
+    ensures settled { HaveSettled devices.items result.1 }
+    ensures applied { result.1.applied ≡ result.0.lines.applied }
+    ensures owed { result.1.owed ≡ result.0.lines.owed }
 {
     match settle(desk, latch, devices) {
-        Ok(settled) => Ok(settled),
-        Err(_left) => Err(RunFault::Lost),
+        Ok(settled) => settled,
+        Err(_left) => unreachable!(),
     }
 }
 
@@ -53,24 +48,17 @@ fn with_first<N: Names>(first: Share<N>, shares: Vec<Share<N>>) -> Result<Vec<Sh
     Ok(all)
 }
 
-/// Gathers all shares of a desk, the caller's first.
-fn gather_all<N: Names>(
-    desk: Desk<N>,
-    first: Share<N>,
-    shares: Vec<Share<N>>,
-) -> Result<(Machine, Totals), RunFault>
-    requires { desk.given ≡ vec_len shares + 1 }
-    ensures history { IfOk result (λ r. IsHistory N.first (first ∷ shares.items) desk.history r.0) }
-    ensures grown { IfOk result (λ r. add r.1 N.first.totals ≡ r.0.totals) }
-    ensures pulses { IfOk result (λ _. ArePulses N.first.plan desk.history
-        desk.lines.applied desk.lines.begun) }
-    ensures kept { IfOk result (λ _. IsKept desk.lines) }
-    ensures early { IfErr result (λ fault. fault ≡ RunFault.NoMemory) }
+/// Gathers all shares of a desk.
+fn gather_all<N: Names>(desk: Desk<N>, shares: Vec<Share<N>>) -> (Machine, Totals)
+    requires { desk.given ≡ vec_len shares }
+    ensures history { IsHistory N.first shares.items desk.history result.0 }
+    ensures grown { add result.1 N.first.totals ≡ result.0.totals }
+    ensures pulses { ArePulses N.first.plan desk.history desk.lines.applied desk.lines.begun }
+    ensures kept { IsKept desk.lines }
 {
-    let all = with_first(first, shares)?;
-    match gather(desk, all) {
-        Ok(gathered) => Ok(gathered),
-        Err(_left) => Err(RunFault::Lost),
+    match gather(desk, shares) {
+        Ok(gathered) => gathered,
+        Err(_left) => unreachable!(),
     }
 }
 
@@ -95,7 +83,8 @@ pub(crate) fn finish<N: Names>(
 {
     let (mut desk, mut first) = (desk, first);
     attend_last(&mut desk, &latch, &mut first);
-    let (desk, settled) = settle_all(desk, latch, devices)?;
-    let (machine, totals) = gather_all(desk, first, shares)?;
+    let (desk, settled) = settle_all(desk, latch, devices);
+    let shares = with_first(first, shares)?;
+    let (machine, totals) = gather_all(desk, shares);
     Ok((machine, totals, settled))
 }
