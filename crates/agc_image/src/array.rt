@@ -1,5 +1,5 @@
 // Reading a caller's array, and writing it back.
-ghost use Rattle.std.specs.Prelude.{◌≡◌, ◌↔◌, IsTrue, IsSome, IfSome, length};
+ghost use Rattle.std.specs.Prelude.{◌≡◌, ◌↔◌, IsTrue, IsSome, IfSome, length, replicate};
 ghost use Rattle.agc_word.specs.Profiles.{count_of, size_of};
 ghost use Rattle.agc_image.specs.Images.{IsSets, size_with, image_of, AreWords, IsImage};
 ghost use Rattle.agc_image.specs.Images.{IsOpened, IsWritten};
@@ -48,7 +48,8 @@ fn known_sets(count: u32) -> Sets
 /// Words of so many core sets, 7 or 8, all 00000: room for an image. Source: profile.
 pub fn blank(count: u32) -> Erasable
     requires { IsSets count }
-    ensures { length result ≡ size_with count }
+    ensures words { result ≡ replicate (size_with count) 0 }
+    ensures size { length result ≡ size_with count }
 {
     Erasable::new(known_sets(count))
 }
