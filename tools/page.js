@@ -71,16 +71,16 @@ const press = (key, target) => {
 const shown = (id) => named[id].textContent;
 const at = () => Number(world.address.slice(1));
 
-// The rows of a run: a cell that is empty is that of the row above; behind ~ it begins with so many
-// letters of that, behind ^ with so many of the row's above that.
+// The rows of a run: a cell that is empty is that of the row above; behind a it begins with so many
+// letters of that, behind b with so many of the row's above that.
 const rows_of = (id) => {
   const rows = [];
   for (const line of shown(id).split('\n').filter((text) => text.includes('\t'))) {
     rows.push(line.split('\t').map((cell, k) => {
       const [above, older] = [1, 2].map((back) => (rows[rows.length - back] || [])[k] || '');
-      const told = /^([0-9]+)([~^])(.*)/.exec(cell);
+      const told = /^([0-9]+)([ab])(.*)/.exec(cell);
       if (k === 0) { return cell; }
-      return told ? (told[2] === '~' ? above : older).slice(0, told[1]) + told[3] : above;
+      return told ? (told[2] === 'a' ? above : older).slice(0, told[1]) + told[3] : above;
     }));
   }
   return rows.map((row) => row.map((cell) => cell.trim()));

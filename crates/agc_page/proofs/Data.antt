@@ -1,5 +1,5 @@
 -- The data of a page are plain.
-use Rattle.std.proofs.Common.{ℕ, List, [], ◌∷◌, ◌++◌, codes, map, Option, Some, None, refl}
+use Rattle.std.proofs.Common.{ℕ, List, [], ◌∷◌, ◌++◌, codes, map, Option, Some, None, refl, arith}
 use Rattle.std.specs.Fmt.{decimal}
 use Rattle.std.specs.List.{flat_map}
 use Rattle.agc_plan.specs.declared.request.Request.{Request}
@@ -58,7 +58,7 @@ cells t asked =
     (decimals (time_unless (refusal_of t.machine asked) asked t.time)) (lines asked) (answers (fired_of t.machine asked) (answer_of t.machine asked))
 
 cell : (older above now : List ℕ) → Plain now → Plain (cell_text older above now)
-cell older above now h = more 9 (told_by older above now) refl (told older above now h)
+cell older above now h = more 9 (told_by (above ∷ older ∷ []) now) refl (told (above ∷ older ∷ []) now (omega arith) h)
 
 front : (number : ℕ) (older above now : Celled) → ArePlain now → Plain (front_text number older above now)
 unfolding front_text

@@ -75,7 +75,7 @@ cells_of t asked =
 
 -- a cell behind a tab, by those above it in the last two rows
 abbrev pub cell_text : (older above now : List ℕ) → List ℕ
-cell_text older above now = 9 ∷ told_by older above now
+cell_text older above now = 9 ∷ told_by (above ∷ older ∷ []) now
 
 -- a request's number, time, line and reply, by the cells of the last two rows and its own
 unfoldable pub front_text : ℕ → (older above now : Celled) → List ℕ

@@ -8,7 +8,7 @@ pub(crate) const FRONT: &str = r#"<!DOCTYPE html>
 <meta charset="utf-8">
 <meta http-equiv="Content-Security-Policy" content="default-src 'none';
 base-uri 'none'; form-action 'none';
-script-src 'sha256-09HU0voS1cH71ZivY3grf+hfhaaH3c5ilhgIZR7JQXo=';
+script-src 'sha256-+dQEosGBu41SiVwsGgAqSPcie5CCswJzac40Wo+IFAg=';
 style-src 'sha256-fdYiGawdS5/UK2vfImcK3e4p+ekkMhWivUdB+wugmSc='">
 <meta name="viewport" content="width=device-width, initial-scale=1">
 <title>A run, request by request</title>
@@ -75,27 +75,27 @@ var runs = [], run, at = 0, first = 1, last = 0, around = 6, later;
 
 function by(id) { return document.getElementById(id); }
 
-// A text, by two that were told before it: nothing is the last again; 12~x is twelve letters of the
-// last and then x; 12^x is twelve of the one before that, and x.
-function told_by(older, last, text) {
-  var m = /^([0-9]+)([~^])(.*)$/.exec(text);
-  return m ? (m[2] === '~' ? last : older).slice(0, Number(m[1])) + m[3] : last;
+// A text, by others that were told before it: nothing is the first of them again; 12ax is twelve
+// letters of the first and then x; 12bx is twelve of the second, and x.
+function told_by(texts, text) {
+  var m = /^([0-9]+)([a-z])(.*)$/.exec(text);
+  return m ? (texts[m[2].charCodeAt(0) - 97] || '').slice(0, Number(m[1])) + m[3] : texts[0] || '';
 }
 
-// A run: of each request the cells, by those of the last two rows; at an alarm its account, line by
-// line, by the last two accounts.
+// A run: of each request the cells, by those of the last two rows; at an alarm its account, each
+// line by that of its number in the last, and by all lines of the last two.
 function read(id) {
   var rows = [], older = [], above = [], before = [], last = [], why = [];
   by(id).textContent.split('\n').slice(1, -1).forEach(function (line) {
-    var cells, k = why.length;
+    var cells;
     if (line.indexOf('\t') < 0) {
-      why.push(told_by(before[k] || '', last[k] || '', line));
+      why.push(told_by([last[why.length]].concat(last, before), line));
       return;
     }
-    if (k > 0) { before = last; last = why; }
+    if (why.length > 0) { before = last; last = why; }
     why = [];
-    cells = line.split('\t').map(function (cell, at_cell) {
-      return at_cell === 0 ? cell : told_by(older[at_cell] || '', above[at_cell] || '', cell);
+    cells = line.split('\t').map(function (cell, k) {
+      return k === 0 ? cell : told_by([above[k], older[k]], cell);
     });
     rows.push({ cells: cells, why: why });
     older = above;

@@ -14,8 +14,8 @@ pub fn data_is_plain()
         → list_all is_plain (data_of power machine requests) ≡ true }
 {}
 
-/// A text that is told by two others is read again by these, as the page's script does.
+/// A text that is told by others is read again by these, as the page's script does.
 pub fn told_is_read()
-    ensures { (older : List ℕ) (last : List ℕ) (now : List ℕ) → length now < 2 ^ 64
-        → read_by older last (told_by older last now) ≡ now }
+    ensures { (texts : List (List ℕ)) (now : List ℕ) → length now < 2 ^ 64
+        → read_by texts (told_by texts now) ≡ now }
 {}
