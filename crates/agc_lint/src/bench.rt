@@ -14,7 +14,7 @@ ghost use Rattle.agc_lint.specs.declared.wrong.TextFault.TheVariants as text_fau
 use crate::key::Key;
 use crate::place::Place;
 use crate::script::MOST_TOLD;
-use crate::spots::{Faulty, Spot, Spots, place_in};
+use crate::spots::{Faulty, Spot, Spots, places_in, way_to};
 use crate::twice::{phase_twice, task_twice};
 use crate::wrong::{KeyFault, TextFault, Wrong};
 use agc_document::BenchFault;
@@ -70,22 +70,14 @@ fn has_equals(text: &[u8]) -> bool {
     false
 }
 
-/// The number of the line in which this byte stands.
+/// The number of the line of a document in which this byte stands. Source: profile.
 #[tactic(auto, using(crate::proofs::Documents::ends_before))]
-fn line_at(document: &str, at: usize) -> u64
+pub fn line_at(document: &str, at: usize) -> u64
     ensures line { result ≡ line_of document.now at }
     ensures stands { StandsIn document.now result }
 {
     let bytes = document.as_bytes();
     line_ends(&bytes[..at.min(bytes.len())]) + 1
-}
-
-/// The number of the line in which a document has a place, or as much of the way there as it has.
-/// Source: profile.
-pub fn line_in(document: &str, place: Place) -> u64
-    ensures { StandsIn document.now result }
-{
-    line_at(document, place_in(document, place))
 }
 
 /// What is found at one byte of a document.
@@ -174,6 +166,7 @@ fn somewhere<'a, F: Faulty>(fault: F) -> Spot<'a, F>
     ensures { result ≡ somewhere (F.as_wrong fault) }
 {
     Spot {
+        way: way_to(Place::Whole),
         at: 0,
         place: Place::Whole,
         text: "",
@@ -261,7 +254,12 @@ fn found_at(
 ) -> Result<Vec<BenchFinding>, AllocError>
     ensures { IfOk result (λ v. AreOf document.now (kind_of fault) v.items) }
 {
-    found_only(alloc, document, place_in(document, place), place, "", fault)
+    let places = places_in(alloc, document, &[place])?;
+    let at = match places.as_slice() {
+        [] => 0,
+        [first, ..] => *first,
+    };
+    found_only(alloc, document, at, place, "", fault)
 }
 
 /// What is wrong with a document that is refused for this.

@@ -19,7 +19,7 @@ mod token;
 mod twice;
 mod wrong;
 
-pub use bench::{BenchFinding, bench_findings, line_in};
+pub use bench::{BenchFinding, bench_findings, line_at};
 pub use bench_telling::{tell_bench, tell_where};
 pub use finding::Finding;
 pub use key::Key;
@@ -28,5 +28,6 @@ pub use line::LineFault;
 pub use part::Part;
 pub use place::Place;
 pub use script::script_findings;
+pub use spots::places_in;
 pub use telling::tell_all;
 pub use wrong::{KeyFault, TextFault, Wrong};

@@ -1,5 +1,6 @@
-//! Where in its text a document has a value.
+//! Where in its text a document has values.
 use crate::token::{Mark, Token, token_at};
+use std::alloc::{AllocError, Global};
 
 /// One step of the way from the document to a value.
 #[derive(Clone, Copy, PartialEq, Eq, Debug)]
@@ -36,28 +37,97 @@ struct Frame {
     is_fresh: bool,
 }
 
-/// A walk through the tokens of a document, which knows how much of the way it has gone.
+/// A way, how much of it a walk has gone, and where the most of it has led.
+#[derive(Drop)]
+struct Trail<'a> {
+    way: Way<'a>,
+    /// How many of the way's steps lead to where the walk is, and to the last header.
+    gone: usize,
+    header_gone: usize,
+    /// How many headers had two brackets and the way's first name.
+    headers: u64,
+    /// Where the most steps of the way have led, and how many these were.
+    best_at: usize,
+    best: usize,
+}
+
+impl<'a> Trail<'a> {
+    fn new(way: Way<'a>) -> Trail<'a> {
+        Trail {
+            way,
+            gone: 0,
+            header_gone: 0,
+            headers: 0,
+            best_at: 0,
+            best: 0,
+        }
+    }
+
+    /// The way's step behind this many.
+    fn wanted(&self, length: usize) -> Option<Step<'a>> {
+        match self.way.steps.get(length) {
+            Some(step) => *step,
+            None => None,
+        }
+    }
+
+    /// Whether all of the way was gone.
+    fn is_found(&self) -> bool {
+        self.wanted(self.best).is_none()
+    }
+
+    /// Goes on by a step behind this many, which begins here, if it is the way's.
+    fn go(&mut self, is_next: bool, length: usize, at: usize) {
+        if is_next && self.gone == length {
+            self.gone = length.saturating_add(1);
+            if self.gone > self.best {
+                self.best = self.gone;
+                self.best_at = at;
+            }
+        }
+    }
+
+    /// Goes a name behind so many steps.
+    fn name(&mut self, name: &[u8], length: usize, at: usize) {
+        let is_next = match self.wanted(length) {
+            Some(Step::Name(wanted)) => wanted.as_bytes() == name,
+            _ => false,
+        };
+        self.go(is_next, length, at);
+    }
+
+    /// Goes a number behind so many steps.
+    fn number(&mut self, number: u64, length: usize, at: usize) {
+        let is_next = match self.wanted(length) {
+            Some(Step::Number(wanted)) => wanted == number,
+            _ => false,
+        };
+        self.go(is_next, length, at);
+    }
+
+    /// Goes the item that a header of two brackets begins, behind so many steps.
+    fn table(&mut self, length: usize, at: usize) {
+        if length == 1 && self.gone == 1 {
+            self.headers = self.headers.saturating_add(1);
+        }
+        self.number(self.headers, length, at);
+    }
+}
+
+/// A walk through the tokens of a document, by several ways at once.
 #[derive(Drop)]
 struct Walk<'a> {
     text: &'a [u8],
-    way: Way<'a>,
+    trails: Vec<Trail<'a>>,
     next: Next,
-    /// How many steps lead here, and how many of them are the way's.
+    /// How many steps lead here, and to the last header, and where that began.
     length: usize,
-    gone: usize,
-    /// The same at the last header.
     header_length: usize,
-    header_gone: usize,
-    /// Where the last header began, and how many had two brackets and the way's first name.
     header_at: usize,
-    headers: u64,
     frames: [Frame; 4],
     open: usize,
     /// How many brackets are open within those.
     deeper: usize,
-    /// Where the most steps of the way have led, and how many these were.
-    best_at: usize,
-    best: usize,
 }
 
 const CLOSED: Frame = Frame {
@@ -68,77 +138,50 @@ const CLOSED: Frame = Frame {
 };
 
 impl<'a> Walk<'a> {
-    fn new(text: &'a [u8], way: Way<'a>) -> Walk<'a> {
+    fn new(text: &'a [u8], trails: Vec<Trail<'a>>) -> Walk<'a> {
         Walk {
             text,
-            way,
+            trails,
             next: Next::Key,
             length: 0,
-            gone: 0,
             header_length: 0,
-            header_gone: 0,
             header_at: 0,
-            headers: 0,
             frames: [CLOSED; 4],
             open: 0,
             deeper: 0,
-            best_at: 0,
-            best: 0,
         }
     }
 
-    /// The way's step behind as many as lead here.
-    fn wanted(&self) -> Option<Step<'a>> {
-        match self.way.steps.get(self.length) {
-            Some(step) => *step,
-            None => None,
-        }
-    }
-
-    /// Whether the way's next step is this name.
-    fn is_name(&self, name: &[u8]) -> bool {
-        match self.wanted() {
-            Some(Step::Name(wanted)) => wanted.as_bytes() == name,
-            _ => false,
-        }
-    }
-
-    /// Whether the way's next step is this number.
-    fn is_number(&self, number: u64) -> bool {
-        match self.wanted() {
-            Some(Step::Number(wanted)) => wanted == number,
-            _ => false,
-        }
-    }
-
-    /// Goes a step, which begins here, and which may be the way's.
-    fn go(&mut self, is_next: bool, at: usize) {
-        let is_on_the_way = is_next && self.gone == self.length;
-        self.length = self.length.saturating_add(1);
-        if is_on_the_way {
-            self.gone = self.length;
-            if self.gone > self.best {
-                self.best = self.gone;
-                self.best_at = at;
+    /// Whether all of each way was gone.
+    fn is_done(&self) -> bool {
+        for trail in self.trails.as_slice() {
+            if !trail.is_found() {
+                return false;
             }
         }
+        true
     }
 
     /// Goes back to where so many steps lead.
     fn go_back(&mut self, length: usize) {
         self.length = length;
-        self.gone = self.gone.min(length);
+        for trail in self.trails.iter_mut() {
+            trail.gone = trail.gone.min(length);
+        }
     }
 
     /// A key, or a part of one.
     fn key(&mut self, token: Token) {
         let name = self.text.get(token.start..token.end).unwrap_or(&[]);
-        let is_next = self.is_name(name);
         let at = match self.next {
             Next::Header(_) => self.header_at,
             _ => token.at,
         };
-        self.go(is_next, at);
+        let length = self.length;
+        for trail in self.trails.iter_mut() {
+            trail.name(name, length, at);
+        }
+        self.length = length.saturating_add(1);
     }
 
     /// The first bracket of a header, or its second.
@@ -153,22 +196,13 @@ impl<'a> Walk<'a> {
         }
     }
 
-    /// How many headers had two brackets and the way's first name, this one among them.
-    fn headers_here(&self) -> u64 {
-        if self.length == 1 && self.gone == 1 {
-            self.headers.saturating_add(1)
-        } else {
-            self.headers
-        }
-    }
-
     /// The item that a header of two brackets begins.
     fn begin_table(&mut self) {
-        let number = self.headers_here();
-        let at = self.header_at;
-        let is_next = self.is_number(number);
-        self.headers = number;
-        self.go(is_next, at);
+        let (length, at) = (self.length, self.header_at);
+        for trail in self.trails.iter_mut() {
+            trail.table(length, at);
+        }
+        self.length = length.saturating_add(1);
     }
 
     /// The end of a header.
@@ -178,7 +212,9 @@ impl<'a> Walk<'a> {
             _ => {}
         }
         self.header_length = self.length;
-        self.header_gone = self.gone;
+        for trail in self.trails.iter_mut() {
+            trail.header_gone = trail.gone;
+        }
         self.next = Next::Key;
     }
 
@@ -217,8 +253,11 @@ impl<'a> Walk<'a> {
             items,
             is_fresh: false,
         });
-        let is_next = self.is_number(items);
-        self.go(is_next, at);
+        let length = self.length;
+        for trail in self.trails.iter_mut() {
+            trail.number(items, length, at);
+        }
+        self.length = length.saturating_add(1);
     }
 
     /// An opening bracket in a value.
@@ -275,9 +314,13 @@ impl<'a> Walk<'a> {
 
     /// The end of a line: of a pair, where nothing is open.
     fn end_line(&mut self) {
-        if self.open == 0 {
+        if self.open == 0 && self.length != self.header_length {
             self.length = self.header_length;
-            self.gone = self.header_gone;
+            for trail in self.trails.iter_mut() {
+                trail.gone = trail.header_gone;
+            }
+        }
+        if self.open == 0 {
             self.next = Next::Key;
         }
     }
@@ -313,19 +356,41 @@ fn first_place(text: &[u8]) -> usize {
     }
 }
 
-/// Where the value begins to which the way leads; else where as much of the way leads as the
-/// document has.
-pub(crate) fn locate(text: &str, way: Way<'_>) -> usize {
-    let bytes = text.as_bytes();
-    let mut walk = Walk::new(bytes, way);
+/// The trails of ways, of which nothing is gone.
+fn trails_of<'a>(alloc: Global, ways: &[Way<'a>]) -> Result<Vec<Trail<'a>>, AllocError> {
+    let mut trails = Vec::new(alloc);
+    for way in ways {
+        trails.push(Trail::new(*way))?;
+    }
+    Ok(trails)
+}
+
+/// Walks until each way is found, or the document ends.
+fn walk_all(walk: &mut Walk<'_>) {
+    let bytes = walk.text;
     let mut at = first_place(bytes);
-    for _ in 0..=bytes.len() {
+    for k in 0..=bytes.len() {
         let found = token_at(bytes, at);
-        if found.mark == Mark::End {
+        if found.mark == Mark::End || k % 1024 == 0 && walk.is_done() {
             break;
         }
         walk.step(found);
         at = found.next;
     }
-    walk.best_at
+}
+
+/// Where the values begin to which these ways lead, in their order; of a way that leads to none,
+/// where as much of it leads as the document has.
+pub(crate) fn locate_all<'a>(
+    alloc: Global,
+    text: &'a str,
+    ways: &[Way<'a>],
+) -> Result<Vec<usize>, AllocError> {
+    let mut walk = Walk::new(text.as_bytes(), trails_of(alloc, ways)?);
+    walk_all(&mut walk);
+    let mut places = Vec::new(alloc);
+    for trail in walk.trails.as_slice() {
+        places.push(trail.best_at)?;
+    }
+    Ok(places)
 }

@@ -9,7 +9,7 @@ ghost use Rattle.agc_lint.specs.declared.wrong.Wrong.TheVariants as wrong;
 use crate::key::{BENCH, Key};
 use crate::kind::Kind;
 use crate::line::{LineFault, fault_of};
-use crate::locate::{Step, Way, locate};
+use crate::locate::{Step, Way, locate_all};
 use crate::names::is_near;
 use crate::part::Part;
 use crate::place::Place;
@@ -71,9 +71,11 @@ impl Faulty for TextFault {
     }
 }
 
-/// A place where something is wrong: where it stands in the text, and the text that is told of it.
+/// A place where something is wrong: the way there, where it stands in the text, and the text that
+/// is told of it.
 #[derive(Drop)]
 pub(crate) struct Spot<'a, F: Faulty> {
+    pub(crate) way: Way<'a>,
     pub(crate) at: usize,
     pub(crate) place: Place,
     pub(crate) text: &'a str,
@@ -96,7 +98,6 @@ impl<'a, F: Faulty> Model for Spot<'a, F> {
 /// What is wrong with a document's keys, and with its texts: of either at most twenty.
 #[derive(Drop)]
 pub(crate) struct Spots<'a> {
-    document: &'a str,
     pub(crate) keys: Vec<Spot<'a, KeyFault>>,
     pub(crate) texts: Vec<Spot<'a, TextFault>>,
 }
@@ -110,7 +111,7 @@ fn number<'a>(number: u64) -> Option<Step<'a>> {
 }
 
 /// The way to a place.
-fn way_to<'a>(place: Place) -> Way<'a> {
+pub(crate) fn way_to<'a>(place: Place) -> Way<'a> {
     let steps = match place {
         Place::Whole => [None, None, None, None],
         Place::Value(key) => [name(key), None, None, None],
@@ -130,9 +131,43 @@ fn way_to_unknown<'a>(place: Place, key: &'a str) -> Way<'a> {
     Way { steps }
 }
 
-/// Where a place stands in a document.
-pub(crate) fn place_in(document: &str, place: Place) -> usize {
-    locate(document, way_to(place))
+/// Where these places begin in a document, in their order; of one that it hasn't, where as much of
+/// the way there begins as it has. Source: profile.
+///
+/// # Errors
+///
+/// Where there is no memory.
+pub fn places_in(
+    alloc: Global,
+    document: &str,
+    places: &[Place],
+) -> Result<Vec<usize>, AllocError> {
+    let mut ways = Vec::new(alloc);
+    for place in places {
+        ways.push(way_to(*place))?;
+    }
+    locate_all(alloc, document, ways.as_slice())
+}
+
+/// The number at a place of a list, and 0 behind its end.
+fn number_at(numbers: &[usize], place: usize) -> usize {
+    match numbers.get(place) {
+        Some(number) => *number,
+        None => 0,
+    }
+}
+
+/// Brings spots, of which the first has this place in a list of where they stand, in the order of
+/// the document.
+fn put_in_order<F: Faulty>(
+    spots: &mut Vec<Spot<'_, F>>,
+    found: &[usize],
+    first: usize,
+) -> Result<(), AllocError> {
+    for (k, spot) in spots.iter_mut().enumerate() {
+        spot.at = number_at(found, first.saturating_add(k));
+    }
+    spots.sort_by_key(|spot| spot.at)
 }
 
 /// The key of these that is called so.
@@ -243,7 +278,6 @@ impl<'a> Spots<'a> {
         table: &'a Table,
     ) -> Result<Spots<'a>, AllocError> {
         let mut spots = Spots {
-            document,
             keys: Vec::new(alloc),
             texts: Vec::new(alloc),
         };
@@ -252,22 +286,35 @@ impl<'a> Spots<'a> {
         spots.look_at_tables(table, Key::Phases)?;
         spots.look_at_tables(table, Key::Workers)?;
         spots.look_at_tables(table, Key::Devices)?;
-        spots.keys.sort_by_key(|spot| spot.at)?;
-        spots.texts.sort_by_key(|spot| spot.at)?;
+        spots.find(alloc, document)?;
         Ok(spots)
+    }
+
+    /// Finds where the spots stand, by one walk through the document.
+    fn find(&mut self, alloc: Global, document: &'a str) -> Result<(), AllocError> {
+        let mut ways = Vec::new(alloc);
+        for spot in self.keys.as_slice() {
+            ways.push(spot.way)?;
+        }
+        for spot in self.texts.as_slice() {
+            ways.push(spot.way)?;
+        }
+        let found = locate_all(alloc, document, ways.as_slice())?;
+        put_in_order(&mut self.keys, found.as_slice(), 0)?;
+        put_in_order(&mut self.texts, found.as_slice(), self.keys.len())
     }
 
     fn note_key(
         &mut self,
-        way: Way<'_>,
+        way: Way<'a>,
         place: Place,
         text: &'a str,
         fault: KeyFault,
     ) -> Result<(), AllocError> {
         if self.keys.len() < MOST_TOLD {
-            let at = locate(self.document, way);
             self.keys.push(Spot {
-                at,
+                way,
+                at: 0,
                 place,
                 text,
                 fault,
@@ -283,9 +330,9 @@ impl<'a> Spots<'a> {
         fault: TextFault,
     ) -> Result<(), AllocError> {
         if self.texts.len() < MOST_TOLD {
-            let at = locate(self.document, way_to(place));
             self.texts.push(Spot {
-                at,
+                way: way_to(place),
+                at: 0,
                 place,
                 text,
                 fault,

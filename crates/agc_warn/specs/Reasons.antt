@@ -1,5 +1,5 @@
 -- Why there is a warning, at one place of a bench.
-use Rattle.std.specs.Prelude.{ℕ, ◌==◌, ◌||◌, if◌then◌else◌, List, [], ◌∷◌, Option, Some, None}
+use Rattle.std.specs.Prelude.{ℕ, ◌==◌, ◌||◌, Bool, if◌then◌else◌, List, [], ◌∷◌, Option, Some, None}
 use Rattle.agc_plan.specs.declared.request.Task.{Task}
 use Rattle.agc_plan.specs.declared.request.Action.{Action}
 use Rattle.agc_plan.specs.declared.request.Action.TheVariants as action
@@ -68,3 +68,7 @@ log_full_warning bench (Some number) = Some (warning.LogFull number bench.limit)
 abbrev pub spent_warning : Benched → Option ℕ → Option Warning
 spent_warning bench None = None
 spent_warning bench (Some number) = Some (warning.Spent number bench.allowance)
+
+-- what is warned of where there are more requests than are run
+abbrev pub cut_warning : Bool → Option Warning
+cut_warning is_cut = if is_cut then Some warning.Cut else None

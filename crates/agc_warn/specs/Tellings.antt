@@ -29,6 +29,11 @@ spent_sentence first allowance =
     first_sentence first (codes " is the first that is refused: spent (allowance ") allowance
     (codes ", all served)")
 
+-- that not all were run
+abbrev pub cut_sentence : List ℕ
+cut_sentence =
+    codes "only the first 200000 requests were run, so a later one may be refused too"
+
 -- what is told of it
 abbrev pub sentence : Warning → List ℕ
 sentence warning.NoRows = codes "the bench has no task row, so nothing is done when a task fires"
@@ -44,6 +49,7 @@ sentence (warning.NoRequest line) = codes "a pulse asks for nothing, since the a
     ++ (kind_text line ++ codes " is nothing")
 sentence (warning.LogFull first limit) = log_full_sentence first limit
 sentence (warning.Spent first allowance) = spent_sentence first allowance
+sentence warning.Cut = cut_sentence
 
 -- the line that tells of it
 unfoldable pub told_warning : Located → List ℕ

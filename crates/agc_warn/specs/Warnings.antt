@@ -18,8 +18,8 @@ use Rattle.agc_warn.specs.declared.warning.Warning.TheVariants as warning
 use Rattle.agc_warn.specs.declared.warning.Warned.{Warned}
 use Rattle.agc_warn.specs.declared.warning.Located.{Located}
 use Rattle.agc_warn.specs.Reasons.{request_warning, action_warning, entry_warning, row_warning}
-use Rattle.agc_warn.specs.Reasons.{device_warning, log_full_warning, spent_warning}
-use Rattle.agc_warn.specs.Refusals.{log_full_at, spent_at}
+use Rattle.agc_warn.specs.Reasons.{device_warning, log_full_warning, spent_warning, cut_warning}
+use Rattle.agc_warn.specs.Refusals.{log_full_at, spent_at, is_cut}
 
 -- what is warned of at a place, if anything is
 abbrev pub placed : Place → Option Warning → List Warned
@@ -91,10 +91,11 @@ of_bench bench = of_pulses bench
     ++ (numbered (of_worker bench) 1 bench.workers
     ++ numbered (of_device bench) 1 bench.devices))))
 
--- and of its run, at the keys of which too little is there
+-- and of its run, at the keys of which too little is there, and that it was cut
 abbrev pub of_run : Benched → List Warned
 of_run bench = placed (place.Value key.Limit) (log_full_warning bench (log_full_at bench))
-    ++ placed (place.Value key.Allowance) (spent_warning bench (spent_at bench))
+    ++ (placed (place.Value key.Allowance) (spent_warning bench (spent_at bench))
+    ++ placed place.Whole (cut_warning (is_cut bench)))
 
 -- whether two tell the same
 abbrev pub is_like : Warning → Warning → Bool

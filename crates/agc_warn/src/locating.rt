@@ -7,8 +7,29 @@ ghost use Rattle.agc_warn.specs.Warnings.{AreWarned};
 use crate::walk::warned_of;
 use crate::warning::{Located, Warned};
 use agc_document::Bench;
-use agc_lint::line_in;
+use agc_lint::{Place, line_at, places_in};
 use std::alloc::{AllocError, Global};
+
+/// Where these warnings begin in a document.
+fn places_of(
+    alloc: Global,
+    document: &str,
+    warned: &[Warned],
+) -> Result<Vec<usize>, AllocError> {
+    let mut places: Vec<Place> = Vec::new(alloc);
+    for one in warned {
+        places.push(one.place)?;
+    }
+    places_in(alloc, document, places.as_slice())
+}
+
+/// The number at a place of a list, and 0 behind its end.
+fn number_at(numbers: &[usize], place: usize) -> usize {
+    match numbers.get(place) {
+        Some(number) => *number,
+        None => 0,
+    }
+}
 
 /// These warnings, each with its line.
 fn located(alloc: Global, document: &str, warned: &[Warned]) -> Result<Vec<Located>, AllocError>
@@ -16,9 +37,10 @@ fn located(alloc: Global, document: &str, warned: &[Warned]) -> Result<Vec<Locat
     ensures lines { IfOk result (λ v.
         AllByRecursion (λ one. StandsIn document.now one.line) v.items) }
 {
+    let places = places_of(alloc, document, warned)?;
     let mut all: Vec<Located> = Vec::new(alloc);
     for one in warned {
-        let line = line_in(document, one.place);
+        let line = line_at(document, number_at(places.as_slice(), all.len()));
         all.push(Located { line, warned: *one })?;
     }
     Ok(all)

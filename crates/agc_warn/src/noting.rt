@@ -31,6 +31,7 @@ fn is_like(one: &Warning, other: &Warning) -> bool
         Warning::NoRequest(_line) => false,
         Warning::LogFull(_number, _limit) => false,
         Warning::Spent(_number, _allowance) => false,
+        Warning::Cut => false,
     }
 }
 

@@ -5,7 +5,7 @@ ghost use Rattle.agc_plan.specs.Plans.{has_task, has_entry};
 ghost use Rattle.agc_warn.specs.Reasons.{bank_at, rowless, task_warning, phase_warning};
 ghost use Rattle.agc_warn.specs.Reasons.{request_warning, action_warning, entry_warning};
 ghost use Rattle.agc_warn.specs.Reasons.{row_warning, device_warning};
-ghost use Rattle.agc_warn.specs.Reasons.{log_full_warning, spent_warning};
+ghost use Rattle.agc_warn.specs.Reasons.{log_full_warning, spent_warning, cut_warning};
 
 use crate::listed::is_listed;
 use crate::warning::Warning;
@@ -158,4 +158,11 @@ pub(crate) fn spent_warning(bench: &Bench, first: Option<u64>) -> Option<Warning
         None => None,
         Some(number) => Some(Warning::Spent(number, bench.allowance())),
     }
+}
+
+/// What is warned of where a bench has more requests than are run.
+pub(crate) fn cut_warning(is_cut: bool) -> Option<Warning>
+    ensures { result ≡ cut_warning is_cut }
+{
+    if is_cut { Some(Warning::Cut) } else { None }
 }

@@ -5,6 +5,7 @@ ghost use Rattle.agc_document.specs.Benches.{kind_text};
 ghost use Rattle.agc_text.specs.Writing.{Writes};
 ghost use Rattle.agc_warn.specs.Tellings.{task_text, sentence, told_warning};
 ghost use Rattle.agc_warn.specs.Tellings.{first_sentence, log_full_sentence, spent_sentence};
+ghost use Rattle.agc_warn.specs.Tellings.{cut_sentence};
 
 use crate::warning::{Located, Warning};
 use agc_latch::Line;
@@ -67,6 +68,15 @@ fn spent_sentence(first: u64, allowance: u64) -> ArrayString<128>
     first_sentence(first, before, allowance, ", all served)")
 }
 
+/// What is told of a bench that has more requests than are run.
+fn cut_sentence() -> ArrayString<128>
+    ensures { result.bytes ≡ cut_sentence }
+{
+    let mut text = ArrayString::new();
+    text.push_str("only the first 200000 requests were run, so a later one may be refused too");
+    text
+}
+
 /// What is told of a warning.
 fn sentence(warning: Warning) -> ArrayString<128>
     ensures { result.bytes ≡ sentence warning }
@@ -104,6 +114,7 @@ fn sentence(warning: Warning) -> ArrayString<128>
         }
         Warning::LogFull(number, limit) => return log_full_sentence(number, limit),
         Warning::Spent(number, allowance) => return spent_sentence(number, allowance),
+        Warning::Cut => return cut_sentence(),
     }
     text
 }

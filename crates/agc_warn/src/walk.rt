@@ -8,8 +8,8 @@ ghost use Rattle.agc_warn.specs.Warnings.{of_bench, of_run, warnings_of};
 
 use crate::noting::{is_full, note};
 use crate::reasons::{
-    action_warning, device_warning, entry_warning, log_full_warning, request_warning, row_warning,
-    spent_warning,
+    action_warning, cut_warning, device_warning, entry_warning, log_full_warning, request_warning,
+    row_warning, spent_warning,
 };
 use crate::running::first_refused;
 use crate::warning::Warned;
@@ -205,7 +205,8 @@ fn note_run(alloc: Global, found: &mut Vec<Warned>, bench: &Bench) -> Result<(),
         found,
         Place::Value(Key::Allowance),
         spent_warning(bench, first.spent),
-    )
+    )?;
+    note(found, Place::Whole, cut_warning(first.is_cut))
 }
 
 /// What is warned of in a bench, in the order of its keys, and then of its run.

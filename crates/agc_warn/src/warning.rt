@@ -26,6 +26,8 @@ pub enum Warning {
     /// The request of this number is the first that is refused because all of this allowance was
     /// served.
     Spent(u64, u64),
+    /// The bench has more requests than are run to find out which are refused.
+    Cut,
 }
 
 /// A warning, and where in the bench its reason stands. Source: profile.
