@@ -84,7 +84,8 @@ less_by_one n m = elim (cases_lt n m) [
   | inr ge ↦
       let a : nat_lt n m ≡ false = grind (arith, common_steps) in
       let b : nat_lt (suc n) (suc m) ≡ false = grind (arith, common_steps) in
-      a ∙ sym b ]
+      a ∙ sym b
+]
 
 less_none : (n : ℕ) → false ≡ nat_lt n 0
 less_none n = let a : nat_lt n 0 ≡ false = grind (arith, common_steps) in sym a

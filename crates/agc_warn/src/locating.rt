@@ -11,11 +11,7 @@ use agc_lint::{Place, line_at, places_in};
 use std::alloc::{AllocError, Global};
 
 /// Where these warnings begin in a document.
-fn places_of(
-    alloc: Global,
-    document: &str,
-    warned: &[Warned],
-) -> Result<Vec<usize>, AllocError> {
+fn places_of(alloc: Global, document: &str, warned: &[Warned]) -> Result<Vec<usize>, AllocError> {
     let mut places: Vec<Place> = Vec::new(alloc);
     for one in warned {
         places.push(one.place)?;
