@@ -255,10 +255,7 @@ fn found_at(
     ensures { IfOk result (λ v. AreOf document.now (kind_of fault) v.items) }
 {
     let places = places_in(alloc, document, &[place])?;
-    let at = match places.as_slice() {
-        [] => 0,
-        [first, ..] => *first,
-    };
+    let at = places.as_slice().first().copied().unwrap_or(0);
     found_only(alloc, document, at, place, "", fault)
 }
 

@@ -365,13 +365,16 @@ fn trails_of<'a>(alloc: Global, ways: &[Way<'a>]) -> Result<Vec<Trail<'a>>, Allo
     Ok(trails)
 }
 
+/// How many tokens are gone between two looks whether each way is found.
+const TOKENS_BETWEEN: usize = 1024;
+
 /// Walks until each way is found, or the document ends.
 fn walk_all(walk: &mut Walk<'_>) {
     let bytes = walk.text;
     let mut at = first_place(bytes);
     for k in 0..=bytes.len() {
         let found = token_at(bytes, at);
-        if found.mark == Mark::End || k % 1024 == 0 && walk.is_done() {
+        if found.mark == Mark::End || k % TOKENS_BETWEEN == 0 && walk.is_done() {
             break;
         }
         walk.step(found);

@@ -149,14 +149,6 @@ pub fn places_in(
     locate_all(alloc, document, ways.as_slice())
 }
 
-/// The number at a place of a list, and 0 behind its end.
-fn number_at(numbers: &[usize], place: usize) -> usize {
-    match numbers.get(place) {
-        Some(number) => *number,
-        None => 0,
-    }
-}
-
 /// Brings spots, of which the first has this place in a list of where they stand, in the order of
 /// the document.
 fn put_in_order<F: Faulty>(
@@ -165,7 +157,7 @@ fn put_in_order<F: Faulty>(
     first: usize,
 ) -> Result<(), AllocError> {
     for (k, spot) in spots.iter_mut().enumerate() {
-        spot.at = number_at(found, first.saturating_add(k));
+        spot.at = found.get(first.saturating_add(k)).copied().unwrap_or(0);
     }
     spots.sort_by_key(|spot| spot.at)
 }

@@ -19,14 +19,6 @@ fn places_of(alloc: Global, document: &str, warned: &[Warned]) -> Result<Vec<usi
     places_in(alloc, document, places.as_slice())
 }
 
-/// The number at a place of a list, and 0 behind its end.
-fn number_at(numbers: &[usize], place: usize) -> usize {
-    match numbers.get(place) {
-        Some(number) => *number,
-        None => 0,
-    }
-}
-
 /// These warnings, each with its line.
 fn located(alloc: Global, document: &str, warned: &[Warned]) -> Result<Vec<Located>, AllocError>
     ensures same { IfOk result (λ v. map (λ one. one.warned) v.items ≡ warned.now) }
@@ -36,7 +28,8 @@ fn located(alloc: Global, document: &str, warned: &[Warned]) -> Result<Vec<Locat
     let places = places_of(alloc, document, warned)?;
     let mut all: Vec<Located> = Vec::new(alloc);
     for one in warned {
-        let line = line_at(document, number_at(places.as_slice(), all.len()));
+        let at = places.as_slice().get(all.len()).copied().unwrap_or(0);
+        let line = line_at(document, at);
         all.push(Located { line, warned: *one })?;
     }
     Ok(all)
