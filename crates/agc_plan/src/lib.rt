@@ -4,6 +4,7 @@
 
 mod actions;
 mod fired;
+mod index;
 pub mod laws;
 mod number;
 mod plan;

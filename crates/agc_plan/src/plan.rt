@@ -1,5 +1,5 @@
-ghost use Rattle.std.specs.Prelude.{◌≡◌, ◌≤◌, ◌⊎◌, Some, None, IfOk, IfErr, OnOk, length};
-ghost use Rattle.agc_plan.specs.Plans.{Written, same_task, has_task, task_twice, has_entry};
+ghost use Rattle.std.specs.Prelude.{◌≡◌, ◌≤◌, ◌⊎◌, [], Some, None, IfOk, IfErr, OnOk, length};
+ghost use Rattle.agc_plan.specs.Plans.{Written, has_entry};
 ghost use Rattle.agc_plan.specs.Plans.{phase_twice, wants_area, group_wants, all_want, fault_of};
 ghost use Rattle.agc_plan.specs.Plans.{actions_in, entry_at, is_for};
 ghost use Rattle.std.specs.Option.{option_copied};
@@ -7,6 +7,7 @@ ghost use Rattle.agc_plan.specs.Quiet.{BeginsQuietly};
 ghost use Rattle.agc_plan.specs.Messages.{plan_fault_text};
 
 use crate::actions::Actions;
+use crate::index::{Index, index_of, number_of};
 use crate::number::{Group, Phase};
 use crate::request::{Action, JobStart, PhaseEntry, Task};
 use std::alloc::Global;
@@ -58,6 +59,7 @@ impl Error for PlanFault {}
 #[derive(Drop)]
 pub struct Plan {
     rows: Vec<(Task, Actions)>,
+    index: Index,
     entries: Vec<PhaseEntry>,
     key: Actions,
     radar: Actions,
@@ -66,37 +68,15 @@ pub struct Plan {
 impl Model for Plan {
     ghost use Rattle.std.specs.Prelude.{◌≡◌, None};
     ghost use Rattle.agc_plan.specs.Plans.{Written, fault_of};
+    ghost use Rattle.agc_plan.specs.Index.{IsIndex};
 
     ghost Value = { Written };
 
     ghost view = { λ p. record
         { rows = p.rows.items; entries = p.entries.items; key = p.key; radar = p.radar } };
 
-    ghost invariant = { λ p. fault_of p.rows.items p.entries.items ≡ None };
-}
-
-/// Whether a task has a row.
-fn has_task(rows: &[(Task, Actions)], task: Task) -> bool
-    ensures { result ≡ has_task rows.now task }
-{
-    for row in rows {
-        if row.0 == task {
-            return true;
-        }
-    }
-    false
-}
-
-/// Whether a task has two rows.
-fn task_twice(rows: &[(Task, Actions)]) -> bool
-    ensures { result ≡ task_twice rows.now }
-{
-    for (k, row) in rows.iter().enumerate() {
-        if has_task(&rows[k + 1..], row.0) {
-            return true;
-        }
-    }
-    false
+    ghost invariant = { λ p. (fault_of p.rows.items p.entries.items ≡ None)
+        × IsIndex p.rows.items p.index };
 }
 
 /// Whether a group's phase has an entry.
@@ -158,13 +138,11 @@ fn all_want(entries: &[PhaseEntry]) -> bool
         && group_wants(entries, 6)
 }
 
-/// What is wrong with rows and entries, memory aside.
-fn fault_of(rows: &[(Task, Actions)], entries: &[PhaseEntry]) -> Option<PlanFault>
-    ensures { result ≡ fault_of rows.now entries.now }
+/// What is wrong with entries.
+fn entries_fault(entries: &[PhaseEntry]) -> Option<PlanFault>
+    ensures { result ≡ fault_of [] entries.now }
 {
-    if task_twice(rows) {
-        Some(PlanFault::TaskTwice)
-    } else if phase_twice(entries) {
+    if phase_twice(entries) {
         Some(PlanFault::PhaseTwice)
     } else if all_want(entries) {
         Some(PlanFault::TooManyAreas)
@@ -215,10 +193,12 @@ impl Plan {
         if own_entries.extend_from_slice(entries).is_err() {
             return Err(PlanFault::NoMemory);
         }
-        match fault_of(rows, entries) {
+        let index = index_of(alloc, rows)?;
+        match entries_fault(entries) {
             Some(fault) => Err(fault),
             None => Ok(Plan {
                 rows: own_rows,
+                index,
                 entries: own_entries,
                 key,
                 radar,
@@ -239,7 +219,10 @@ impl Plan {
     pub fn actions(&self, task: &Task) -> &[Action]
         ensures { result.now ≡ actions_in self.now.rows task.now }
     {
-        actions_in(&self.rows, *task)
+        match number_of(&self.index, task) {
+            None => &[],
+            Some(number) => self.rows[number].1.as_slice(),
+        }
     }
 
     /// What begins again while a group stands in a phase. None where the plan has no entry for
@@ -265,18 +248,6 @@ impl Plan {
     {
         self.radar.as_slice()
     }
-}
-
-/// The actions of a task's row, none where it has no row.
-fn actions_in(rows: &[(Task, Actions)], task: Task) -> &[Action]
-    ensures { result.now ≡ actions_in rows.now task }
-{
-    for row in rows {
-        if row.0 == task {
-            return row.1.as_slice();
-        }
-    }
-    &[]
 }
 
 /// The entry of a group's phase.

@@ -7,6 +7,7 @@ use Rattle.std.proofs.lemmas.List.Concat.{flat_map-cons}
 use Rattle.std.proofs.lemmas.List.Folds.{flat_map-map}
 use Rattle.std.proofs.lemmas.List.Sums.{fold-append}
 use Rattle.std.proofs.lemmas.List.{nil_from_length}
+use Rattle.agc_plan.proofs.Lists.{next_is, none_left}
 use Rattle.agc_plan.specs.declared.request.Request.{Request}
 use Rattle.agc_text.specs.Writing.{AppendsUpTo, AppendsFront, Writes}
 use Rattle.agc_text.proofs.Steps.{up_to_start, up_to_more, up_to_front, up_to_end, fails_next}
@@ -80,16 +81,8 @@ last_texts {S} {T} {E} {next} {text} {start} {s} {all} {a} {o} {w} n (Err x) lef
     up_to_front o w n (texts next text start all) (texts next text s a) [] (all_of left) front
 
 -- the next of what is left, and the rest
-pub next_is : {X : Type 0} → (xs : List X) (i : ℕ) (x : X) → i < length xs → x ≡ get_or xs i x → drop i xs ≡ x ∷ drop (i + 1) xs
-next_is xs i x l is =
-    let e : drop i xs ≡ get_or xs i x ∷ drop (i + 1) xs = rw (drop-cons xs i x l, add-one i) refl in
-    subst (λ y. drop i xs ≡ y ∷ drop (i + 1) xs) (sym is) e
-
 pub next_item : {X : Type 0} → (f : X → List Request) (xs : List X) (i : ℕ) (x : X) → i < length xs → x ≡ get_or xs i x → flat_map f (drop i xs) ≡ f x ++ flat_map f (drop (i + 1) xs)
 next_item f xs i x l is = ap (flat_map f) (next_is xs i x l is) ∙ flat_map-cons f x (drop (i + 1) xs)
-
-pub none_left : {X : Type 0} → (xs : List X) (i : ℕ) → length xs ≤ i → drop i xs ≡ []
-none_left xs i l = nil_from_length _ (simp length-drop (omega arith))
 
 pub no_item : {X : Type 0} → (f : X → List Request) (xs : List X) (i : ℕ) → length xs ≤ i → flat_map f (drop i xs) ≡ []
 no_item f xs i l = ap (flat_map f) (none_left xs i l)

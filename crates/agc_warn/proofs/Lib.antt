@@ -1,3 +1,4 @@
 pub mod Walks
 pub mod Lists
 mod Runs
+mod Sets

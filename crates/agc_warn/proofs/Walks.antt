@@ -1,10 +1,10 @@
 -- What is still to be noted of a walk through a bench.
-use Rattle.std.proofs.Common.{Option, None, true, nat_le, ◌≡◌, ℕ, ◌+◌, ◌<◌, ◌≤◌, List, [], ◌∷◌, ◌++◌, length, get_or, drop, map, refl, sym, ap, ◌∙◌}
+use Rattle.std.proofs.Common.{Option, None, ◌≡◌, ℕ, ◌+◌, ◌<◌, ◌≤◌, List, [], ◌∷◌, ◌++◌, length, get_or, drop, map, refl, sym, ap, ◌∙◌}
 use Rattle.std.specs.List.{fold}
 use Rattle.std.proofs.lemmas.List.{get_or_default}
 use Rattle.std.proofs.lemmas.List.Sums.{fold-append}
 use Rattle.agc_lint.specs.declared.place.Place.{Place}
-use Rattle.agc_session.proofs.Walks.{next_is, none_left}
+use Rattle.agc_plan.proofs.Lists.{next_is, none_left}
 use Rattle.agc_document.specs.Benches.{Benched}
 use Rattle.agc_warn.specs.declared.warning.Warned.{Warned}
 use Rattle.agc_warn.specs.declared.warning.Warning.{Warning}
@@ -64,12 +64,3 @@ all_warned b s0 s1 s2 s3 s4 s5 s6 e1 e2 e3 e4 e5 e6 =
 pub whole_warned : (b : Benched) (s t : List Warned) → s ≡ fold noted [] (of_bench b) → t ≡ fold noted s (of_run b) → t ≡ warnings_of b
 unfolding warnings_of
 whole_warned b s t h k = both_noted [] s t (of_bench b) (of_run b) h k
-
--- where twenty are told no more is
-one_stays : (found : List Warned) (one : Warned) → nat_le 20 (length found) ≡ true → noted found one ≡ found
-unfolding noted
-one_stays found one full = rw full refl
-
-pub full_stays : (found xs : List Warned) → nat_le 20 (length found) ≡ true → found ≡ fold noted found xs
-full_stays found [] full = refl
-full_stays found (x ∷ xs) full = full_stays found xs full ∙ ap (λ f. fold noted f xs) (sym (one_stays found x full))

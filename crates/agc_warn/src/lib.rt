@@ -1,11 +1,14 @@
 //! What is worth a second look in a bench that can be run, and where. Source: profile.
 #![tactic(auto)]
 
+mod index;
 mod listed;
 mod locating;
 mod noting;
 mod reasons;
+mod rows;
 mod running;
+mod tasks;
 mod telling;
 mod walk;
 mod warning;

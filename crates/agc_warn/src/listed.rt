@@ -1,118 +1,145 @@
-//! Whether a bench lists a task.
-ghost use Rattle.std.specs.Prelude.{◌≡◌, map};
+//! The tasks that a bench lists.
+ghost use Rattle.std.specs.Prelude.{◌≡◌, ◌&&◌, not, map, IfOk};
 ghost use Rattle.std.specs.List.{list_any};
+ghost use Rattle.agc_plan.specs.declared.request.Task.{Task as Tasked};
+ghost use Rattle.agc_plan.specs.Plans.{same_task};
 ghost use Rattle.agc_warn.specs.Listed.{request_lists, requests_list, action_lists, row_lists};
 ghost use Rattle.agc_warn.specs.Listed.{entry_lists, is_listed};
+ghost use Rattle.agc_warn.specs.Tasks.{has, TakesIn};
 
+use crate::tasks::{Tasks, take_in};
 use agc_document::Bench;
 use agc_plan::{Action, Actions, PhaseEntry, Request, Task};
+use std::alloc::{AllocError, Global};
+use std::collections::BTreeSet;
 
-/// Whether a request lists a task.
-fn request_lists(task: &Task, request: &Request) -> bool
-    ensures { result ≡ request_lists task.now request.now }
+/// Takes the task in that a request lists.
+fn take_request(tasks: &mut Tasks, request: &Request) -> Result<(), AllocError>
+    ensures { IfOk result (λ _. TakesIn (λ t. request_lists t request.now) tasks.old tasks.new) }
 {
     match *request {
-        Request::List(_delay, listed) => listed == *task,
-        _ => false,
+        Request::List(_delay, listed) => take_in(tasks, &listed),
+        _ => Ok(()),
     }
 }
 
-/// Whether one of several does.
-fn requests_list(task: &Task, requests: &[Request]) -> bool
-    ensures { result ≡ requests_list task.now requests.now }
+/// Takes those in that requests list.
+fn take_requests(tasks: &mut Tasks, requests: &[Request]) -> Result<(), AllocError>
+    ensures { IfOk result (λ _. TakesIn (λ t. requests_list t requests.now) tasks.old tasks.new) }
 {
     for request in requests {
-        if request_lists(task, request) {
-            return true;
-        }
+        take_request(tasks, request)?;
     }
-    false
+    Ok(())
 }
 
-/// Whether a request of one of these workers does.
-fn any_worker_lists(task: &Task, workers: &[Vec<Request>]) -> bool
-    ensures { result ≡ list_any (λ w. requests_list task.now w.items) workers.now }
+/// Takes those in that workers' requests list.
+fn take_workers(tasks: &mut Tasks, workers: &[Vec<Request>]) -> Result<(), AllocError>
+    ensures { IfOk result (λ _. TakesIn
+        (λ t. list_any (λ w. requests_list t w.items) workers.now) tasks.old tasks.new) }
 {
     for worker in workers {
-        if requests_list(task, worker.as_slice()) {
-            return true;
-        }
+        take_requests(tasks, worker.as_slice())?;
     }
-    false
+    Ok(())
 }
 
-/// Whether a request of a bench's workers does.
-fn workers_list(task: &Task, bench: &Bench) -> bool
-    ensures { result ≡ list_any (requests_list task.now) bench.now.workers }
-{
-    any_worker_lists(task, bench.workers())
-}
-
-/// Whether an action lists a task.
-fn action_lists(task: &Task, action: Action) -> bool
-    ensures { result ≡ action_lists task.now action }
+/// Takes the task in that an action lists.
+fn take_action(tasks: &mut Tasks, action: Action) -> Result<(), AllocError>
+    ensures { IfOk result (λ _. TakesIn (λ t. action_lists t action) tasks.old tasks.new) }
 {
     match action {
-        Action::List(_delay, listed) => listed == *task,
-        _ => false,
+        Action::List(_delay, listed) => take_in(tasks, &listed),
+        _ => Ok(()),
     }
 }
 
-/// Whether one of several does.
-fn actions_list(task: &Task, actions: &[Action]) -> bool
-    ensures { result ≡ list_any (action_lists task.now) actions.now }
+/// Takes those in that actions list.
+fn take_actions(tasks: &mut Tasks, actions: &[Action]) -> Result<(), AllocError>
+    ensures { IfOk result (λ _. TakesIn
+        (λ t. list_any (action_lists t) actions.now) tasks.old tasks.new) }
 {
     for action in actions {
-        if action_lists(task, *action) {
-            return true;
-        }
+        take_action(tasks, *action)?;
     }
-    false
+    Ok(())
 }
 
-/// Whether an action of another task's row does.
-fn rows_list(task: &Task, rows: &[(Task, Actions)]) -> bool
-    ensures { result ≡ list_any (row_lists task.now) rows.now }
+/// Takes a task in, unless it is this one.
+fn take_other(tasks: &mut Tasks, own: &Task, listed: &Task) -> Result<(), AllocError>
+    ensures { IfOk result (λ _. TakesIn
+        (λ t. not (same_task own.now t) && same_task listed.now t) tasks.old tasks.new) }
+{
+    if *listed == *own {
+        Ok(())
+    } else {
+        take_in(tasks, listed)
+    }
+}
+
+/// Takes the task in that an action of a task's row lists, unless it is the row's own.
+fn take_of_row(tasks: &mut Tasks, own: &Task, action: Action) -> Result<(), AllocError>
+    ensures { IfOk result (λ _. TakesIn
+        (λ t. not (same_task own.now t) && action_lists t action) tasks.old tasks.new) }
+{
+    match action {
+        Action::List(_delay, listed) => take_other(tasks, own, &listed),
+        _ => Ok(()),
+    }
+}
+
+/// Takes those in that a row lists.
+fn take_row(tasks: &mut Tasks, row: &(Task, Actions)) -> Result<(), AllocError>
+    ensures { IfOk result (λ _. TakesIn (λ t. row_lists t row.now) tasks.old tasks.new) }
+{
+    for action in row.1.as_slice() {
+        take_of_row(tasks, &row.0, *action)?;
+    }
+    Ok(())
+}
+
+/// Takes those in that rows list.
+fn take_rows(tasks: &mut Tasks, rows: &[(Task, Actions)]) -> Result<(), AllocError>
+    ensures { IfOk result (λ _. TakesIn
+        (λ t. list_any (row_lists t) rows.now) tasks.old tasks.new) }
 {
     for row in rows {
-        if row.0 != *task && actions_list(task, row.1.as_slice()) {
-            return true;
-        }
+        take_row(tasks, row)?;
     }
-    false
+    Ok(())
 }
 
-/// Whether a phase entry lists a task.
-fn entry_lists(task: &Task, entry: &PhaseEntry) -> bool
-    ensures { result ≡ entry_lists task.now entry.now }
+/// Takes the task in that a phase entry lists.
+fn take_entry(tasks: &mut Tasks, entry: &PhaseEntry) -> Result<(), AllocError>
+    ensures { IfOk result (λ _. TakesIn (λ t. entry_lists t entry.now) tasks.old tasks.new) }
 {
     match entry.task() {
-        None => false,
-        Some((_delay, listed)) => listed == *task,
+        None => Ok(()),
+        Some((_delay, listed)) => take_in(tasks, &listed),
     }
 }
 
-/// Whether one of several does.
-fn entries_list(task: &Task, entries: &[PhaseEntry]) -> bool
-    ensures { result ≡ list_any (entry_lists task.now) entries.now }
+/// Takes those in that phase entries list.
+fn take_entries(tasks: &mut Tasks, entries: &[PhaseEntry]) -> Result<(), AllocError>
+    ensures { IfOk result (λ _. TakesIn
+        (λ t. list_any (entry_lists t) entries.now) tasks.old tasks.new) }
 {
     for entry in entries {
-        if entry_lists(task, entry) {
-            return true;
-        }
+        take_entry(tasks, entry)?;
     }
-    false
+    Ok(())
 }
 
-/// Whether anything of a bench lists a task, but its own actions.
-#[tactic(auto, unfolding(crate::specs::Listed::is_listed))]
-pub(crate) fn is_listed(bench: &Bench, task: &Task) -> bool
-    ensures { result ≡ is_listed bench.now task.now }
+/// The tasks that anything of a bench lists, but their own actions.
+pub(crate) fn listed_in(alloc: Global, bench: &Bench) -> Result<Tasks, AllocError>
+    ensures { IfOk result (λ tasks. (task : Tasked) → has tasks task ≡ is_listed bench.now task) }
 {
-    requests_list(task, bench.script())
-        || workers_list(task, bench)
-        || actions_list(task, bench.key().as_slice())
-        || actions_list(task, bench.radar().as_slice())
-        || rows_list(task, bench.rows())
-        || entries_list(task, bench.entries())
+    let mut tasks = BTreeSet::new(alloc);
+    take_requests(&mut tasks, bench.script())?;
+    take_workers(&mut tasks, bench.workers())?;
+    take_actions(&mut tasks, bench.key().as_slice())?;
+    take_actions(&mut tasks, bench.radar().as_slice())?;
+    take_rows(&mut tasks, bench.rows())?;
+    take_entries(&mut tasks, bench.entries())?;
+    Ok(tasks)
 }

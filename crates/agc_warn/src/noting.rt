@@ -48,7 +48,7 @@ fn is_told(found: &[Warned], warning: &Warning) -> bool
 }
 
 /// Whether as many are told as may be.
-pub(crate) fn is_full(found: &[Warned]) -> bool
+fn is_full(found: &[Warned]) -> bool
     ensures { result ≡ nat_le 20 (length found.now) }
 {
     found.len() >= MOST_TOLD

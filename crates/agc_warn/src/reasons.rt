@@ -1,43 +1,19 @@
 //! Why there is a warning, at one place.
 ghost use Rattle.std.specs.Prelude.{◌≡◌};
 ghost use Rattle.std.specs.Option.{option_map};
-ghost use Rattle.agc_plan.specs.Plans.{has_task, has_entry};
-ghost use Rattle.agc_warn.specs.Reasons.{bank_at, rowless, task_warning, phase_warning};
+ghost use Rattle.agc_plan.specs.Plans.{has_entry};
+ghost use Rattle.agc_warn.specs.Reasons.{rowless, task_warning, phase_warning};
 ghost use Rattle.agc_warn.specs.Reasons.{request_warning, action_warning, entry_warning};
 ghost use Rattle.agc_warn.specs.Reasons.{row_warning, device_warning};
 ghost use Rattle.agc_warn.specs.Reasons.{log_full_warning, spent_warning, cut_warning};
 
-use crate::listed::is_listed;
+use crate::index::Indexed;
 use crate::warning::Warning;
 use agc_document::Bench;
 use agc_latch::Line;
-use agc_plan::{Action, Actions, Group, Phase, PhaseEntry, Request, Task};
+use agc_plan::{Action, Group, Phase, PhaseEntry, Request, Task};
 use agc_session::asks_nothing;
 use agc_word::Word;
-
-/// Whether a task has a row.
-fn has_task(rows: &[(Task, Actions)], task: &Task) -> bool
-    ensures { result ≡ has_task rows.now task.now }
-{
-    for row in rows {
-        if row.0 == *task {
-            return true;
-        }
-    }
-    false
-}
-
-/// The bank of the first row at a task's address.
-fn bank_at(rows: &[(Task, Actions)], task: &Task) -> Option<Word>
-    ensures { result ≡ bank_at rows.now task.now.at }
-{
-    for row in rows {
-        if row.0.at == task.at {
-            return Some(row.0.bank);
-        }
-    }
-    None
-}
 
 /// What is warned of a task that has no row, by the bank of a row at its address.
 fn rowless(task: &Task, bank: Option<Word>) -> Warning
@@ -50,15 +26,15 @@ fn rowless(task: &Task, bank: Option<Word>) -> Warning
 }
 
 /// What is warned of where a task is listed.
-fn task_warning(rows: &[(Task, Actions)], task: &Task) -> Option<Warning>
-    ensures { result ≡ task_warning rows.now task.now }
+fn task_warning(bench: &Indexed<'_>, task: &Task) -> Option<Warning>
+    ensures { result ≡ task_warning bench.now.rows task.now }
 {
-    if rows.is_empty() {
+    if bench.bench().rows().is_empty() {
         Some(Warning::NoRows)
-    } else if has_task(rows, task) {
+    } else if bench.has_task(task) {
         None
     } else {
-        Some(rowless(task, bank_at(rows, task)))
+        Some(rowless(task, bench.bank_at(task)))
     }
 }
 
@@ -86,41 +62,41 @@ fn phase_warning(entries: &[PhaseEntry], group: Group, phase: Phase) -> Option<W
 }
 
 /// What is warned of a request.
-pub(crate) fn request_warning(bench: &Bench, request: &Request) -> Option<Warning>
+pub(crate) fn request_warning(bench: &Indexed<'_>, request: &Request) -> Option<Warning>
     ensures { result ≡ request_warning bench.now request.now }
 {
     match *request {
-        Request::List(_delay, task) => task_warning(bench.rows(), &task),
-        Request::SetPhase(group, phase) => phase_warning(bench.entries(), group, phase),
+        Request::List(_delay, task) => task_warning(bench, &task),
+        Request::SetPhase(group, phase) => phase_warning(bench.bench().entries(), group, phase),
         _ => None,
     }
 }
 
 /// What is warned of an action.
-pub(crate) fn action_warning(bench: &Bench, action: Action) -> Option<Warning>
+pub(crate) fn action_warning(bench: &Indexed<'_>, action: Action) -> Option<Warning>
     ensures { result ≡ action_warning bench.now action }
 {
     match action {
-        Action::List(_delay, task) => task_warning(bench.rows(), &task),
+        Action::List(_delay, task) => task_warning(bench, &task),
         _ => None,
     }
 }
 
 /// What is warned of the task of a phase entry.
-pub(crate) fn entry_warning(bench: &Bench, entry: &PhaseEntry) -> Option<Warning>
+pub(crate) fn entry_warning(bench: &Indexed<'_>, entry: &PhaseEntry) -> Option<Warning>
     ensures { result ≡ entry_warning bench.now entry.now }
 {
     match entry.task() {
         None => None,
-        Some((_delay, task)) => task_warning(bench.rows(), &task),
+        Some((_delay, task)) => task_warning(bench, &task),
     }
 }
 
 /// What is warned of the task of a row.
-pub(crate) fn row_warning(bench: &Bench, task: &Task) -> Option<Warning>
+pub(crate) fn row_warning(bench: &Indexed<'_>, task: &Task) -> Option<Warning>
     ensures { result ≡ row_warning bench.now task.now }
 {
-    if is_listed(bench, task) {
+    if bench.is_listed(task) {
         None
     } else {
         Some(Warning::NeverListed)

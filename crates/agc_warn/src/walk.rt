@@ -6,7 +6,8 @@ ghost use Rattle.agc_warn.specs.Warnings.{of_entry, of_worker, of_device, of_act
 ghost use Rattle.agc_warn.specs.Warnings.{action_place, item_place};
 ghost use Rattle.agc_warn.specs.Warnings.{of_bench, of_run, warnings_of};
 
-use crate::noting::{is_full, note};
+use crate::index::Indexed;
+use crate::noting::note;
 use crate::reasons::{
     action_warning, cut_warning, device_warning, entry_warning, log_full_warning, request_warning,
     row_warning, spent_warning,
@@ -53,7 +54,7 @@ fn action_place(actions: &[Action], at: Place, number: u64) -> Place
 /// Notes what is warned of the actions at a place.
 fn note_actions(
     found: &mut Vec<Warned>,
-    bench: &Bench,
+    bench: &Indexed<'_>,
     at: Place,
     actions: &[Action],
 ) -> Result<(), AllocError>
@@ -68,19 +69,19 @@ fn note_actions(
 }
 
 /// Notes what is warned of the actions of the key and of the radar.
-fn note_pulses(found: &mut Vec<Warned>, bench: &Bench) -> Result<(), AllocError>
+fn note_pulses(found: &mut Vec<Warned>, bench: &Indexed<'_>) -> Result<(), AllocError>
     ensures { IfOk result (λ _. found.new.items
         ≡ fold noted found.old.items (of_pulses bench.now)) }
 {
-    let (key, radar) = (bench.key().as_slice(), bench.radar().as_slice());
-    note_actions(found, bench, Place::Value(Key::Key), key)?;
-    note_actions(found, bench, Place::Value(Key::Radar), radar)
+    let (key, radar) = (bench.bench().key(), bench.bench().radar());
+    note_actions(found, bench, Place::Value(Key::Key), key.as_slice())?;
+    note_actions(found, bench, Place::Value(Key::Radar), radar.as_slice())
 }
 
 /// Notes what is warned of requests.
 fn note_requests(
     found: &mut Vec<Warned>,
-    bench: &Bench,
+    bench: &Indexed<'_>,
     worker: Option<u64>,
     requests: &[Request],
 ) -> Result<(), AllocError>
@@ -97,7 +98,7 @@ fn note_requests(
 /// Notes what is warned of rows.
 fn note_rows(
     found: &mut Vec<Warned>,
-    bench: &Bench,
+    bench: &Indexed<'_>,
     rows: &[(Task, Actions)],
 ) -> Result<(), AllocError>
     ensures { IfOk result (λ _. found.new.items
@@ -112,17 +113,13 @@ fn note_rows(
 /// Notes what is warned of a row.
 fn note_row(
     found: &mut Vec<Warned>,
-    bench: &Bench,
+    bench: &Indexed<'_>,
     number: u64,
     row: &(Task, Actions),
 ) -> Result<(), AllocError>
     ensures { IfOk result (λ _. found.new.items
         ≡ fold noted found.old.items (of_row bench.now number row.now)) }
 {
-    // Whether anything lists its task is a long search.
-    if is_full(found.as_slice()) {
-        return Ok(());
-    }
     let actions = Place::Field(Key::Tasks, number, Key::Action);
     note_actions(found, bench, actions, row.1.as_slice())?;
     let table = Place::Table(Key::Tasks, number);
@@ -132,7 +129,7 @@ fn note_row(
 /// Notes what is warned of phase entries.
 fn note_entries(
     found: &mut Vec<Warned>,
-    bench: &Bench,
+    bench: &Indexed<'_>,
     entries: &[PhaseEntry],
 ) -> Result<(), AllocError>
     ensures { IfOk result (λ _. found.new.items
@@ -148,7 +145,7 @@ fn note_entries(
 /// Notes what is warned of workers' requests.
 fn note_workers(
     found: &mut Vec<Warned>,
-    bench: &Bench,
+    bench: &Indexed<'_>,
     workers: &[Vec<Request>],
 ) -> Result<(), AllocError>
     ensures { IfOk result (λ _. found.new.items ≡ fold noted found.old.items
@@ -163,7 +160,7 @@ fn note_workers(
 /// Notes what is warned of devices.
 fn note_devices(
     found: &mut Vec<Warned>,
-    bench: &Bench,
+    bench: &Indexed<'_>,
     devices: &[(Line, u32)],
 ) -> Result<(), AllocError>
     ensures { IfOk result (λ _. found.new.items
@@ -171,22 +168,23 @@ fn note_devices(
 {
     for (k, device) in devices.iter().enumerate() {
         let place = Place::Field(Key::Devices, k as u64 + 1, Key::Line);
-        note(found, place, device_warning(bench, device.0))?;
+        note(found, place, device_warning(bench.bench(), device.0))?;
     }
     Ok(())
 }
 
 /// Notes what is warned of in a bench, in the order of its keys.
-fn note_bench(found: &mut Vec<Warned>, bench: &Bench) -> Result<(), AllocError>
+fn note_bench(found: &mut Vec<Warned>, bench: &Indexed<'_>) -> Result<(), AllocError>
     ensures { IfOk result (λ _. found.new.items
         ≡ fold noted found.old.items (of_bench bench.now)) }
 {
+    let whole = bench.bench();
     note_pulses(found, bench)?;
-    note_requests(found, bench, None, bench.script())?;
-    note_rows(found, bench, bench.rows())?;
-    note_entries(found, bench, bench.entries())?;
-    note_workers(found, bench, bench.workers())?;
-    note_devices(found, bench, bench.devices())?;
+    note_requests(found, bench, None, whole.script())?;
+    note_rows(found, bench, whole.rows())?;
+    note_entries(found, bench, whole.entries())?;
+    note_workers(found, bench, whole.workers())?;
+    note_devices(found, bench, whole.devices())?;
     Ok(())
 }
 
@@ -214,7 +212,8 @@ pub(crate) fn warned_of(alloc: Global, bench: &Bench) -> Result<Vec<Warned>, All
     ensures { IfOk result (λ v. v.items ≡ warnings_of bench.now) }
 {
     let mut found: Vec<Warned> = Vec::new(alloc);
-    note_bench(&mut found, bench)?;
+    let indexed = Indexed::new(alloc, bench)?;
+    note_bench(&mut found, &indexed)?;
     note_run(alloc, &mut found, bench)?;
     Ok(found)
 }

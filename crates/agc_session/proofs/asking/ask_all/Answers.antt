@@ -1,4 +1,5 @@
-use Rattle.agc_session.proofs.Walks.{left_as, one_asked, one_failed, next_is, none_left, left_state, left_texts}
+use Rattle.agc_plan.proofs.Lists.{next_is, none_left}
+use Rattle.agc_session.proofs.Walks.{left_as, one_asked, one_failed, left_state, left_texts}
 use Rattle.agc_session.proofs.asking.ask_all.Goals as goal
 
 pub returns-in_err-ask-clause-writes : goal.returns-in_err-ask-clause-writes

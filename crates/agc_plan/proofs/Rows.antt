@@ -1,0 +1,168 @@
+-- The numbers of tasks' rows, by task.
+use Rattle.std.proofs.Common.{◌≡◌, ℕ, suc, ◌+◌, ◌-◌, ◌<◌, ◌≤◌, ◌==◌, ◌||◌, Bool, true, false, if◌then◌else◌, List, [], ◌∷◌, length, get_or, drop, Option, Some, None, refl, sym, ap, ◌∙◌, inl, inr, arith}
+use Rattle.std.specs.Prelude.{cond, is_some}
+use Rattle.std.specs.Cmp.{both_tied, unsigned_tied}
+use Rattle.std.specs.Ordering.{nat_cmp}
+use Rattle.std.specs.BTreeMap.{BTreeMap, get, is_at}
+use Rattle.std.proofs.lemmas.Bool.{cases_Bool}
+use Rattle.std.proofs.lemmas.Option.{same_Some}
+use Rattle.std.proofs.lemmas.Grind.{common_steps}
+use Rattle.agc_plan.specs.declared.request.Action.{Action}
+use Rattle.agc_plan.specs.declared.request.Task.{Task}
+use Rattle.agc_plan.specs.Plans.{Rows, same_task, has_task, task_twice, actions_in}
+use Rattle.agc_plan.proofs.Lists.{next_is, none_left}
+use Rattle.agc_plan.specs.Index.{pair_order, indexed, number_from, IsIndex, or_else, any_indexed, IndexesUpTo}
+
+-- two tasks are the same where the order finds them equal
+pub tied : (one other : Task) → same_task one other ≡ is_at (pair_order (one.at, one.bank)) (other.at, other.bank)
+tied one other = both_tied (one.at == other.at) (one.bank == other.bank) (nat_cmp one.at other.at) (nat_cmp one.bank other.bank) (sym (unsigned_tied one.at other.at)) (sym (unsigned_tied one.bank other.bank))
+
+-- what an index has once a task's row is in it
+abbrev Inserts : BTreeMap (ℕ × ℕ) ℕ → BTreeMap (ℕ × ℕ) ℕ → Task → ℕ → Type 0
+Inserts old new task n = (other : Task) → indexed new other ≡ (if same_task task other then Some n else indexed old other)
+
+inserted : (old new : BTreeMap (ℕ × ℕ) ℕ) (task : Task) (n : ℕ) → ((q : ℕ × ℕ) → get pair_order new q ≡ cond (is_at (pair_order (task.at, task.bank)) q) (Some n) (get pair_order old q)) → Inserts old new task n
+inserted old new task n is other = is (other.at, other.bank) ∙ ap (λ b. cond b (Some n) (indexed old other)) (sym (tied task other))
+
+-- none is indexed at first
+unindexed : (index : BTreeMap (ℕ × ℕ) ℕ) (task : Task) → index.entries ≡ [] → indexed index task ≡ None
+unindexed index task none = rw none refl
+
+none_indexed : (rows : Rows) (index : BTreeMap (ℕ × ℕ) ℕ) → index.entries ≡ [] → any_indexed index rows ≡ false
+none_indexed [] index none = refl
+none_indexed (row ∷ rows) index none = ap (λ o. is_some o || any_indexed index rows) (unindexed index row.0 none) ∙ none_indexed rows index none
+
+pub starts : (rows : Rows) (index : BTreeMap (ℕ × ℕ) ℕ) → index.entries ≡ [] → IndexesUpTo rows 0 index
+starts rows index none = record {
+  numbers = λ task. ap (λ o. or_else o (number_from 0 rows task)) (unindexed index task none);
+  twice = ap (λ b. b || task_twice rows) (none_indexed rows index none);
+}
+
+-- the same task has the same number
+same_number : (index : BTreeMap (ℕ × ℕ) ℕ) (one other : Task) → same_task one other ≡ true → indexed index one ≡ indexed index other
+same_number index one other same =
+    let at : one.at ≡ other.at = grind (arith, common_steps) in
+    let bank : one.bank ≡ other.bank = grind (arith, common_steps) in
+    ap (λ n. get pair_order index (n, one.bank)) at ∙ ap (λ n. get pair_order index (other.at, n)) bank
+
+same_turned : (one other : Task) → same_task one other ≡ same_task other one
+same_turned one other = elim (cases_Bool (same_task one other)) [
+  | inl same ↦ let turned : same_task other one ≡ true = grind (arith, common_steps) in same ∙ sym turned
+  | inr differ ↦ let turned : same_task other one ≡ false = grind (arith, common_steps) in differ ∙ sym turned
+]
+
+-- the numbers stay what they were once the next row is in the index
+numbers_on : (n : ℕ) (row : Task × List Action) (rows : Rows) (old new : BTreeMap (ℕ × ℕ) ℕ) → indexed old row.0 ≡ None → Inserts old new row.0 n → (task : Task) → or_else (indexed new task) (number_from (n + 1) rows task) ≡ or_else (indexed old task) (number_from n (row ∷ rows) task)
+numbers_on n row rows old new fresh is task = elim (cases_Bool (same_task row.0 task)) [
+  | inl same ↦
+      let none : indexed old task ≡ None = sym (same_number old row.0 task same) ∙ fresh in
+      ap (λ o. or_else o (number_from (n + 1) rows task)) (is task ∙ ap (λ b. if b then Some n else indexed old task) same)
+      ∙ sym (ap (λ o. or_else o (number_from n (row ∷ rows) task)) none ∙ ap (λ b. if b then Some n else number_from (n + 1) rows task) same)
+  | inr differ ↦
+      ap (λ o. or_else o (number_from (n + 1) rows task)) (is task ∙ ap (λ b. if b then Some n else indexed old task) differ)
+      ∙ sym (ap (λ b. or_else (indexed old task) (if b then Some n else number_from (n + 1) rows task)) differ)
+]
+
+-- so does whether two are of one task
+or_swap : (o h a : Bool) → (o || (h || a)) ≡ (h || (o || a))
+or_swap true true a = refl
+or_swap true false a = refl
+or_swap false true a = refl
+or_swap false false a = refl
+
+or_turn : (h a t : Bool) → ((h || a) || t) ≡ (a || (h || t))
+or_turn true true t = refl
+or_turn true false t = refl
+or_turn false true t = refl
+or_turn false false t = refl
+
+any_on : (n : ℕ) (task : Task) (rows : Rows) (old new : BTreeMap (ℕ × ℕ) ℕ) → Inserts old new task n → any_indexed new rows ≡ (has_task rows task || any_indexed old rows)
+any_on n task [] old new is = refl
+any_on n task (row ∷ rows) old new is =
+    ap (λ o. is_some o || any_indexed new rows) (is row.0)
+    ∙ ap (λ a. is_some (if same_task task row.0 then Some n else indexed old row.0) || a) (any_on n task rows old new is)
+    ∙ elim (cases_Bool (same_task task row.0)) [
+      | inl same ↦
+          ap (λ b. is_some (if b then Some n else indexed old row.0) || (has_task rows task || any_indexed old rows)) same
+          ∙ sym (ap (λ b. (b || has_task rows task) || any_indexed old (row ∷ rows)) (same_turned row.0 task ∙ same))
+      | inr differ ↦
+          ap (λ b. is_some (if b then Some n else indexed old row.0) || (has_task rows task || any_indexed old rows)) differ
+          ∙ or_swap (is_some (indexed old row.0)) (has_task rows task) (any_indexed old rows)
+          ∙ sym (ap (λ b. (b || has_task rows task) || any_indexed old (row ∷ rows)) (same_turned row.0 task ∙ differ))
+    ]
+
+twice_on : (n : ℕ) (row : Task × List Action) (rows : Rows) (old new : BTreeMap (ℕ × ℕ) ℕ) → indexed old row.0 ≡ None → Inserts old new row.0 n → (any_indexed new rows || task_twice rows) ≡ (any_indexed old (row ∷ rows) || task_twice (row ∷ rows))
+twice_on n row rows old new fresh is =
+    ap (λ a. a || task_twice rows) (any_on n row.0 rows old new is)
+    ∙ or_turn (has_task rows row.0) (any_indexed old rows) (task_twice rows)
+    ∙ sym (ap (λ o. (is_some o || any_indexed old rows) || task_twice (row ∷ rows)) fresh)
+
+-- the next row is in the index
+pub next_indexed : (rows : Rows) (n : ℕ) (row : Task × List Action) (old new : BTreeMap (ℕ × ℕ) ℕ) → n < length rows → row ≡ get_or rows n row → IndexesUpTo rows n old → indexed old row.0 ≡ None → ((q : ℕ × ℕ) → get pair_order new q ≡ cond (is_at (pair_order (row.0.at, row.0.bank)) q) (Some n) (get pair_order old q)) → IndexesUpTo rows (n + 1) new
+next_indexed rows n row old new l at left fresh updates =
+    let is : Inserts old new row.0 n = inserted old new row.0 n updates in
+    let next : drop n rows ≡ row ∷ drop (n + 1) rows = next_is rows n row l at in
+    record {
+      numbers = λ task. numbers_on n row (drop (n + 1) rows) old new fresh is task ∙ ap (λ more. or_else (indexed old task) (number_from n more task)) (sym next) ∙ left.numbers task;
+      twice = twice_on n row (drop (n + 1) rows) old new fresh is ∙ ap (λ more. any_indexed old more || task_twice more) (sym next) ∙ left.twice;
+    }
+
+-- it is there already
+pub there_twice : (rows : Rows) (n : ℕ) (row : Task × List Action) (index : BTreeMap (ℕ × ℕ) ℕ) (number : ℕ) → n < length rows → row ≡ get_or rows n row → IndexesUpTo rows n index → indexed index row.0 ≡ Some number → task_twice rows ≡ true
+there_twice rows n row index number l at left there =
+    sym left.twice
+    ∙ ap (λ more. any_indexed index more || task_twice more) (next_is rows n row l at)
+    ∙ ap (λ o. (is_some o || any_indexed index (drop (n + 1) rows)) || task_twice (row ∷ drop (n + 1) rows)) there
+
+-- all rows are
+or_none : (o : Option ℕ) → o ≡ or_else o None
+or_none None = refl
+or_none (Some n) = refl
+
+pub all_indexed : (rows : Rows) (n : ℕ) (index : BTreeMap (ℕ × ℕ) ℕ) → length rows ≤ n → IndexesUpTo rows n index → IsIndex rows index
+all_indexed rows n index l left task =
+    or_none (indexed index task)
+    ∙ ap (λ more. or_else (indexed index task) (number_from n more task)) (sym (none_left rows n l))
+    ∙ left.numbers task
+
+pub none_twice : (rows : Rows) (n : ℕ) (index : BTreeMap (ℕ × ℕ) ℕ) → length rows ≤ n → IndexesUpTo rows n index → task_twice rows ≡ false
+none_twice rows n index l left =
+    sym left.twice ∙ ap (λ more. any_indexed index more || task_twice more) (none_left rows n l)
+
+-- the row of a number has the task's actions
+pub record IsRow (n : ℕ) (rows : Rows) (task : Task) (number : ℕ) : Type 0 where
+  pub from : n ≤ number
+  pub within : number < n + length rows
+  pub actions : (none : Task × List Action) → (get_or rows (number - n) none).1 ≡ actions_in rows task
+
+pub row_of : (n : ℕ) (rows : Rows) (task : Task) (number : ℕ) → number_from n rows task ≡ Some number → IsRow n rows task number
+row_of n [] task number is = absurd (cc)
+row_of n (row ∷ rows) task number is = elim (cases_Bool (same_task row.0 task)) [
+  | inl same ↦
+      let here : n ≡ number = same_Some n number (sym (ap (λ b. if b then Some n else number_from (n + 1) rows task) same) ∙ is) in
+      let first : number - n ≡ 0 = omega (arith, here) in
+      record {
+        from = omega (arith, here);
+        within = omega (arith, here);
+        actions = λ none. ap (λ k. (get_or (row ∷ rows) k none).1) first ∙ sym (ap (λ b. if b then row.1 else actions_in rows task) same);
+      }
+  | inr differ ↦
+      let later : IsRow (n + 1) rows task number = row_of (n + 1) rows task number (sym (ap (λ b. if b then Some n else number_from (n + 1) rows task) differ) ∙ is) in
+      let low : n + 1 ≤ number = later.from in
+      let most : number < n + 1 + length rows = later.within in
+      let next : number - n ≡ suc (number - (n + 1)) = omega (arith, low) in
+      record {
+        from = omega (arith, low);
+        within = omega (arith, most);
+        actions = λ none. ap (λ k. (get_or (row ∷ rows) k none).1) next ∙ later.actions none ∙ sym (ap (λ b. if b then row.1 else actions_in rows task) differ);
+      }
+]
+
+pub no_row : (n : ℕ) (rows : Rows) (task : Task) → number_from n rows task ≡ None → [] ≡ actions_in rows task
+no_row n [] task is = refl
+no_row n (row ∷ rows) task is = elim (cases_Bool (same_task row.0 task)) [
+  | inl same ↦ absurd (let no : Some n ≡ None = sym (ap (λ b. if b then Some n else number_from (n + 1) rows task) same) ∙ is in cc)
+  | inr differ ↦
+      no_row (n + 1) rows task (sym (ap (λ b. if b then Some n else number_from (n + 1) rows task) differ) ∙ is)
+      ∙ sym (ap (λ b. if b then row.1 else actions_in rows task) differ)
+]

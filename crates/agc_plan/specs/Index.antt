@@ -1,0 +1,42 @@
+-- Of proofs alone: the numbers of tasks' rows, by task.
+use Rattle.std.specs.Prelude.{◌≡◌, ℕ, ◌+◌, Bool, false, if◌then◌else◌, ◌||◌, [], ◌∷◌, drop}
+use Rattle.std.specs.Prelude.{Option, Some, None, is_some}
+use Rattle.std.specs.Ordering.{ordering_then, nat_cmp}
+use Rattle.std.specs.declared.cmp.Ordering.{Ordering}
+use Rattle.std.specs.BTreeMap.{BTreeMap, get}
+use Rattle.agc_plan.specs.declared.request.Task.{Task}
+use Rattle.agc_plan.specs.Plans.{Rows, same_task, task_twice}
+
+-- two pairs by their first numbers, and by their second where those are the same
+abbrev pub pair_order : ℕ × ℕ → ℕ × ℕ → Ordering
+pair_order one other = ordering_then (nat_cmp one.0 other.0) (nat_cmp one.1 other.1)
+
+-- the number of a task's row, by an index
+abbrev pub indexed : BTreeMap (ℕ × ℕ) ℕ → Task → Option ℕ
+indexed index task = get pair_order index (task.at, task.bank)
+
+-- and by the rows, of which the first has this number
+abbrev pub number_from : ℕ → Rows → Task → Option ℕ
+number_from n [] task = None
+number_from n (row ∷ rows) task =
+    if same_task row.0 task then Some n else number_from (n + 1) rows task
+
+-- the index of these rows
+abbrev pub IsIndex : Rows → BTreeMap (ℕ × ℕ) ℕ → Type 0
+IsIndex rows index = (task : Task) → indexed index task ≡ number_from 0 rows task
+
+-- a first number, or else another
+abbrev pub or_else : Option ℕ → Option ℕ → Option ℕ
+or_else (Some first) other = Some first
+or_else None other = other
+
+-- whether one of these rows is of an indexed task
+abbrev pub any_indexed : BTreeMap (ℕ × ℕ) ℕ → Rows → Bool
+any_indexed index [] = false
+any_indexed index (row ∷ rows) = is_some (indexed index row.0) || any_indexed index rows
+
+-- the index of the rows before this one, of which no two are of one task
+pub record IndexesUpTo (rows : Rows) (n : ℕ) (index : BTreeMap (ℕ × ℕ) ℕ) : Type 0 where
+  pub numbers : (task : Task) → or_else (indexed index task) (number_from n (drop n rows) task)
+      ≡ number_from 0 rows task
+  pub twice : (any_indexed index (drop n rows) || task_twice (drop n rows)) ≡ task_twice rows

@@ -1,0 +1,158 @@
+-- Sets of tasks, and the banks at addresses.
+use Rattle.std.proofs.Common.{◌≡◌, ℕ, ◌+◌, ◌<◌, ◌≤◌, ◌==◌, ◌&&◌, ◌||◌, not, Bool, true, false, if◌then◌else◌, List, [], ◌∷◌, length, get_or, drop, map, Option, Some, None, refl, sym, ap, ◌∙◌, inl, inr, arith}
+use Rattle.std.specs.Prelude.{cond}
+use Rattle.std.specs.List.{list_any}
+use Rattle.std.specs.Ordering.{nat_cmp}
+use Rattle.std.specs.BTreeSet.{BTreeSet, contains}
+use Rattle.std.specs.BTreeMap.{BTreeMap, get, is_at}
+use Rattle.std.proofs.lemmas.Bool.{cases_Bool}
+use Rattle.std.proofs.lemmas.Grind.{common_steps}
+use Rattle.agc_plan.specs.declared.request.Task.{Task}
+use Rattle.agc_plan.specs.declared.request.Action.{Action}
+use Rattle.agc_plan.specs.Index.{pair_order}
+use Rattle.agc_plan.specs.Plans.{Rows, same_task, has_task}
+use Rattle.agc_plan.proofs.Lists.{next_is, none_left}
+use Rattle.agc_plan.proofs.Rows.{tied}
+use Rattle.agc_document.specs.Benches.{Benched}
+use Rattle.agc_warn.specs.Listed.{requests_list, action_lists, row_lists, entry_lists, is_listed}
+use Rattle.agc_warn.specs.Reasons.{bank_at}
+use Rattle.agc_warn.specs.Tasks.{has, TakesIn, first_bank, PutsFirst}
+use Rattle.agc_warn.proofs.Lists.{any_seen}
+
+or_none : (b : Bool) → b ≡ (b || false)
+or_none true = refl
+or_none false = refl
+
+or_assoc : (a b d : Bool) → ((a || b) || d) ≡ (a || (b || d))
+or_assoc true b d = refl
+or_assoc false b d = refl
+
+or_more : (a b d e : Bool) → a ≡ (b || d) → (a || e) ≡ (b || (d || e))
+or_more a b d e is = ap (λ x. x || e) is ∙ or_assoc b d e
+
+either : (a b : Bool) → cond a true b ≡ (b || a)
+either true true = refl
+either true false = refl
+either false true = refl
+either false false = refl
+
+-- one task is taken in, or none
+pub taken_in : (old new : BTreeSet (ℕ × ℕ)) (task : Task) → ((q : ℕ × ℕ) → contains pair_order new q ≡ cond (is_at (pair_order (task.at, task.bank)) q) true (contains pair_order old q)) → TakesIn (same_task task) old new
+taken_in old new task is other =
+    is (other.at, other.bank)
+    ∙ ap (λ b. cond b true (has old other)) (sym (tied task other))
+    ∙ either (same_task task other) (has old other)
+
+pub none_taken : (is : Task → Bool) (tasks : BTreeSet (ℕ × ℕ)) → ((task : Task) → is task ≡ false) → TakesIn is tasks tasks
+none_taken is tasks none task = or_none (has tasks task) ∙ ap (λ b. has tasks task || b) (sym (none task))
+
+-- those of the items before this one are taken in
+abbrev pub LeftOf : {X : Type 0} → (Task → X → Bool) → List X → ℕ → BTreeSet (ℕ × ℕ) → BTreeSet (ℕ × ℕ) → Type 0
+LeftOf lists xs i start here = (task : Task) → (has here task || list_any (lists task) (drop i xs)) ≡ (has start task || list_any (lists task) xs)
+
+pub next_taken : {X : Type 0} → (lists : Task → X → Bool) (xs : List X) (i : ℕ) (x : X) (start here there : BTreeSet (ℕ × ℕ)) → i < length xs → x ≡ get_or xs i x → LeftOf lists xs i start here → TakesIn (λ task. lists task x) here there → LeftOf lists xs (i + 1) start there
+next_taken lists xs i x start here there l at left is task =
+    or_more (has there task) (has here task) (lists task x) (list_any (lists task) (drop (i + 1) xs)) (is task)
+    ∙ ap (λ more. has here task || list_any (lists task) more) (sym (next_is xs i x l at))
+    ∙ left task
+
+pub all_taken : {X : Type 0} → (lists : Task → X → Bool) (xs : List X) (i : ℕ) (start here : BTreeSet (ℕ × ℕ)) → length xs ≤ i → LeftOf lists xs i start here → TakesIn (λ task. list_any (lists task) xs) start here
+all_taken lists xs i start here l left task =
+    or_none (has here task)
+    ∙ ap (λ more. has here task || list_any (lists task) more) (sym (none_left xs i l))
+    ∙ left task
+
+-- an empty set has none
+pub has_none : (tasks : BTreeSet (ℕ × ℕ)) (task : Task) → tasks.keys ≡ [] → has tasks task ≡ false
+has_none tasks task none = ap (list_any (is_at (pair_order (task.at, task.bank)))) none
+
+-- an action of a row that lists its own task takes none in, another's the task
+pub own_is_none : (own listed task : Task) → same_task listed own ≡ true → (not (same_task own task) && same_task listed task) ≡ false
+own_is_none own listed task same = elim (cases_Bool (same_task own task)) [
+  | inl is ↦ ap (λ b. not b && same_task listed task) is
+  | inr differ ↦
+      let other : same_task listed task ≡ false = grind (arith, common_steps) in
+      ap (λ b. not b && same_task listed task) differ ∙ other
+]
+
+pub other_is : (own listed task : Task) → same_task listed own ≡ false → same_task listed task ≡ (not (same_task own task) && same_task listed task)
+other_is own listed task differ = elim (cases_Bool (same_task own task)) [
+  | inl is ↦
+      let other : same_task listed task ≡ false = grind (arith, common_steps) in
+      other ∙ sym (ap (λ b. not b && same_task listed task) is)
+  | inr away ↦ sym (ap (λ b. not b && same_task listed task) away)
+]
+
+pub other_taken : (own listed : Task) (old new : BTreeSet (ℕ × ℕ)) → same_task listed own ≡ false → TakesIn (same_task listed) old new → TakesIn (λ t. not (same_task own t) && same_task listed t) old new
+other_taken own listed old new differ is task = is task ∙ ap (λ b. has old task || b) (other_is own listed task differ)
+
+-- those that a row lists
+and_any : {X : Type 0} → (b : Bool) (f : X → Bool) (xs : List X) → list_any (λ x. b && f x) xs ≡ (b && list_any f xs)
+and_any true f [] = refl
+and_any false f [] = refl
+and_any true f (x ∷ xs) = ap (λ a. f x || a) (and_any true f xs)
+and_any false f (x ∷ xs) = and_any false f xs
+
+pub row_taken : (row : Task × List Action) (old new : BTreeSet (ℕ × ℕ)) → TakesIn (λ t. list_any (λ act. not (same_task row.0 t) && action_lists t act) row.1) old new → TakesIn (λ t. row_lists t row) old new
+row_taken row old new is task = is task ∙ ap (λ b. has old task || b) (and_any (not (same_task row.0 task)) (action_lists task) row.1)
+
+-- those of items that are seen as others
+pub seen_taken : {X Y : Type 0} → (lists : Task → Y → Bool) (see : X → Y) (xs : List X) (ys : List Y) (old new : BTreeSet (ℕ × ℕ)) → map see xs ≡ ys → TakesIn (λ t. list_any (λ x. lists t (see x)) xs) old new → TakesIn (λ t. list_any (lists t) ys) old new
+seen_taken lists see xs ys old new are is task =
+    is task ∙ ap (λ b. has old task || b) (any_seen (lists task) see xs ∙ ap (list_any (lists task)) are)
+
+-- all that a bench lists
+pub all_listed : (b : Benched) (s0 s1 s2 s3 s4 s5 s6 : BTreeSet (ℕ × ℕ)) → s0.keys ≡ [] → TakesIn (λ t. requests_list t b.script) s0 s1 → TakesIn (λ t. list_any (requests_list t) b.workers) s1 s2 → TakesIn (λ t. list_any (action_lists t) b.key) s2 s3 → TakesIn (λ t. list_any (action_lists t) b.radar) s3 s4 → TakesIn (λ t. list_any (row_lists t) b.rows) s4 s5 → TakesIn (λ t. list_any (entry_lists t) b.entries) s5 s6 → (task : Task) → has s6 task ≡ is_listed b task
+unfolding is_listed
+all_listed b s0 s1 s2 s3 s4 s5 s6 none script workers key radar rows entries task =
+    let a = requests_list task b.script in
+    let w = list_any (requests_list task) b.workers in
+    let k = list_any (action_lists task) b.key in
+    let r = list_any (action_lists task) b.radar in
+    let o = list_any (row_lists task) b.rows in
+    let e = list_any (entry_lists task) b.entries in
+    entries task
+    ∙ or_more (has s5 task) (has s4 task) o e (rows task)
+    ∙ or_more (has s4 task) (has s3 task) r (o || e) (radar task)
+    ∙ or_more (has s3 task) (has s2 task) k (r || (o || e)) (key task)
+    ∙ or_more (has s2 task) (has s1 task) w (k || (r || (o || e))) (workers task)
+    ∙ or_more (has s1 task) (has s0 task) a (w || (k || (r || (o || e)))) (script task)
+    ∙ ap (λ b. b || (a || (w || (k || (r || (o || e)))))) (has_none s0 task none)
+
+-- the tasks of rows
+rows_have : (rows : Rows) (task : Task) → list_any (λ row. same_task row.0 task) rows ≡ has_task rows task
+rows_have [] task = refl
+rows_have (row ∷ rows) task = ap (λ b. same_task row.0 task || b) (rows_have rows task)
+
+pub rows_taken : (rows : Rows) (start here : BTreeSet (ℕ × ℕ)) → start.keys ≡ [] → TakesIn (λ t. list_any (λ row. same_task row.0 t) rows) start here → (task : Task) → has here task ≡ has_task rows task
+rows_taken rows start here none is task =
+    is task ∙ ap (λ b. b || list_any (λ row. same_task row.0 task) rows) (has_none start task none) ∙ rows_have rows task
+
+-- the banks of the rows before this one are put at their addresses
+abbrev pub LeftAt : Rows → ℕ → BTreeMap ℕ ℕ → Type 0
+LeftAt rows i banks = (at : ℕ) → first_bank (get nat_cmp banks at) (bank_at (drop i rows) at) ≡ bank_at rows at
+
+none_first : (bank : Option ℕ) → bank ≡ first_bank bank None
+none_first None = refl
+none_first (Some b) = refl
+
+first_assoc : (here : Option ℕ) (is : Bool) (bank : ℕ) (rest : Option ℕ) → first_bank (first_bank here (if is then Some bank else None)) rest ≡ first_bank here (if is then Some bank else rest)
+first_assoc (Some b) is bank rest = refl
+first_assoc None true bank rest = refl
+first_assoc None false bank rest = refl
+
+pub none_put : (rows : Rows) (banks : BTreeMap ℕ ℕ) → banks.entries ≡ [] → LeftAt rows 0 banks
+none_put rows banks none at = rw none refl
+
+pub next_put : (rows : Rows) (i : ℕ) (row : Task × List Action) (here there : BTreeMap ℕ ℕ) → i < length rows → row ≡ get_or rows i row → LeftAt rows i here → PutsFirst row.0 here there → LeftAt rows (i + 1) there
+next_put rows i row here there l is left puts at =
+    ap (λ o. first_bank o (bank_at (drop (i + 1) rows) at)) (puts at)
+    ∙ first_assoc (get nat_cmp here at) (row.0.at == at) row.0.bank (bank_at (drop (i + 1) rows) at)
+    ∙ ap (λ more. first_bank (get nat_cmp here at) (bank_at more at)) (sym (next_is rows i row l is))
+    ∙ left at
+
+pub all_put : (rows : Rows) (i : ℕ) (banks : BTreeMap ℕ ℕ) → length rows ≤ i → LeftAt rows i banks → (at : ℕ) → get nat_cmp banks at ≡ bank_at rows at
+all_put rows i banks l left at =
+    none_first (get nat_cmp banks at)
+    ∙ ap (λ more. first_bank (get nat_cmp banks at) (bank_at more at)) (sym (none_left rows i l))
+    ∙ left at
