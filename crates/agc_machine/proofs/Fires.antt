@@ -88,15 +88,6 @@ number_quiet acts work quiet = rw quiet refl
 number_told : (acts : List Action) (work : Work) (alarm : Alarm) → (all_done acts work).alarm ≡ Some alarm → number_of acts work ≡ length (those_done acts work)
 number_told acts work alarm told = rw told refl
 
--- nothing is done yet
-pub begins_performing : (words : List ℕ) → IsSound words → PerformsAll [] words None 0 words
-begins_performing words sound = record {
-  changes = record { sound = sound; same_length = refl; same_base = refl; stands = λ work places stands. stands };
-  alarm_is = λ work places stands. refl;
-  number_is = λ work places stands. refl;
-  same_due = refl;
-}
-
 -- how many are done with one more, which raises an alarm or none
 one_more : (acts : List Action) (act : Action) (work : Work) → (all_done acts work).alarm ≡ None → (o : Option Alarm) → (all_done (acts ++ act ∷ []) work).alarm ≡ o → number_of (acts ++ act ∷ []) work ≡ (if is_some o then length acts + 1 else 0)
 one_more acts act work quiet None told = number_quiet (acts ++ act ∷ []) work told

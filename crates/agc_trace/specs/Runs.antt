@@ -10,12 +10,11 @@ use Rattle.agc_session.specs.Runs.{bench_machine, bench_requests, script_machine
 use Rattle.agc_session.specs.declared.run_fault.RunFault.{RunFault}
 use Rattle.agc_session.specs.declared.run_fault.RunFault.TheVariants.{NoMemory, Output, NoThread}
 use Rattle.agc_session.specs.declared.run_fault.RunFault.TheVariants.{Lost}
-use Rattle.agc_session.specs.Walks.{texts}
 use Rattle.agc_trace.specs.declared.choice.Choice.{Choice}
 use Rattle.agc_trace.specs.Briefs.{Telling, text_of}
 use Rattle.agc_trace.specs.Choices.{all_told, chosen}
 use Rattle.agc_trace.specs.Openings.{opening_text, ending_text, idle_devices}
-use Rattle.agc_trace.specs.Traces.{Counted, counted, traced_from, traced_text}
+use Rattle.agc_trace.specs.Traces.{Counted, counted, traced_from}
 
 -- the run's machine, and nothing was asked, nor refused
 abbrev pub counted_from : Machined → Counted
@@ -24,10 +23,6 @@ counted_from m = record {
   spent = 0;
   log_full = 0;
 }
-
--- the lines of all requests of a bench, in order
-abbrev pub lines_of : Machined → List Request → List ℕ
-lines_of m requests = texts counted (λ c asked. traced_text c.run asked) (counted_from m) requests
 
 -- what stands before the lines; the lines of the requests that are told; and how many were refused
 unfoldable pub run_text : List ℕ → Choice → Machined → List Request → List ℕ
