@@ -19,7 +19,7 @@ use Rattle.agc_desk.specs.declared.ties.Call.{Call}
 use Rattle.agc_desk.specs.Desks.{ArePulses}
 use Rattle.agc_desk.specs.History.{Holder, IsHistory, Leads, calls_by, new_holder, numbers_of, own_call, served_on, serves_line, with_heard}
 use Rattle.agc_desk.proofs.Calls.{calls_by_append}
-use Rattle.agc_text.proofs.Sessions.{rest_is, nothing_left}
+use Rattle.agc_plan.proofs.Lists.{next_is, none_left}
 use Rattle.agc_document.specs.Benches.{Benched}
 use Rattle.agc_session.specs.Runs.{bench_machine, bench_plan}
 use Rattle.agc_desk.specs.Draining.{answers_to}
@@ -33,7 +33,7 @@ answers_at : (m : Machined) (rs : List Request) (i : ℕ) (r : Request) (said : 
     → said ≡ said_of m r → answers_to m (drop i rs) ≡ said ∷ answers_to (after m r) (drop (i + 1) rs)
 unfolding answers_to
 answers_at m rs i r said below is answered =
-    ap (answers_to m) (rest_is rs i r below is) ∙ (λ k. sym answered k ∷ answers_to (after m r) (drop (i + 1) rs))
+    ap (answers_to m) (next_is rs i r below is) ∙ (λ k. sym answered k ∷ answers_to (after m r) (drop (i + 1) rs))
 
 pub calls_next : (goal so_far : List Call) (m : Machined) (rs : List Request) (i : ℕ) (r : Request) (n : ℕ) (said : Said) → i < length rs → r ≡ get_or rs i r → n ≡ 0
     → said ≡ said_of m r → goal ≡ so_far ++ first_calls (answers_to m (drop i rs))
@@ -46,7 +46,7 @@ calls_next goal so_far m rs i r n said below is first answered whole =
 -- and after the last
 pub calls_last : (goal so_far : List Call) (m : Machined) (rs : List Request) (i : ℕ) → length rs ≤ i → goal ≡ so_far ++ first_calls (answers_to m (drop i rs)) → so_far ≡ goal
 unfolding answers_to
-calls_last goal so_far m rs i past whole = sym (whole ∙ (ap (λ l. so_far ++ first_calls (answers_to m l)) (nothing_left rs i past) ∙ append-nil so_far))
+calls_last goal so_far m rs i past whole = sym (whole ∙ (ap (λ l. so_far ++ first_calls (answers_to m l)) (none_left rs i past) ∙ append-nil so_far))
 
 -- what leads on from the machine after the script
 leads_past : (m : Machined) (script : List Request) (rest : List Call) (last : Machined) → Leads m (first_calls (answers_to m script) ++ rest) last → Leads (after_all m script) rest last

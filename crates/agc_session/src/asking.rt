@@ -1,10 +1,10 @@
 // One walk of a bench, whoever is asked.
-ghost use Rattle.std.specs.Prelude.{◌≡◌, ◌==◌, OnOk, length};
+ghost use Rattle.std.specs.Prelude.{◌≡◌, ◌==◌, IfErr, OnOk, length};
 ghost use Rattle.std.specs.List.{flat_map, fold};
 ghost use Rattle.agc_text.specs.Writing.{Writes};
 ghost use Rattle.agc_desk.specs.Pulses.{asks_nothing, pulse_requests, requests_for};
 ghost use Rattle.agc_session.specs.Runs.{bench_plan, bench_requests, device_requests};
-ghost use Rattle.agc_session.specs.Walks.{texts};
+ghost use Rattle.agc_session.specs.Walks.{StopsIn, texts};
 
 use crate::asks::Asks;
 use agc_desk::{Line, action_request};
@@ -50,6 +50,8 @@ pub fn ask_all<A: Asks, W: Write>(
     ensures after { OnOk result (asker.new ≡ fold A.next asker.old requests.now) }
     ensures writes { Writes (W.contents writer.old) (W.contents writer.new)
         (texts A.next A.text asker.old requests.now) result }
+    ensures stopped { IfErr result (λ _. StopsIn A.next A.text asker.old requests.now asker.new
+        (W.contents writer.old) (W.contents writer.new)) }
 {
     for request in requests {
         asker.ask(request, writer)?;
@@ -67,6 +69,9 @@ fn ask_actions<A: Asks, W: Write>(
         (asker.new ≡ fold A.next asker.old (requests_for actions.now)) }
     ensures writes { Writes (W.contents writer.old) (W.contents writer.new)
         (texts A.next A.text asker.old (requests_for actions.now)) result }
+    ensures stopped { IfErr result (λ _. StopsIn A.next A.text asker.old
+        (requests_for actions.now) asker.new
+        (W.contents writer.old) (W.contents writer.new)) }
 {
     for action in actions {
         if let Some(request) = action_request(*action) {
@@ -87,6 +92,9 @@ fn ask_pulse<A: Asks, W: Write>(
         (asker.new ≡ fold A.next asker.old (pulse_requests (bench_plan bench.now) line)) }
     ensures writes { Writes (W.contents writer.old) (W.contents writer.new)
         (texts A.next A.text asker.old (pulse_requests (bench_plan bench.now) line)) result }
+    ensures stopped { IfErr result (λ _. StopsIn A.next A.text asker.old
+        (pulse_requests (bench_plan bench.now) line) asker.new
+        (W.contents writer.old) (W.contents writer.new)) }
 {
     match line {
         Line::Timer => asker.ask(&Request::Tick, writer),
@@ -106,6 +114,9 @@ fn ask_device<A: Asks, W: Write>(
         (asker.new ≡ fold A.next asker.old (device_requests bench.now device)) }
     ensures writes { Writes (W.contents writer.old) (W.contents writer.new)
         (texts A.next A.text asker.old (device_requests bench.now device)) result }
+    ensures stopped { IfErr result (λ _. StopsIn A.next A.text asker.old
+        (device_requests bench.now device) asker.new
+        (W.contents writer.old) (W.contents writer.new)) }
 {
     for _pulse in 0..device.1 {
         ask_pulse(asker, bench, device.0, writer)?;
@@ -123,6 +134,9 @@ fn ask_workers<A: Asks, W: Write>(
         (asker.new ≡ fold A.next asker.old (flat_map (λ w. w.items) workers.now)) }
     ensures writes { Writes (W.contents writer.old) (W.contents writer.new)
         (texts A.next A.text asker.old (flat_map (λ w. w.items) workers.now)) result }
+    ensures stopped { IfErr result (λ _. StopsIn A.next A.text asker.old
+        (flat_map (λ w. w.items) workers.now) asker.new
+        (W.contents writer.old) (W.contents writer.new)) }
 {
     for worker in workers {
         ask_all(asker, worker.as_slice(), writer)?;
@@ -140,6 +154,9 @@ fn ask_devices<A: Asks, W: Write>(
         ≡ fold A.next asker.old (flat_map (device_requests bench.now) bench.now.devices)) }
     ensures writes { Writes (W.contents writer.old) (W.contents writer.new) (texts A.next A.text
         asker.old (flat_map (device_requests bench.now) bench.now.devices)) result }
+    ensures stopped { IfErr result (λ _. StopsIn A.next A.text asker.old
+        (flat_map (device_requests bench.now) bench.now.devices) asker.new
+        (W.contents writer.old) (W.contents writer.new)) }
 {
     for device in bench.devices() {
         ask_device(asker, bench, *device, writer)?;
@@ -161,6 +178,9 @@ pub fn ask_bench<A: Asks, W: Write>(
     ensures after { OnOk result (asker.new ≡ fold A.next asker.old (bench_requests bench.now)) }
     ensures writes { Writes (W.contents writer.old) (W.contents writer.new)
         (texts A.next A.text asker.old (bench_requests bench.now)) result }
+    ensures stopped { IfErr result (λ _. StopsIn A.next A.text asker.old
+        (bench_requests bench.now) asker.new
+        (W.contents writer.old) (W.contents writer.new)) }
 {
     ask_all(asker, bench.script(), writer)?;
     ask_workers(asker, bench.workers(), writer)?;

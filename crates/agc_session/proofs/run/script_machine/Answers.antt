@@ -1,4 +1,3 @@
-use Rattle.std.proofs.Common.{◌≡◌}
 use Rattle.agc_session.specs.Runs.{script_machine}
 use Rattle.agc_session.proofs.run.script_machine.Goals as goal
 
