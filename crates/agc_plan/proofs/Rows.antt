@@ -1,5 +1,5 @@
 -- The numbers of tasks' rows, by task.
-use Rattle.std.proofs.Common.{◌≡◌, ℕ, suc, ◌+◌, ◌-◌, ◌<◌, ◌≤◌, ◌==◌, ◌||◌, Bool, true, false, if◌then◌else◌, List, [], ◌∷◌, length, get_or, drop, Option, Some, None, refl, sym, ap, ◌∙◌, inl, inr, arith}
+use Rattle.std.proofs.Common.{◌≡◌, ℕ, suc, ◌+◌, ◌-◌, ◌<◌, ◌≤◌, ◌==◌, ◌||◌, Bool, true, false, if◌then◌else◌, List, [], ◌∷◌, length, get_or, drop, Some, None, refl, sym, ap, ◌∙◌, inl, inr, arith}
 use Rattle.std.specs.Prelude.{cond, is_some}
 use Rattle.std.specs.Cmp.{both_tied, unsigned_tied}
 use Rattle.std.specs.Ordering.{nat_cmp}
@@ -10,8 +10,8 @@ use Rattle.std.proofs.lemmas.Grind.{common_steps}
 use Rattle.agc_plan.specs.declared.request.Action.{Action}
 use Rattle.agc_plan.specs.declared.request.Task.{Task}
 use Rattle.agc_plan.specs.Plans.{Rows, same_task, has_task, task_twice, actions_in}
-use Rattle.agc_plan.proofs.Lists.{next_is, none_left}
-use Rattle.agc_plan.specs.Index.{pair_order, indexed, number_from, IsIndex, or_else, any_indexed, IndexesUpTo}
+use Rattle.agc_plan.proofs.Lists.{next_is}
+use Rattle.agc_plan.specs.Index.{pair_order, indexed, number_from, or_else, any_indexed, IndexesUpTo}
 
 -- two tasks are the same where the order finds them equal
 pub tied : (one other : Task) → same_task one other ≡ is_at (pair_order (one.at, one.bank)) (other.at, other.bank)
@@ -113,21 +113,6 @@ there_twice rows n row index number l at left there =
     sym left.twice
     ∙ ap (λ more. any_indexed index more || task_twice more) (next_is rows n row l at)
     ∙ ap (λ o. (is_some o || any_indexed index (drop (n + 1) rows)) || task_twice (row ∷ drop (n + 1) rows)) there
-
--- all rows are
-or_none : (o : Option ℕ) → o ≡ or_else o None
-or_none None = refl
-or_none (Some n) = refl
-
-pub all_indexed : (rows : Rows) (n : ℕ) (index : BTreeMap (ℕ × ℕ) ℕ) → length rows ≤ n → IndexesUpTo rows n index → IsIndex rows index
-all_indexed rows n index l left task =
-    or_none (indexed index task)
-    ∙ ap (λ more. or_else (indexed index task) (number_from n more task)) (sym (none_left rows n l))
-    ∙ left.numbers task
-
-pub none_twice : (rows : Rows) (n : ℕ) (index : BTreeMap (ℕ × ℕ) ℕ) → length rows ≤ n → IndexesUpTo rows n index → task_twice rows ≡ false
-none_twice rows n index l left =
-    sym left.twice ∙ ap (λ more. any_indexed index more || task_twice more) (none_left rows n l)
 
 -- the row of a number has the task's actions
 pub record IsRow (n : ℕ) (rows : Rows) (task : Task) (number : ℕ) : Type 0 where

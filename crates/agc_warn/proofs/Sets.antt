@@ -1,22 +1,20 @@
 -- Sets of tasks, and the banks at addresses.
-use Rattle.std.proofs.Common.{◌≡◌, ℕ, ◌+◌, ◌<◌, ◌≤◌, ◌==◌, ◌&&◌, ◌||◌, not, Bool, true, false, if◌then◌else◌, List, [], ◌∷◌, length, get_or, drop, map, Option, Some, None, refl, sym, ap, ◌∙◌, inl, inr, arith}
+use Rattle.std.proofs.Common.{◌≡◌, ℕ, ◌≤◌, ◌&&◌, ◌||◌, not, Bool, true, false, List, [], ◌∷◌, length, drop, map, refl, sym, ap, ◌∙◌}
 use Rattle.std.specs.Prelude.{cond}
 use Rattle.std.specs.List.{list_any}
 use Rattle.std.specs.Ordering.{nat_cmp}
 use Rattle.std.specs.BTreeSet.{BTreeSet, contains}
 use Rattle.std.specs.BTreeMap.{BTreeMap, get, is_at}
-use Rattle.std.proofs.lemmas.Bool.{cases_Bool}
-use Rattle.std.proofs.lemmas.Grind.{common_steps}
 use Rattle.agc_plan.specs.declared.request.Task.{Task}
 use Rattle.agc_plan.specs.declared.request.Action.{Action}
 use Rattle.agc_plan.specs.Index.{pair_order}
 use Rattle.agc_plan.specs.Plans.{Rows, same_task, has_task}
-use Rattle.agc_plan.proofs.Lists.{next_is, none_left}
+use Rattle.agc_plan.proofs.Lists.{none_left}
 use Rattle.agc_plan.proofs.Rows.{tied}
 use Rattle.agc_document.specs.Benches.{Benched}
 use Rattle.agc_warn.specs.Listed.{requests_list, action_lists, row_lists, entry_lists, is_listed}
 use Rattle.agc_warn.specs.Reasons.{bank_at}
-use Rattle.agc_warn.specs.Tasks.{has, TakesIn, first_bank, PutsFirst}
+use Rattle.agc_warn.specs.Tasks.{has, TakesIn, first_bank}
 use Rattle.agc_warn.proofs.Lists.{any_seen}
 
 or_none : (b : Bool) → b ≡ (b || false)
@@ -43,18 +41,9 @@ taken_in old new task is other =
     ∙ ap (λ b. cond b true (has old other)) (sym (tied task other))
     ∙ either (same_task task other) (has old other)
 
-pub none_taken : (is : Task → Bool) (tasks : BTreeSet (ℕ × ℕ)) → ((task : Task) → is task ≡ false) → TakesIn is tasks tasks
-none_taken is tasks none task = or_none (has tasks task) ∙ ap (λ b. has tasks task || b) (sym (none task))
-
 -- those of the items before this one are taken in
 abbrev pub LeftOf : {X : Type 0} → (Task → X → Bool) → List X → ℕ → BTreeSet (ℕ × ℕ) → BTreeSet (ℕ × ℕ) → Type 0
 LeftOf lists xs i start here = (task : Task) → (has here task || list_any (lists task) (drop i xs)) ≡ (has start task || list_any (lists task) xs)
-
-pub next_taken : {X : Type 0} → (lists : Task → X → Bool) (xs : List X) (i : ℕ) (x : X) (start here there : BTreeSet (ℕ × ℕ)) → i < length xs → x ≡ get_or xs i x → LeftOf lists xs i start here → TakesIn (λ task. lists task x) here there → LeftOf lists xs (i + 1) start there
-next_taken lists xs i x start here there l at left is task =
-    or_more (has there task) (has here task) (lists task x) (list_any (lists task) (drop (i + 1) xs)) (is task)
-    ∙ ap (λ more. has here task || list_any (lists task) more) (sym (next_is xs i x l at))
-    ∙ left task
 
 pub all_taken : {X : Type 0} → (lists : Task → X → Bool) (xs : List X) (i : ℕ) (start here : BTreeSet (ℕ × ℕ)) → length xs ≤ i → LeftOf lists xs i start here → TakesIn (λ task. list_any (lists task) xs) start here
 all_taken lists xs i start here l left task =
@@ -65,26 +54,6 @@ all_taken lists xs i start here l left task =
 -- an empty set has none
 pub has_none : (tasks : BTreeSet (ℕ × ℕ)) (task : Task) → tasks.keys ≡ [] → has tasks task ≡ false
 has_none tasks task none = ap (list_any (is_at (pair_order (task.at, task.bank)))) none
-
--- an action of a row that lists its own task takes none in, another's the task
-pub own_is_none : (own listed task : Task) → same_task listed own ≡ true → (not (same_task own task) && same_task listed task) ≡ false
-own_is_none own listed task same = elim (cases_Bool (same_task own task)) [
-  | inl is ↦ ap (λ b. not b && same_task listed task) is
-  | inr differ ↦
-      let other : same_task listed task ≡ false = grind (arith, common_steps) in
-      ap (λ b. not b && same_task listed task) differ ∙ other
-]
-
-pub other_is : (own listed task : Task) → same_task listed own ≡ false → same_task listed task ≡ (not (same_task own task) && same_task listed task)
-other_is own listed task differ = elim (cases_Bool (same_task own task)) [
-  | inl is ↦
-      let other : same_task listed task ≡ false = grind (arith, common_steps) in
-      other ∙ sym (ap (λ b. not b && same_task listed task) is)
-  | inr away ↦ sym (ap (λ b. not b && same_task listed task) away)
-]
-
-pub other_taken : (own listed : Task) (old new : BTreeSet (ℕ × ℕ)) → same_task listed own ≡ false → TakesIn (same_task listed) old new → TakesIn (λ t. not (same_task own t) && same_task listed t) old new
-other_taken own listed old new differ is task = is task ∙ ap (λ b. has old task || b) (other_is own listed task differ)
 
 -- those that a row lists
 and_any : {X : Type 0} → (b : Bool) (f : X → Bool) (xs : List X) → list_any (λ x. b && f x) xs ≡ (b && list_any f xs)
@@ -131,28 +100,3 @@ rows_taken rows start here none is task =
 -- the banks of the rows before this one are put at their addresses
 abbrev pub LeftAt : Rows → ℕ → BTreeMap ℕ ℕ → Type 0
 LeftAt rows i banks = (at : ℕ) → first_bank (get nat_cmp banks at) (bank_at (drop i rows) at) ≡ bank_at rows at
-
-none_first : (bank : Option ℕ) → bank ≡ first_bank bank None
-none_first None = refl
-none_first (Some b) = refl
-
-first_assoc : (here : Option ℕ) (is : Bool) (bank : ℕ) (rest : Option ℕ) → first_bank (first_bank here (if is then Some bank else None)) rest ≡ first_bank here (if is then Some bank else rest)
-first_assoc (Some b) is bank rest = refl
-first_assoc None true bank rest = refl
-first_assoc None false bank rest = refl
-
-pub none_put : (rows : Rows) (banks : BTreeMap ℕ ℕ) → banks.entries ≡ [] → LeftAt rows 0 banks
-none_put rows banks none at = rw none refl
-
-pub next_put : (rows : Rows) (i : ℕ) (row : Task × List Action) (here there : BTreeMap ℕ ℕ) → i < length rows → row ≡ get_or rows i row → LeftAt rows i here → PutsFirst row.0 here there → LeftAt rows (i + 1) there
-next_put rows i row here there l is left puts at =
-    ap (λ o. first_bank o (bank_at (drop (i + 1) rows) at)) (puts at)
-    ∙ first_assoc (get nat_cmp here at) (row.0.at == at) row.0.bank (bank_at (drop (i + 1) rows) at)
-    ∙ ap (λ more. first_bank (get nat_cmp here at) (bank_at more at)) (sym (next_is rows i row l is))
-    ∙ left at
-
-pub all_put : (rows : Rows) (i : ℕ) (banks : BTreeMap ℕ ℕ) → length rows ≤ i → LeftAt rows i banks → (at : ℕ) → get nat_cmp banks at ≡ bank_at rows at
-all_put rows i banks l left at =
-    none_first (get nat_cmp banks at)
-    ∙ ap (λ more. first_bank (get nat_cmp banks at) (bank_at more at)) (sym (none_left rows i l))
-    ∙ left at
