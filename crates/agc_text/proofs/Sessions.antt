@@ -7,7 +7,7 @@ use Rattle.agc_plan.specs.declared.request.Request.{Request}
 use Rattle.agc_plan.specs.declared.request.Task.{Task}
 use Rattle.agc_machine.specs.declared.answer.Refusal.{Refusal}
 use Rattle.agc_machine.specs.Machines.{Machined, after, after_all, answer_of, fired_of}
-use Rattle.agc_text.specs.Replies.{answer_line}
+use Rattle.agc_text.specs.Replies.{answer_text}
 use Rattle.agc_text.specs.Session.{line_for}
 
 -- what is left is the next request, and the rest
@@ -28,6 +28,6 @@ unfolding after_all
 after_last goal m rs i l h = sym (subst (λ (xs : List Request). goal ≡ fold after m xs) (nothing_left rs i l) h)
 
 -- the line of what is answered
-pub line_is : (m : Machined) (asked : Request) (answer : Result Reply Refusal) (fired : List Task) → answer ≡ answer_of m asked → fired ≡ fired_of m asked → answer_line fired answer ≡ line_for m asked
+pub line_is : (m : Machined) (asked : Request) (answer : Result Reply Refusal) (fired : List Task) → answer ≡ answer_of m asked → fired ≡ fired_of m asked → answer_text fired answer ++ 10 ∷ [] ≡ line_for m asked
 unfolding line_for
-line_is m asked answer fired answer_is fired_is = ap (λ (f : List Task). answer_line f answer) fired_is ∙ ap (answer_line (fired_of m asked)) answer_is
+line_is m asked answer fired answer_is fired_is = ap (λ (f : List Task). answer_text f answer ++ 10 ∷ []) fired_is ∙ ap (λ (a : Result Reply Refusal). answer_text (fired_of m asked) a ++ 10 ∷ []) answer_is

@@ -65,7 +65,3 @@ refusal_text LogFull = codes "refused log full"
 abbrev pub answer_text : List Task → Result Reply Refusal → List ℕ
 answer_text fired (Ok reply) = reply_text fired reply
 answer_text fired (Err refusal) = refusal_text refusal
-
--- each answer has a line of its own
-abbrev pub answer_line : List Task → Result Reply Refusal → List ℕ
-answer_line fired answer = answer_text fired answer ++ 10 ∷ []
