@@ -1,5 +1,5 @@
--- The names of the modes.
-use Rattle.std.specs.Prelude.{ℕ, List, codes}
+-- The names of the modes, and the words that ask for one.
+use Rattle.std.specs.Prelude.{◌≡◌, ℕ, List, [], ◌∷◌, codes}
 use Rattle.agc.specs.declared.mode.Mode.{Mode}
 use Rattle.agc.specs.declared.mode.Mode.TheVariants.{Script, Serial, Threads}
 
@@ -8,3 +8,7 @@ abbrev pub mode_name : Mode → List ℕ
 mode_name Script = codes "script"
 mode_name Serial = codes "serial"
 mode_name Threads = codes "threads"
+
+-- these words ask for a mode: its name alone stands behind the program's own
+abbrev pub AskFor : (words : List (List ℕ)) → Mode → Type 0
+AskFor words mode = (name : List ℕ) × (words ≡ name ∷ mode_name mode ∷ [])

@@ -1,14 +1,17 @@
 //! The subcommand.
-ghost use Rattle.std.specs.Prelude.{◌≡◌, ◌⊎◌, IfErr, IfOk, IfSome, IsNone, Ok, Some, codes, length};
-ghost use Rattle.clap.specs.Matches.{subcommand_name_of};
+ghost use Rattle.std.specs.Prelude.{◌≡◌, ◌⊎◌, Err, IfErr, IfOk, IfSome, IsNone, Ok, Some, codes};
+ghost use Rattle.std.specs.Prelude.{map};
+ghost use Rattle.std.specs.String.{string_bytes};
+ghost use Rattle.clap.specs.Words.{app_of, subcommand_name_of};
 ghost use Rattle.agc_program.specs.declared.fault.Fault.TheVariants.{NoMemory, Words};
 ghost use Rattle.agc.specs.declared.mode.Mode.{Mode};
 ghost use Rattle.agc.specs.declared.mode.Mode.TheVariants.{Script, Serial, Threads};
-ghost use Rattle.agc.specs.Modes.{mode_name};
+ghost use Rattle.agc.specs.Modes.{AskFor, mode_name};
+ghost use Rattle.agc.specs.Steps.{mode_app};
 
 use agc_program::{Fault, only_word};
 use clap::{ArgMatches, Command};
-use std::alloc::Global;
+use std::alloc::{AllocError, Global};
 
 /// What the program is asked to run.
 #[derive(Clone, Copy, Debug, PartialEq, Eq)]
@@ -37,19 +40,28 @@ fn mode_named(name: &str) -> Option<Mode>
     }
 }
 
-/// The mode that the only word after the program's own name asks for.
+/// The mode that the only word after the program's own name asks for, which `clap` found.
 fn mode_alone(matches: &ArgMatches<'_>, words: &[String]) -> Result<Mode, Fault>
-    ensures alone { IfOk result (λ _. length words.now ≡ 2) }
-    ensures named { IfOk result (λ mode. subcommand_name_of matches.now ≡ Some (mode_name mode)) }
-    ensures script { length words.now ≡ 2
-        → subcommand_name_of matches.now ≡ Some (codes "script") → result ≡ Ok Script }
-    ensures serial { length words.now ≡ 2
-        → subcommand_name_of matches.now ≡ Some (codes "serial") → result ≡ Ok Serial }
-    ensures threads { length words.now ≡ 2
-        → subcommand_name_of matches.now ≡ Some (codes "threads") → result ≡ Ok Threads }
+    ensures asked { IfOk result (AskFor (map string_bytes words.now)) }
+    ensures only { (mode : Mode) → AskFor (map string_bytes words.now) mode
+        → subcommand_name_of matches.now ≡ Some (mode_name mode) → result ≡ Ok mode }
     ensures refused { IfErr result (λ e. e ≡ Words) }
 {
-    mode_named(only_word(matches, words)?).ok_or(Fault::Words)
+    let found = only_word(matches, words)?;
+    if found != words[1].as_str() {
+        return Err(Fault::Words);
+    }
+    mode_named(found).ok_or(Fault::Words)
+}
+
+/// The command that the words are of: a subcommand for each mode.
+fn mode_command<'a>(alloc: Global) -> Result<Command<'a>, AllocError>
+    ensures { IfOk result (λ c. app_of c ≡ mode_app) }
+{
+    Command::new(alloc, "agc")
+        .subcommand(Command::new(alloc, "script"))?
+        .subcommand(Command::new(alloc, "serial"))?
+        .subcommand(Command::new(alloc, "threads"))
 }
 
 /// The mode that the words of a command line name: the program's own name and one subcommand, and
@@ -59,13 +71,12 @@ fn mode_alone(matches: &ArgMatches<'_>, words: &[String]) -> Result<Mode, Fault>
 ///
 /// `Words` for any other words, and `NoMemory`.
 pub fn mode_of(alloc: Global, words: &[String]) -> Result<Mode, Fault>
-    ensures alone { IfOk result (λ _. length words.now ≡ 2) }
+    ensures asked { IfOk result (AskFor (map string_bytes words.now)) }
+    ensures only { (mode : Mode) → AskFor (map string_bytes words.now) mode
+        → (result ≡ Ok mode) ⊎ (result ≡ Err NoMemory) }
     ensures refused { IfErr result (λ e. (e ≡ Words) ⊎ (e ≡ NoMemory)) }
 {
-    let command = Command::new(alloc, "agc")
-        .subcommand(Command::new(alloc, "script"))?
-        .subcommand(Command::new(alloc, "serial"))?
-        .subcommand(Command::new(alloc, "threads"))?;
+    let command = mode_command(alloc)?;
     let matches = command.try_get_matches_from(words)?;
     mode_alone(&matches, words)
 }
