@@ -297,7 +297,6 @@ of_plan None (Some r) r3 found n1 n2 n3 d d0 d1 d2 d3 s s1 s2 s3 it =
     idle t k asks Timer none some = absurd (omega (arith, some, t))
     idle t k asks Key none some = absurd (asks none)
     idle t k asks Radar none some = (Key, omega arith, k)
-
 of_plan (Some r) None r3 found n1 n2 n3 d d0 d1 d2 d3 s s1 s2 s3 it = absurd (true≢false (sym (ap is_some it.key.refusal)))
 of_plan (Some r) (Some q) r3 found n1 n2 n3 d d0 d1 d2 d3 s s1 s2 s3 it =
     let plan = d.machine.plan in
