@@ -219,7 +219,7 @@ one_less plan line q old now is some goes =
 pub none_owed : (plan : Planned) (line : Line) (owed part : ℕ) → owed ≡ 0 → left_on plan line owed part ≡ []
 none_owed plan line owed part none = ap (λ n. drop part (repeated (pulse_of plan line) n)) none ∙ drop-nil part
 
-idle_left : (plan : Planned) (line : Line) (owed part : ℕ) → pulse_requests plan line ≡ [] → left_on plan line owed part ≡ []
+pub idle_left : (plan : Planned) (line : Line) (owed part : ℕ) → pulse_requests plan line ≡ [] → left_on plan line owed part ≡ []
 idle_left plan line owed part is = ap (drop part) (repeated_nothing (pulse_of plan line) owed (ap (map (pulse_on line)) is)) ∙ drop-nil part
 
 -- no pulse of a line is applied

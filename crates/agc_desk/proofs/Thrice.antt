@@ -14,9 +14,9 @@ use Rattle.agc_machine.specs.Said.{Said}
 use Rattle.agc_desk.specs.Desks.{Desked, with_lines}
 use Rattle.agc_desk.specs.Draining.{Drains, Moves, NoneRefused, ServesAll, calls_of, left_by, pulse_refusal, with_asked}
 use Rattle.agc_desk.specs.History.{Holder, with_drain, with_heard}
-use Rattle.agc_desk.specs.Pulses.{Pulse, left_of, left_on}
+use Rattle.agc_desk.specs.Pulses.{Pulse, left_of, left_on, pulse_requests}
 use Rattle.agc_desk.specs.Stages.{DrainsLine, line_left, tried_after}
-use Rattle.agc_desk.proofs.Emptying.{after_by, none_owed, same_plan, serves_append, told_by, told_by_append}
+use Rattle.agc_desk.proofs.Emptying.{after_by, idle_left, none_owed, same_plan, serves_append, told_by, told_by_append}
 
 timer_key : Timer ≢ Key
 timer_key e = omega (arith, ap word_of e)
@@ -136,6 +136,18 @@ timer_last a b c k l m p rest some no_b no_c =
     subst (λ (x : List Pulse × (List Pulse × List Pulse)). Whole a x.0 x.1.0 x.1.1 l m × Tried a x.0 x.1.0 (take 1 x.1.1) [] [] x.1.1 l m)
     (λ i. (sym no_b i, (sym no_c i, sym some i))) (last_one a (p ∷ rest) (l ++ m), last_one a (p ∷ []) [])
 
+-- pulses that ask for nothing are left only where an earlier line has some
+abbrev Idle : Planned → LineAccounts → Type 0
+Idle plan l = (line : Line) → pulse_requests plan line ≡ [] → 0 < on line l.owed
+    → (earlier : Line) × (word_of earlier < word_of line) × (0 < on earlier l.owed)
+
+-- a line whose request was refused asks for something
+asks_some : (plan : Planned) (line : Line) (l : LineAccounts) (p : Pulse) (rest : List Pulse)
+    → line_left plan line l ≡ p ∷ rest → ¬ (pulse_requests plan line ≡ [])
+asks_some plan line l p rest some none =
+    let no : p ∷ rest ≡ [] = sym some ∙ idle_left plan line (on line l.owed) (on line l.begun) none in
+    cc
+
 some_left : (n : ℕ) (r : Refusal) → (IsNone (Some r) ↔ n ≡ 0) → 0 < n
 some_left n r left = by_test n refl
   where
@@ -209,8 +221,9 @@ module _ (r1 r2 r3 : Option Refusal) (found : List ℕ) (n1 n2 n3 : ℕ) (d d0 d
       → Tried it.timer.served it.key.served it.radar.served (take 1 (left_at Timer)) (tried_after r1 (left_at Key)) (tried_after r2 (left_at Radar)) (left_at Timer) (left_at Key) (left_at Radar)
       → r3 ≡ option_and_then (pulse_refusal d3.machine) (slice_get (left_by d.machine.plan d3.lines) 0)
       → (IsNone r3 ↔ ((line : Line) → on line d3.lines.owed ≡ 0))
+      → Idle d.machine.plan d3.lines
       → Drains d s (record { taken = found; applied = n1 ∷ n2 ∷ n3 ∷ []; refused = r3 }) d3 s3
-  finish it lines whole tried refusal none_left =
+  finish it lines whole tried refusal none_left idle =
       let served = it.timer.served ++ (it.key.served ++ it.radar.served) in
       record {
         lines = lines;
@@ -221,6 +234,7 @@ module _ (r1 r2 r3 : Option Refusal) (found : List ℕ) (n1 n2 n3 : ℕ) (d d0 d
             (served_thrice _ _ _ d0.machine d1.machine d2.machine it.timer.machine it.key.machine it.timer.none_refused it.key.none_refused it.radar.none_refused);
         refused = refusal;
         none_left = none_left;
+        idle = idle;
       }
 
 -- by where a request was refused
@@ -242,7 +256,17 @@ of_plan None None r3 found n1 n2 n3 d d0 d1 d2 d3 s s1 s2 s3 it =
     both.0 both.1
     (it.radar.refusal ∙ λ i. option_and_then (pulse_refusal d3.machine) (slice_get (sym no_timer i ++ (sym no_key i ++ line_left plan Radar d3.lines)) 0))
     (λ is. left_none timer_owed key_owed ((it.radar.none_left refl).0 is), λ each. (it.radar.none_left refl).1 (each Radar))
+    (idle timer_owed key_owed)
   where
+    idle : on Timer d3.lines.owed ≡ 0 → on Key d3.lines.owed ≡ 0 → Idle d.machine.plan d3.lines
+    idle t k Timer none some = absurd (omega (arith, some, t))
+    idle t k Key none some = absurd (omega (arith, some, k))
+    idle t k Radar none some =
+        let no_radar : line_left d.machine.plan Radar d3.lines ≡ [] = idle_left d.machine.plan Radar (on Radar d3.lines.owed) (on Radar d3.lines.begun) none in
+        let passed : r3 ≡ None = it.radar.refusal ∙ λ i. option_and_then (pulse_refusal d3.machine) (slice_get (no_radar i) 0) in
+        let served : on Radar d3.lines.owed ≡ 0 = (it.radar.none_left refl).0 (ap is_some passed) in
+        absurd (omega (arith, some, served))
+
     left_none : on Timer d3.lines.owed ≡ 0 → on Key d3.lines.owed ≡ 0 → on Radar d3.lines.owed ≡ 0 → (line : Line) → on line d3.lines.owed ≡ 0
     left_none t k r Timer = t
     left_none t k r Key = k
@@ -267,6 +291,12 @@ of_plan None (Some r) r3 found n1 n2 n3 d d0 d1 d2 d3 s s1 s2 s3 it =
     (it.radar.refusal ∙ (refused ∙ (λ i. option_and_then (pulse_refusal d3.machine) (slice_get (first.2 i) 0))
     ∙ λ i. option_and_then (pulse_refusal d3.machine) (slice_get (sym no_timer i ++ (sym first.2 i ++ line_left plan Radar d3.lines)) 0)))
     (λ is. absurd (true≢false (sym (ap is_some it.radar.refusal) ∙ is)), λ each. absurd (omega (arith, each Key, key_owed)))
+    (idle timer_owed key_owed (asks_some plan Key d3.lines first.0 first.1 first.2))
+  where
+    idle : on Timer d3.lines.owed ≡ 0 → 0 < on Key d3.lines.owed → ¬ (pulse_requests d.machine.plan Key ≡ []) → Idle d.machine.plan d3.lines
+    idle t k asks Timer none some = absurd (omega (arith, some, t))
+    idle t k asks Key none some = absurd (asks none)
+    idle t k asks Radar none some = (Key, omega arith, k)
 of_plan (Some r) None r3 found n1 n2 n3 d d0 d1 d2 d3 s s1 s2 s3 it = absurd (true≢false (sym (ap is_some it.key.refusal)))
 of_plan (Some r) (Some q) r3 found n1 n2 n3 d d0 d1 d2 d3 s s1 s2 s3 it =
     let plan = d.machine.plan in
@@ -287,6 +317,12 @@ of_plan (Some r) (Some q) r3 found n1 n2 n3 d d0 d1 d2 d3 s s1 s2 s3 it =
     (it.radar.refusal ∙ (it.key.refusal ∙ (refused ∙ (λ i. option_and_then (pulse_refusal d3.machine) (slice_get (first.2 i) 0))
     ∙ λ i. option_and_then (pulse_refusal d3.machine) (slice_get (sym first.2 i ++ (line_left plan Key d3.lines ++ line_left plan Radar d3.lines)) 0))))
     (λ is. absurd (true≢false (sym (ap is_some it.radar.refusal) ∙ is)), λ each. absurd (omega (arith, each Timer, timer_owed)))
+    (idle timer_owed)
+  where
+    idle : 0 < on Timer d3.lines.owed → Idle d.machine.plan d3.lines
+    idle t Timer none some = cc
+    idle t Key none some = (Timer, omega arith, t)
+    idle t Radar none some = (Timer, omega arith, t)
 
 -- the three lines of a desk from which what was posted was taken
 pub drains : (r1 r2 r3 : Option Refusal) (found : List ℕ) (n1 n2 n3 : ℕ) (d d0 d1 d2 d3 : Desked) (s s1 s2 s3 : Holder)

@@ -19,7 +19,7 @@ use Rattle.agc_desk.specs.declared.drain.Drained.{Drained}
 use Rattle.agc_desk.specs.Books.{told_in}
 use Rattle.agc_desk.specs.Desks.{ArePulses, Desked, with_lines}
 use Rattle.agc_desk.specs.History.{Holder, Leads, with_drain, with_heard}
-use Rattle.agc_desk.specs.Pulses.{Pulse, left_of}
+use Rattle.agc_desk.specs.Pulses.{Pulse, left_of, pulse_requests}
 
 -- what a machine answers these requests, in order, each as its step answers it there
 unfoldable pub answers_to : Machined → List Request → List Said
@@ -83,7 +83,8 @@ pulse_refusal m pulse = refusal_of m pulse.request
 -- were owed before ask for, up to the first request that is refused. What was served and what is
 -- left are together what was to be asked for. The requests, the refused one too, come with their
 -- answers into the history, as those of pulses of their lines, to the share's holder and into the
--- books, and nothing else of the desk changes; and the holder counts one drain more.
+-- books, and nothing else of the desk changes; and the holder counts one drain more. Pulses that ask
+-- for nothing are left on a line only where an earlier line has some left.
 pub record Drains (old : Desked) (share : Holder)
     (result : Drained) (now : Desked) (new : Holder) : Type 0 where
   pub lines : Moves result.taken result.applied old.lines now.lines
@@ -97,6 +98,9 @@ pub record Drains (old : Desked) (share : Holder)
   pub refused : result.refused ≡ option_and_then (pulse_refusal now.machine)
       (slice_get (left_by old.machine.plan now.lines) 0)
   pub none_left : IsNone result.refused ↔ ((line : Line) → on line now.lines.owed ≡ 0)
+  pub idle : (line : Line) → pulse_requests old.machine.plan line ≡ []
+      → 0 < on line now.lines.owed
+      → (earlier : Line) × (word_of earlier < word_of line) × (0 < on earlier now.lines.owed)
 
 -- so a desk of this type may be drained: the calls of its history lead to its lawful machine from
 -- the one with which it was made, and its taker, if it has one, is of the latch; what accounts keep
