@@ -33,6 +33,8 @@ use Rattle.agc_page.specs.Pages.{WritesPage}
 use Rattle.agc_words.specs.declared.options.TraceOptions.{TraceOptions}
 use Rattle.agc_words.specs.declared.words.WordsFault.{WordsFault}
 use Rattle.agc_words.specs.declared.words.WordsFault.TheVariants as words
+use Rattle.agc_words.specs.declared.words.Work.{Work}
+use Rattle.agc_words.specs.declared.words.Work.TheVariants as work
 
 -- the fault of words that are refused
 abbrev pub fault_for : WordsFault → Fault
@@ -149,6 +151,12 @@ ChecksInput checks unread rest old new outcome =
     ((why : ReadFault) × (outcome ≡ Err (fault.Read why)) × RefusesInput unread rest why
     × (new ≡ old))
     ⊎ ((text : List ℕ) × ReadsAll unread rest text × checks text old new outcome)
+
+-- whether a check is asked for
+abbrev pub is_check : Work → Bool
+is_check work.CheckBench = true
+is_check work.CheckScript = true
+is_check asked = false
 
 -- the exit status: 2 where the input isn't what it should be
 abbrev pub status_by : Result Bool Fault → ℕ

@@ -1,10 +1,10 @@
 //! What the program does: the words, the reading, the bench, its trace, picture or page, in this
 //! order.
-ghost use Rattle.std.specs.Prelude.{◌≡◌};
+ghost use Rattle.std.specs.Prelude.{◌≡◌, false, true, IfOk};
 ghost use Rattle.toml.specs.Parse.{parse_document};
 ghost use Rattle.agc_document.specs.Faults.{RefusesBench};
 ghost use Rattle.agc_program.specs.Inputs.{EndsBy, IsDocument};
-ghost use Rattle.agc_watch.specs.Program.{choice_of, fault_for};
+ghost use Rattle.agc_watch.specs.Program.{choice_of, fault_for, is_check};
 ghost use Rattle.agc_watch.specs.Program.{DrawsText, PagesText, TracesBench, is_nothing};
 ghost use Rattle.agc_watch.specs.Program.{TracesScript, TracesText};
 ghost use Rattle.agc_watch.specs.Program.{ChecksScript, ChecksInput, ChecksBench};
@@ -251,7 +251,9 @@ fn run_check_bench<R: AllocGlobal + Input + Print>(rt: &R) -> Result<bool, Fault
 }
 
 /// Does what the words ask for. False where that is a check, and something is wrong.
-fn run_work<R: AllocGlobal + Input + Print>(rt: &R, work: Work) -> Result<bool, Fault> {
+fn run_work<R: AllocGlobal + Input + Print>(rt: &R, work: Work) -> Result<bool, Fault>
+    ensures { IfOk result (λ well. is_check work ≡ false → well ≡ true) }
+{
     match work {
         Work::Trace(options) => run_trace(rt, options)?,
         Work::Picture => run_picture(rt)?,
