@@ -1,6 +1,6 @@
 -- All three lines are drained, one after another.
-use Rattle.std.proofs.Common.{◌≡◌, ◌≢◌, ◌↔◌, ℕ, ◌+◌, ◌<◌, true, false, true≢false, List, [], ◌∷◌, ◌++◌, slice_get, take, Option, None, Some, IsNone, IsOk, is_some, zero, suc, refl, sym, ap, ◌∙◌, subst, append_assoc, append-nil, arith}
-use Rattle.std.specs.Option.{option_and_then, option_or}
+use Rattle.std.proofs.Common.{◌≡◌, ◌≢◌, ◌↔◌, ℕ, ◌+◌, ◌<◌, true≢false, List, [], ◌∷◌, ◌++◌, slice_get, take, Option, None, Some, IsNone, IsOk, is_some, zero, suc, refl, sym, ap, ◌∙◌, subst, append_assoc, append-nil, arith}
+use Rattle.std.specs.Option.{option_and_then}
 use Rattle.std.proofs.lemmas.List.Elements.{All-append}
 use Rattle.agc_latch.specs.declared.line.Line.{Line}
 use Rattle.agc_latch.specs.declared.line.Line.TheVariants.{Timer, Key, Radar}
@@ -12,7 +12,7 @@ use Rattle.agc_machine.specs.declared.answer.Refusal.{Refusal}
 use Rattle.agc_machine.specs.Machines.{Machined, after_all}
 use Rattle.agc_machine.specs.Said.{Said}
 use Rattle.agc_desk.specs.Desks.{Desked, with_lines}
-use Rattle.agc_desk.specs.Draining.{Drains, Moves, NoneRefused, ServesAll, calls_of, left_by, pulse_refusal, with_asked}
+use Rattle.agc_desk.specs.Draining.{Drains, IdleWait, Moves, NoneRefused, ServesAll, calls_of, left_by, pulse_refusal, with_asked}
 use Rattle.agc_desk.specs.History.{Holder, with_drain, with_heard}
 use Rattle.agc_desk.specs.Pulses.{Pulse, left_of, left_on, pulse_requests}
 use Rattle.agc_desk.specs.Stages.{DrainsLine, line_left, tried_after}
@@ -136,11 +136,6 @@ timer_last a b c k l m p rest some no_b no_c =
     subst (λ (x : List Pulse × (List Pulse × List Pulse)). Whole a x.0 x.1.0 x.1.1 l m × Tried a x.0 x.1.0 (take 1 x.1.1) [] [] x.1.1 l m)
     (λ i. (sym no_b i, (sym no_c i, sym some i))) (last_one a (p ∷ rest) (l ++ m), last_one a (p ∷ []) [])
 
--- pulses that ask for nothing are left only where an earlier line has some
-abbrev Idle : Planned → LineAccounts → Type 0
-Idle plan l = (line : Line) → pulse_requests plan line ≡ [] → 0 < on line l.owed
-    → (earlier : Line) × (word_of earlier < word_of line) × (0 < on earlier l.owed)
-
 -- a line whose request was refused asks for something
 asks_some : (plan : Planned) (line : Line) (l : LineAccounts) (p : Pulse) (rest : List Pulse)
     → line_left plan line l ≡ p ∷ rest → ¬ (pulse_requests plan line ≡ [])
@@ -221,7 +216,7 @@ module _ (r1 r2 r3 : Option Refusal) (found : List ℕ) (n1 n2 n3 : ℕ) (d d0 d
       → Tried it.timer.served it.key.served it.radar.served (take 1 (left_at Timer)) (tried_after r1 (left_at Key)) (tried_after r2 (left_at Radar)) (left_at Timer) (left_at Key) (left_at Radar)
       → r3 ≡ option_and_then (pulse_refusal d3.machine) (slice_get (left_by d.machine.plan d3.lines) 0)
       → (IsNone r3 ↔ ((line : Line) → on line d3.lines.owed ≡ 0))
-      → Idle d.machine.plan d3.lines
+      → IdleWait d.machine.plan d3.lines
       → Drains d s (record { taken = found; applied = n1 ∷ n2 ∷ n3 ∷ []; refused = r3 }) d3 s3
   finish it lines whole tried refusal none_left idle =
       let served = it.timer.served ++ (it.key.served ++ it.radar.served) in
@@ -258,7 +253,7 @@ of_plan None None r3 found n1 n2 n3 d d0 d1 d2 d3 s s1 s2 s3 it =
     (λ is. left_none timer_owed key_owed ((it.radar.none_left refl).0 is), λ each. (it.radar.none_left refl).1 (each Radar))
     (idle timer_owed key_owed)
   where
-    idle : on Timer d3.lines.owed ≡ 0 → on Key d3.lines.owed ≡ 0 → Idle d.machine.plan d3.lines
+    idle : on Timer d3.lines.owed ≡ 0 → on Key d3.lines.owed ≡ 0 → IdleWait d.machine.plan d3.lines
     idle t k Timer none some = absurd (omega (arith, some, t))
     idle t k Key none some = absurd (omega (arith, some, k))
     idle t k Radar none some =
@@ -293,7 +288,7 @@ of_plan None (Some r) r3 found n1 n2 n3 d d0 d1 d2 d3 s s1 s2 s3 it =
     (λ is. absurd (true≢false (sym (ap is_some it.radar.refusal) ∙ is)), λ each. absurd (omega (arith, each Key, key_owed)))
     (idle timer_owed key_owed (asks_some plan Key d3.lines first.0 first.1 first.2))
   where
-    idle : on Timer d3.lines.owed ≡ 0 → 0 < on Key d3.lines.owed → ¬ (pulse_requests d.machine.plan Key ≡ []) → Idle d.machine.plan d3.lines
+    idle : on Timer d3.lines.owed ≡ 0 → 0 < on Key d3.lines.owed → ¬ (pulse_requests d.machine.plan Key ≡ []) → IdleWait d.machine.plan d3.lines
     idle t k asks Timer none some = absurd (omega (arith, some, t))
     idle t k asks Key none some = absurd (asks none)
     idle t k asks Radar none some = (Key, omega arith, k)
@@ -319,7 +314,7 @@ of_plan (Some r) (Some q) r3 found n1 n2 n3 d d0 d1 d2 d3 s s1 s2 s3 it =
     (λ is. absurd (true≢false (sym (ap is_some it.radar.refusal) ∙ is)), λ each. absurd (omega (arith, each Timer, timer_owed)))
     (idle timer_owed)
   where
-    idle : 0 < on Timer d3.lines.owed → Idle d.machine.plan d3.lines
+    idle : 0 < on Timer d3.lines.owed → IdleWait d.machine.plan d3.lines
     idle t Timer none some = cc
     idle t Key none some = (Timer, omega arith, t)
     idle t Radar none some = (Timer, omega arith, t)

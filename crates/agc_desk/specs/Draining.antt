@@ -79,12 +79,16 @@ left_by plan lines = left_of plan (λ line. on line lines.owed) (λ line. on lin
 abbrev pub pulse_refusal : Machined → Pulse → Option Refusal
 pulse_refusal m pulse = refusal_of m pulse.request
 
+-- pulses that ask for nothing are left on a line only where an earlier line has some left
+abbrev pub IdleWait : Planned → LineAccounts → Type 0
+IdleWait plan lines = (line : Line) → pulse_requests plan line ≡ [] → 0 < on line lines.owed
+    → (earlier : Line) × (word_of earlier < word_of line) × (0 < on earlier lines.owed)
+
 -- The desk is drained with a share: it takes pulses, and asks in order for what they and those that
 -- were owed before ask for, up to the first request that is refused. What was served and what is
 -- left are together what was to be asked for. The requests, the refused one too, come with their
 -- answers into the history, as those of pulses of their lines, to the share's holder and into the
--- books, and nothing else of the desk changes; and the holder counts one drain more. Pulses that ask
--- for nothing are left on a line only where an earlier line has some left.
+-- books, and nothing else of the desk changes; and the holder counts one drain more.
 pub record Drains (old : Desked) (share : Holder)
     (result : Drained) (now : Desked) (new : Holder) : Type 0 where
   pub lines : Moves result.taken result.applied old.lines now.lines
@@ -98,9 +102,7 @@ pub record Drains (old : Desked) (share : Holder)
   pub refused : result.refused ≡ option_and_then (pulse_refusal now.machine)
       (slice_get (left_by old.machine.plan now.lines) 0)
   pub none_left : IsNone result.refused ↔ ((line : Line) → on line now.lines.owed ≡ 0)
-  pub idle : (line : Line) → pulse_requests old.machine.plan line ≡ []
-      → 0 < on line now.lines.owed
-      → (earlier : Line) × (word_of earlier < word_of line) × (0 < on earlier now.lines.owed)
+  pub idle : IdleWait old.machine.plan now.lines
 
 -- so a desk of this type may be drained: the calls of its history lead to its lawful machine from
 -- the one with which it was made, and its taker, if it has one, is of the latch; what accounts keep

@@ -1,6 +1,7 @@
 -- The numbers of tasks' rows, by task.
 use Rattle.std.proofs.Common.{◌≡◌, ℕ, suc, ◌+◌, ◌-◌, ◌<◌, ◌≤◌, ◌==◌, ◌||◌, Bool, true, false, if◌then◌else◌, List, [], ◌∷◌, length, get_or, drop, Some, None, refl, sym, ap, ◌∙◌, inl, inr, arith}
 use Rattle.std.specs.Prelude.{cond, is_some}
+use Rattle.std.specs.Option.{option_or}
 use Rattle.std.specs.Cmp.{both_tied, unsigned_tied}
 use Rattle.std.specs.Ordering.{nat_cmp}
 use Rattle.std.specs.BTreeMap.{BTreeMap, get, is_at}
@@ -11,7 +12,7 @@ use Rattle.agc_plan.specs.declared.request.Action.{Action}
 use Rattle.agc_plan.specs.declared.request.Task.{Task}
 use Rattle.agc_plan.specs.Plans.{Rows, same_task, has_task, task_twice, actions_in}
 use Rattle.agc_plan.proofs.Lists.{next_is}
-use Rattle.agc_plan.specs.Index.{pair_order, indexed, number_from, or_else, any_indexed, IndexesUpTo}
+use Rattle.agc_plan.specs.Index.{pair_order, indexed, number_from, any_indexed, IndexesFirst}
 
 -- two tasks are the same where the order finds them equal
 pub tied : (one other : Task) → same_task one other ≡ is_at (pair_order (one.at, one.bank)) (other.at, other.bank)
@@ -32,9 +33,9 @@ none_indexed : (rows : Rows) (index : BTreeMap (ℕ × ℕ) ℕ) → index.entri
 none_indexed [] index none = refl
 none_indexed (row ∷ rows) index none = ap (λ o. is_some o || any_indexed index rows) (unindexed index row.0 none) ∙ none_indexed rows index none
 
-pub starts : (rows : Rows) (index : BTreeMap (ℕ × ℕ) ℕ) → index.entries ≡ [] → IndexesUpTo rows 0 index
+pub starts : (rows : Rows) (index : BTreeMap (ℕ × ℕ) ℕ) → index.entries ≡ [] → IndexesFirst 0 rows index
 starts rows index none = record {
-  numbers = λ task. ap (λ o. or_else o (number_from 0 rows task)) (unindexed index task none);
+  numbers = λ task. ap (λ o. option_or o (number_from 0 rows task)) (unindexed index task none);
   twice = ap (λ b. b || task_twice rows) (none_indexed rows index none);
 }
 
@@ -52,15 +53,15 @@ same_turned one other = elim (cases_Bool (same_task one other)) [
 ]
 
 -- the numbers stay what they were once the next row is in the index
-numbers_on : (n : ℕ) (row : Task × List Action) (rows : Rows) (old new : BTreeMap (ℕ × ℕ) ℕ) → indexed old row.0 ≡ None → Inserts old new row.0 n → (task : Task) → or_else (indexed new task) (number_from (n + 1) rows task) ≡ or_else (indexed old task) (number_from n (row ∷ rows) task)
+numbers_on : (n : ℕ) (row : Task × List Action) (rows : Rows) (old new : BTreeMap (ℕ × ℕ) ℕ) → indexed old row.0 ≡ None → Inserts old new row.0 n → (task : Task) → option_or (indexed new task) (number_from (n + 1) rows task) ≡ option_or (indexed old task) (number_from n (row ∷ rows) task)
 numbers_on n row rows old new fresh is task = elim (cases_Bool (same_task row.0 task)) [
   | inl same ↦
       let none : indexed old task ≡ None = sym (same_number old row.0 task same) ∙ fresh in
-      ap (λ o. or_else o (number_from (n + 1) rows task)) (is task ∙ ap (λ b. if b then Some n else indexed old task) same)
-      ∙ sym (ap (λ o. or_else o (number_from n (row ∷ rows) task)) none ∙ ap (λ b. if b then Some n else number_from (n + 1) rows task) same)
+      ap (λ o. option_or o (number_from (n + 1) rows task)) (is task ∙ ap (λ b. if b then Some n else indexed old task) same)
+      ∙ sym (ap (λ o. option_or o (number_from n (row ∷ rows) task)) none ∙ ap (λ b. if b then Some n else number_from (n + 1) rows task) same)
   | inr differ ↦
-      ap (λ o. or_else o (number_from (n + 1) rows task)) (is task ∙ ap (λ b. if b then Some n else indexed old task) differ)
-      ∙ sym (ap (λ b. or_else (indexed old task) (if b then Some n else number_from (n + 1) rows task)) differ)
+      ap (λ o. option_or o (number_from (n + 1) rows task)) (is task ∙ ap (λ b. if b then Some n else indexed old task) differ)
+      ∙ sym (ap (λ b. option_or (indexed old task) (if b then Some n else number_from (n + 1) rows task)) differ)
 ]
 
 -- so does whether two are of one task
@@ -98,17 +99,17 @@ twice_on n row rows old new fresh is =
     ∙ sym (ap (λ o. (is_some o || any_indexed old rows) || task_twice (row ∷ rows)) fresh)
 
 -- the next row is in the index
-pub next_indexed : (rows : Rows) (n : ℕ) (row : Task × List Action) (old new : BTreeMap (ℕ × ℕ) ℕ) → n < length rows → row ≡ get_or rows n row → IndexesUpTo rows n old → indexed old row.0 ≡ None → ((q : ℕ × ℕ) → get pair_order new q ≡ cond (is_at (pair_order (row.0.at, row.0.bank)) q) (Some n) (get pair_order old q)) → IndexesUpTo rows (n + 1) new
+pub next_indexed : (rows : Rows) (n : ℕ) (row : Task × List Action) (old new : BTreeMap (ℕ × ℕ) ℕ) → n < length rows → row ≡ get_or rows n row → IndexesFirst n rows old → indexed old row.0 ≡ None → ((q : ℕ × ℕ) → get pair_order new q ≡ cond (is_at (pair_order (row.0.at, row.0.bank)) q) (Some n) (get pair_order old q)) → IndexesFirst (n + 1) rows new
 next_indexed rows n row old new l at left fresh updates =
     let is : Inserts old new row.0 n = inserted old new row.0 n updates in
     let next : drop n rows ≡ row ∷ drop (n + 1) rows = next_is rows n row l at in
     record {
-      numbers = λ task. numbers_on n row (drop (n + 1) rows) old new fresh is task ∙ ap (λ more. or_else (indexed old task) (number_from n more task)) (sym next) ∙ left.numbers task;
+      numbers = λ task. numbers_on n row (drop (n + 1) rows) old new fresh is task ∙ ap (λ more. option_or (indexed old task) (number_from n more task)) (sym next) ∙ left.numbers task;
       twice = twice_on n row (drop (n + 1) rows) old new fresh is ∙ ap (λ more. any_indexed old more || task_twice more) (sym next) ∙ left.twice;
     }
 
 -- it is there already
-pub there_twice : (rows : Rows) (n : ℕ) (row : Task × List Action) (index : BTreeMap (ℕ × ℕ) ℕ) (number : ℕ) → n < length rows → row ≡ get_or rows n row → IndexesUpTo rows n index → indexed index row.0 ≡ Some number → task_twice rows ≡ true
+pub there_twice : (rows : Rows) (n : ℕ) (row : Task × List Action) (index : BTreeMap (ℕ × ℕ) ℕ) (number : ℕ) → n < length rows → row ≡ get_or rows n row → IndexesFirst n rows index → indexed index row.0 ≡ Some number → task_twice rows ≡ true
 there_twice rows n row index number l at left there =
     sym left.twice
     ∙ ap (λ more. any_indexed index more || task_twice more) (next_is rows n row l at)

@@ -1,6 +1,8 @@
 -- Of proofs alone: the numbers of tasks' rows, by task.
-use Rattle.std.specs.Prelude.{◌≡◌, ℕ, ◌+◌, Bool, false, if◌then◌else◌, ◌||◌, [], ◌∷◌, drop}
+use Rattle.std.specs.Prelude.{◌≡◌, ℕ, ◌+◌, Bool, if◌then◌else◌, ◌||◌, [], ◌∷◌, drop}
 use Rattle.std.specs.Prelude.{Option, Some, None, is_some}
+use Rattle.std.specs.List.{list_any}
+use Rattle.std.specs.Option.{option_or}
 use Rattle.std.specs.Ordering.{ordering_then, nat_cmp}
 use Rattle.std.specs.declared.cmp.Ordering.{Ordering}
 use Rattle.std.specs.BTreeMap.{BTreeMap, get}
@@ -25,18 +27,12 @@ number_from n (row ∷ rows) task =
 abbrev pub IsIndex : Rows → BTreeMap (ℕ × ℕ) ℕ → Type 0
 IsIndex rows index = (task : Task) → indexed index task ≡ number_from 0 rows task
 
--- a first number, or else another
-abbrev pub or_else : Option ℕ → Option ℕ → Option ℕ
-or_else (Some first) other = Some first
-or_else None other = other
-
 -- whether one of these rows is of an indexed task
 abbrev pub any_indexed : BTreeMap (ℕ × ℕ) ℕ → Rows → Bool
-any_indexed index [] = false
-any_indexed index (row ∷ rows) = is_some (indexed index row.0) || any_indexed index rows
+any_indexed index rows = list_any (λ row. is_some (indexed index row.0)) rows
 
--- the index of the rows before this one, of which no two are of one task
-pub record IndexesUpTo (rows : Rows) (n : ℕ) (index : BTreeMap (ℕ × ℕ) ℕ) : Type 0 where
-  pub numbers : (task : Task) → or_else (indexed index task) (number_from n (drop n rows) task)
+-- the index of the first rows, so many, of which no two are of one task
+pub record IndexesFirst (n : ℕ) (rows : Rows) (index : BTreeMap (ℕ × ℕ) ℕ) : Type 0 where
+  pub numbers : (task : Task) → option_or (indexed index task) (number_from n (drop n rows) task)
       ≡ number_from 0 rows task
   pub twice : (any_indexed index (drop n rows) || task_twice (drop n rows)) ≡ task_twice rows

@@ -1,12 +1,11 @@
 -- What is left of a walk: the requests that are still to be asked, and their texts.
-use Rattle.std.proofs.Common.{◌≡◌, ℕ, ◌+◌, ◌<◌, ◌≤◌, List, [], ◌∷◌, ◌++◌, length, get_or, drop, drop-cons, add-one, length-drop, Option, map, subst, refl, sym, ap, ◌∙◌, append_assoc, append-nil, Result, Ok, Err, arith}
+use Rattle.std.proofs.Common.{◌≡◌, ℕ, ◌+◌, ◌<◌, ◌≤◌, List, [], ◌∷◌, ◌++◌, length, get_or, drop, Option, map, subst, refl, sym, ap, ◌∙◌, append_assoc, append-nil, Result, Ok, Err}
 use Rattle.std.specs.Prelude.{IfErr, IsErr, OnOk}
 use Rattle.std.specs.Io.KnownBytes.{Appends}
 use Rattle.std.specs.List.{fold, flat_map}
 use Rattle.std.proofs.lemmas.List.Concat.{flat_map-cons}
 use Rattle.std.proofs.lemmas.List.Folds.{flat_map-map}
 use Rattle.std.proofs.lemmas.List.Sums.{fold-append}
-use Rattle.std.proofs.lemmas.List.{nil_from_length}
 use Rattle.agc_plan.proofs.Lists.{next_is, none_left}
 use Rattle.agc_plan.specs.declared.request.Request.{Request}
 use Rattle.agc_text.specs.Writing.{AppendsUpTo, AppendsFront, Writes}

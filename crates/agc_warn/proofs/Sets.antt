@@ -2,6 +2,7 @@
 use Rattle.std.proofs.Common.{◌≡◌, ℕ, ◌≤◌, ◌&&◌, ◌||◌, not, Bool, true, false, List, [], ◌∷◌, length, drop, map, refl, sym, ap, ◌∙◌}
 use Rattle.std.specs.Prelude.{cond}
 use Rattle.std.specs.List.{list_any}
+use Rattle.std.specs.Option.{option_or}
 use Rattle.std.specs.Ordering.{nat_cmp}
 use Rattle.std.specs.BTreeSet.{BTreeSet, contains}
 use Rattle.std.specs.BTreeMap.{BTreeMap, get, is_at}
@@ -14,7 +15,7 @@ use Rattle.agc_plan.proofs.Rows.{tied}
 use Rattle.agc_document.specs.Benches.{Benched}
 use Rattle.agc_warn.specs.Listed.{requests_list, action_lists, row_lists, entry_lists, is_listed}
 use Rattle.agc_warn.specs.Reasons.{bank_at}
-use Rattle.agc_warn.specs.Tasks.{has, TakesIn, first_bank}
+use Rattle.agc_warn.specs.Tasks.{has, TakesIn}
 use Rattle.agc_warn.proofs.Lists.{any_seen}
 
 or_none : (b : Bool) → b ≡ (b || false)
@@ -99,4 +100,4 @@ rows_taken rows start here none is task =
 
 -- the banks of the rows before this one are put at their addresses
 abbrev pub LeftAt : Rows → ℕ → BTreeMap ℕ ℕ → Type 0
-LeftAt rows i banks = (at : ℕ) → first_bank (get nat_cmp banks at) (bank_at (drop i rows) at) ≡ bank_at rows at
+LeftAt rows i banks = (at : ℕ) → option_or (get nat_cmp banks at) (bank_at (drop i rows) at) ≡ bank_at rows at

@@ -1,5 +1,6 @@
 -- Of proofs alone: sets of tasks, and the banks at addresses.
-use Rattle.std.specs.Prelude.{◌≡◌, ℕ, ◌==◌, Bool, ◌||◌, if◌then◌else◌, Option, Some, None}
+use Rattle.std.specs.Prelude.{◌≡◌, ℕ, ◌==◌, Bool, ◌||◌, if◌then◌else◌, Some, None}
+use Rattle.std.specs.Option.{option_or}
 use Rattle.std.specs.Ordering.{nat_cmp}
 use Rattle.std.specs.BTreeSet.{BTreeSet, contains}
 use Rattle.std.specs.BTreeMap.{BTreeMap, get}
@@ -14,12 +15,7 @@ has tasks task = contains pair_order tasks (task.at, task.bank)
 abbrev pub TakesIn : (Task → Bool) → BTreeSet (ℕ × ℕ) → BTreeSet (ℕ × ℕ) → Type 0
 TakesIn is old new = (task : Task) → has new task ≡ (has old task || is task)
 
--- the first bank there is, or else another
-abbrev pub first_bank : Option ℕ → Option ℕ → Option ℕ
-first_bank (Some bank) other = Some bank
-first_bank None other = other
-
 -- a task's bank is put at its address, unless one is there
 abbrev pub PutsFirst : Task → BTreeMap ℕ ℕ → BTreeMap ℕ ℕ → Type 0
 PutsFirst task old new = (at : ℕ) → get nat_cmp new at
-    ≡ first_bank (get nat_cmp old at) (if task.at == at then Some task.bank else None)
+    ≡ option_or (get nat_cmp old at) (if task.at == at then Some task.bank else None)

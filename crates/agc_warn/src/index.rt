@@ -57,8 +57,8 @@ impl<'a> Indexed<'a> {
         })
     }
 
-    /// The bench.
-    pub(crate) fn bench(&self) -> &Bench
+    /// The bench alone.
+    pub(crate) fn plain(&self) -> &Bench
         ensures { result.now ≡ self.now }
     {
         self.bench

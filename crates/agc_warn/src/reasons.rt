@@ -29,7 +29,7 @@ fn rowless(task: &Task, bank: Option<Word>) -> Warning
 fn task_warning(bench: &Indexed<'_>, task: &Task) -> Option<Warning>
     ensures { result ≡ task_warning bench.now.rows task.now }
 {
-    if bench.bench().rows().is_empty() {
+    if bench.plain().rows().is_empty() {
         Some(Warning::NoRows)
     } else if bench.has_task(task) {
         None
@@ -67,7 +67,7 @@ pub(crate) fn request_warning(bench: &Indexed<'_>, request: &Request) -> Option<
 {
     match *request {
         Request::List(_delay, task) => task_warning(bench, &task),
-        Request::SetPhase(group, phase) => phase_warning(bench.bench().entries(), group, phase),
+        Request::SetPhase(group, phase) => phase_warning(bench.plain().entries(), group, phase),
         _ => None,
     }
 }

@@ -73,7 +73,7 @@ fn note_pulses(found: &mut Vec<Warned>, bench: &Indexed<'_>) -> Result<(), Alloc
     ensures { IfOk result (λ _. found.new.items
         ≡ fold noted found.old.items (of_pulses bench.now)) }
 {
-    let (key, radar) = (bench.bench().key(), bench.bench().radar());
+    let (key, radar) = (bench.plain().key(), bench.plain().radar());
     note_actions(found, bench, Place::Value(Key::Key), key.as_slice())?;
     note_actions(found, bench, Place::Value(Key::Radar), radar.as_slice())
 }
@@ -168,7 +168,7 @@ fn note_devices(
 {
     for (k, device) in devices.iter().enumerate() {
         let place = Place::Field(Key::Devices, k as u64 + 1, Key::Line);
-        note(found, place, device_warning(bench.bench(), device.0))?;
+        note(found, place, device_warning(bench.plain(), device.0))?;
     }
     Ok(())
 }
@@ -178,13 +178,13 @@ fn note_bench(found: &mut Vec<Warned>, bench: &Indexed<'_>) -> Result<(), AllocE
     ensures { IfOk result (λ _. found.new.items
         ≡ fold noted found.old.items (of_bench bench.now)) }
 {
-    let whole = bench.bench();
+    let plain = bench.plain();
     note_pulses(found, bench)?;
-    note_requests(found, bench, None, whole.script())?;
-    note_rows(found, bench, whole.rows())?;
-    note_entries(found, bench, whole.entries())?;
-    note_workers(found, bench, whole.workers())?;
-    note_devices(found, bench, whole.devices())?;
+    note_requests(found, bench, None, plain.script())?;
+    note_rows(found, bench, plain.rows())?;
+    note_entries(found, bench, plain.entries())?;
+    note_workers(found, bench, plain.workers())?;
+    note_devices(found, bench, plain.devices())?;
     Ok(())
 }
 

@@ -6,11 +6,11 @@ use Rattle.agc_warn.proofs.walk.note_bench.Goals as goal
 
 pub returns : goal.returns
 returns c =
-    let seen = numbered_seen (of_worker c.args.bench.now) (λ w. w.items) 1 c.workers.result.now ∙ ap (numbered (of_worker c.args.bench.now) 1) (c.workers.ensures.value ∙ ap (λ b. b.workers) c.bench-whole.ensures) in
+    let seen = numbered_seen (of_worker c.args.bench.now) (λ w. w.items) 1 c.workers.result.now ∙ ap (numbered (of_worker c.args.bench.now) 1) (c.workers.ensures.value ∙ ap (λ b. b.workers) c.plain-plain.ensures) in
     all_warned c.args.bench.now c.args.found.now.items c.note_pulses.new.found.items c.note_requests.new.found.items c.note_rows.new.found.items c.note_entries.new.found.items c.note_workers.new.found.items c.note_devices.new.found.items
     c.in_ok-note_pulses.ensures
-    (rw (c.script.ensures, c.bench-whole.ensures) at c.in_ok-note_requests.ensures)
-    (rw (c.rows.ensures.value, c.bench-whole.ensures) at c.in_ok-note_rows.ensures)
-    (rw (c.entries.ensures.value, c.bench-whole.ensures) at c.in_ok-note_entries.ensures)
+    (rw (c.script.ensures, c.plain-plain.ensures) at c.in_ok-note_requests.ensures)
+    (rw (c.rows.ensures.value, c.plain-plain.ensures) at c.in_ok-note_rows.ensures)
+    (rw (c.entries.ensures.value, c.plain-plain.ensures) at c.in_ok-note_entries.ensures)
     (c.in_ok-note_workers.ensures ∙ ap (fold noted c.note_entries.new.found.items) seen)
-    (rw (c.devices.ensures.value, c.bench-whole.ensures) at c.in_ok-note_devices.ensures)
+    (rw (c.devices.ensures.value, c.plain-plain.ensures) at c.in_ok-note_devices.ensures)

@@ -1,8 +1,7 @@
-use Rattle.std.proofs.Common.{◌≡◌, ◌+◌, ◌≤◌, ◌<◌, List, [], length, Result, Some, refl, sym, ap, arith, subst, ⊎_elim, ◌∙◌}
+use Rattle.std.proofs.Common.{◌≡◌, [], length, Result, Some, refl, sym, ap, arith, subst, ⊎_elim, ◌∙◌}
 use Rattle.agc_latch.specs.Accounts.{LineAccounts}
 use Rattle.agc_latch.specs.Lines.{on}
 use Rattle.agc_plan.specs.declared.reply.Reply.{Reply}
-use Rattle.agc_plan.specs.declared.request.Request.{Request}
 use Rattle.agc_plan.specs.Plans.{Planned}
 use Rattle.agc_machine.specs.declared.answer.Refusal.{Refusal}
 use Rattle.agc_desk.specs.Pulses.{pulse_requests}

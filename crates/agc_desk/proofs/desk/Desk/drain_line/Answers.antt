@@ -1,4 +1,4 @@
-use Rattle.std.proofs.Common.{rules, ◌≡◌, ◌∙◌, [], slice_get}
+use Rattle.std.proofs.Common.{rules, ◌≡◌, ◌∙◌, slice_get}
 use Rattle.agc_desk.specs.Pulses.{pulse_requests}
 use Rattle.agc_desk.proofs.Emptying.{line_idle, line_stopped}
 use Rattle.agc_desk.proofs.Marking.{none_first}
