@@ -1,5 +1,5 @@
 ghost use Rattle.std.specs.Prelude.{◌≡◌, ℕ, ◌<◌, ◌≤◌, ◌⊎◌, Bool, false, is_some, true, length};
-ghost use Rattle.std.specs.Prelude.{take};
+ghost use Rattle.std.specs.Prelude.{IfSome, take};
 ghost use Rattle.agc_plan.specs.declared.request.Request.{Request};
 ghost use Rattle.agc_machine.specs.Said.{Said};
 ghost use Rattle.agc_desk.specs.Runs.{Reached};
@@ -15,11 +15,12 @@ pub trait Console {
 
     /// Asks one request. It may wait. Source: profile.
     fn ask(&mut self, rt: &impl Wait, request: Request) -> Answer
-        ensures { leads self.old request result self.new };
+        ensures asked { result.request ≡ request }
+        ensures led { leads self.old request result self.new };
 }
 
-/// Who is asked before each call of a worker, and told after it, both numbered from 0. Source:
-/// profile.
+/// Who is asked before each call of a worker, and told after it how it was answered. Workers and
+/// calls are numbered from 0. Source: profile.
 pub trait Gate {
     /// Whether it may let the worker go on with a call, or may not, by worker and call. Source:
     /// profile.
@@ -29,12 +30,19 @@ pub trait Gate {
     /// one hands it to `after`. Source: profile.
     type Pass;
 
-    /// With what the worker goes on with this call; none ends it there. Source: profile.
-    fn before(&self, worker: usize, call: usize) -> Option<Self::Pass>
-        ensures { may_answer self.now worker call (is_some result) };
+    /// For which call a pass may be, by worker, call and request; for any, where an `impl` doesn't
+    /// say. Source: profile.
+    ghost is_for: { Self.Pass → ℕ → ℕ → Request → Type 0 } = { λ _ _ _ _. Unit {0} };
 
-    /// The call was answered. Source: profile.
-    fn after(&self, worker: usize, call: usize, pass: Self::Pass);
+    /// With what the worker goes on with this call, which asks for this; none ends it there.
+    /// Source: profile.
+    fn before(&self, worker: usize, call: usize, request: &Request) -> Option<Self::Pass>
+        ensures goes { may_answer self.now worker call (is_some result) }
+        ensures pass { IfSome result (λ pass. is_for pass worker call request.now) };
+
+    /// The call for which the pass was handed out was answered so. Source: profile.
+    fn after(&self, worker: usize, call: usize, pass: Self::Pass, answer: Answer)
+        requires { is_for pass worker call answer.request };
 }
 
 /// The gate that stops no call. Source: profile.
@@ -46,20 +54,19 @@ impl Gate for OpenGate {
 
     type Pass = ();
 
-    fn before(&self, _worker: usize, _call: usize) -> Option<()>
-        ensures { is_some result ≡ true }
-    {
+    fn before(&self, _worker: usize, _call: usize, _request: &Request) -> Option<()> {
         Some(())
     }
 
-    fn after(&self, _worker: usize, _call: usize, _pass: ()) {}
+    fn after(&self, _worker: usize, _call: usize, _pass: (), _answer: Answer) {}
 }
 
 /// With what the gate lets a worker go on with a call.
-fn pass_of<G: Gate>(gate: &G, worker: usize, call: usize) -> Option<G::Pass>
-    ensures { G.may_answer gate.now worker call (is_some result) }
+fn pass_of<G: Gate>(gate: &G, worker: usize, call: usize, request: &Request) -> Option<G::Pass>
+    ensures goes { G.may_answer gate.now worker call (is_some result) }
+    ensures pass { IfSome result (λ pass. G.is_for pass worker call request.now) }
 {
-    gate.before(worker, call)
+    gate.before(worker, call, request)
 }
 
 /// Asks the requests in order, and answers how many it asked: all of them, or those before the
@@ -78,11 +85,11 @@ pub fn drive<C: Console, G: Gate, W: Wait>(
     ensures whole { (result ≡ length requests.now) ⊎ G.may_answer gate.now worker result false }
 {
     for (call, request) in requests.iter().enumerate() {
-        let Some(pass) = pass_of(gate, worker, call) else {
+        let Some(pass) = pass_of(gate, worker, call, request) else {
             return call;
         };
-        console.ask(rt, *request);
-        gate.after(worker, call, pass);
+        let answer = console.ask(rt, *request);
+        gate.after(worker, call, pass, answer);
     }
     requests.len()
 }
