@@ -1,4 +1,4 @@
--- The parts of a picture, and what a count writes.
+-- The parts of a picture.
 use Rattle.std.proofs.Common.{◌≡◌, ℕ, ◌+◌, List, [], ◌∷◌, ◌++◌, Option, Result, Ok, Err, refl, sym, ap, subst, ◌∙◌}
 use Rattle.std.specs.Prelude.{IsErr}
 use Rattle.std.specs.Io.KnownBytes.{Appends}
@@ -17,24 +17,6 @@ use Rattle.agc_trace.proofs.Moments as moments
 use Rattle.agc_picture.specs.Frames.{width_of, head_text}
 use Rattle.agc_picture.specs.Pieces.{capped, x_of}
 use Rattle.agc_picture.specs.Pictures.{first_text, opening_text, scene_now, count_of, picture_of, picture_text}
-
--- where nothing is written of each request, nothing is
-pub no_texts : {S : Type 0} → (next : S → Request → S) (state : S) (requests : List Request) → texts next (λ s r. []) state requests ≡ []
-unfolding texts
-no_texts next state [] = refl
-no_texts next state (r ∷ requests) = no_texts next (next state r) requests
-
-no_front : (a b : List ℕ) → [] ≡ a ++ b → b ≡ []
-no_front [] b is = sym is
-no_front (x ∷ a) b is = absurd (cc)
-
--- nothing has no front but itself
-pub fails_nothing : (o n : Option (List ℕ)) (text : List ℕ) → AppendsFront o n [] → AppendsFront o n text
-fails_nothing o n text h = absurd (h.1 (no_front h.2.front h.0 h.2.whole))
-
-pub count_failed : {U D : Type 0} → (o n : Option (List ℕ)) (text : List ℕ) (r : Result U D) → text ≡ [] → AppendsFront o n text → IsErr r → Writes o n [] r
-count_failed o n text (Ok x) is h err = absurd cc
-count_failed o n text (Err x) is h err = subst (λ (t : List ℕ). AppendsFront o n t) is h
 
 -- one of three parts, after those before it
 pub first_failed : {U D : Type 0} → (o n : Option (List ℕ)) (a b c : List ℕ) (r : Result U D) → AppendsFront o n a → IsErr r → Writes o n (a ++ (b ++ c)) r
@@ -56,20 +38,11 @@ opening_is count width right sets m moment a b width_is right_is sets_is is a_is
     ∙ ap (λ (n : ℕ). head_text m.plan.sets count n ++ first_text width (scene_now m)) right_is
     ∙ ap (λ (w : ℕ). head_text m.plan.sets count (x_of w (capped (count + 2))) ++ first_text w (scene_now m)) width_is
 
--- all of it, behind a count that wrote nothing
-same_picture : (bench : Benched) (count : ℕ) (machine : Machined) → count ≡ count_of bench → machine ≡ bench_machine bench → picture_of count machine (bench_requests bench) ≡ picture_text bench
+-- all of it, by the count and the machine
+pub same_picture : (bench : Benched) (count : ℕ) (machine : Machined) → count ≡ count_of bench → machine ≡ bench_machine bench → picture_of count machine (bench_requests bench) ≡ picture_text bench
 same_picture bench count machine count_is machine_is =
     ap (λ (n : ℕ). picture_of n machine (bench_requests bench)) count_is
     ∙ ap (λ (m : Machined). picture_of (count_of bench) m (bench_requests bench)) machine_is
-
-pub drawn_front : (o m n : Option (List ℕ)) (bench : Benched) (count : ℕ) (machine : Machined) → count ≡ count_of bench → machine ≡ bench_machine bench → Appends o m [] → AppendsFront m n (picture_of count machine (bench_requests bench)) → AppendsFront o n (picture_text bench)
-drawn_front o m n bench count machine count_is machine_is none front =
-    let rest : AppendsFront m n (picture_text bench) = subst (λ (t : List ℕ). AppendsFront m n t) (same_picture bench count machine count_is machine_is) front in
-    (rest.0, rest.1, up_to_more_front o m n [] (picture_text bench) rest.0 none rest.2)
-
-pub drawn_whole : (o m n : Option (List ℕ)) (bench : Benched) (count : ℕ) (machine : Machined) → count ≡ count_of bench → machine ≡ bench_machine bench → Appends o m [] → Appends m n (picture_of count machine (bench_requests bench)) → Appends o n (picture_text bench)
-drawn_whole o m n bench count machine count_is machine_is none whole =
-    appends_both o m n [] (picture_text bench) none (subst (λ (t : List ℕ). Appends m n t) (same_picture bench count machine count_is machine_is) whole)
 
 pub two_parts : (a b p q : List ℕ) → a ≡ p → b ≡ a ++ q → b ≡ p ++ q
 two_parts a b p q first second = second ∙ ap (λ (t : List ℕ). t ++ q) first

@@ -74,7 +74,6 @@ pub fn picture<W: Write>(alloc: Global, bench: &Bench, writer: &mut W) -> Result
     ensures { WritesPicture (W.contents writer.old) (W.contents writer.new) bench.now result }
 {
     let machine = machine_of(alloc, bench)?;
-    let count = count_of(bench, writer)?;
-    draw(machine, count, bench, writer)?;
+    draw(machine, count_of(bench), bench, writer)?;
     Ok(())
 }

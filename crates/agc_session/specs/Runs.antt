@@ -1,6 +1,6 @@
 -- The machines of a script and of a bench, and what they are asked for.
 use Rattle.std.specs.Prelude.{ℕ, ◌==◌, ◌&&◌, nat_le, Bool, List, [], ◌++◌, Option, Some, None}
-use Rattle.std.specs.List.{flat_map}
+use Rattle.std.specs.List.{flat_map, list_all, range_with_len}
 use Rattle.agc_word.specs.Words.{complement}
 use Rattle.agc_plan.specs.declared.request.Request.{Request}
 use Rattle.agc_plan.specs.Base.{Base, fresh_base}
@@ -20,17 +20,14 @@ empty_plan = record { rows = []; entries = []; key = []; radar = [] }
 unfoldable pub script_machine : Machined
 script_machine = begun_with (planned_with empty_plan 7) 1000 1000000 fresh_base
 
--- whether the words -PHASE and PHASE of a group, counted from 0, are complements, and the phase is
--- at most 127
-abbrev pub pair_agrees : List ℕ → ℕ → Bool
-pair_agrees words group = (minus_in words group == complement (phase_in words group)) && nat_le
-    (phase_in words group) 127
+-- whether the words -PHASE and PHASE of a group are complements, and the phase is at most 127
+abbrev pub pair_agrees : ℕ → ℕ → Bool
+pair_agrees minus phase = (minus == complement phase) && nat_le phase 127
 
 -- whether twelve phase words agree, pair by pair
 abbrev pub pairs_agree : List ℕ → Bool
-pairs_agree words = pair_agrees words 0 &&
-    (pair_agrees words 1 &&
-    (pair_agrees words 2 && (pair_agrees words 3 && (pair_agrees words 4 && pair_agrees words 5))))
+pairs_agree words = list_all
+    (λ group. pair_agrees (minus_in words group) (phase_in words group)) (range_with_len 0 6)
 
 -- with what a bench's machine begins: as power comes back with these words, or else afresh
 abbrev pub bench_base : Option (List ℕ) → Base

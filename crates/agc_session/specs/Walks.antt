@@ -1,5 +1,5 @@
 -- What is written of requests that are asked in order.
-use Rattle.std.specs.Prelude.{◌≡◌, ℕ, List, [], ◌∷◌, ◌++◌, Option}
+use Rattle.std.specs.Prelude.{◌≡◌, ℕ, List, [], ◌∷◌, ◌++◌, Option, Result, Ok, Err}
 use Rattle.std.specs.Io.KnownBytes.{Appends}
 use Rattle.std.specs.List.{fold}
 use Rattle.agc_plan.specs.declared.request.Request.{Request}
@@ -25,3 +25,11 @@ pub record StopsIn {S : Type 0} (next : S → Request → S) (text : S → Reque
   pub between : Option (List ℕ)
   pub told : Appends old between (texts next text start before)
   pub front : AppendsFront between new (text (fold next start before) last)
+
+-- requests that are asked in order: all were asked, their texts were written and nothing else;
+-- where a write failed, it stopped in one of them
+abbrev pub AsksInOrder : {S T E : Type 0} → (S → Request → S) → (S → Request → List ℕ) → S
+    → List Request → S → Option (List ℕ) → Option (List ℕ) → Result T E → Type 0
+AsksInOrder next text start asked end old new (Ok _) =
+    (end ≡ fold next start asked) × Appends old new (texts next text start asked)
+AsksInOrder next text start asked end old new (Err _) = StopsIn next text start asked end old new

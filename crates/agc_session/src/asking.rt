@@ -1,10 +1,9 @@
 // One walk of a bench, whoever is asked.
-ghost use Rattle.std.specs.Prelude.{◌≡◌, ◌==◌, IfErr, OnOk, length};
-ghost use Rattle.std.specs.List.{flat_map, fold};
-ghost use Rattle.agc_text.specs.Writing.{Writes};
+ghost use Rattle.std.specs.Prelude.{◌≡◌, ◌==◌, length};
+ghost use Rattle.std.specs.List.{flat_map};
 ghost use Rattle.agc_desk.specs.Pulses.{asks_nothing, pulse_requests, requests_for};
 ghost use Rattle.agc_session.specs.Runs.{bench_plan, bench_requests, device_requests};
-ghost use Rattle.agc_session.specs.Walks.{StopsIn, texts};
+ghost use Rattle.agc_session.specs.Walks.{AsksInOrder};
 
 use crate::asks::Asks;
 use agc_desk::{Line, action_request};
@@ -47,11 +46,8 @@ pub fn ask_all<A: Asks, W: Write>(
     requests: &[Request],
     writer: &mut W,
 ) -> Result<(), Output>
-    ensures after { OnOk result (asker.new ≡ fold A.next asker.old requests.now) }
-    ensures writes { Writes (W.contents writer.old) (W.contents writer.new)
-        (texts A.next A.text asker.old requests.now) result }
-    ensures stopped { IfErr result (λ _. StopsIn A.next A.text asker.old requests.now asker.new
-        (W.contents writer.old) (W.contents writer.new)) }
+    ensures { AsksInOrder A.next A.text asker.old requests.now
+        asker.new (W.contents writer.old) (W.contents writer.new) result }
 {
     for request in requests {
         asker.ask(request, writer)?;
@@ -65,13 +61,8 @@ fn ask_actions<A: Asks, W: Write>(
     actions: &[Action],
     writer: &mut W,
 ) -> Result<(), Output>
-    ensures after { OnOk result
-        (asker.new ≡ fold A.next asker.old (requests_for actions.now)) }
-    ensures writes { Writes (W.contents writer.old) (W.contents writer.new)
-        (texts A.next A.text asker.old (requests_for actions.now)) result }
-    ensures stopped { IfErr result (λ _. StopsIn A.next A.text asker.old
-        (requests_for actions.now) asker.new
-        (W.contents writer.old) (W.contents writer.new)) }
+    ensures { AsksInOrder A.next A.text asker.old (requests_for actions.now)
+        asker.new (W.contents writer.old) (W.contents writer.new) result }
 {
     for action in actions {
         if let Some(request) = action_request(*action) {
@@ -88,13 +79,8 @@ fn ask_pulse<A: Asks, W: Write>(
     line: Line,
     writer: &mut W,
 ) -> Result<(), Output>
-    ensures after { OnOk result
-        (asker.new ≡ fold A.next asker.old (pulse_requests (bench_plan bench.now) line)) }
-    ensures writes { Writes (W.contents writer.old) (W.contents writer.new)
-        (texts A.next A.text asker.old (pulse_requests (bench_plan bench.now) line)) result }
-    ensures stopped { IfErr result (λ _. StopsIn A.next A.text asker.old
-        (pulse_requests (bench_plan bench.now) line) asker.new
-        (W.contents writer.old) (W.contents writer.new)) }
+    ensures { AsksInOrder A.next A.text asker.old (pulse_requests (bench_plan bench.now) line)
+        asker.new (W.contents writer.old) (W.contents writer.new) result }
 {
     match line {
         Line::Timer => asker.ask(&Request::Tick, writer),
@@ -110,13 +96,8 @@ fn ask_device<A: Asks, W: Write>(
     device: (Line, u32),
     writer: &mut W,
 ) -> Result<(), Output>
-    ensures after { OnOk result
-        (asker.new ≡ fold A.next asker.old (device_requests bench.now device)) }
-    ensures writes { Writes (W.contents writer.old) (W.contents writer.new)
-        (texts A.next A.text asker.old (device_requests bench.now device)) result }
-    ensures stopped { IfErr result (λ _. StopsIn A.next A.text asker.old
-        (device_requests bench.now device) asker.new
-        (W.contents writer.old) (W.contents writer.new)) }
+    ensures { AsksInOrder A.next A.text asker.old (device_requests bench.now device)
+        asker.new (W.contents writer.old) (W.contents writer.new) result }
 {
     for _pulse in 0..device.1 {
         ask_pulse(asker, bench, device.0, writer)?;
@@ -130,13 +111,8 @@ fn ask_workers<A: Asks, W: Write>(
     workers: &[Vec<Request>],
     writer: &mut W,
 ) -> Result<(), Output>
-    ensures after { OnOk result
-        (asker.new ≡ fold A.next asker.old (flat_map (λ w. w.items) workers.now)) }
-    ensures writes { Writes (W.contents writer.old) (W.contents writer.new)
-        (texts A.next A.text asker.old (flat_map (λ w. w.items) workers.now)) result }
-    ensures stopped { IfErr result (λ _. StopsIn A.next A.text asker.old
-        (flat_map (λ w. w.items) workers.now) asker.new
-        (W.contents writer.old) (W.contents writer.new)) }
+    ensures { AsksInOrder A.next A.text asker.old (flat_map (λ w. w.items) workers.now)
+        asker.new (W.contents writer.old) (W.contents writer.new) result }
 {
     for worker in workers {
         ask_all(asker, worker.as_slice(), writer)?;
@@ -150,13 +126,9 @@ fn ask_devices<A: Asks, W: Write>(
     bench: &Bench,
     writer: &mut W,
 ) -> Result<(), Output>
-    ensures after { OnOk result (asker.new
-        ≡ fold A.next asker.old (flat_map (device_requests bench.now) bench.now.devices)) }
-    ensures writes { Writes (W.contents writer.old) (W.contents writer.new) (texts A.next A.text
-        asker.old (flat_map (device_requests bench.now) bench.now.devices)) result }
-    ensures stopped { IfErr result (λ _. StopsIn A.next A.text asker.old
-        (flat_map (device_requests bench.now) bench.now.devices) asker.new
-        (W.contents writer.old) (W.contents writer.new)) }
+    ensures { AsksInOrder A.next A.text asker.old
+        (flat_map (device_requests bench.now) bench.now.devices)
+        asker.new (W.contents writer.old) (W.contents writer.new) result }
 {
     for device in bench.devices() {
         ask_device(asker, bench, *device, writer)?;
@@ -175,12 +147,8 @@ pub fn ask_bench<A: Asks, W: Write>(
     bench: &Bench,
     writer: &mut W,
 ) -> Result<(), Output>
-    ensures after { OnOk result (asker.new ≡ fold A.next asker.old (bench_requests bench.now)) }
-    ensures writes { Writes (W.contents writer.old) (W.contents writer.new)
-        (texts A.next A.text asker.old (bench_requests bench.now)) result }
-    ensures stopped { IfErr result (λ _. StopsIn A.next A.text asker.old
-        (bench_requests bench.now) asker.new
-        (W.contents writer.old) (W.contents writer.new)) }
+    ensures { AsksInOrder A.next A.text asker.old (bench_requests bench.now)
+        asker.new (W.contents writer.old) (W.contents writer.new) result }
 {
     ask_all(asker, bench.script(), writer)?;
     ask_workers(asker, bench.workers(), writer)?;

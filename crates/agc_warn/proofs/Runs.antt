@@ -1,43 +1,23 @@
 -- A run that writes nothing, and whose first refused requests are noted.
 use Rattle.std.proofs.Common.{◌≡◌, ℕ, zero, suc, ◌-◌, ◌==◌, nat_lt, Bool, true, false, if◌then◌else◌, List, [], ◌∷◌, ◌++◌, length, take, Option, Some, None, refl, sym, ap, ◌∙◌, inl, inr, arith}
 use Rattle.std.specs.List.{fold}
+use Rattle.std.specs.Option.{option_or}
 use Rattle.std.proofs.lemmas.Bool.{cases_lt}
 use Rattle.std.proofs.lemmas.Grind.{common_steps}
 use Rattle.agc_plan.specs.declared.request.Request.{Request}
 use Rattle.agc_machine.specs.Machines.{after, refusal_of}
-use Rattle.agc_text.specs.Writing.{AppendsFront}
 use Rattle.agc_text.proofs.Cuts.{eqb-false}
-use Rattle.agc_session.specs.Walks.{texts}
 use Rattle.agc_trace.specs.Traces.{one_more, is_log_full, is_spent}
 use Rattle.agc_document.specs.Benches.{Benched}
 use Rattle.agc_session.specs.Runs.{bench_machine, bench_requests}
 use Rattle.agc_warn.specs.Refusals.{first_refused, log_full_at, spent_at, is_cut}
 use Rattle.agc_warn.specs.Runners.{Running, first_of, ran_on, cut, ran, run_from}
 
--- many texts that are empty are
-pub no_texts : {S : Type 0} → (next : S → Request → S) (s : S) (rs : List Request) → texts next (λ _ _. []) s rs ≡ []
-unfolding texts
-no_texts next s [] = refl
-no_texts next s (r ∷ rs) = no_texts next (next s r) rs
-
--- no write of nothing fails
-rest_of_none : (a b : List ℕ) → [] ≡ a ++ b → b ≡ []
-rest_of_none [] b e = sym e
-rest_of_none (x ∷ a) b e = absurd (cc)
-
-pub none_fails : (o n : Option (List ℕ)) (text : List ℕ) → text ≡ [] → AppendsFront o n text → ⊥
-none_fails o n text is h = h.1 (rest_of_none h.2.front h.0 (sym is ∙ h.2.whole))
-
--- the first number that there is, or else the other
-abbrev pub or_first : Option ℕ → Option ℕ → Option ℕ
-or_first (Some first) other = Some first
-or_first None other = other
-
-none_after : (first : Option ℕ) → first ≡ or_first first None
+none_after : (first : Option ℕ) → first ≡ option_or first None
 none_after (Some first) = refl
 none_after None = refl
 
-next_first : (first : Option ℕ) (is : Bool) (n : ℕ) (rest : Option ℕ) → or_first (first_of first is n) rest ≡ or_first first (if is then Some n else rest)
+next_first : (first : Option ℕ) (is : Bool) (n : ℕ) (rest : Option ℕ) → option_or (first_of first is n) rest ≡ option_or first (if is then Some n else rest)
 next_first (Some first) is n rest = refl
 next_first None true n rest = refl
 next_first None false n rest = refl
@@ -52,7 +32,7 @@ ran_next s r n e = ap (λ b. if b then cut s else ran_on s r) (eqb-false s.left 
 one_less : (s : Running) (n : ℕ) → s.left ≡ suc n → s.left - 1 ≡ n
 one_less s n e = omega (arith, e)
 
-log_full_from : (s : Running) (n : ℕ) (rs : List Request) → s.left ≡ n → (fold ran s rs).log_full ≡ or_first s.log_full (first_refused is_log_full s.machine s.asked (take n rs))
+log_full_from : (s : Running) (n : ℕ) (rs : List Request) → s.left ≡ n → (fold ran s rs).log_full ≡ option_or s.log_full (first_refused is_log_full s.machine s.asked (take n rs))
 log_full_from s zero [] e = none_after s.log_full
 log_full_from s (suc n) [] e = none_after s.log_full
 log_full_from s zero (r ∷ rs) e = ap (λ t. (fold ran t rs).log_full) (ran_cut s r e) ∙ log_full_from (cut s) zero rs e
@@ -61,7 +41,7 @@ log_full_from s (suc n) (r ∷ rs) e =
     ∙ log_full_from (ran_on s r) n rs (one_less s n e)
     ∙ next_first s.log_full (is_log_full (refusal_of s.machine r)) (one_more s.asked) (first_refused is_log_full (after s.machine r) (one_more s.asked) (take n rs))
 
-spent_from : (s : Running) (n : ℕ) (rs : List Request) → s.left ≡ n → (fold ran s rs).spent ≡ or_first s.spent (first_refused is_spent s.machine s.asked (take n rs))
+spent_from : (s : Running) (n : ℕ) (rs : List Request) → s.left ≡ n → (fold ran s rs).spent ≡ option_or s.spent (first_refused is_spent s.machine s.asked (take n rs))
 spent_from s zero [] e = none_after s.spent
 spent_from s (suc n) [] e = none_after s.spent
 spent_from s zero (r ∷ rs) e = ap (λ t. (fold ran t rs).spent) (ran_cut s r e) ∙ spent_from (cut s) zero rs e

@@ -3,7 +3,7 @@ use Rattle.std.specs.Option.{option_to_list}
 use Rattle.agc_plan.specs.declared.request.Action.{Action}
 use Rattle.agc_plan.specs.declared.request.Request.{Request}
 use Rattle.agc_desk.specs.Pulses.{action_request, requests_for}
-use Rattle.agc_session.proofs.Walks.{all_left, left_as, one_asked, one_failed, one_stopped, where_stopped, next_item, no_item, left_texts}
+use Rattle.agc_session.proofs.Walks.{all_left, left_as, one_asked, one_failed, next_item, no_item, walk_done}
 use Rattle.agc_session.proofs.asking.ask_actions.Goals as goal
 use Rattle.agc_session.proofs.asking.ask_actions.Goals.{in-Some+in_ok-ask, in_default}
 
@@ -15,17 +15,6 @@ asked act = option_to_list (action_request act)
 asks_by : (act : Action) (o p : Option Request) → o ≡ action_request act → o ≡ p → (rest : List Request) → asked act ++ rest ≡ option_to_list p ++ rest
 unfolding asked
 asks_by act o p is by rest = ap (λ x. option_to_list x ++ rest) (sym is ∙ by)
-
-pub returns-in_err-ask-clause-writes : goal.returns-in_err-ask-clause-writes
-unfolding asked
-returns-in_err-ask-clause-writes g c =
-    let acts = c.args.actions.now in
-    let i = c.loop-action.action-index in
-    let rest = requests_for (drop (i + 1) acts) in
-    let is : requests_for (drop i acts) ≡ c.in-Some.request ∷ rest =
-    next_item asked acts i c.action-item.result c.loop-action-test.true c.action-item.is
-    ∙ asks_by c.action-item.result c.action_request.result (Some c.in-Some.request) c.action_request.ensures c.in-Some.is rest in
-    one_failed c.from_residual.result (left_as is c.loop-action.invariant.left) c.in_err-ask.ensures.writes c.from_residual.ensures.0
 
 pub loop-action-init : goal.loop-action-init
 loop-action-init g c = record { left = all_left g.A.Asks.next g.A.Asks.text _ _ _ }
@@ -48,18 +37,18 @@ loop-action-preserved g c =
           rw (w.asker-is, w.writer-is) (record { left = left_as is c.loop-action.invariant.left })
     ]
 
-pub returns-clause-writes : goal.returns-clause-writes
+pub returns-in_err-ask : goal.returns-in_err-ask
 unfolding asked
-returns-clause-writes g c =
-    left_texts (left_as (no_item asked c.args.actions.now c.loop-action.action-index c.loop-action-test.false) c.loop-action.invariant.left)
-
-pub returns-in_err-ask-clause-stopped : goal.returns-in_err-ask-clause-stopped
-unfolding asked
-returns-in_err-ask-clause-stopped g c =
+returns-in_err-ask g c =
     let acts = c.args.actions.now in
     let i = c.loop-action.action-index in
     let rest = requests_for (drop (i + 1) acts) in
     let is : requests_for (drop i acts) ≡ c.in-Some.request ∷ rest =
     next_item asked acts i c.action-item.result c.loop-action-test.true c.action-item.is
     ∙ asks_by c.action-item.result c.action_request.result (Some c.in-Some.request) c.action_request.ensures c.in-Some.is rest in
-    where_stopped c.from_residual.result (one_stopped (left_as is c.loop-action.invariant.left) c.ask.ensures.after c.in_err-ask.ensures.writes)
+    one_failed c.from_residual.result (left_as is c.loop-action.invariant.left) c.ask.ensures.after c.in_err-ask.ensures.writes c.from_residual.ensures.0
+
+pub returns : goal.returns
+unfolding asked
+returns g c =
+    walk_done (left_as (no_item asked c.args.actions.now c.loop-action.action-index c.loop-action-test.false) c.loop-action.invariant.left)

@@ -1,5 +1,6 @@
 use Rattle.std.proofs.Common.{◌++◌, ℕ, None, refl, ap, ◌∙◌}
 use Rattle.std.proofs.lemmas.Result.{err_from_is_err_and}
+use Rattle.agc_session.proofs.Walks.{stopped_front}
 use Rattle.agc_trace.specs.Briefs.{Telling, left_text}
 use Rattle.agc_trace.specs.Openings.{ending_text, opening_text}
 use Rattle.agc_trace.proofs.Moments.{opening_fresh}
@@ -26,7 +27,7 @@ returns-in_err-ask_all g c =
       start_is = c.teller_of-teller.ensures;
     } in
     rw (p.1, p.2) (script_front _ _ c.args.choice c.args.requests.now m c.in_ok-machine.ensures.machine
-    (lines_front _ _ _ (opening_text None m) c.args.choice m c.args.requests.now c.as_bytes.result.now c.teller_of-teller.result run c.in_ok-put.ensures c.in_err-ask_all.ensures.writes))
+    (lines_front _ _ _ (opening_text None m) c.args.choice m c.args.requests.now c.as_bytes.result.now c.teller_of-teller.result run c.in_ok-put.ensures (stopped_front c.in_err-ask_all.ensures)))
 
 pub returns-in_err-put-2 : goal.returns-in_err-put-2
 returns-in_err-put-2 g c =
@@ -38,14 +39,14 @@ returns-in_err-put-2 g c =
     } in
     let last = c.ask_all.new.asker in
     let end : IsEnd m c.args.requests.now c.teller_of-teller.result last c.as_bytes-2.result.now = record {
-      last_is = c.in_ok-ask_all.ensures.after;
+      last_is = c.in_ok-ask_all.ensures.0;
       text_is = c.as_bytes-2.ensures.value ∙ c.deref-2.ensures.0 ∙ c.last_of-last.ensures
           ∙ ap (λ (t : Telling). left_text t.left ++ ending_text 1000 1000000 t.counted) c.teller-2.view_is
           ∙ ap (λ (n : ℕ). left_text last.left ++ ending_text n 1000000 last.counted) (script_limit m c.in_ok-machine.ensures.machine)
           ∙ ap (λ (n : ℕ). left_text last.left ++ ending_text m.limit n last.counted) (script_allowance m c.in_ok-machine.ensures.machine);
     } in
     rw (p.1, p.2) (script_front _ _ c.args.choice c.args.requests.now m c.in_ok-machine.ensures.machine
-    (ending_front _ _ _ _ (opening_text None m) c.args.choice m c.args.requests.now c.as_bytes.result.now c.teller_of-teller.result last c.as_bytes-2.result.now run end c.in_ok-put.ensures c.in_ok-ask_all.ensures.writes c.in_err-put-2.ensures))
+    (ending_front _ _ _ _ (opening_text None m) c.args.choice m c.args.requests.now c.as_bytes.result.now c.teller_of-teller.result last c.as_bytes-2.result.now run end c.in_ok-put.ensures c.in_ok-ask_all.ensures.1 c.in_err-put-2.ensures))
 
 pub returns : goal.returns
 returns g c =
@@ -56,11 +57,11 @@ returns g c =
     } in
     let last = c.ask_all.new.asker in
     let end : IsEnd m c.args.requests.now c.teller_of-teller.result last c.as_bytes-2.result.now = record {
-      last_is = c.in_ok-ask_all.ensures.after;
+      last_is = c.in_ok-ask_all.ensures.0;
       text_is = c.as_bytes-2.ensures.value ∙ c.deref-2.ensures.0 ∙ c.last_of-last.ensures
           ∙ ap (λ (t : Telling). left_text t.left ++ ending_text 1000 1000000 t.counted) c.teller-2.view_is
           ∙ ap (λ (n : ℕ). left_text last.left ++ ending_text n 1000000 last.counted) (script_limit m c.in_ok-machine.ensures.machine)
           ∙ ap (λ (n : ℕ). left_text last.left ++ ending_text m.limit n last.counted) (script_allowance m c.in_ok-machine.ensures.machine);
     } in
     script_whole _ _ c.args.choice c.args.requests.now m c.in_ok-machine.ensures.machine
-    (all_written _ _ _ _ (opening_text None m) c.args.choice m c.args.requests.now c.as_bytes.result.now c.teller_of-teller.result last c.as_bytes-2.result.now run end c.in_ok-put.ensures c.in_ok-ask_all.ensures.writes c.in_ok-put-2.ensures)
+    (all_written _ _ _ _ (opening_text None m) c.args.choice m c.args.requests.now c.as_bytes.result.now c.teller_of-teller.result last c.as_bytes-2.result.now run end c.in_ok-put.ensures c.in_ok-ask_all.ensures.1 c.in_ok-put-2.ensures)

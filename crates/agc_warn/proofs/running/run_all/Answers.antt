@@ -1,5 +1,5 @@
-use Rattle.agc_warn.proofs.Runs.{none_fails, no_texts}
+use Rattle.agc_session.proofs.Walks.{never_stops}
 use Rattle.agc_warn.proofs.running.run_all.Goals as goal
 
 pub unreachable-requires : goal.unreachable-requires
-unreachable-requires c = none_fails _ _ _ (no_texts _ _ _) c.in-Err.ensures.writes
+unreachable-requires c = never_stops c.in-Err.ensures
