@@ -6,6 +6,10 @@ use Rattle.std.specs.Io.KnownBytes.{Consumes, IsAtEnd}
 abbrev pub most_bytes : ℕ
 most_bytes = 1048576
 
+-- how many bytes one read may bring
+abbrev pub most_at_once : ℕ
+most_at_once = 4096
+
 -- all that was left was read, and these bytes are all of it
 pub record ReadsAll (old new : Option (List ℕ)) (bytes : List ℕ) : Type 0 where
   pub read : Consumes old new bytes

@@ -1,6 +1,6 @@
-use Rattle.std.proofs.Common.{◌≤◌, length}
+use Rattle.std.proofs.Common.{◌≡◌, ◌≤◌, length}
 use Rattle.std.specs.Io.KnownBytes.{Consumes}
-use Rattle.agc_text.specs.Input.{most_bytes}
+use Rattle.agc_text.specs.Input.{most_bytes, most_at_once}
 use Rattle.agc_text.proofs.input.read_bytes.Given as goal
 
 abbrev pub invariant-loop : goal.invariant-loop
@@ -8,4 +8,5 @@ invariant-loop g l = record {
   read : Consumes (g.R.Read.remaining l.initial.reader) (g.R.Read.remaining l.reader) l.bytes.items;
   fits : length l.bytes.items ≤ most_bytes;
   counted : l.counter ≤ length l.bytes.items;
+  room : length l.piece ≡ most_at_once;
 }
