@@ -1,5 +1,5 @@
 -- What the program makes of its input, in each mode.
-use Rattle.std.specs.Prelude.{◌≡◌, ℕ, true, List, map, Option, Result, Ok, Err}
+use Rattle.std.specs.Prelude.{◌≡◌, ◌⊎◌, ℕ, true, List, map, Option, Result, Ok, Err}
 use Rattle.toml.specs.Parse.{parse_document}
 use Rattle.agc_plan.specs.declared.request.Request.{Request}
 use Rattle.agc_text.specs.Faults.{RefusesScript}
@@ -13,9 +13,10 @@ use Rattle.agc_session.specs.Session.{WritesSession}
 use Rattle.agc_bench.specs.Threads.{WritesRun}
 use Rattle.agc_program.specs.declared.fault.Fault.{Fault}
 use Rattle.agc_program.specs.declared.fault.Fault.TheVariants as fault
-use Rattle.agc_program.specs.Inputs.{IsDocument}
+use Rattle.agc_program.specs.Inputs.{CanEnd, IsDocument}
 use Rattle.agc.specs.declared.mode.Mode.{Mode}
 use Rattle.agc.specs.declared.mode.Mode.TheVariants as mode
+use Rattle.agc.specs.Modes.{AskFor}
 
 -- what a run of this text wrote: a script's, or a bench's by one caller or by threads, of which no
 -- gate stops any
@@ -41,3 +42,14 @@ abbrev pub RunsText : Mode → List ℕ → Option (List ℕ) → Option (List �
 RunsText mode text old new (Ok done) = WritesOf mode text old new (Ok done)
 RunsText mode text old new (Err (fault.Run why)) = WritesOf mode text old new (Err why)
 RunsText mode text old new (Err why) = Refuses mode text why × (new ≡ old)
+
+-- words can end so: as the mode for which they ask, or for want of memory; or they ask for none,
+-- and are refused
+abbrev pub EndsFor : (words : List (List ℕ)) → Result Unit Fault → Type 0
+EndsFor words outcome = ((asked : Mode) × AskFor words asked × CanEnd (RunsText asked) outcome)
+    ⊎ (outcome ≡ Err fault.NoMemory)
+    ⊎ (((asked : Mode) → AskFor words asked → ⊥) × (outcome ≡ Err fault.Words))
+
+-- a run can end so, for some words
+abbrev pub IsEnd : Result Unit Fault → Type 0
+IsEnd outcome = (words : List (List ℕ)) × EndsFor words outcome

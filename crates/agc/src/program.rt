@@ -1,7 +1,9 @@
 //! What the program does: the words, the reading, the script or bench, the run, in this order.
 ghost use Rattle.agc.specs.declared.mode.Mode.TheVariants.{Script, Serial, Threads};
-ghost use Rattle.agc_program.specs.Inputs.{EndsBy};
-ghost use Rattle.agc.specs.Program.{RunsText};
+ghost use Rattle.std.specs.Prelude.{map};
+ghost use Rattle.std.specs.String.{string_bytes};
+ghost use Rattle.agc_program.specs.Inputs.{CanEnd, EndsBy};
+ghost use Rattle.agc.specs.Program.{EndsFor, IsEnd, RunsText};
 
 use crate::mode::{Mode, mode_of};
 use agc_bench::threads;
@@ -67,13 +69,36 @@ fn run_input<T: Threads + Wait + Sync, R: Read, W: Write>(
     }
 }
 
-/// Runs the program. Output goes through a buffer that is flushed before it ends.
-pub fn run(
-    rt: &(impl Env + AllocGlobal + Input + Print + Threads + Wait + Sync),
-) -> Result<(), Fault> {
-    let given = given_words(rt)?;
-    let mode = mode_of(rt.alloc(), given.as_slice())?;
+/// Runs standard input as the mode says, and writes through a buffer that is flushed at the end.
+fn run_mode<R: AllocGlobal + Input + Print + Threads + Wait + Sync>(
+    rt: &R,
+    mode: Mode,
+) -> Result<(), Fault>
+    ensures { CanEnd (RunsText mode) result }
+{
     let mut output = buffered(rt)?;
     run_input(rt, rt.alloc(), mode, &mut rt.reader(), &mut output)?;
-    flushed(&mut output)
+    flushed(&mut output)?;
+    Ok(())
+}
+
+/// Runs as these words say, of which the first is the program's own name.
+fn run_words<R: AllocGlobal + Input + Print + Threads + Wait + Sync>(
+    rt: &R,
+    words: &[String],
+) -> Result<(), Fault>
+    ensures { EndsFor (map string_bytes words.now) result }
+{
+    let mode = mode_of(rt.alloc(), words)?;
+    run_mode(rt, mode)
+}
+
+/// Runs the program.
+pub fn run(
+    rt: &(impl Env + AllocGlobal + Input + Print + Threads + Wait + Sync),
+) -> Result<(), Fault>
+    ensures { IsEnd result }
+{
+    let given = given_words(rt)?;
+    run_words(rt, given.as_slice())
 }

@@ -14,14 +14,22 @@ abbrev pub IsDocument : List ℕ → Benched → Type 0
 IsDocument text bench = IsBench bench × HasTexts (parse_document text) (bench_texts bench)
 
 -- why input can't be read, so that nothing was written
-abbrev pub IsUnread : Option (List ℕ) → Option (List ℕ) → Result Unit Fault → Type 0
+abbrev pub IsUnread : {T : Type 0} → Option (List ℕ) → Option (List ℕ) → Result T Fault → Type 0
 IsUnread unread rest outcome =
     (why : ReadFault) × (outcome ≡ Err (fault.Read why)) × RefusesInput unread rest why
 
 -- what comes of input: it can't be read, or all of it was read, and this comes of its text
-abbrev pub EndsBy : (List ℕ → Option (List ℕ) → Option (List ℕ) → Result Unit Fault → Type 0)
+abbrev pub EndsBy : {T : Type 0}
+    → (List ℕ → Option (List ℕ) → Option (List ℕ) → Result T Fault → Type 0)
     → Option (List ℕ) → Option (List ℕ) → Option (List ℕ) → Option (List ℕ)
-    → Result Unit Fault → Type 0
+    → Result T Fault → Type 0
 EndsBy runs unread rest old new outcome =
     (IsUnread unread rest outcome × (new ≡ old))
     ⊎ ((text : List ℕ) × ReadsAll unread rest text × runs text old new outcome)
+
+-- a run can end so: for want of a buffer, by a failed flush, or as some input has it
+abbrev pub CanEnd : {T : Type 0}
+    → (List ℕ → Option (List ℕ) → Option (List ℕ) → Result T Fault → Type 0)
+    → Result T Fault → Type 0
+CanEnd runs outcome = (outcome ≡ Err fault.NoMemory) ⊎ (outcome ≡ Err fault.Output)
+    ⊎ ((unread rest old new : Option (List ℕ)) × EndsBy runs unread rest old new outcome)

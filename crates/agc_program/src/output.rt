@@ -1,6 +1,6 @@
 //! Standard output, through a buffer.
-ghost use Rattle.std.specs.Prelude.{◌≡◌, [], IfErr, IfOk};
-ghost use Rattle.std.specs.Io.Buffered.{writer_buffer};
+ghost use Rattle.std.specs.Prelude.{◌≡◌, [], IfErr, IfOk, OnOk};
+ghost use Rattle.std.specs.Io.Buffered.{writer_buffer, writer_contents};
 ghost use Rattle.std.specs.Io.KnownBytes.{Keeps};
 ghost use Rattle.agc_program.specs.declared.fault.Fault.TheVariants.{NoMemory, Output};
 
@@ -20,14 +20,16 @@ pub fn buffered<R: AllocGlobal + Print>(rt: &R) -> Result<BufWriter<Printer<'_, 
     BufWriter::new(rt.alloc(), io::writer(rt)).map_err(|_| Fault::NoMemory)
 }
 
-/// Writes what the buffer of a writer still holds.
+/// Writes what a buffer still holds.
 ///
 /// # Errors
 ///
 /// `Output`, and no other.
-pub fn flushed<W: Write>(writer: &mut W) -> Result<(), Fault>
+pub fn flushed<W: Write + Drop>(writer: &mut BufWriter<W>) -> Result<(), Fault>
+    ensures empty { OnOk result (writer_buffer writer.new ≡ []) }
     ensures refused { IfErr result (λ e. e ≡ Output) }
-    ensures kept { Keeps (W.contents writer.old) (W.contents writer.new) }
+    ensures kept { Keeps (writer_contents W.contents writer.old)
+        (writer_contents W.contents writer.new) }
 {
     writer.flush().map_err(|_| Fault::Output)
 }

@@ -9,16 +9,13 @@ use Rattle.agc_document.specs.Faults.{RefusesBench}
 use Rattle.agc_session.specs.declared.run_fault.RunFault.{RunFault}
 use Rattle.agc_program.specs.declared.fault.Fault.{Fault}
 use Rattle.agc_program.specs.declared.fault.Fault.TheVariants as fault
-use Rattle.agc_program.specs.Inputs.{IsDocument}
-use Rattle.agc_text.specs.declared.fault.ReadFault.{ReadFault}
+use Rattle.agc_program.specs.Inputs.{CanEnd, IsDocument}
 use Rattle.agc_plan.specs.declared.request.Request.{Request}
-use Rattle.agc_text.specs.Faults.{RefusesInput, RefusesScript}
-use Rattle.agc_text.specs.Input.{ReadsAll}
+use Rattle.agc_text.specs.Faults.{RefusesScript}
 use Rattle.agc_text.specs.Lines.{line_of}
 use Rattle.agc_text.specs.Script.{lines_of}
 use Rattle.agc_text.specs.Writing.{AppendsFront}
 use Rattle.agc_program.specs.Statuses.{status_of}
-use Rattle.agc_lint.specs.Findings.{Found}
 use Rattle.agc_lint.specs.Scripts.{script_findings}
 use Rattle.agc_lint.specs.Sentences.{told}
 use Rattle.agc_lint.specs.Documents.{BenchFound, IsFoundInDocument, IsToldOf}
@@ -30,6 +27,7 @@ use Rattle.agc_trace.specs.declared.choice.Choice.{Choice}
 use Rattle.agc_trace.specs.Runs.{WritesTrace, script_text, trace_text}
 use Rattle.agc_picture.specs.Pictures.{WritesPicture}
 use Rattle.agc_page.specs.Pages.{WritesPage}
+use Rattle.agc_words.specs.Words.{AskFor}
 use Rattle.agc_words.specs.declared.options.TraceOptions.{TraceOptions}
 use Rattle.agc_words.specs.declared.words.WordsFault.{WordsFault}
 use Rattle.agc_words.specs.declared.words.WordsFault.TheVariants as words
@@ -142,21 +140,36 @@ ChecksBench text old new (Err fault.Output) =
 ChecksBench text old new (Err fault.NoMemory) = new ≡ old
 ChecksBench text old new (Err why) = ⊥
 
--- what comes of checking input: it can't be read, or all of it was read, and checked
-abbrev pub ChecksInput
-    : (List ℕ → Option (List ℕ) → Option (List ℕ) → Result Bool Fault → Type 0)
-    → Option (List ℕ) → Option (List ℕ) → Option (List ℕ) → Option (List ℕ)
-    → Result Bool Fault → Type 0
-ChecksInput checks unread rest old new outcome =
-    ((why : ReadFault) × (outcome ≡ Err (fault.Read why)) × RefusesInput unread rest why
-    × (new ≡ old))
-    ⊎ ((text : List ℕ) × ReadsAll unread rest text × checks text old new outcome)
+-- work that tells of nothing wrong ends so, and answers true
+abbrev pub EndsWell : (Result Unit Fault → Type 0) → Result Bool Fault → Type 0
+EndsWell ends (Ok well) = (well ≡ true) × ends (Ok tt)
+EndsWell ends (Err why) = ends (Err why)
 
--- whether a check is asked for
-abbrev pub is_check : Work → Bool
-is_check work.CheckBench = true
-is_check work.CheckScript = true
-is_check asked = false
+-- what comes of this text where this is asked of it: only a check answers that something is wrong
+abbrev pub WorksOn : Work → List ℕ → Option (List ℕ) → Option (List ℕ) → Result Bool Fault → Type 0
+WorksOn (work.Trace options) text old new =
+    EndsWell (TracesText options.script (choice_of options) text old new)
+WorksOn work.Picture text old new = EndsWell (DrawsText text old new)
+WorksOn work.Page text old new = EndsWell (PagesText text old new)
+WorksOn work.CheckBench text old new = ChecksBench text old new
+WorksOn work.CheckScript text old new = ChecksScript text old new
+
+-- words that ask for no work can end so: by a text that was printed, or wasn't, or refused
+abbrev pub CanEndWithout : Result Bool Fault → Type 0
+CanEndWithout (Ok well) = well ≡ true
+CanEndWithout (Err fault.Words) = Unit
+CanEndWithout (Err fault.NoMemory) = Unit
+CanEndWithout (Err fault.Output) = Unit
+CanEndWithout (Err why) = ⊥
+
+-- words can end so: as the work for which they ask, or they ask for none
+abbrev pub EndsFor : (words : List (List ℕ)) → Result Bool Fault → Type 0
+EndsFor words outcome = ((wanted : Work) × AskFor words wanted × CanEnd (WorksOn wanted) outcome)
+    ⊎ (((wanted : Work) → AskFor words wanted → ⊥) × CanEndWithout outcome)
+
+-- a run can end so, for some words
+abbrev pub IsEnd : Result Bool Fault → Type 0
+IsEnd outcome = (words : List (List ℕ)) × EndsFor words outcome
 
 -- the exit status: 2 where the input isn't what it should be
 abbrev pub status_by : Result Bool Fault → ℕ

@@ -1,13 +1,14 @@
 //! What the program does: the words, the reading, the bench, its trace, picture or page, in this
 //! order.
-ghost use Rattle.std.specs.Prelude.{◌≡◌, false, true, IfOk};
+ghost use Rattle.std.specs.Prelude.{◌≡◌, map};
+ghost use Rattle.std.specs.String.{string_bytes};
 ghost use Rattle.toml.specs.Parse.{parse_document};
 ghost use Rattle.agc_document.specs.Faults.{RefusesBench};
-ghost use Rattle.agc_program.specs.Inputs.{EndsBy, IsDocument};
-ghost use Rattle.agc_watch.specs.Program.{choice_of, fault_for, is_check};
-ghost use Rattle.agc_watch.specs.Program.{DrawsText, PagesText, TracesBench, is_nothing};
-ghost use Rattle.agc_watch.specs.Program.{TracesScript, TracesText};
-ghost use Rattle.agc_watch.specs.Program.{ChecksScript, ChecksInput, ChecksBench};
+ghost use Rattle.agc_program.specs.Inputs.{CanEnd, EndsBy, IsDocument};
+ghost use Rattle.agc_watch.specs.Program.{choice_of, fault_for, is_nothing};
+ghost use Rattle.agc_watch.specs.Program.{DrawsText, PagesText, TracesBench, TracesScript};
+ghost use Rattle.agc_watch.specs.Program.{ChecksBench, ChecksScript, TracesText, WorksOn};
+ghost use Rattle.agc_watch.specs.Program.{CanEndWithout, EndsFor, IsEnd};
 
 use agc_document::{Bench, BenchFault, read_bench};
 use agc_lint::{bench_findings, script_findings, tell_all, tell_bench};
@@ -18,6 +19,7 @@ use agc_text::{read_all, read_script};
 use agc_trace::{Choice, trace, trace_script};
 use agc_warn::{bench_warnings, tell_warnings};
 use agc_words::{Asked, TraceOptions, WordsFault, Work, asked_for};
+use clap::Error;
 use std::alloc::Global;
 use std::io::{Read, Write};
 use std::rt::Env;
@@ -62,21 +64,20 @@ fn trace_script_of<W: Write>(
     Ok(())
 }
 
-/// Reads the input whole, and writes the trace of its bench or script.
-fn trace_input<R: Read, W: Write>(
+/// Writes the trace of a text, which is a script or a bench.
+fn trace_text<W: Write>(
     alloc: Global,
     options: TraceOptions,
-    reader: &mut R,
+    text: &str,
     writer: &mut W,
 ) -> Result<(), Fault>
-    ensures { EndsBy (TracesText options.script (choice_of options)) (R.remaining reader.old)
-        (R.remaining reader.new) (W.contents writer.old) (W.contents writer.new) result }
+    ensures { TracesText options.script (choice_of options) text.now (W.contents writer.old)
+        (W.contents writer.new) result }
 {
-    let text = read_all(alloc, reader)?;
     if options.script {
-        trace_script_of(alloc, text.as_str(), choice_of(options), writer)
+        trace_script_of(alloc, text, choice_of(options), writer)
     } else {
-        trace_bench(alloc, text.as_str(), choice_of(options), writer)
+        trace_bench(alloc, text, choice_of(options), writer)
     }
 }
 
@@ -89,19 +90,6 @@ fn picture_text<W: Write>(alloc: Global, text: &str, writer: &mut W) -> Result<(
     Ok(())
 }
 
-/// Reads the input whole, and writes the picture of its bench.
-fn picture_input<R: Read, W: Write>(
-    alloc: Global,
-    reader: &mut R,
-    writer: &mut W,
-) -> Result<(), Fault>
-    ensures { EndsBy DrawsText (R.remaining reader.old) (R.remaining reader.new)
-        (W.contents writer.old) (W.contents writer.new) result }
-{
-    let text = read_all(alloc, reader)?;
-    picture_text(alloc, text.as_str(), writer)
-}
-
 /// Writes the page of a text's bench.
 fn page_text<W: Write>(alloc: Global, text: &str, writer: &mut W) -> Result<(), Fault>
     ensures { PagesText text.now (W.contents writer.old) (W.contents writer.new) result }
@@ -109,37 +97,6 @@ fn page_text<W: Write>(alloc: Global, text: &str, writer: &mut W) -> Result<(), 
     let paged = read_bench(alloc, text)?;
     page(alloc, &paged, writer)?;
     Ok(())
-}
-
-/// Reads the input whole, and writes the page of its bench.
-fn page_input<R: Read, W: Write>(alloc: Global, reader: &mut R, writer: &mut W) -> Result<(), Fault>
-    ensures { EndsBy PagesText (R.remaining reader.old) (R.remaining reader.new)
-        (W.contents writer.old) (W.contents writer.new) result }
-{
-    let text = read_all(alloc, reader)?;
-    page_text(alloc, text.as_str(), writer)
-}
-
-/// Reads a bench or script from standard input, and writes its trace through a buffer that is
-/// flushed at the end.
-fn run_trace<R: AllocGlobal + Input + Print>(rt: &R, options: TraceOptions) -> Result<(), Fault> {
-    let mut output = buffered(rt)?;
-    trace_input(rt.alloc(), options, &mut rt.reader(), &mut output)?;
-    flushed(&mut output)
-}
-
-/// Reads a bench from standard input, and writes its picture in the same way.
-fn run_picture<R: AllocGlobal + Input + Print>(rt: &R) -> Result<(), Fault> {
-    let mut output = buffered(rt)?;
-    picture_input(rt.alloc(), &mut rt.reader(), &mut output)?;
-    flushed(&mut output)
-}
-
-/// Reads a bench from standard input, and writes its page in the same way.
-fn run_page<R: AllocGlobal + Input + Print>(rt: &R) -> Result<(), Fault> {
-    let mut output = buffered(rt)?;
-    page_input(rt.alloc(), &mut rt.reader(), &mut output)?;
-    flushed(&mut output)
 }
 
 /// Whether nothing was found.
@@ -208,60 +165,42 @@ fn check_bench<W: Write>(alloc: Global, text: &str, writer: &mut W) -> Result<bo
     }
 }
 
-/// Reads the input whole, and writes what is wrong with its bench.
-fn check_bench_input<R: Read, W: Write>(
-    alloc: Global,
-    reader: &mut R,
-    writer: &mut W,
-) -> Result<bool, Fault>
-    ensures { ChecksInput ChecksBench (R.remaining reader.old) (R.remaining reader.new)
-        (W.contents writer.old) (W.contents writer.new) result }
-{
-    let text = read_all(alloc, reader)?;
-    check_bench(alloc, text.as_str(), writer)
-}
-
-/// Reads the input whole, and writes what is wrong with its script.
-fn check_input<R: Read, W: Write>(
-    alloc: Global,
-    reader: &mut R,
-    writer: &mut W,
-) -> Result<bool, Fault>
-    ensures { ChecksInput ChecksScript (R.remaining reader.old) (R.remaining reader.new)
-        (W.contents writer.old) (W.contents writer.new) result }
-{
-    let text = read_all(alloc, reader)?;
-    check_script(alloc, text.as_str(), writer)
-}
-
-/// Reads a script from standard input, and writes what is wrong with it.
-fn run_check<R: AllocGlobal + Input + Print>(rt: &R) -> Result<bool, Fault> {
-    let mut output = buffered(rt)?;
-    let is_well = check_input(rt.alloc(), &mut rt.reader(), &mut output)?;
-    flushed(&mut output)?;
-    Ok(is_well)
-}
-
-/// Reads a bench from standard input, and writes what is wrong with it.
-fn run_check_bench<R: AllocGlobal + Input + Print>(rt: &R) -> Result<bool, Fault> {
-    let mut output = buffered(rt)?;
-    let is_well = check_bench_input(rt.alloc(), &mut rt.reader(), &mut output)?;
-    flushed(&mut output)?;
-    Ok(is_well)
-}
-
-/// Does what the words ask for. False where that is a check, and something is wrong.
-fn run_work<R: AllocGlobal + Input + Print>(rt: &R, work: Work) -> Result<bool, Fault>
-    ensures { IfOk result (λ well. is_check work ≡ false → well ≡ true) }
+/// Does what is asked of a text. False where that is a check, and something is wrong.
+fn work_text<W: Write>(alloc: Global, work: Work, text: &str, writer: &mut W) -> Result<bool, Fault>
+    ensures { WorksOn work text.now (W.contents writer.old) (W.contents writer.new) result }
 {
     match work {
-        Work::Trace(options) => run_trace(rt, options)?,
-        Work::Picture => run_picture(rt)?,
-        Work::Page => run_page(rt)?,
-        Work::CheckBench => return run_check_bench(rt),
-        Work::CheckScript => return run_check(rt),
+        Work::Trace(options) => trace_text(alloc, options, text, writer)?,
+        Work::Picture => picture_text(alloc, text, writer)?,
+        Work::Page => page_text(alloc, text, writer)?,
+        Work::CheckBench => return check_bench(alloc, text, writer),
+        Work::CheckScript => return check_script(alloc, text, writer),
     }
     Ok(true)
+}
+
+/// Reads the input whole, and does what is asked of its text.
+fn work_input<R: Read, W: Write>(
+    alloc: Global,
+    work: Work,
+    reader: &mut R,
+    writer: &mut W,
+) -> Result<bool, Fault>
+    ensures { EndsBy (WorksOn work) (R.remaining reader.old) (R.remaining reader.new)
+        (W.contents writer.old) (W.contents writer.new) result }
+{
+    let text = read_all(alloc, reader)?;
+    work_text(alloc, work, text.as_str(), writer)
+}
+
+/// Does what is asked of standard input, and writes it through a buffer that is flushed at the end.
+fn run_work<R: AllocGlobal + Input + Print>(rt: &R, work: Work) -> Result<bool, Fault>
+    ensures { CanEnd (WorksOn work) result }
+{
+    let mut output = buffered(rt)?;
+    let is_well = work_input(rt.alloc(), work, &mut rt.reader(), &mut output)?;
+    flushed(&mut output)?;
+    Ok(is_well)
 }
 
 /// The program's fault where its words are refused.
@@ -274,15 +213,34 @@ fn fault_for(refused: WordsFault) -> Fault
     }
 }
 
-/// Runs the program. False where it was asked what is wrong with its input, and something is.
-pub fn run(rt: &(impl Env + AllocGlobal + Input + Print + Eprint)) -> Result<bool, Fault> {
-    let given = given_words(rt)?;
-    match asked_for(rt.alloc(), given.as_slice()) {
+/// Prints the help or the version.
+fn print_text<R: Print + Eprint>(rt: &R, text: &Error) -> Result<bool, Fault>
+    ensures { CanEndWithout result }
+{
+    match text.print(rt) {
+        Ok(()) => Ok(true),
+        Err(_failed) => Err(Fault::Output),
+    }
+}
+
+/// Does what these words ask for, of which the first is the program's own name.
+fn run_words<R: AllocGlobal + Input + Print + Eprint>(
+    rt: &R,
+    words: &[String],
+) -> Result<bool, Fault>
+    ensures { EndsFor (map string_bytes words.now) result }
+{
+    match asked_for(rt.alloc(), words) {
         Ok(Asked::Work(work)) => run_work(rt, work),
-        Ok(Asked::Text(text)) => {
-            text.print(rt).map_err(|_| Fault::Output)?;
-            Ok(true)
-        }
+        Ok(Asked::Text(text)) => print_text(rt, &text),
         Err(refused) => Err(fault_for(refused)),
     }
+}
+
+/// Runs the program. False where it was asked what is wrong with its input, and something is.
+pub fn run(rt: &(impl Env + AllocGlobal + Input + Print + Eprint)) -> Result<bool, Fault>
+    ensures { IsEnd result }
+{
+    let given = given_words(rt)?;
+    run_words(rt, given.as_slice())
 }
