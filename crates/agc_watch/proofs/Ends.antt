@@ -1,5 +1,5 @@
 -- How a run can end: what it is to be refused, and which words ask for no work.
-use Rattle.std.proofs.Common.{◌≡◌, ◌⊎◌, ℕ, List, [], ◌∷◌, Result, Ok, Err, IsErrAnd, Bool, inl, inr, sym, subst, ◌∙◌}
+use Rattle.std.proofs.Common.{◌≡◌, ◌⊎◌, ℕ, List, [], ◌∷◌, Result, Ok, Err, IsErrAnd, Bool, inl, inr, refl, cong, sym, subst, ◌∙◌}
 use Rattle.agc_program.specs.declared.fault.Fault.{Fault}
 use Rattle.agc_program.specs.declared.fault.Fault.TheVariants as fault
 use Rattle.agc_program.proofs.Ends.{no_first}
@@ -13,14 +13,14 @@ use Rattle.agc_watch.specs.Program.{CanEndWithout, EndsFor, fault_for}
 
 -- refused words end so
 pub ends_by_words : (why : WordsFault) → CanEndWithout (Err (fault_for why))
-ends_by_words words.Words = tt
-ends_by_words words.NoMemory = tt
+ends_by_words words.Words = inr (inl refl)
+ends_by_words words.NoMemory = inr (inr refl)
 
 -- so do those that can't be had
 pub ends_early : (outcome : Result Bool Fault) (why : Fault) → IsErrAnd outcome (λ e. e ≡ why) → (why ≡ fault.Words) ⊎ (why ≡ fault.NoMemory) → CanEndWithout outcome
 ends_early (Ok well) why gives is = absurd gives
-ends_early (Err e) why gives (inl is) = subst (λ e. CanEndWithout (Err e)) (sym (gives ∙ is)) tt
-ends_early (Err e) why gives (inr is) = subst (λ e. CanEndWithout (Err e)) (sym (gives ∙ is)) tt
+ends_early (Err e) why gives (inl is) = inr (inl (cong Err (gives ∙ is)))
+ends_early (Err e) why gives (inr is) = inr (inr (cong Err (gives ∙ is)))
 
 -- the answer is work
 abbrev pub IsWork : Result Asked WordsFault → Type 0

@@ -154,13 +154,15 @@ WorksOn work.Page text old new = EndsWell (PagesText text old new)
 WorksOn work.CheckBench text old new = ChecksBench text old new
 WorksOn work.CheckScript text old new = ChecksScript text old new
 
--- words that ask for no work can end so: by a text that was printed, or wasn't, or refused
+-- the help or the version was printed; or it wasn't
+abbrev pub CanEndPrinting : Result Bool Fault → Type 0
+CanEndPrinting (Ok well) = well ≡ true
+CanEndPrinting (Err why) = why ≡ fault.Output
+
+-- words that ask for no work can end so: by a text that is printed, or refused
 abbrev pub CanEndWithout : Result Bool Fault → Type 0
-CanEndWithout (Ok well) = well ≡ true
-CanEndWithout (Err fault.Words) = Unit
-CanEndWithout (Err fault.NoMemory) = Unit
-CanEndWithout (Err fault.Output) = Unit
-CanEndWithout (Err why) = ⊥
+CanEndWithout outcome =
+    CanEndPrinting outcome ⊎ (outcome ≡ Err fault.Words) ⊎ (outcome ≡ Err fault.NoMemory)
 
 -- words can end so: as the work for which they ask, or they ask for none
 abbrev pub EndsFor : (words : List (List ℕ)) → Result Bool Fault → Type 0

@@ -8,7 +8,7 @@ ghost use Rattle.agc_program.specs.Inputs.{CanEnd, EndsBy, IsDocument};
 ghost use Rattle.agc_watch.specs.Program.{choice_of, fault_for, is_nothing};
 ghost use Rattle.agc_watch.specs.Program.{DrawsText, PagesText, TracesBench, TracesScript};
 ghost use Rattle.agc_watch.specs.Program.{ChecksBench, ChecksScript, TracesText, WorksOn};
-ghost use Rattle.agc_watch.specs.Program.{CanEndWithout, EndsFor, IsEnd};
+ghost use Rattle.agc_watch.specs.Program.{CanEndPrinting, EndsFor, IsEnd};
 
 use agc_document::{Bench, BenchFault, read_bench};
 use agc_lint::{bench_findings, script_findings, tell_all, tell_bench};
@@ -215,7 +215,7 @@ fn fault_for(refused: WordsFault) -> Fault
 
 /// Prints the help or the version.
 fn print_text<R: Print + Eprint>(rt: &R, text: &Error) -> Result<bool, Fault>
-    ensures { CanEndWithout result }
+    ensures { CanEndPrinting result }
 {
     match text.print(rt) {
         Ok(()) => Ok(true),

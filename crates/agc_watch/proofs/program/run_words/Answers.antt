@@ -1,4 +1,4 @@
-use Rattle.std.proofs.Common.{Ok, Err, subst, sym}
+use Rattle.std.proofs.Common.{Ok, Err, inl, subst, sym}
 use Rattle.agc_watch.specs.Program.{CanEndWithout}
 use Rattle.agc_watch.proofs.Ends.{IsWork, ends_by_words, ends_without}
 use Rattle.agc_watch.proofs.program.run_words.Goals as goal
@@ -6,7 +6,7 @@ use Rattle.agc_watch.proofs.program.run_words.Goals as goal
 pub returns-in-Ok-Text : goal.returns-in-Ok-Text
 returns-in-Ok-Text g c =
     ends_without _ _ _ c.in-Ok-Text.ensures.work
-    (λ is. subst (λ a. IsWork (Ok a)) c.in-Ok-Text.field-0-is is) c.print_text.ensures
+    (λ is. subst (λ a. IsWork (Ok a)) c.in-Ok-Text.field-0-is is) (inl c.print_text.ensures)
 
 pub returns-in-Err : goal.returns-in-Err
 returns-in-Err g c =
