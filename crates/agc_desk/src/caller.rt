@@ -47,7 +47,8 @@ pub fn ask<N: Sharing, W: Wait>(
 }
 
 /// Drains the locked desk, with this share: what devices posted is taken, and what is owed is
-/// applied, as [`Desk::drain`] says. It may wait for the lock. Source: profile.
+/// applied, as [`Desk::drain`] says. The latch is the one that the desk's type names. It may wait
+/// for the lock. Source: profile.
 pub fn attend<N: Sharing, W: Wait>(
     rt: &W,
     shared: &Shared<N>,

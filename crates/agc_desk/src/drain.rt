@@ -69,7 +69,7 @@ impl<N: Names> Desk<N> {
     /// the last is served, and one that asks for nothing is applied by no request. The first
     /// request that is refused ends the drain: the rest stays owed, a pulse of which some requests
     /// were served with what it still asks for. An alarm stops nothing. The requests, the refused
-    /// one too, are served with this share. Source: profile.
+    /// one too, are asked with this share. The latch has to be the taker's. Source: profile.
     pub fn drain(&mut self, latch: &Latch, share: &mut Share<N>) -> Drained
         requires { IsOf latch.now self.old.lines.taker }
         ensures { Drains self.old share.old result self.new share.new }

@@ -100,7 +100,7 @@ impl Bench {
         self.parts.limit
     }
 
-    /// How many calls the machine may serve, below 2 to the 63rd. Source: profile.
+    /// How many requests the machine may serve, below 2 to the 63rd. Source: profile.
     pub fn allowance(&self) -> u64
         ensures value { result ≡ self.now.allowance }
         ensures range { result ≤ 9223372036854775807 }

@@ -114,9 +114,9 @@ impl Accounts {
         Some(device)
     }
 
-    /// Takes what was posted, the timer's pulses first, then the keyboard's, then the radar's, and
-    /// answers how many per line; they are owed from now on. Without a taker it takes nothing.
-    /// Source: profile.
+    /// Takes what was posted, each line once, and answers how many pulses per line: the timer's,
+    /// the keyboard's, the radar's. They are owed from now on. Without a taker it takes nothing;
+    /// one that there is has to be the latch's. Source: profile.
     pub fn collect(&mut self, latch: &Latch) -> [u64; 3]
         requires { IsOf latch.now self.old.taker }
         ensures { Collects result self.old self.new }
@@ -161,7 +161,8 @@ impl Accounts {
         self.begun[line.word()]
     }
 
-    /// One more of these requests was served, and the pulse still asks for others. Source: profile.
+    /// One more of these requests was served, and the pulse, which has to be owed, still asks for
+    /// others: so fewer than three were served before. Source: profile.
     pub fn begin(&mut self, line: Line)
         requires owed { 1 ≤ on line self.old.owed }
         requires few { on line self.old.begun < 3 }
@@ -199,7 +200,8 @@ impl Accounts {
     }
 
     /// Settles the latch: takes the devices back, takes each line once more into what is owed, and
-    /// closes the latch. The accounts have no taker then. Source: profile.
+    /// closes the latch. The accounts have no taker then. The taker and the devices have to be the
+    /// latch's. Source: profile.
     ///
     /// # Errors
     ///

@@ -13,7 +13,8 @@ pub struct Choice {
     pub from: Option<u64>,
     /// Only those up to this number.
     pub to: Option<u64>,
-    /// Those after which nothing changed but the time are counted.
+    /// Neighbours that are quiet in the same way are counted: refusals, no job, no sleeper, and
+    /// ticks that fire nothing.
     pub brief: bool,
 }
 

@@ -27,7 +27,7 @@ pub struct TraceOptions {
     pub script: bool,
     /// Only the requests that raised an alarm.
     pub alarms: bool,
-    /// Requests after which nothing changed but the time are counted.
+    /// Refusals, no job, no sleeper, and ticks that fire nothing are counted.
     pub brief: bool,
     /// Only the requests from this number on.
     pub from: Option<u64>,
