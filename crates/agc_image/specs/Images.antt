@@ -17,7 +17,7 @@ size_with sets = others_size + set_size * sets
 abbrev pub image_of : ℕ → List ℕ → List ℕ
 image_of sets array = take (size_with sets) array
 
--- the numbers behind them, of which no call reads or writes any
+-- the numbers behind them
 abbrev pub behind : ℕ → List ℕ → List ℕ
 behind sets array = drop (size_with sets) array
 

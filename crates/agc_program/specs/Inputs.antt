@@ -13,7 +13,7 @@ use Rattle.agc_program.specs.declared.fault.Fault.TheVariants as fault
 abbrev pub IsDocument : List ℕ → Benched → Type 0
 IsDocument text bench = IsBench bench × HasTexts (parse_document text) (bench_texts bench)
 
--- why input can't be read, so that nothing was written
+-- input can't be read, and the outcome says why
 abbrev pub IsUnread : {T : Type 0} → Option (List ℕ) → Option (List ℕ) → Result T Fault → Type 0
 IsUnread unread rest outcome =
     (why : ReadFault) × (outcome ≡ Err (fault.Read why)) × RefusesInput unread rest why

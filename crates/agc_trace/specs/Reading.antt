@@ -1,4 +1,4 @@
--- For the proofs: a scene, as it is read from the words.
+-- A scene, as it is read from the words.
 use Rattle.std.specs.Prelude.{◌≡◌, ℕ, Bool, false, List, map, Option, Some, None, option_map}
 use Rattle.agc_word.specs.Layout.{IsSized, sets_in}
 use Rattle.agc_plan.specs.declared.request.Request.{Request}

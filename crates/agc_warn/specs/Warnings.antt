@@ -97,7 +97,7 @@ of_run bench = placed (place.Value key.Limit) (log_full_warning bench (log_full_
     ++ (placed (place.Value key.Allowance) (spent_warning bench (spent_at bench))
     ++ placed place.Whole (cut_warning (is_cut bench)))
 
--- whether two tell the same
+-- whether two tell the same of a listed task, or of a phase
 abbrev pub is_like : Warning → Warning → Bool
 is_like warning.NoRows warning.NoRows = true
 is_like (warning.NoRow task) (warning.NoRow other) = same_task task other
@@ -105,7 +105,7 @@ is_like (warning.OtherBank task bank) (warning.OtherBank other b) = same_task ta
 is_like (warning.NoEntry group phase) (warning.NoEntry other n) = (group == other) && (phase == n)
 is_like _ _ = false
 
--- whether one of these tells the same
+-- whether one of these tells the same of it
 abbrev pub is_told : List Warned → Warning → Bool
 is_told found reason = list_any (λ one. is_like one.warning reason) found
 
