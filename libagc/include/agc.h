@@ -6,7 +6,8 @@
  *
  * THE IMAGE. `words` is an array of AGC_WORDS numbers that you own: the words of the tables, each
  * of fifteen bits in ones' complement. With seven core sets the first 132 are used, with eight all
- * 144; no call reads or writes those behind. crates/agc_word/README.md has the places.
+ * 144; no call reads those behind, and agc_migrate alone writes them. crates/agc_word/README.md has
+ * the places.
  *
  * OWNERSHIP. A call keeps no pointer: it is done with the array as it returns. The library takes no
  * memory, has no global state, opens nothing and calls back nothing.

@@ -40,7 +40,8 @@ pub trait Gate {
         ensures goes { may_answer self.now worker call (is_some result) }
         ensures pass { IfSome result (λ pass. is_for pass worker call request.now) };
 
-    /// The call for which the pass was handed out was answered so. Source: profile.
+    /// The call of this pass was answered so: the pass may be for this worker, this call and the
+    /// answer's request. Source: profile.
     fn after(&self, worker: usize, call: usize, pass: Self::Pass, answer: Answer)
         requires { is_for pass worker call answer.request };
 }
