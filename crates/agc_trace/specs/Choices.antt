@@ -17,7 +17,7 @@ abbrev pub alarm_at : Traced → Request → Option Alarm
 alarm_at t asked = told_alarm (refusal_of t.machine asked)
     (acted t.machine.plan asked (plain_of t.machine)).reply
 
--- how the next request changes nothing but the time, if it changes nothing
+-- how the next request is quiet, if it is
 abbrev pub quiet_at : Traced → Request → Option Quiet
 quiet_at t asked = quiet_of (refusal_of t.machine asked)
     (acted t.machine.plan asked (plain_of t.machine)).reply (fired_of t.machine asked)

@@ -1,4 +1,4 @@
--- Requests after which nothing changed but the time.
+-- Quiet requests: those whose answer tells that nothing changed but the time.
 use Rattle.std.specs.Prelude.{ℕ, ◌+◌, ◌==◌, nat_le, Bool, false, if◌then◌else◌, List, length}
 use Rattle.std.specs.Prelude.{◌++◌, codes, Option, Some, None}
 use Rattle.std.specs.Fmt.{decimal}
