@@ -252,8 +252,8 @@ fn planned(alloc: Global, parts: Parts) -> Result<Bench, BenchFault>
 /// # Errors
 ///
 /// The first that applies: `NotToml`; `Key`, an unknown key at any level, a missing required key, a
-/// value of another kind, an integer out of range, `power` of another length than 12, more than 32
-/// workers or devices; `Line`, a text that is not of its form; `TaskTwice`, `PhaseTwice` and
+/// value of another kind, an integer out of range, `power` or actions of another length, more than
+/// 32 workers or devices; `Line`, a text that is not of its form; `TaskTwice`, `PhaseTwice` and
 /// `TooManyAreas`, rows and entries that make no plan. `NoMemory` may come in place of any.
 pub fn read_bench(alloc: Global, text: &str) -> Result<Bench, BenchFault>
     ensures found { IfOk result (λ b. IsBench b
