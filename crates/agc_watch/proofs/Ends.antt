@@ -1,5 +1,5 @@
 -- How a run can end: what it is to be refused, and which words ask for no work.
-use Rattle.std.proofs.Common.{◌≡◌, ◌⊎◌, ℕ, List, [], ◌∷◌, Result, Ok, Err, IsErrAnd, Bool, inl, inr, refl, cong, sym, subst, ◌∙◌}
+use Rattle.std.proofs.Common.{◌≡◌, ◌⊎◌, ℕ, List, [], ◌∷◌, Result, Ok, Err, IsErrAnd, Bool, inl, inr, refl, ap, sym, subst, ◌∙◌}
 use Rattle.agc_program.specs.declared.fault.Fault.{Fault}
 use Rattle.agc_program.specs.declared.fault.Fault.TheVariants as fault
 use Rattle.agc_program.proofs.Ends.{no_first}
@@ -19,8 +19,8 @@ ends_by_words words.NoMemory = inr (inr refl)
 -- so do those that can't be had
 pub ends_early : (outcome : Result Bool Fault) (why : Fault) → IsErrAnd outcome (λ e. e ≡ why) → (why ≡ fault.Words) ⊎ (why ≡ fault.NoMemory) → CanEndWithout outcome
 ends_early (Ok well) why gives is = absurd gives
-ends_early (Err e) why gives (inl is) = inr (inl (cong Err (gives ∙ is)))
-ends_early (Err e) why gives (inr is) = inr (inr (cong Err (gives ∙ is)))
+ends_early (Err e) why gives (inl is) = inr (inl (ap Err (gives ∙ is)))
+ends_early (Err e) why gives (inr is) = inr (inr (ap Err (gives ∙ is)))
 
 -- the answer is work
 abbrev pub IsWork : Result Asked WordsFault → Type 0
