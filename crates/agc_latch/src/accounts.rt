@@ -114,9 +114,8 @@ impl Accounts {
         Some(device)
     }
 
-    /// Takes what was posted, the timer's pulses first, then the keyboard's, then the radar's, and
-    /// answers how many per line; they are owed from now on. Without a taker it takes nothing.
-    /// Source: profile.
+    /// Takes what was posted, and answers how many per line: the timer's, the keyboard's, the
+    /// radar's; they are owed from now on. Without a taker it takes nothing. Source: profile.
     pub fn collect(&mut self, latch: &Latch) -> [u64; 3]
         requires { IsOf latch.now self.old.taker }
         ensures { Collects result self.old self.new }
