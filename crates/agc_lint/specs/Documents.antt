@@ -63,8 +63,8 @@ abbrev pub first_kind : List BenchFound → Option BenchFault
 first_kind [] = None
 first_kind (f ∷ fs) = Some (kind_of f.fault)
 
--- for proofs: some are found, the first with this fault, each in a line of the text, at most twenty,
--- in order
+-- for proofs: some are found, the first with this fault, each in a line of the text, at most
+-- twenty, in order
 pub record AreOf (text : List ℕ) (k : BenchFault) (fs : List BenchFound) : Type 0 where
   pub first : first_kind fs ≡ Some k
   pub lines : AllByRecursion (IsFoundInDocument text) fs
