@@ -1,6 +1,6 @@
 -- What is found wrong with a document.
 use Rattle.std.specs.Prelude.{◌≡◌, ◌≤◌, ℕ, suc, ◌+◌, ◌==◌, if◌then◌else◌, List, [], ◌∷◌, length}
-use Rattle.std.specs.Prelude.{Option, Some, None}
+use Rattle.std.specs.Prelude.{◌⊎◌, Option, Some, None}
 use Rattle.std.specs.List.{AllByRecursion}
 use Rattle.toml.specs.Parse.{parse_document}
 use Rattle.agc_document.specs.declared.fault.BenchFault.{BenchFault}
@@ -46,13 +46,27 @@ abbrev pub IsToldOf : List ℕ → List BenchFound → Type 0
 IsToldOf text [] = ⊥
 IsToldOf text (f ∷ fs) = RefusesBench (parse_document text) (kind_of f.fault)
 
+-- of two findings the one may stand before the other: of one fault of a bench in the order of the
+-- lines, and what is wrong with a key before what is wrong with a text
+abbrev pub MayPrecede : BenchFound → BenchFound → Type 0
+MayPrecede one other =
+    ((kind_of one.fault ≡ kind_of other.fault) × (one.line ≤ other.line))
+    ⊎ ((kind_of one.fault ≡ refusal.Key) × (kind_of other.fault ≡ refusal.Line))
+
+-- each may stand before all that follow it
+abbrev pub AreInOrder : List BenchFound → Type 0
+AreInOrder [] = Unit {0}
+AreInOrder (f ∷ fs) = AllByRecursion (MayPrecede f) fs × AreInOrder fs
+
 -- for proofs: the fault of what is found first
 abbrev pub first_kind : List BenchFound → Option BenchFault
 first_kind [] = None
 first_kind (f ∷ fs) = Some (kind_of f.fault)
 
--- for proofs: some are found, the first with this fault, each in a line of the text, at most twenty
+-- for proofs: some are found, the first with this fault, each in a line of the text, at most
+-- twenty, in order
 pub record AreOf (text : List ℕ) (k : BenchFault) (fs : List BenchFound) : Type 0 where
   pub first : first_kind fs ≡ Some k
   pub lines : AllByRecursion (IsFoundInDocument text) fs
   pub few : length fs ≤ 20
+  pub order : AreInOrder fs

@@ -1,12 +1,13 @@
 //! What is wrong with a bench.
 ghost use Rattle.std.specs.Prelude.{◌≡◌, ◌≤◌, ◌+◌, ℕ, List, [], ◌∷◌, IfOk, length, take};
 ghost use Rattle.std.specs.List.{AllByRecursion};
+ghost use Rattle.std.specs.List.Sorted.{IsNonDecreasingBy};
 ghost use Rattle.toml.specs.Parse.{parse_document};
 ghost use Rattle.agc_document.specs.Faults.{RefusesBench};
 ghost use Rattle.agc_lint.specs.Documents.{line_ends, StandsIn, IsFoundInDocument, IsToldOf};
-ghost use Rattle.agc_lint.specs.Documents.{kind_of, AreOf};
+ghost use Rattle.agc_lint.specs.Documents.{kind_of, AreInOrder, AreOf};
 ghost use Rattle.agc_lint.specs.Spotting.{line_of, found_at, somewhere, or_somewhere};
-ghost use Rattle.agc_lint.specs.Spotting.{added, all_added};
+ghost use Rattle.agc_lint.specs.Spotting.{added, all_added, AreFoundOf, AreOfKind};
 ghost use Rattle.agc_lint.specs.declared.wrong.Wrong.TheVariants as wrong;
 ghost use Rattle.agc_lint.specs.declared.wrong.KeyFault.TheVariants as key_fault;
 ghost use Rattle.agc_lint.specs.declared.wrong.TextFault.TheVariants as text_fault;
@@ -135,9 +136,11 @@ fn add<F: Faulty>(
     document: &str,
     spot: &Spot<'_, F>,
 ) -> Result<(), AllocError>
-    ensures { IfOk result (λ _. findings.new.items
+    ensures added { IfOk result (λ _. findings.new.items
         ≡ added document.now findings.old.items spot.now) }
+    ensures kind { IfOk result (λ _. kind_of spot.now.fault ≡ F.kind) }
 {
+    let _ = spot.fault.wrong();
     if findings.len() >= MOST_TOLD {
         return Ok(());
     }
@@ -152,8 +155,9 @@ fn add_all<F: Faulty>(
     document: &str,
     spots: &[Spot<'_, F>],
 ) -> Result<(), AllocError>
-    ensures { IfOk result (λ _. findings.new.items
+    ensures added { IfOk result (λ _. findings.new.items
         ≡ all_added document.now findings.old.items spots.now) }
+    ensures kind { IfOk result (λ _. AreOfKind F.kind spots.now) }
 {
     for spot in spots {
         add(alloc, findings, document, spot)?;
@@ -181,8 +185,10 @@ fn found_at_all<F: Faulty>(
     spots: &[Spot<'_, F>],
     fault: F,
 ) -> Result<Vec<BenchFinding>, AllocError>
+    requires { IsNonDecreasingBy (λ s. s.at) spots.now }
     ensures found { IfOk result (λ v. v.items
         ≡ all_added document.now [] (or_somewhere spots.now (F.as_wrong fault))) }
+    ensures kind { IfOk result (λ v. AreFoundOf F.kind v.items) }
     ensures are { IfOk result (λ v. AreOf document.now F.kind v.items) }
 {
     match spots {
@@ -201,6 +207,8 @@ fn key_findings(
     document: &str,
     spots: &Spots<'_>,
 ) -> Result<Vec<BenchFinding>, AllocError>
+    requires keys { IsNonDecreasingBy (λ s. s.at) spots.now.keys.items }
+    requires texts { IsNonDecreasingBy (λ s. s.at) spots.now.texts.items }
     ensures found { IfOk result (λ v. v.items ≡ all_added document.now (all_added document.now []
         (or_somewhere spots.now.keys.items (wrong.Key key_fault.Somewhere)))
         spots.now.texts.items) }
@@ -217,6 +225,7 @@ fn text_findings(
     document: &str,
     spots: &Spots<'_>,
 ) -> Result<Vec<BenchFinding>, AllocError>
+    requires { IsNonDecreasingBy (λ s. s.at) spots.now.texts.items }
     ensures found { IfOk result (λ v. v.items ≡ all_added document.now []
         (or_somewhere spots.now.texts.items (wrong.Text text_fault.Somewhere))) }
     ensures are { IfOk result (λ v. AreOf document.now BenchFault.Line v.items) }
@@ -311,6 +320,7 @@ pub fn bench_findings(
     ensures told { IfOk result (λ v. IsToldOf text.now v.items) }
     ensures lines { IfOk result (λ v. AllByRecursion (IsFoundInDocument text.now) v.items) }
     ensures few { IfOk result (λ v. length v.items ≤ 20) }
+    ensures order { IfOk result (λ v. AreInOrder v.items) }
 {
     let table = match toml::table_from_str(alloc, text) {
         Ok(table) => table,

@@ -1,5 +1,6 @@
 //! What is wrong with the keys and texts of a document.
-ghost use Rattle.std.specs.Prelude.{◌≡◌};
+ghost use Rattle.std.specs.Prelude.{◌≡◌, IfOk, OnOk};
+ghost use Rattle.std.specs.List.Sorted.{IsNonDecreasingBy};
 ghost use Rattle.agc_document.specs.declared.fault.BenchFault.{BenchFault};
 ghost use Rattle.agc_document.specs.declared.fault.BenchFault.TheVariants as refusal;
 ghost use Rattle.agc_lint.specs.Documents.{kind_of};
@@ -155,11 +156,14 @@ fn put_in_order<F: Faulty>(
     spots: &mut Vec<Spot<'_, F>>,
     found: &[usize],
     first: usize,
-) -> Result<(), AllocError> {
+) -> Result<(), AllocError>
+    ensures { OnOk result (IsNonDecreasingBy (λ s. s.at) spots.new.items) }
+{
     for (k, spot) in spots.iter_mut().enumerate() {
         spot.at = found.get(first.saturating_add(k)).copied().unwrap_or(0);
     }
-    spots.sort_by_key(|spot| spot.at)
+    spots.sort_by_key(|spot| spot.at)?;
+    Ok(())
 }
 
 /// The key of these that is called so.
@@ -268,7 +272,10 @@ impl<'a> Spots<'a> {
         alloc: Global,
         document: &'a str,
         table: &'a Table,
-    ) -> Result<Spots<'a>, AllocError> {
+    ) -> Result<Spots<'a>, AllocError>
+        ensures keys { IfOk result (λ s. IsNonDecreasingBy (λ x. x.at) s.keys.items) }
+        ensures texts { IfOk result (λ s. IsNonDecreasingBy (λ x. x.at) s.texts.items) }
+    {
         let mut spots = Spots {
             keys: Vec::new(alloc),
             texts: Vec::new(alloc),
@@ -283,7 +290,10 @@ impl<'a> Spots<'a> {
     }
 
     /// Finds where the spots stand, by one walk through the document.
-    fn find(&mut self, alloc: Global, document: &'a str) -> Result<(), AllocError> {
+    fn find(&mut self, alloc: Global, document: &'a str) -> Result<(), AllocError>
+        ensures keys { OnOk result (IsNonDecreasingBy (λ s. s.at) self.new.keys.items) }
+        ensures texts { OnOk result (IsNonDecreasingBy (λ s. s.at) self.new.texts.items) }
+    {
         let mut ways = Vec::new(alloc);
         for spot in self.keys.as_slice() {
             ways.push(spot.way)?;
