@@ -1,2 +1,4 @@
 pub mod Numbers
 pub mod Fronts
+pub mod Adding
+pub mod Alone

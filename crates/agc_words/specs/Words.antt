@@ -1,11 +1,12 @@
 -- What the words of a command line ask for.
 use Rattle.std.specs.Prelude.{◌≡◌, ℕ, ◌⊎◌, true, false, if◌then◌else◌, List, [], ◌∷◌, codes}
-use Rattle.std.specs.Prelude.{Option, Some, None, is_some, Bool, nat_le, ◌<◌, ◌^◌}
+use Rattle.std.specs.Prelude.{Option, Some, None, is_some, Bool, nat_le, ◌<◌, ◌^◌, Result, Ok, Err}
 use Rattle.std.specs.Fmt.{decimal}
 use Rattle.std.specs.List.{flat_map}
 use Rattle.std.specs.Option.{option_map_or}
 use Rattle.clap.specs.Values.{kind_of}
 use Rattle.clap.specs.declared.error.Error.{Error}
+use Rattle.clap.specs.declared.error.kind.ErrorKind.{ErrorKind}
 use Rattle.clap.specs.declared.error.kind.ErrorKind.TheVariants as kind
 use Rattle.agc_words.specs.declared.options.TraceOption.{TraceOption}
 use Rattle.agc_words.specs.declared.options.TraceOption.TheVariants.{Script, Alarms, Brief}
@@ -15,6 +16,8 @@ use Rattle.agc_words.specs.declared.words.Work.{Work}
 use Rattle.agc_words.specs.declared.words.Work.TheVariants as work
 use Rattle.agc_words.specs.declared.words.Asked.{Asked}
 use Rattle.agc_words.specs.declared.words.Asked.TheVariants as asked
+use Rattle.agc_words.specs.declared.words.WordsFault.{WordsFault}
+use Rattle.agc_words.specs.declared.words.WordsFault.TheVariants as fault
 
 -- the words of an option of a trace
 abbrev pub option_words : TraceOption → List (List ℕ)
@@ -96,3 +99,22 @@ IsTextAsked (asked.Text error) = IsText error
 abbrev pub IsAskedBy : (words : List (List ℕ)) → Asked → Type 0
 IsAskedBy words (asked.Work wanted) = AskFor words wanted
 IsAskedBy words (asked.Text error) = IsText error
+
+-- behind the program's own name these words have one alone, of these two
+abbrev pub IsAlone : (words : List (List ℕ)) → (long short : List ℕ) → Type 0
+IsAlone words long short =
+    (name : List ℕ) × ((words ≡ name ∷ long ∷ []) ⊎ (words ≡ name ∷ short ∷ []))
+
+-- they ask for the help
+abbrev pub AskForHelp : (words : List (List ℕ)) → Type 0
+AskForHelp words = IsAlone words (codes "--help") (codes "-h")
+
+-- they ask for the version
+abbrev pub AskForVersion : (words : List (List ℕ)) → Type 0
+AskForVersion words = IsAlone words (codes "--version") (codes "-V")
+
+-- a text of this kind is the answer, want of memory aside
+abbrev pub IsAnsweredBy : ErrorKind → Result Asked WordsFault → Type 0
+IsAnsweredBy wanted (Ok (asked.Work other)) = ⊥
+IsAnsweredBy wanted (Ok (asked.Text error)) = kind_of error ≡ wanted
+IsAnsweredBy wanted (Err why) = why ≡ fault.NoMemory

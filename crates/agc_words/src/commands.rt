@@ -1,8 +1,15 @@
 //! The texts of the help and the version, by `clap`, which says which words ask for them.
-ghost use Rattle.std.specs.Prelude.{◌≡◌, ◌≢◌, IfErr, IfOk, Ok, Err};
+ghost use Rattle.std.specs.Prelude.{◌≡◌, ◌≢◌, IfErr, IfOk, Ok, Err, codes, map, false};
+ghost use Rattle.std.specs.String.{string_bytes};
 ghost use Rattle.clap.specs.Values.{kind_of};
+ghost use Rattle.clap.specs.Walk.{rule_of};
+ghost use Rattle.clap.specs.Words.{app_of, new_app};
+ghost use Rattle.clap.specs.declared.builder.command.Command.TheViews.{out-Command};
 ghost use Rattle.clap.specs.declared.error.kind.ErrorKind.TheVariants as kind;
-ghost use Rattle.agc_words.specs.Words.{IsText, IsTextAsked};
+ghost use Rattle.agc_words.specs.Shapes.{check_app, flag_rule, number_rule, program_app};
+ghost use Rattle.agc_words.specs.Shapes.{trace_app, whole_app};
+ghost use Rattle.agc_words.specs.Words.{AskForHelp, AskForVersion, IsAnsweredBy, IsText};
+ghost use Rattle.agc_words.specs.Words.{IsTextAsked};
 ghost use Rattle.agc_words.specs.declared.words.Asked.TheVariants.{Text};
 ghost use Rattle.agc_words.specs.declared.words.WordsFault.TheVariants.{NoMemory, Words};
 
@@ -34,7 +41,10 @@ fn text_of(error: Error) -> Result<Asked, WordsFault>
 }
 
 /// An option that takes no value.
-fn flag<'a>(alloc: Global, name: &'a str, help: &'a str) -> Arg<'a> {
+fn flag<'a>(alloc: Global, name: &'a str, help: &'a str) -> Arg<'a>
+    ensures rule { rule_of result ≡ flag_rule name.now }
+    ensures local { result.global ≡ false }
+{
     Arg::new(alloc, name)
         .long(name)
         .action(ArgAction::SetTrue)
@@ -42,17 +52,26 @@ fn flag<'a>(alloc: Global, name: &'a str, help: &'a str) -> Arg<'a> {
 }
 
 /// An option that takes a number.
-fn numbered<'a>(alloc: Global, name: &'a str, help: &'a str) -> Arg<'a> {
+fn numbered<'a>(alloc: Global, name: &'a str, help: &'a str) -> Arg<'a>
+    ensures rule { rule_of result ≡ number_rule name.now }
+    ensures local { result.global ≡ false }
+{
     Arg::new(alloc, name).long(name).value_name("N").help(help)
 }
 
 /// A subcommand, of which its help tells an example.
-fn subcommand<'a>(alloc: Global, name: &'a str, about: &'a str, example: &'a str) -> Command<'a> {
+fn subcommand<'a>(alloc: Global, name: &'a str, about: &'a str, example: &'a str) -> Command<'a>
+    ensures app { app_of result ≡ new_app name.now }
+    ensures local { (out-Command result).has_globals ≡ false }
+{
     Command::new(alloc, name).about(about).after_help(example)
 }
 
 /// The subcommand `trace`.
-fn trace_command<'a>(alloc: Global) -> Result<Command<'a>, AllocError> {
+fn trace_command<'a>(alloc: Global) -> Result<Command<'a>, AllocError>
+    ensures app { IfOk result (λ c. app_of c ≡ trace_app) }
+    ensures local { IfOk result (λ c. (out-Command c).has_globals ≡ false) }
+{
     subcommand(
         alloc,
         "trace",
@@ -75,7 +94,10 @@ fn trace_command<'a>(alloc: Global) -> Result<Command<'a>, AllocError> {
 }
 
 /// The subcommand `picture`.
-fn picture_command<'a>(alloc: Global) -> Command<'a> {
+fn picture_command<'a>(alloc: Global) -> Command<'a>
+    ensures app { app_of result ≡ new_app (codes "picture") }
+    ensures local { (out-Command result).has_globals ≡ false }
+{
     subcommand(
         alloc,
         "picture",
@@ -85,7 +107,10 @@ fn picture_command<'a>(alloc: Global) -> Command<'a> {
 }
 
 /// The subcommand `page`.
-fn page_command<'a>(alloc: Global) -> Command<'a> {
+fn page_command<'a>(alloc: Global) -> Command<'a>
+    ensures app { app_of result ≡ new_app (codes "page") }
+    ensures local { (out-Command result).has_globals ≡ false }
+{
     subcommand(
         alloc,
         "page",
@@ -95,7 +120,10 @@ fn page_command<'a>(alloc: Global) -> Command<'a> {
 }
 
 /// The subcommand `check`.
-fn check_command<'a>(alloc: Global) -> Result<Command<'a>, AllocError> {
+fn check_command<'a>(alloc: Global) -> Result<Command<'a>, AllocError>
+    ensures app { IfOk result (λ c. app_of c ≡ check_app) }
+    ensures local { IfOk result (λ c. (out-Command c).has_globals ≡ false) }
+{
     subcommand(
         alloc,
         "check",
@@ -106,14 +134,18 @@ fn check_command<'a>(alloc: Global) -> Result<Command<'a>, AllocError> {
 }
 
 /// The program, with no subcommand.
-fn program<'a>(alloc: Global) -> Command<'a> {
+fn program<'a>(alloc: Global) -> Command<'a>
+    ensures { app_of result ≡ program_app }
+{
     Command::new(alloc, "agc_watch").version("1.0.0").about(
         "Shows what the requests of a bench, on standard input, do to the tables",
     )
 }
 
 /// The program, with all of its subcommands.
-fn whole_command<'a>(alloc: Global) -> Result<Command<'a>, AllocError> {
+fn whole_command<'a>(alloc: Global) -> Result<Command<'a>, AllocError>
+    ensures { IfOk result (λ c. app_of c ≡ whole_app) }
+{
     program(alloc)
         .subcommand(trace_command(alloc)?)?
         .subcommand(picture_command(alloc))?
@@ -127,7 +159,11 @@ fn whole_command<'a>(alloc: Global) -> Result<Command<'a>, AllocError> {
 ///
 /// `Words` where they don't ask for one either, and `NoMemory`.
 pub fn text_asked(alloc: Global, words: &[String]) -> Result<Asked, WordsFault>
-    ensures { IfOk result IsTextAsked }
+    ensures text { IfOk result IsTextAsked }
+    ensures help { AskForHelp (map string_bytes words.now)
+        → IsAnsweredBy kind.DisplayHelp result }
+    ensures version { AskForVersion (map string_bytes words.now)
+        → IsAnsweredBy kind.DisplayVersion result }
 {
     let command = whole_command(alloc)?;
     match command.try_get_matches_from(words) {

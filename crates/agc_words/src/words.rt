@@ -1,7 +1,9 @@
 //! What the words ask for.
 ghost use Rattle.std.specs.Prelude.{◌≡◌, ◌≢◌, [], ◌∷◌, IfOk, IfSome, Ok, Some, codes, map};
 ghost use Rattle.std.specs.String.{string_bytes};
-ghost use Rattle.agc_words.specs.Words.{AreFor, AskFor, IsAskedBy};
+ghost use Rattle.clap.specs.declared.error.kind.ErrorKind.TheVariants as kind;
+ghost use Rattle.agc_words.specs.Words.{AreFor, AskFor, AskForHelp, AskForVersion, IsAnsweredBy};
+ghost use Rattle.agc_words.specs.Words.{IsAskedBy};
 ghost use Rattle.agc_words.specs.declared.words.Asked.TheVariants as asked;
 ghost use Rattle.agc_words.specs.declared.words.Work.{Work};
 
@@ -107,6 +109,10 @@ pub fn asked_for(alloc: Global, words: &[String]) -> Result<Asked, WordsFault>
     ensures work { (work : Work) → AskFor (map string_bytes words.now) work
         → result ≡ Ok (asked.Work work) }
     ensures asked { IfOk result (IsAskedBy (map string_bytes words.now)) }
+    ensures help { AskForHelp (map string_bytes words.now)
+        → IsAnsweredBy kind.DisplayHelp result }
+    ensures version { AskForVersion (map string_bytes words.now)
+        → IsAnsweredBy kind.DisplayVersion result }
 {
     match work_of(words) {
         Some(work) => Ok(Asked::Work(work)),
