@@ -140,6 +140,7 @@ fn add<F: Faulty>(
         ≡ added document.now findings.old.items spot.now) }
     ensures kind { IfOk result (λ _. kind_of spot.now.fault ≡ F.kind) }
 {
+    // For the proof: a spot that is not told any more is known to be of this kind too.
     let _ = spot.fault.wrong();
     if findings.len() >= MOST_TOLD {
         return Ok(());
