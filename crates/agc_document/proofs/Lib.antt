@@ -1,5 +1,6 @@
 pub mod Each
 pub mod Names
+pub mod Lines
 pub mod Beside
 pub mod Benches
 pub mod Refusals

@@ -15,5 +15,5 @@ mod warning;
 
 pub use locating::bench_warnings;
 pub use running::{FirstRefused, first_refused};
-pub use telling::tell_warnings;
+pub use telling::warnings_told;
 pub use warning::{Located, Warned, Warning};
