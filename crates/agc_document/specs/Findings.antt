@@ -49,7 +49,7 @@ StandsIn text n = (1 ≤ n) × (n ≤ line_ends text + 1)
 pub record IsFound (document : List ℕ) (fault : BenchFault) (f : Found) : Type 0 where
   pub at : f.at ≤ length document
   pub line : f.line ≡ line_of document f.at
-  pub fault : refusal_of f.wrong ≡ fault
+  pub is : refusal_of f.wrong ≡ fault
 
 -- findings of one fault, in the order of the document
 pub record AreFound (document : List ℕ) (fault : BenchFault) (fs : List Found) : Type 0 where

@@ -23,9 +23,13 @@ abbrev pub has_only : List (List ℕ) → Members → Bool
 has_only names no_members = true
 has_only names (member k d ms) = is_among names k && has_only names ms
 
--- a table that has the keys of a level and no others
+-- the members of a table, where they have the keys of a level and no others
+abbrev pub known_to : Level → Members → Option Members
+known_to l ms = if has_only (names_of l) ms then Some ms else None
+
+-- a table that has these keys and no others
 abbrev pub table_of : Level → Data → Option Members
-table_of l d = as_table d >>= λ ms. if has_only (names_of l) ms then Some ms else None
+table_of l d = as_table d >>= known_to l
 
 -- the value of a key
 abbrev pub value_of : BenchKey → Members → Option Data
@@ -152,7 +156,8 @@ lists_in ms = do
 
 -- the numbers and texts of a bench
 unfoldable pub texts_in : Members → Option Texts
-texts_in ms = if has_only (names_of level.Bench) ms then
-    (settings_in ms >>= λ settings. lists_in ms >>= λ lists.
-    Some (record { settings = settings; lists = lists }))
-    else None
+texts_in ms = do
+  known ← known_to level.Bench ms
+  settings ← settings_in known
+  lists ← lists_in known
+  Some (record { settings = settings; lists = lists })

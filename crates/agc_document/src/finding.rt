@@ -1,5 +1,5 @@
 //! What is found wrong with a document, and where.
-ghost use Rattle.std.specs.Prelude.{◌≡◌, ◌≤◌, length, IfOk, OnOk};
+ghost use Rattle.std.specs.Prelude.{◌≡◌, ◌≤◌, ℕ, List, length, IfOk, OnOk};
 ghost use Rattle.std.specs.List.{All};
 ghost use Rattle.agc_document.specs.Findings.{line_ends, line_of, StandsIn, refusal_of};
 ghost use Rattle.agc_document.specs.Findings.{IsFound, AreFound};

@@ -8,7 +8,7 @@ ghost use Rattle.agc_word.specs.Profiles.{count_of};
 ghost use Rattle.agc_plan.specs.Ranges.{IsBetween};
 ghost use Rattle.agc_document.specs.Gives.{AreNoted, GivesOrKey};
 ghost use Rattle.agc_document.specs.Rows.{row_of, bounds_of, names_of};
-ghost use Rattle.agc_document.specs.Keys.{is_among, has_only, value_of, number_of};
+ghost use Rattle.agc_document.specs.Keys.{is_among, has_only, known_to, value_of, number_of};
 ghost use Rattle.agc_document.specs.Keys.{least, most, read_at, read_or, given_text, each};
 ghost use Rattle.agc_document.specs.Keys.{items_of, given_texts, action_texts, row, entry, worker};
 ghost use Rattle.agc_document.specs.Keys.{device, settings_in, lists_in, texts_in};
@@ -67,8 +67,7 @@ fn has_only<'a>(
     notes: &mut Notes<'a>,
 ) -> Result<(), BenchFault>
     ensures value { GivesOrKey (λ _. table_view table.now) result
-        (if has_only (names_of level) (table_view table.now) then Some (table_view table.now)
-        else None) notes.new.keys.items }
+        (known_to level (table_view table.now)) notes.new.keys.items }
     ensures kept { AreNoted notes.old.keys.items → AreNoted notes.new.keys.items }
 {
     if all_among(table, level) {

@@ -42,16 +42,20 @@ impl<'a> Way<'a> {
         Way { steps }
     }
 
+    /// The way to a key that is unknown in the table at a place.
+    fn to_unknown(place: Place, key: &'a str) -> Way<'a> {
+        let unknown = Some(Step::Name(key));
+        let steps = match place {
+            Place::Table(tables, k) => [name(tables), number(k), unknown, None],
+            _ => [unknown, None, None, None],
+        };
+        Way { steps }
+    }
+
     /// The way to what is wrong with a key.
     pub(crate) fn to_key(note: &KeyNote<'a>) -> Way<'a> {
-        let unknown = Some(Step::Name(note.text));
-        match (note.fault, note.place) {
-            (KeyFault::Unknown(_level), Place::Table(key, k)) => Way {
-                steps: [name(key), number(k), unknown, None],
-            },
-            (KeyFault::Unknown(_level), _) => Way {
-                steps: [unknown, None, None, None],
-            },
+        match note.fault {
+            KeyFault::Unknown(_level) => Way::to_unknown(note.place, note.text),
             _ => Way::to(note.place),
         }
     }

@@ -9,13 +9,13 @@ ghost use Rattle.agc_watch.specs.Program.{ChecksBench, ChecksScript, PutsTold, T
 ghost use Rattle.agc_watch.specs.Program.{CanEndPrinting, EndsFor, IsEnd};
 
 use agc_document::{Checked, findings, read_bench};
-use agc_lint::{bench_told, script_findings, script_told};
+use agc_lint::{Finding, bench_told, script_findings, script_told};
 use agc_page::page;
 use agc_picture::picture;
 use agc_program::{Fault, buffered, flushed, given_words};
 use agc_text::{put, read_all, read_script};
 use agc_trace::{Choice, trace, trace_script};
-use agc_warn::{bench_warnings, warnings_told};
+use agc_warn::{add_bench_summary, add_script_summary, bench_warnings, warnings_told};
 use agc_words::{Asked, TraceOptions, WordsFault, Work, asked_for};
 use clap::Error;
 use std::alloc::{AllocError, Global};
@@ -117,21 +117,36 @@ fn put_told<W: Write>(told: &str, is_well: bool, writer: &mut W) -> Result<bool,
     }
 }
 
+/// What is told of a script, or of a text that is none.
+fn told_of_script(
+    alloc: Global,
+    text: &str,
+    found: &[Finding<'_>],
+) -> Result<String, AllocError> {
+    let mut told = script_told(alloc, found)?;
+    if let Ok(requests) = read_script(alloc, text) {
+        add_script_summary(alloc, &mut told, requests.as_slice())?;
+    }
+    Ok(told)
+}
+
 /// Writes what is wrong with a script, and returns whether that is nothing.
 fn check_script<W: Write>(alloc: Global, text: &str, writer: &mut W) -> Result<bool, Fault>
     ensures { ChecksScript text.now (W.contents writer.old) (W.contents writer.new) result }
 {
     let found = script_findings(alloc, text)?;
-    let told = script_told(alloc, found.as_slice())?;
+    let told = told_of_script(alloc, text, found.as_slice())?;
     put_told(told.as_str(), is_nothing(found.as_slice()), writer)
 }
 
 /// What is told of a bench, or of a document that is none.
-fn told_of(alloc: Global, text: &str, checked: &Checked) -> Result<String, AllocError> {
+fn told_of_bench(alloc: Global, text: &str, checked: &Checked) -> Result<String, AllocError> {
     match &checked.bench {
         Some(bench) => {
             let warnings = bench_warnings(alloc, text, bench)?;
-            Ok(warnings_told(alloc, warnings.as_slice())?)
+            let mut told = warnings_told(alloc, warnings.as_slice())?;
+            add_bench_summary(alloc, &mut told, bench)?;
+            Ok(told)
         }
         None => bench_told(alloc, checked.findings.as_slice()),
     }
@@ -142,7 +157,7 @@ fn check_bench<W: Write>(alloc: Global, text: &str, writer: &mut W) -> Result<bo
     ensures { ChecksBench text.now (W.contents writer.old) (W.contents writer.new) result }
 {
     let checked = findings(alloc, text)?;
-    let told = told_of(alloc, text, &checked)?;
+    let told = told_of_bench(alloc, text, &checked)?;
     put_told(told.as_str(), checked.bench.is_some(), writer)
 }
 
