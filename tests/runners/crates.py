@@ -115,14 +115,22 @@ def make_public(path):
 
 
 def layout_faults(room, files):
-    """Returns what `rt fmt` says of each file that isn't in its layout."""
-    rattle = os.path.join(os.path.dirname(os.path.realpath(shutil.which("rt"))), "rattle")
-    ran = subprocess.run([rattle, "fmt", "--check", *files], cwd=room, stdout=subprocess.PIPE, stderr=subprocess.STDOUT,
-                         text=True, check=False)
-    said = ran.stdout
-    for path, file in files.items():
-        said = said.replace(path, file)
-    return (said.split("\n")[:-1] or ["crates: rt fmt failed"]) if ran.returncode else []
+    """Returns a line for each file that isn't as `rt fmt` lays it out."""
+    ran = subprocess.run(["rt", "fmt"], cwd=f"{room}/crates/{NAME}", stdin=subprocess.DEVNULL, stdout=subprocess.PIPE,
+                         stderr=subprocess.STDOUT, text=True, check=False)
+    if ran.returncode:
+        said = ran.stdout
+        for path, file in files.items():
+            said = said.replace(path, file)
+        return [it for it in said.split("\n") if it and not it.startswith("rt: formatted ")]
+    pairs = [(file, repository.text_of(f"{TOP}/{file}"), repository.text_of(path)) for path, file in files.items()]
+    return [f"{file}:{differs_at(old, new)}: `rt fmt` lays it out otherwise" for file, old, new in pairs if old != new]
+
+
+def differs_at(old, new):
+    """Returns the number of the first line in which two texts differ."""
+    pairs = zip(old.split("\n"), new.split("\n"))
+    return next((at for at, (one, other) in enumerate(pairs, 1) if one != other), 1)
 
 
 def laid_and_looked_at(room, wanted):

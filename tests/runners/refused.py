@@ -18,7 +18,7 @@ import repository
 from repository import TOP
 
 FOLDERS = ["tests/refused", "examples/embedding"]
-USED = "agc_desk agc_exec agc_machine agc_phase agc_plan agc_wait agc_word"
+HIGHEST = "agc_desk"
 
 # A test that does nothing, so that what compiles is run.
 PASSES = "\n#[test]\nfn compiles(rt: HostRuntime) {\n    assert!(rt; true);\n}\n"
@@ -42,7 +42,7 @@ class Attempt:
     def tried(self):
         """Compiles it, and runs its tests. Returns what is wrong, and what was said, or nothing."""
         with tempfile.TemporaryDirectory(prefix="refused-") as room:
-            repository.copy_crates(room, f"attempt: {USED}")
+            repository.copy_crates(room, f"attempt: {' '.join([*repository.below([HIGHEST]), HIGHEST])}")
             folder = f"{room}/crates/attempt"
             repository.write(f"{folder}/src/lib.rt", f"#![tactic(auto)]\n{self.text}{PASSES}")
             path = f"{TOP}/tools/without-hint:{os.environ['PATH']}"
