@@ -1,6 +1,6 @@
 -- What is found wrong with a document.
 use Rattle.std.specs.Prelude.{◌≡◌, ◌≤◌, ℕ, suc, ◌+◌, ◌==◌, if◌then◌else◌, List, [], ◌∷◌, ◌++◌}
-use Rattle.std.specs.Prelude.{length, take, Option, Some, None}
+use Rattle.std.specs.Prelude.{length, take, min, Option, Some, None}
 use Rattle.std.specs.List.{All}
 use Rattle.std.specs.List.Sorted.{IsNonDecreasingBy}
 use Rattle.toml.specs.Parse.{parse_document}
@@ -37,9 +37,10 @@ abbrev pub line_ends : List ℕ → ℕ
 line_ends [] = 0
 line_ends (c ∷ cs) = if c == 10 then suc (line_ends cs) else line_ends cs
 
--- the number of the line in which a byte of a document stands, from 1
+-- the number of the line in which a byte of a document stands, from 1: the last, where the document
+-- ends before it
 abbrev pub line_of : List ℕ → ℕ → ℕ
-line_of document at = line_ends (take at document) + 1
+line_of document at = line_ends (take (min at (length document)) document) + 1
 
 -- the text has a line of this number; what follows the last end of a line is a line too
 abbrev pub StandsIn : List ℕ → ℕ → Type 0

@@ -275,6 +275,7 @@ fn spelled<'a>(
 }
 
 /// The bench that a document's table is. What is wrong is noted.
+#[tactic(auto, using(crate::proofs::Refusals::noted_line, crate::proofs::Refusals::noted_plan))]
 pub(crate) fn bench_of<'a>(
     alloc: Global,
     table: &'a Table,
@@ -305,6 +306,7 @@ pub(crate) fn bench_of<'a>(
 /// value of another kind, an integer out of range, `power` or actions of another length, more than
 /// 32 workers or devices; `Line`, a text that is not of its form; `TaskTwice`, `PhaseTwice` and
 /// `TooManyAreas`, rows and entries that make no plan. `NoMemory` may come in place of any.
+#[tactic(auto, using(crate::proofs::Refusals::refused_in, crate::proofs::Refusals::texts_of))]
 pub fn read_bench(alloc: Global, text: &str) -> Result<Bench, BenchFault>
     ensures found { IfOk result (λ b. IsBench b
         × HasTexts (parse_document text.now) (bench_texts b)) }
@@ -320,6 +322,8 @@ pub fn read_bench(alloc: Global, text: &str) -> Result<Bench, BenchFault>
         }
     };
     let mut notes = Notes::new(false);
-    let bench = bench_of(alloc, &table, &mut notes)?;
-    Ok(bench)
+    match bench_of(alloc, &table, &mut notes) {
+        Ok(bench) => Ok(bench),
+        Err(fault) => Err(fault),
+    }
 }

@@ -1,9 +1,9 @@
 //! What is found wrong with a document, and where.
-ghost use Rattle.std.specs.Prelude.{◌≡◌, ◌≤◌, ℕ, List, length, IfOk, OnOk};
+ghost use Rattle.std.specs.Prelude.{◌≡◌, ◌≤◌, length, IfOk, OnOk};
 ghost use Rattle.std.specs.List.{All};
+ghost use Rattle.std.specs.List.Sorted.{IsNonDecreasingBy, IsPermutation};
 ghost use Rattle.agc_document.specs.Findings.{line_ends, line_of, StandsIn, refusal_of};
 ghost use Rattle.agc_document.specs.Findings.{IsFound, AreFound};
-ghost use Rattle.agc_document.specs.declared.fault.BenchFault.{BenchFault};
 ghost use Rattle.agc_document.specs.declared.fault.BenchFault.TheVariants as refusal;
 
 use crate::key::{Form, Key};
@@ -58,7 +58,7 @@ fn line_ends(text: &[u8]) -> u64
 /// ends before it. Source: profile.
 #[tactic(auto, using(crate::proofs::Lines::ends_before))]
 pub fn line_at(document: &str, at: usize) -> u64
-    ensures line { at ≤ length document.now → result ≡ line_of document.now at }
+    ensures line { result ≡ line_of document.now at }
     ensures stands { StandsIn document.now result }
 {
     let bytes = document.as_bytes();
@@ -88,8 +88,8 @@ pub(crate) fn make_finding(
 
 /// Brings findings in the order of the document.
 fn put_in_order(findings: &mut Vec<Finding>) -> Result<(), AllocError>
-    ensures found { OnOk result ((text : List ℕ) (fault : BenchFault)
-        → All (IsFound text fault) findings.old.items → AreFound text fault findings.new.items) }
+    ensures order { OnOk result (IsNonDecreasingBy (λ f. f.at) findings.new.items) }
+    ensures same { IsPermutation findings.old.items findings.new.items }
     ensures length { length findings.new.items ≡ length findings.old.items }
 {
     findings.sort_by_key(|finding| finding.at)
@@ -114,7 +114,49 @@ fn told_text<'a>(document: &'a str, note: &KeyNote<'a>, spot: Spot) -> &'a str {
     }
 }
 
+/// What is found of a document's keys at these spots.
+fn found_keys<'a>(
+    alloc: Global,
+    document: &'a str,
+    notes: &[KeyNote<'a>],
+    spots: &[Spot],
+) -> Result<Vec<Finding>, AllocError>
+    ensures all { IfOk result (λ v. All (IsFound document.now refusal.Key) v.items) }
+    ensures length { IfOk result (λ v. length v.items ≡ length notes.now) }
+{
+    let mut found: Vec<Finding> = Vec::new(alloc);
+    for (k, note) in notes.iter().enumerate() {
+        let spot = spot_at(spots, k);
+        let text = told_text(document, note, spot);
+        let wrong = Wrong::Key(note.fault);
+        let one = make_finding(alloc, document, spot.at, note.place, text, wrong)?;
+        found.push(one)?;
+    }
+    Ok(found)
+}
+
+/// What is found of a document's texts at these spots.
+fn found_texts<'a>(
+    alloc: Global,
+    document: &'a str,
+    notes: &[TextNote<'a>],
+    spots: &[Spot],
+) -> Result<Vec<Finding>, AllocError>
+    ensures all { IfOk result (λ v. All (IsFound document.now refusal.Line) v.items) }
+    ensures length { IfOk result (λ v. length v.items ≡ length notes.now) }
+{
+    let mut found: Vec<Finding> = Vec::new(alloc);
+    for (k, note) in notes.iter().enumerate() {
+        let spot = spot_at(spots, k);
+        let wrong = Wrong::Text(note.form);
+        let one = make_finding(alloc, document, spot.at, note.place, note.text, wrong)?;
+        found.push(one)?;
+    }
+    Ok(found)
+}
+
 /// What is found of a document's keys.
+#[tactic(auto, using(crate::proofs::Found::in_order))]
 pub(crate) fn key_findings<'a>(
     alloc: Global,
     document: &'a str,
@@ -128,18 +170,13 @@ pub(crate) fn key_findings<'a>(
         ways.push(Way::to_key(note))?;
     }
     let spots = locate_all(alloc, document, ways.as_slice())?;
-    let mut found: Vec<Finding> = Vec::new(alloc);
-    for (k, note) in notes.iter().enumerate() {
-        let spot = spot_at(spots.as_slice(), k);
-        let text = told_text(document, note, spot);
-        let wrong = Wrong::Key(note.fault);
-        found.push(make_finding(alloc, document, spot.at, note.place, text, wrong)?)?;
-    }
+    let mut found = found_keys(alloc, document, notes, spots.as_slice())?;
     put_in_order(&mut found)?;
     Ok(found)
 }
 
 /// What is found of a document's texts.
+#[tactic(auto, using(crate::proofs::Found::in_order))]
 pub(crate) fn text_findings<'a>(
     alloc: Global,
     document: &'a str,
@@ -153,12 +190,7 @@ pub(crate) fn text_findings<'a>(
         ways.push(Way::to(note.place))?;
     }
     let spots = locate_all(alloc, document, ways.as_slice())?;
-    let mut found: Vec<Finding> = Vec::new(alloc);
-    for (k, note) in notes.iter().enumerate() {
-        let spot = spot_at(spots.as_slice(), k);
-        let wrong = Wrong::Text(note.form);
-        found.push(make_finding(alloc, document, spot.at, note.place, note.text, wrong)?)?;
-    }
+    let mut found = found_texts(alloc, document, notes, spots.as_slice())?;
     put_in_order(&mut found)?;
     Ok(found)
 }

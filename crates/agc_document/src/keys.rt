@@ -1,13 +1,15 @@
 //! The numbers and texts of a document, by the table of keys.
 ghost use Rattle.std.specs.Prelude.{◌≡◌, ◌≤◌, [], ◌∷◌, map, length, codes, Option, Some, None};
-ghost use Rattle.std.specs.Prelude.{is_some, IfSome, IfOk, IfErr, true};
+ghost use Rattle.std.specs.Prelude.{string_bytes, is_some, IfSome, IfOk, true};
 ghost use Rattle.std.specs.Option.{option_map};
-ghost use Rattle.toml.specs.Data.{Data, as_str, as_table};
+ghost use Rattle.std.specs.List.{list_all};
+ghost use Rattle.std.specs.BTreeMap.{keys};
+ghost use Rattle.toml.specs.Data.{Data, get_member, as_str, as_table};
 ghost use Rattle.toml.specs.View.{view, items_view, table_view};
 ghost use Rattle.agc_word.specs.Profiles.{count_of};
 ghost use Rattle.agc_plan.specs.Ranges.{IsBetween};
 ghost use Rattle.agc_document.specs.Gives.{AreNoted, GivesOrKey};
-ghost use Rattle.agc_document.specs.Rows.{row_of, bounds_of, names_of};
+ghost use Rattle.agc_document.specs.Rows.{row_of, names_of};
 ghost use Rattle.agc_document.specs.Keys.{is_among, has_only, known_to, value_of, number_of};
 ghost use Rattle.agc_document.specs.Keys.{least, most, read_at, read_or, given_text, each};
 ghost use Rattle.agc_document.specs.Keys.{items_of, given_texts, action_texts, row, entry, worker};
@@ -21,7 +23,7 @@ use crate::place::Place;
 use crate::texts::{DeviceTexts, EntryTexts, Lists, RowTexts, Settings, Text, Texts, WorkerTexts};
 use crate::wrong::KeyFault;
 use agc_word::Sets;
-use std::alloc::Global;
+use std::alloc::{AllocError, Global};
 use toml::{Table, Value};
 
 /// Whether a key's name is that of one of these.
@@ -36,12 +38,20 @@ fn is_among(keys: &[Key], name: &str) -> bool
     false
 }
 
-/// Whether every key of a table is one of its level's.
+/// Whether the name of every key of a table is among these.
+fn all_among(table: &Table, among: &[Key]) -> bool
+    ensures { result ≡ list_all
+        (λ k. is_among (map (λ n. (row_of n).name) among.now) (string_bytes k)) (keys table.now) }
+{
+    table.keys().all(|name| is_among(among, name.as_str()))
+}
+
+/// Whether a table has its level's keys and no others.
 #[tactic(auto, using(crate::proofs::Names::all_among))]
-fn all_among(table: &Table, level: Level) -> bool
+fn is_known(table: &Table, level: Level) -> bool
     ensures { result ≡ has_only (names_of level) (table_view table.now) }
 {
-    table.keys().all(|name| is_among(level.keys(), name.as_str()))
+    all_among(table, level.keys())
 }
 
 /// Notes each key of a table that is none of its level's.
@@ -70,7 +80,7 @@ fn has_only<'a>(
         (known_to level (table_view table.now)) notes.new.keys.items }
     ensures kept { AreNoted notes.old.keys.items → AreNoted notes.new.keys.items }
 {
-    if all_among(table, level) {
+    if is_known(table, level) {
         return Ok(());
     }
     note_unknown(table, level, place, notes);
@@ -94,8 +104,15 @@ fn table_at<'a>(
     }
 }
 
+/// The value of the key of this name.
+fn value_at<'a>(table: &'a Table, key: &str) -> Option<&'a Value>
+    ensures { option_map (λ v. view v.now) result ≡ get_member key.now (table_view table.now) }
+{
+    table.get(key)
+}
+
 /// The value of a key. Where it is missing and required, that is noted.
-fn value_at<'a>(
+fn value_of<'a>(
     table: &'a Table,
     key: Key,
     place: Place,
@@ -107,11 +124,14 @@ fn value_at<'a>(
     ensures kept { AreNoted notes.old.keys.items → AreNoted notes.new.keys.items }
 {
     let row = key.row();
-    let value = table.get(row.name);
-    if value.is_none() && row.is_required {
-        notes.key(place, "", KeyFault::Missing(key));
+    match value_at(table, row.name) {
+        Some(value) => Some(value),
+        None if row.is_required => {
+            notes.key(place, "", KeyFault::Missing(key));
+            None
+        }
+        None => None,
     }
-    value
 }
 
 /// An integer in the range of a key.
@@ -164,7 +184,7 @@ fn number_at<'a>(
     ensures range { IfOk result (λ n. (least key ≤ n) × (n ≤ most key)) }
     ensures kept { AreNoted notes.old.keys.items → AreNoted notes.new.keys.items }
 {
-    match value_at(table, key, place, notes) {
+    match value_of(table, key, place, notes) {
         Some(value) => number_of(value, key, place, notes),
         None => Err(BenchFault::Key),
     }
@@ -185,7 +205,7 @@ fn number_or<'a>(
     ensures range { IfOk result (λ n. (least key ≤ n) × (n ≤ most key)) }
     ensures kept { AreNoted notes.old.keys.items → AreNoted notes.new.keys.items }
 {
-    match value_at(table, key, Place::Whole, notes) {
+    match value_of(table, key, Place::Whole, notes) {
         Some(value) => number_of(value, key, Place::Whole, notes),
         None => Ok(missing),
     }
@@ -223,7 +243,7 @@ fn text_at<'a>(
         notes.new.keys.items }
     ensures kept { AreNoted notes.old.keys.items → AreNoted notes.new.keys.items }
 {
-    match value_at(table, key, place, notes) {
+    match value_of(table, key, place, notes) {
         Some(value) => text_of(value, key, place.of_value(key), KeyFault::Value(key), notes),
         None => Err(BenchFault::Key),
     }
@@ -240,7 +260,7 @@ fn optional_text<'a>(
         (read_or None given_text (value_of key (table_view table.now))) notes.new.keys.items }
     ensures kept { AreNoted notes.old.keys.items → AreNoted notes.new.keys.items }
 {
-    match value_at(table, key, place, notes) {
+    match value_of(table, key, place, notes) {
         None => Ok(None),
         Some(value) => {
             match text_of(value, key, place.of_value(key), KeyFault::Value(key), notes) {
@@ -383,6 +403,22 @@ impl<'a> FromData<'a> for DeviceTexts<'a> {
     }
 }
 
+/// Looks at an item of an array, if it is wanted, and notes what is wrong with it.
+fn note_item<'a, T: FromData<'a>>(
+    alloc: Global,
+    value: &'a Value,
+    key: Key,
+    place: Place,
+    is_wanted: bool,
+    notes: &mut Notes<'a>,
+)
+    ensures { AreNoted notes.old.keys.items → AreNoted notes.new.keys.items }
+{
+    if is_wanted {
+        let _item: Result<T, BenchFault> = T::from_value(alloc, value, key, place, notes);
+    }
+}
+
 /// Looks at the items of an array behind the first that is no such thing, and notes what is wrong
 /// with them.
 fn note_others<'a, T: FromData<'a>>(
@@ -396,10 +432,8 @@ fn note_others<'a, T: FromData<'a>>(
     ensures { AreNoted notes.old.keys.items → AreNoted notes.new.keys.items }
 {
     for (k, value) in values.iter().enumerate() {
-        if first < k {
-            let _item: Result<T, BenchFault> =
-                T::from_value(alloc, value, key, place.of_item(k as u64 + 1), notes);
-        }
+        let place = place.of_item(k as u64 + 1);
+        note_item::<T>(alloc, value, key, place, first < k, notes);
     }
 }
 
@@ -468,7 +502,7 @@ fn items_or_none<'a, T: FromData<'a>>(
     ensures few { IfOk result (λ v. IsBetween (least key) (most key) (length v.items)) }
     ensures kept { AreNoted notes.old.keys.items → AreNoted notes.new.keys.items }
 {
-    match value_at(table, key, Place::Whole, notes) {
+    match value_of(table, key, Place::Whole, notes) {
         None => Ok(Vec::new(alloc)),
         Some(value) => items_of(alloc, value, key, Place::Value(key), notes),
     }
@@ -487,16 +521,15 @@ fn script_at<'a>(
     ensures kept { AreNoted notes.old.keys.items → AreNoted notes.new.keys.items }
 {
     let key = Key::Requests;
-    match value_at(table, key, place, notes) {
+    match value_of(table, key, place, notes) {
         None => Err(BenchFault::Key),
         Some(value) => items_of(alloc, value, key, place.of_value(key), notes),
     }
 }
 
 /// This text alone.
-fn one_text<'a>(alloc: Global, text: &'a str) -> Result<Vec<Text<'a>>, BenchFault>
-    ensures found { IfOk result (λ v. v.items ≡ text.now ∷ []) }
-    ensures memory { IfErr result (λ fault. fault ≡ BenchFault.NoMemory) }
+fn one_text<'a>(alloc: Global, text: &'a str) -> Result<Vec<Text<'a>>, AllocError>
+    ensures { IfOk result (λ v. v.items ≡ text.now ∷ []) }
 {
     let mut alone = Vec::new(alloc);
     alone.push(Text::new(text))?;
@@ -511,7 +544,8 @@ fn actions_of<'a>(
     place: Place,
     notes: &mut Notes<'a>,
 ) -> Result<Vec<Text<'a>>, BenchFault>
-    requires { bounds_of (row_of key).kind ≡ (1, 4) }
+    requires low { least key ≡ 1 }
+    requires high { most key ≡ 4 }
     ensures value { GivesOrKey (λ v. v.items) result (action_texts key (view value.now))
         notes.new.keys.items }
     ensures few { IfOk result (λ v. IsBetween 1 4 (length v.items)) }
@@ -520,7 +554,8 @@ fn actions_of<'a>(
     match value.as_str() {
         Some(text) => {
             notes.look_at(place, text, key);
-            one_text(alloc, text)
+            let alone = one_text(alloc, text)?;
+            Ok(alone)
         }
         None => items_of(alloc, value, key, place, notes),
     }
@@ -540,7 +575,7 @@ fn actions_at<'a>(
     ensures kept { AreNoted notes.old.keys.items → AreNoted notes.new.keys.items }
 {
     let key = Key::Action;
-    match value_at(table, key, place, notes) {
+    match value_of(table, key, place, notes) {
         None => Err(BenchFault::Key),
         Some(value) => actions_of(alloc, value, key, place.of_value(key), notes),
     }
@@ -553,15 +588,19 @@ fn pulse_at<'a>(
     key: Key,
     notes: &mut Notes<'a>,
 ) -> Result<Vec<Text<'a>>, BenchFault>
-    requires { bounds_of (row_of key).kind ≡ (1, 4) }
+    requires low { least key ≡ 1 }
+    requires high { most key ≡ 4 }
     ensures value { GivesOrKey (λ v. v.items) result
         (read_or (codes "nothing" ∷ []) (action_texts key) (value_of key (table_view table.now)))
         notes.new.keys.items }
     ensures few { IfOk result (λ v. IsBetween 1 4 (length v.items)) }
     ensures kept { AreNoted notes.old.keys.items → AreNoted notes.new.keys.items }
 {
-    match value_at(table, key, Place::Whole, notes) {
-        None => one_text(alloc, "nothing"),
+    match value_of(table, key, Place::Whole, notes) {
+        None => {
+            let nothing = one_text(alloc, "nothing")?;
+            Ok(nothing)
+        }
         Some(value) => actions_of(alloc, value, key, Place::Value(key), notes),
     }
 }
@@ -578,7 +617,7 @@ fn power_at<'a>(
     ensures kept { AreNoted notes.old.keys.items → AreNoted notes.new.keys.items }
 {
     let key = Key::Power;
-    match value_at(table, key, Place::Whole, notes) {
+    match value_of(table, key, Place::Whole, notes) {
         None => Ok(None),
         Some(value) => {
             let texts: Vec<Text<'a>> = items_of(alloc, value, key, Place::Value(key), notes)?;
@@ -599,7 +638,7 @@ fn sets_for(number: u64) -> Sets
 fn names_sets(table: &Table) -> bool
     ensures { result ≡ is_some (value_of key_of.Sets (table_view table.now)) }
 {
-    table.get(Key::Sets.row().name).is_some()
+    value_at(table, Key::Sets.row().name).is_some()
 }
 
 #[tactic(auto, unfolding(crate::specs::Keys::settings_in))]

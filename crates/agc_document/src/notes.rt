@@ -94,13 +94,11 @@ impl<'a> Notes<'a> {
     pub(crate) fn look_at(&mut self, place: Place, text: &'a str, key: Key)
         ensures { self.new.keys ≡ self.old.keys }
     {
-        if !self.is_whole {
-            return;
-        }
-        if let Some(form) = key.form() {
-            if !form.is_spelled_by(text) {
+        match key.form() {
+            Some(form) if self.is_whole && !form.is_spelled_by(text) => {
                 self.text(place, text, form);
             }
+            _ => {}
         }
     }
 }

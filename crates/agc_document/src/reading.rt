@@ -1,8 +1,6 @@
 //! A bench, or what is wrong with the document that should be one.
-ghost use Rattle.std.specs.Prelude.{◌≤◌, length, IfOk};
-ghost use Rattle.toml.specs.Parse.{parse_document};
-ghost use Rattle.agc_document.specs.Gives.{IsNotedFor};
-ghost use Rattle.agc_document.specs.Faults.{RefusesBench};
+ghost use Rattle.std.specs.Prelude.{IfOk};
+ghost use Rattle.agc_document.specs.Gives.{AreNoted, IsNotedFor};
 ghost use Rattle.agc_document.specs.Findings.{AreFindings, ChecksAs, refusal_of};
 ghost use Rattle.agc_document.specs.declared.fault.BenchFault.TheVariants as refusal;
 
@@ -24,6 +22,7 @@ pub struct Checked {
 }
 
 /// What is found at one byte, and nothing else.
+#[tactic(auto, using(crate::proofs::Found::found_alone))]
 fn found_only(
     alloc: Global,
     document: &str,
@@ -35,7 +34,8 @@ fn found_only(
     ensures { IfOk result (λ v. AreFindings document.now (refusal_of wrong) v.items) }
 {
     let mut findings: Vec<Finding> = Vec::new(alloc);
-    findings.push(make_finding(alloc, document, at, place, text, wrong)?)?;
+    let one = make_finding(alloc, document, at, place, text, wrong)?;
+    findings.push(one)?;
     Ok(findings)
 }
 
@@ -83,17 +83,32 @@ fn found_no_document(
 }
 
 /// What is wrong with keys first, then with texts.
-fn found_keys(
+#[tactic(auto, using(crate::proofs::Found::found_both))]
+fn keys_and_texts(
     alloc: Global,
     document: &str,
     notes: &Notes<'_>,
 ) -> Result<Vec<Finding>, AllocError>
-    requires { 1 ≤ length notes.now.keys.items }
+    requires { AreNoted notes.now.keys.items }
     ensures { IfOk result (λ v. AreFindings document.now refusal.Key v.items) }
 {
     let mut found = key_findings(alloc, document, notes.keys.as_slice())?;
     let mut texts = text_findings(alloc, document, notes.texts.as_slice())?;
     found.append(&mut texts)?;
+    Ok(found)
+}
+
+/// What is wrong with texts alone.
+#[tactic(auto, using(crate::proofs::Found::found_front))]
+fn texts_alone(
+    alloc: Global,
+    document: &str,
+    notes: &Notes<'_>,
+) -> Result<Vec<Finding>, AllocError>
+    requires { AreNoted notes.now.texts.items }
+    ensures { IfOk result (λ v. AreFindings document.now refusal.Line v.items) }
+{
+    let found = text_findings(alloc, document, notes.texts.as_slice())?;
     Ok(found)
 }
 
@@ -110,8 +125,8 @@ fn found_in(
     match fault {
         BenchFault::NoMemory => Err(AllocError),
         BenchFault::NotToml => found_at(alloc, document, Place::Whole, Wrong::NotToml),
-        BenchFault::Key => found_keys(alloc, document, notes),
-        BenchFault::Line => text_findings(alloc, document, notes.texts.as_slice()),
+        BenchFault::Key => keys_and_texts(alloc, document, notes),
+        BenchFault::Line => texts_alone(alloc, document, notes),
         BenchFault::TaskTwice => found_at(alloc, document, notes.plan, Wrong::TaskTwice),
         BenchFault::PhaseTwice => found_at(alloc, document, notes.plan, Wrong::PhaseTwice),
         BenchFault::TooManyAreas => found_at(alloc, document, notes.plan, Wrong::TooManyAreas),
@@ -126,6 +141,11 @@ fn found_in(
 /// # Errors
 ///
 /// Where there is no memory.
+#[tactic(auto, using(
+    crate::proofs::Found::checks_none,
+    crate::proofs::Found::checks_refused,
+    crate::proofs::Found::checks_bench
+))]
 pub fn findings(alloc: Global, text: &str) -> Result<Checked, AllocError>
     ensures { IfOk result (λ c. ChecksAs text.now c.bench c.findings.items) }
 {
@@ -135,9 +155,10 @@ pub fn findings(alloc: Global, text: &str) -> Result<Checked, AllocError>
             if error.is_memory() {
                 return Err(AllocError);
             }
+            let findings = found_no_document(alloc, text, &error)?;
             return Ok(Checked {
                 bench: None,
-                findings: found_no_document(alloc, text, &error)?,
+                findings,
             });
         }
     };
@@ -147,9 +168,12 @@ pub fn findings(alloc: Global, text: &str) -> Result<Checked, AllocError>
             bench: Some(bench),
             findings: Vec::new(alloc),
         }),
-        Err(fault) => Ok(Checked {
-            bench: None,
-            findings: found_in(alloc, text, &notes, fault)?,
-        }),
+        Err(fault) => {
+            let findings = found_in(alloc, text, &notes, fault)?;
+            Ok(Checked {
+                bench: None,
+                findings,
+            })
+        }
     }
 }

@@ -31,18 +31,30 @@ pub(crate) fn add_line_fault(told: &mut String, fault: LineFault) -> Result<(), 
     match fault {
         LineFault::Empty => add(told, &["a line may not be empty"]),
         LineFault::CarriageReturn => add(told, &["a line ends with LF alone, not with CR LF"]),
-        LineFault::ByteOrderMark => add(told, &["a byte order mark stands before it; a script has none"]),
-        LineFault::OfBench => add(told, &["this is a line of a bench, which is checked without --script"]),
+        LineFault::ByteOrderMark => add(
+            told,
+            &["a byte order mark stands before it; a script has none"],
+        ),
+        LineFault::OfBench => add(
+            told,
+            &["this is a line of a bench, which is checked without --script"],
+        ),
         LineFault::Unknown(None) => {
             add(told, &["its first word is unknown"])?;
             add_words(told)
         }
         LineFault::Unknown(Some(kind)) => {
             let name = kind.name();
-            add(told, &["its first word is unknown; did you mean \"", name, "\"?"])
+            add(
+                told,
+                &["its first word is unknown; did you mean \"", name, "\"?"],
+            )
         }
         LineFault::Form(kind) => {
-            add(told, &["it has the form \"", kind.form(), "\", with single spaces"])
+            add(
+                told,
+                &["it has the form \"", kind.form(), "\", with single spaces"],
+            )
         }
         LineFault::Wrong(part) => add(told, &[part.spelling()]),
     }
@@ -85,7 +97,14 @@ fn add_expected(told: &mut String, key: Key) -> Result<(), AllocError> {
         Valued::Integer(low, high) => {
             add(told, &["expected an integer, "])?;
             add_decimal(told, low)?;
-            add(told, &[if high == low + 1 { " or " } else { " to " }])?;
+            add(
+                told,
+                &[if high.saturating_sub(low) == 1 {
+                    " or "
+                } else {
+                    " to "
+                }],
+            )?;
             add_decimal(told, high)
         }
         Valued::Text(_form) => add(told, &["expected a string"]),
@@ -103,7 +122,14 @@ fn add_expected(told: &mut String, key: Key) -> Result<(), AllocError> {
             add(told, &[" strings"])
         }
         Valued::Tables(_level, _least, u64::MAX) => {
-            add(told, &["expected an array of tables, each below its line [[", row.name, "]]"])
+            add(
+                told,
+                &[
+                    "expected an array of tables, each below its line [[",
+                    row.name,
+                    "]]",
+                ],
+            )
         }
         Valued::Tables(_level, _least, most) => {
             add(told, &["expected at most "])?;
@@ -115,7 +141,10 @@ fn add_expected(told: &mut String, key: Key) -> Result<(), AllocError> {
 
 /// Says how octal digits are written that stand without quotes.
 fn add_quoted(told: &mut String, digits: &str) -> Result<(), AllocError> {
-    let is_octal = digits.as_bytes().iter().all(|byte| b'0' <= *byte && *byte < b'8');
+    let is_octal = digits
+        .as_bytes()
+        .iter()
+        .all(|byte| b'0' <= *byte && *byte < b'8');
     if digits.is_empty() || digits.len() > 5 || !is_octal {
         return Ok(());
     }
@@ -153,7 +182,14 @@ fn add_key_fault(told: &mut String, fault: KeyFault, text: &str) -> Result<(), A
         }
         KeyFault::Item(key) => {
             let is_table = matches!(key.row().kind, Valued::Tables(..));
-            add(told, &[if is_table { "expected a table" } else { "expected a string" }])?;
+            add(
+                told,
+                &[if is_table {
+                    "expected a table"
+                } else {
+                    "expected a string"
+                }],
+            )?;
             add_quoted(told, text)
         }
     }
@@ -181,7 +217,10 @@ pub(crate) fn add_wrong(told: &mut String, wrong: Wrong, text: &str) -> Result<(
         Wrong::TaskTwice => add(told, &["an earlier task has the same at and bank"]),
         Wrong::PhaseTwice => add(told, &["an earlier phase has the same group and phase"]),
         Wrong::TooManyAreas => {
-            add(told, &["each of the six groups has a job that wants a VAC area"])
+            add(
+                told,
+                &["each of the six groups has a job that wants a VAC area"],
+            )
         }
     }
 }

@@ -76,12 +76,7 @@ fn add_place(told: &mut String, place: Place) -> Result<(), AllocError> {
 /// # Errors
 ///
 /// Where there is no memory.
-pub fn add_where(
-    told: &mut String,
-    line: u64,
-    mark: &str,
-    place: Place,
-) -> Result<(), AllocError> {
+pub fn add_where(told: &mut String, line: u64, mark: &str, place: Place) -> Result<(), AllocError> {
     add_numbered(told, "line", line)?;
     add(told, &[": ", mark])?;
     add_place(told, place)

@@ -58,7 +58,10 @@ impl Counter {
     /// Says how many requests were asked, how many tasks fired, and how many alarms came.
     fn add_summary(&self, told: &mut String) -> Result<(), AllocError> {
         let totals = self.machine.totals();
-        let alarms = totals.a1201.saturating_add(totals.a1202).saturating_add(totals.a1203);
+        let alarms = totals
+            .a1201
+            .saturating_add(totals.a1202)
+            .saturating_add(totals.a1203);
         add(told, &["ok: "])?;
         add_count(told, self.asked, "request")?;
         add(told, &[", "])?;

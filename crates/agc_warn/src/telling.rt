@@ -50,7 +50,10 @@ fn add_first(
 fn add_warning(told: &mut String, warning: Warning) -> Result<(), AllocError> {
     match warning {
         Warning::NoRows => {
-            add(told, &["the bench has no task row, so nothing is done when a task fires"])
+            add(
+                told,
+                &["the bench has no task row, so nothing is done when a task fires"],
+            )
         }
         Warning::NoRow(task) => {
             add_task(told, task)?;
@@ -71,7 +74,14 @@ fn add_warning(told: &mut String, warning: Warning) -> Result<(), AllocError> {
         }
         Warning::NoRequest(line) => {
             let name = line_name(line);
-            add(told, &["a pulse asks for nothing, since the action of ", name, " is nothing"])
+            add(
+                told,
+                &[
+                    "a pulse asks for nothing, since the action of ",
+                    name,
+                    " is nothing",
+                ],
+            )
         }
         Warning::LogFull(first, limit) => {
             add_first(told, first, "log full (limit ", limit.get() as u64, ")")

@@ -1,6 +1,6 @@
 //! What is warned of.
-use agc_latch::Line;
 use agc_document::Place;
+use agc_latch::Line;
 use agc_plan::{Group, Limit, Phase, Task};
 use agc_word::Word;
 

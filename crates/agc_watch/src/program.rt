@@ -118,11 +118,7 @@ fn put_told<W: Write>(told: &str, is_well: bool, writer: &mut W) -> Result<bool,
 }
 
 /// What is told of a script, or of a text that is none.
-fn told_of_script(
-    alloc: Global,
-    text: &str,
-    found: &[Finding<'_>],
-) -> Result<String, AllocError> {
+fn told_of_script(alloc: Global, text: &str, found: &[Finding<'_>]) -> Result<String, AllocError> {
     let mut told = script_told(alloc, found)?;
     if let Ok(requests) = read_script(alloc, text) {
         add_script_summary(alloc, &mut told, requests.as_slice())?;
@@ -131,6 +127,7 @@ fn told_of_script(
 }
 
 /// Writes what is wrong with a script, and returns whether that is nothing.
+#[tactic(auto, using(crate::proofs::Checks::checks_script))]
 fn check_script<W: Write>(alloc: Global, text: &str, writer: &mut W) -> Result<bool, Fault>
     ensures { ChecksScript text.now (W.contents writer.old) (W.contents writer.new) result }
 {
@@ -153,6 +150,7 @@ fn told_of_bench(alloc: Global, text: &str, checked: &Checked) -> Result<String,
 }
 
 /// Writes what is wrong with a bench, or else what is warned of, and returns whether it is one.
+#[tactic(auto, using(crate::proofs::Checks::checks_bench))]
 fn check_bench<W: Write>(alloc: Global, text: &str, writer: &mut W) -> Result<bool, Fault>
     ensures { ChecksBench text.now (W.contents writer.old) (W.contents writer.new) result }
 {
