@@ -11,7 +11,7 @@ mod tick;
 mod totals;
 
 pub use answer::{Answer, Refusal};
-pub use machine::{Machine, NoMemory};
+pub use machine::{Machine, NoMemory, starts_over};
 pub use migration::migrate;
 pub use moment::Moment;
 pub use totals::Totals;
