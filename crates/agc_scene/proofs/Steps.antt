@@ -18,11 +18,11 @@ past {X} xs k le = nil_from_length _ (simp length-drop (omega arith))
 
 none_left : {X : Type 0} (xs : List X) (k : ℕ) → slice_get xs k ≡ None → drop k xs ≡ []
 none_left {X} xs k e = elim (slice_get_cases xs k).1 [
-    | inl some ↦
-        let (x, lt, is, same) = some in
-        absurd (let no : None ≡ Some x = sym e ∙ is in cc)
-    | inr none ↦ past xs k none.0
-  ]
+  | inl some ↦
+      let (x, lt, is, same) = some in
+      absurd (let no : None ≡ Some x = sym e ∙ is in cc)
+  | inr none ↦ past xs k none.0
+]
 
 pub grown : {X : Type 0} (xs : List X) (k : ℕ) (x : X) (old new whole : List X) → slice_get xs k ≡ Some x → new ≡ old ++ x ∷ [] → old ++ drop k xs ≡ whole → new ++ drop (k + 1) xs ≡ whole
 grown {X} xs k x old new whole is made rest =
