@@ -25,6 +25,7 @@ mod settling;
 mod ties;
 
 pub use agc_latch::{Device, Latch, Line, PostSpent, Settled, Taker};
+pub use agc_plan::NoMemory;
 pub use caller::{Caller, Held, Shared, ask, attend, work};
 pub use console::{Console, Gate, OpenGate, drive};
 pub use desk::{Desk, Share, Ungathered, gather};

@@ -49,7 +49,7 @@ pub fn pulse_request(plan: &Plan, line: Line, others: u64) -> Option<Request>
                 None
             }
         }
-        Line::Key => request_after(plan.key(), others),
-        Line::Radar => request_after(plan.radar(), others),
+        Line::Key => request_after(plan.key_actions(), others),
+        Line::Radar => request_after(plan.radar_actions(), others),
     }
 }

@@ -234,7 +234,7 @@ fn planned(alloc: Global, parts: Parts) -> Result<Bench, BenchFault>
         ⊎ ((f : PlanFault) × (fault ≡ bench_fault f)
         × (fault_of parts.rows parts.entries ≡ Some f))) }
 {
-    match Plan::new(
+    match Plan::with_lists(
         alloc,
         parts.rows.as_slice(),
         parts.entries.as_slice(),

@@ -17,6 +17,7 @@ mod taker;
 mod views;
 
 pub use accounts::{Accounts, Settled, Unjoined};
+pub use agc_plan::NoMemory;
 pub use device::{Device, PostSpent};
 pub use latch::Latch;
 pub use laws::steps_keep_the_rule;

@@ -6,6 +6,7 @@ mod actions;
 mod fired;
 mod index;
 pub mod laws;
+mod memory;
 mod number;
 mod plan;
 mod reply;
@@ -13,6 +14,7 @@ mod request;
 
 pub use actions::Actions;
 pub use fired::Fired;
+pub use memory::NoMemory;
 pub use number::{Address, Delay, Group, JobNo, Limit, Phase, Place, Priority};
 pub use plan::{Plan, PlanFault};
 pub use reply::{Alarm, Code, Reply};
