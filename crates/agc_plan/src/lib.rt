@@ -9,6 +9,7 @@ pub mod laws;
 mod memory;
 mod number;
 mod plan;
+mod plans;
 mod reply;
 mod request;
 
@@ -17,5 +18,6 @@ pub use fired::Fired;
 pub use memory::NoMemory;
 pub use number::{Address, Delay, Group, JobNo, Limit, Phase, Place, Priority};
 pub use plan::{Plan, PlanFault};
+pub use plans::Plans;
 pub use reply::{Alarm, Code, Reply};
 pub use request::{Action, Entry, JobStart, PhaseEntry, Request, Task};
