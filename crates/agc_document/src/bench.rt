@@ -14,8 +14,7 @@ use crate::texts::Texts;
 use crate::values::{
     actions_of, devices_of, entries_of, power_of, requests_of, rows_of, workers_of,
 };
-use agc_latch::Line;
-use agc_plan::{Actions, Limit, PhaseEntry, Plan, Request, Task};
+use agc_plan::{Actions, Limit, Line, PhaseEntry, Plan, Request, Task};
 use agc_word::{Sets, Word};
 use std::alloc::Global;
 use std::marker::Model;
