@@ -18,6 +18,7 @@ mod console;
 mod desk;
 mod drain;
 mod history;
+pub mod laws;
 mod ledgers;
 mod names;
 mod settling;
