@@ -1,5 +1,6 @@
 //! Benches: reading one, and running it by one caller or by threads. The runs of threads are this
-//! crate's own; the rest is passed on from `agc_document`, `agc_session`, `agc_text` and `agc_desk`.
+//! crate's own; the rest is passed on from `agc_document`, `agc_session`, `agc_text` and
+//! `agc_desk`.
 #![tactic(auto)]
 
 mod asker;
