@@ -19,7 +19,7 @@ import repository
 from repository import TOP
 
 FOLDERS = ["tests/refused", "examples/embedding"]
-USED = "agc_desk agc_exec agc_machine agc_phase agc_plan agc_wait agc_word"
+HIGHEST = "agc_desk"
 
 # A test that does nothing, so that what compiles is run.
 PASSES = "\n#[test]\nfn compiles(rt: HostRuntime) {\n    assert!(rt; true);\n}\n"
@@ -34,7 +34,7 @@ class Attempt:
         self.errors = re.findall(r"(?m)^// refused: (.+)$", self.text)
         self.compiles = self.text.startswith("// compiles\n")
         named = re.search(r"(?m)^// crates: (.+)$", self.text)
-        self.used = named[1] if named else USED
+        self.used = named[1].split() if named else [*repository.below([HIGHEST]), HIGHEST]
 
     def fault(self):
         """Returns why it cannot be tried, or ""."""
@@ -45,7 +45,7 @@ class Attempt:
     def tried(self):
         """Compiles it, and runs its tests. Returns what is wrong, and what was said, or nothing."""
         with tempfile.TemporaryDirectory(prefix="refused-") as room:
-            repository.copy_crates(room, f"attempt: {self.used}")
+            repository.copy_crates(room, f"attempt: {' '.join(self.used)}")
             folder = f"{room}/crates/attempt"
             repository.write(f"{folder}/src/lib.rt", f"#![tactic(auto)]\n{self.text}{PASSES}")
             path = f"{TOP}/tools/without-hint:{os.environ['PATH']}"
