@@ -67,7 +67,8 @@ repeated_more asked n d =
 two_lines : {A : Type 0} (k r : List A) (nk nr dk dr : ℕ) → (0 < nk → dr ≡ 0)
     → repeated k (nk + dk) ++ repeated r (nr + dr) ≡ (repeated k dk ++ repeated r dr) ++ (repeated k nk ++ repeated r nr)
 two_lines k r zero nr dk dr later =
-    ap (λ l. repeated k dk ++ l) (repeated_more r nr dr) ∙ sym (append_assoc (repeated k dk) (repeated r dr) (repeated r nr))
+    let alone : 0 + dk ≡ dk = omega arith in
+    (λ i. repeated k (alone i) ++ repeated_more r nr dr i) ∙ sym (append_assoc (repeated k dk) (repeated r dr) (repeated r nr))
 two_lines k r (suc nk) nr dk dr later =
     let none : dr ≡ 0 = later (omega arith) in
     let same : nr + dr ≡ nr = omega (arith, none) in
@@ -81,7 +82,8 @@ three_lines : {A : Type 0} (t k r : List A) (nt nk nr dt dk dr : ℕ) → (0 < n
     → repeated t (nt + dt) ++ (repeated k (nk + dk) ++ repeated r (nr + dr))
     ≡ (repeated t dt ++ (repeated k dk ++ repeated r dr)) ++ (repeated t nt ++ (repeated k nk ++ repeated r nr))
 three_lines t k r zero nk nr dt dk dr second third later =
-    ap (λ l. repeated t dt ++ l) (two_lines k r nk nr dk dr later)
+    let alone : 0 + dt ≡ dt = omega arith in
+    (λ i. repeated t (alone i) ++ two_lines k r nk nr dk dr later i)
     ∙ sym (append_assoc (repeated t dt) (repeated k dk ++ repeated r dr) (repeated k nk ++ repeated r nr))
 three_lines t k r (suc nt) nk nr dt dk dr second third later =
     let no_second : dk ≡ 0 = second (omega arith) in
