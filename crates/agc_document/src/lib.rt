@@ -17,7 +17,7 @@ mod twice;
 mod values;
 mod wrong;
 
-pub use agc_latch::Line;
+pub use agc_plan::Line;
 pub use bench::{Bench, read_bench};
 pub use fault::BenchFault;
 pub use finding::{Finding, line_at};

@@ -1,8 +1,7 @@
 //! The lines that tell of warnings.
 use crate::warning::{Located, Warning};
-use agc_latch::Line;
 use agc_lint::{add, add_decimal, add_where};
-use agc_plan::Task;
+use agc_plan::{Line, Task};
 use agc_text::add_word;
 use arrayvec::ArrayString;
 use std::alloc::{AllocError, Global};
