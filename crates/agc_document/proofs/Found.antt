@@ -27,7 +27,7 @@ found_alone document k f fs is h = record {
   texts = [];
   is = is;
   some = omega arith;
-  of_fault = record { all = All-push (IsFound document k) [] f (All-nil (IsFound document k)) h; order = λ i j d a l. absurd (omega (arith, a, l)) };
+  of_fault = record { all = All-push (IsFound document k) [] f (All-nil (IsFound document k)) h; order = λ i j d a l. let e : j ≡ i = omega (arith, a, l) in rw e (omega arith) };
   of_texts = none_found document refusal.Line;
 }
 

@@ -92,7 +92,8 @@ fn put_in_order(findings: &mut Vec<Finding>) -> Result<(), AllocError>
     ensures same { IsPermutation findings.old.items findings.new.items }
     ensures length { length findings.new.items ≡ length findings.old.items }
 {
-    findings.sort_by_key(|finding| finding.at)
+    findings.sort_by_key(|finding| finding.at)?;
+    Ok(())
 }
 
 /// The digits that stand at a byte of a document.

@@ -1,1 +1,4 @@
 pub mod Found
+pub mod Pieces
+pub mod Documents
+pub mod Tellings

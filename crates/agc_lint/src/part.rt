@@ -1,4 +1,7 @@
 //! The numbers of a line.
+ghost use Rattle.std.specs.Prelude.{◌≡◌};
+ghost use Rattle.agc_lint.specs.Parts.{is_spelled};
+ghost use Rattle.agc_lint.specs.Sentences.{spelling_of};
 
 use agc_text::numbers::{address, delay, group, phase, place, priority, word};
 
@@ -23,7 +26,10 @@ pub enum Part {
 
 impl Part {
     /// Whether a text is such a number.
-    pub(crate) fn is_spelled(self, text: &str) -> bool {
+    #[tactic(auto, unfolding(crate::specs::Parts::is_spelled))]
+    pub(crate) fn is_spelled(self, text: &str) -> bool
+        ensures { result ≡ is_spelled self text.now }
+    {
         match self {
             Part::Priority => priority(text).is_some(),
             Part::Address => address(text).is_some(),
@@ -36,7 +42,9 @@ impl Part {
     }
 
     /// How it is spelled.
-    pub(crate) fn spelling(self) -> &'static str {
+    pub(crate) fn spelling(self) -> &'static str
+        ensures { result.now ≡ spelling_of self }
+    {
         match self {
             Part::Priority => "a priority is octal, 01 to 37",
             Part::Address => "an address is five octal digits, 00001 to 37777",

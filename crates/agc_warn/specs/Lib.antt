@@ -4,3 +4,4 @@ pub mod Tasks
 pub mod Refusals
 pub mod Runners
 pub mod Warnings
+pub mod Tellings
