@@ -9,9 +9,12 @@ mod moment;
 mod step;
 mod tick;
 mod totals;
+mod words;
 
 pub use answer::{Answer, Refusal};
-pub use machine::{Machine, NoMemory};
+pub use era::begin;
+pub use machine::{Machine, NoMemory, recover_into};
 pub use migration::migrate;
 pub use moment::Moment;
 pub use totals::Totals;
+pub use words::{act_words, finish_words};
