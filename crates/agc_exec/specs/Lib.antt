@@ -1,8 +1,8 @@
 pub mod Frames
 pub mod Held
 pub mod Sets
-pub mod Best
 pub mod Blocks
 pub mod Image
 pub mod Calls
 pub mod Stages
+pub mod Seats

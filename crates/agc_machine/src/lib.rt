@@ -11,9 +11,10 @@ mod tick;
 mod totals;
 mod words;
 
+pub use agc_plan::NoMemory;
 pub use answer::{Answer, Refusal};
 pub use era::begin;
-pub use machine::{Machine, NoMemory, recover_into};
+pub use machine::{Machine, recover_into, starts_over};
 pub use migration::migrate;
 pub use moment::Moment;
 pub use totals::Totals;
