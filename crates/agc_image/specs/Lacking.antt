@@ -1,13 +1,16 @@
 -- What a caller's plan lacks.
-use Rattle.std.specs.Prelude.{ℕ, ◌==◌, nat_lt, ◌&&◌, ◌||◌, not, Bool, true, false, if◌then◌else◌, List, [], ◌∷◌, Option, Some, None}
+use Rattle.std.specs.Prelude.{ℕ, ◌==◌, nat_lt, ◌&&◌, ◌||◌, not, Bool, true, false, if◌then◌else◌}
+use Rattle.std.specs.Prelude.{List, [], ◌∷◌, Option, Some, None}
 use Rattle.std.specs.Option.{is_some}
 use Rattle.agc_plan.specs.Plans.{task_twice, phase_twice, all_want}
 use Rattle.agc_image.specs.declared.asked.AgcRequest.{AgcRequest}
 use Rattle.agc_image.specs.declared.fault.Fault.{Fault}
-use Rattle.agc_image.specs.declared.fault.Fault.TheVariants.{PlanRange, TaskTwice, PhaseTwice, TooManyAreas}
+use Rattle.agc_image.specs.declared.fault.Fault.TheVariants.{PlanRange, TaskTwice, PhaseTwice}
+use Rattle.agc_image.specs.declared.fault.Fault.TheVariants.{TooManyAreas}
 use Rattle.agc_image.specs.declared.lent.AgcPhaseEntry.{AgcPhaseEntry}
 use Rattle.agc_image.specs.declared.lent.AgcRow.{AgcRow}
-use Rattle.agc_image.specs.Told.{address_told, six_told, phase_told, start_told, task_told, listing_told}
+use Rattle.agc_image.specs.Told.{address_told, six_told, phase_told, start_told, task_told}
+use Rattle.agc_image.specs.Told.{listing_told}
 use Rattle.agc_image.specs.Written.{rows_told, entries_told, job_told, listed_told}
 
 -- nothing, a NOVAC, a FINDVAC, a rouse or a listing, with numbers in range
@@ -24,7 +27,8 @@ is_action a =
 abbrev pub is_row : AgcRow → Bool
 is_row row =
     is_some (task_told row.at row.bank)
-    && (is_action row.first && (is_action row.second && (is_action row.third && is_action row.fourth)))
+    && (is_action row.first && (is_action row.second &&
+    (is_action row.third && is_action row.fourth)))
 
 -- no job, or one with numbers in range; no task, or one
 abbrev pub is_job : AgcPhaseEntry → Bool

@@ -1,6 +1,7 @@
 // Numbers of a caller as requests, and their parts.
 ghost use Rattle.std.specs.Prelude.{◌≡◌};
-ghost use Rattle.agc_image.specs.Told.{word_told, priority_told, address_told, delay_told, six_told};
+ghost use Rattle.agc_image.specs.Told.{word_told, priority_told, address_told, delay_told};
+ghost use Rattle.agc_image.specs.Told.{six_told};
 ghost use Rattle.agc_image.specs.Told.{phase_told, entry_told, start_told, task_told, listing_told};
 ghost use Rattle.agc_image.specs.Asked.{request_told, storing_told, phasing_told};
 ghost use Rattle.agc_image.specs.Asked.{asked_fault, without_word};
@@ -10,8 +11,10 @@ use crate::numbers;
 use agc_plan::{Address, Delay, Entry, Group, Phase, Place, Priority, Request, Task};
 use agc_word::Word;
 
-/// A request: its kind, and its numbers in the order of a script's line. Those that the kind doesn't
-/// have aren't looked at. An action is a request of kind 0 (nothing), 1, 2, 5 or 9. Source: profile.
+/// A request: its kind, and its numbers in the order of a script's line. Those that the kind
+/// doesn't
+/// have aren't looked at. An action is a request of kind 0 (nothing), 1, 2, 5 or 9. Source:
+/// profile.
 #[repr(C)]
 #[derive(Clone, Copy)]
 pub struct AgcRequest {

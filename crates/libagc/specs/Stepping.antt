@@ -1,5 +1,6 @@
 -- What a whole step does to a caller's words, and what it answers.
-use Rattle.std.specs.Prelude.{◌≡◌, ◌↔◌, ℕ, ◌==◌, nat_lt, Bool, true, false, if◌then◌else◌, List, Option, Some, None, length, slice_get}
+use Rattle.std.specs.Prelude.{◌≡◌, ◌↔◌, ℕ, ◌==◌, nat_lt, Bool, true, false, if◌then◌else◌, List}
+use Rattle.std.specs.Prelude.{Option, Some, None, length, slice_get}
 use Rattle.std.specs.Option.{is_some}
 use Rattle.agc_plan.specs.declared.reply.Reply.{Reply}
 use Rattle.agc_plan.specs.declared.reply.Reply.TheVariants as reply
@@ -25,7 +26,14 @@ use Rattle.libagc.specs.Replies.{alarm_code}
 -- a reply of this kind, with this number, with so many tasks that fired, the last of which raised
 -- an alarm by the action of this number
 abbrev pub step_said : ℕ → ℕ → ℕ → ℕ → AgcStep
-step_said kind number fired action = record { code = 0; reply = kind; number = number; fired = fired; action = action }
+step_said kind number fired action = record {
+  code = 0;
+  reply = kind;
+  number = number;
+  fired =
+      fired;
+  action = action;
+}
 
 -- a reply's kind, and the job or the alarm that it names
 abbrev pub step_told : Reply → ℕ → ℕ → AgcStep
@@ -62,7 +70,8 @@ fired_told task = record { at = task.at; bank = task.bank }
 
 -- the first places have these tasks, in order, and the others are as before
 pub record AreTold (fired : List Task) (before after : List AgcFired) : Type 0 where
-  pub first : (k : ℕ) (task : Task) → slice_get fired k ≡ Some task → slice_get after k ≡ Some (fired_told task)
+  pub first : (k : ℕ) (task : Task) → slice_get fired k ≡ Some task → slice_get after k ≡ Some
+      (fired_told task)
   pub others : (k : ℕ) → slice_get fired k ≡ None → slice_get after k ≡ slice_get before k
 
 -- the step of this request by the caller's plan: the array's words became others by it, these tasks
@@ -78,11 +87,13 @@ pub record Steps (rows : List AgcRow) (entries : List AgcPhaseEntry) (asked : Re
   pub raises : RaisesIn (plan_for rows entries (image_of sets old)) asked (image_of sets old) action
   pub acted : Changed (λ these those. Acts (plan_for rows entries these) asked these reply those)
       sets old moment
-  pub changed : Changed (λ these those. StepsTo (plan_for rows entries these) asked these reply those)
+  pub changed : Changed (λ these those. StepsTo (plan_for rows entries these) asked these reply
+      those)
       sets old new
 
 -- the numbers are a request, and it was served
-pub record Serves (rows : List AgcRow) (entries : List AgcPhaseEntry) (asked : AgcRequest) (sets : ℕ)
+pub record Serves (rows : List AgcRow) (entries : List AgcPhaseEntry) (asked : AgcRequest)
+    (sets : ℕ)
     (old new moment : List ℕ) (before after : List AgcFired) (result : AgcStep) : Type 0 where
   pub request : Request
   pub asked_is : request_told asked ≡ Some request
@@ -124,7 +135,8 @@ pub record ImageThen (code sets : ℕ) (array : List ℕ) (other : ℕ) : Type 0
   pub image_is : Coded image sets array (Unit {0}) (Unit {0}) (Unit {0})
   pub first : code ≡ first_of image other
 
--- the code of a step: the first that isn't 0 of its image's, its request's, its time's and its plan's
+-- the code of a step: the first that isn't 0 of its image's, its request's, its time's and its
+-- plan's
 pub record StepCoded (code sets : ℕ) (array : List ℕ) (asked : AgcRequest) (plan : ℕ) : Type 0 where
   pub time : ℕ
   pub timed : IsImage sets array → asked_code asked ≡ 0 → Timed time (image_of sets array)

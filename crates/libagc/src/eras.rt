@@ -5,7 +5,8 @@ ghost use Rattle.agc_image.specs.Images.{AreWords, Changed, IsImage, IsSets};
 ghost use Rattle.agc_image.specs.Lacking.{lacking};
 ghost use Rattle.agc_phase.specs.Image.{Becomes, IsLawfulTable, base_of};
 ghost use Rattle.agc_word.specs.Profiles.{count_of};
-ghost use Rattle.libagc.specs.Eras.{Begins, BeginCoded, PowersUp, PowerCoded, alarm_lack, base_after};
+ghost use Rattle.libagc.specs.Eras.{Begins, BeginCoded, PowersUp, PowerCoded, alarm_lack};
+ghost use Rattle.libagc.specs.Eras.{base_after};
 ghost use Rattle.libagc.specs.Eras.{power_number};
 
 use crate::reply::AgcNumber;
@@ -167,7 +168,8 @@ pub extern "C" fn agc_power_up(
     }
 }
 
-/// As `agc_power_up`, and doesn't look at the entries: a number of one that is out of its range does
+/// As `agc_power_up`, and doesn't look at the entries: a number of one that is out of its range
+/// does
 /// nothing, and of two entries the first counts. Source: the listings' FRESH START AND RESTART
 /// section.
 #[unsafe(no_mangle)]

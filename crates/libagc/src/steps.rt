@@ -6,7 +6,8 @@ ghost use Rattle.agc_image.specs.Images.{IsImage, IsLawful, IsOpened, IsSets, im
 ghost use Rattle.agc_image.specs.Lacking.{lacking};
 ghost use Rattle.agc_machine.specs.Stands.{IsReady};
 ghost use Rattle.libagc.specs.Replies.{alarm_code};
-ghost use Rattle.libagc.specs.Stepping.{AreTold, Steps, Serves, Refuses, StepCoded, asked_code, Lacks};
+ghost use Rattle.libagc.specs.Stepping.{AreTold, Steps, Serves, Refuses, StepCoded, asked_code};
+ghost use Rattle.libagc.specs.Stepping.{Lacks};
 ghost use Rattle.libagc.specs.Stepping.{step_told, step_refusal, action_told};
 
 use crate::ready::time_fault;
@@ -156,8 +157,10 @@ fn lacks(image: &Erasable, rows: &[AgcRow], entries: &[AgcPhaseEntry]) -> Option
 /// One request, with all that follows from it: what fires in a tick has the actions of its row
 /// done, and an era begins by the plan's entries, where one begins with the reply. `fired` gets the
 /// tasks that fired in its first places, in order. `moment` gets the words as they were when the
-/// request was answered, before an era began with it, and the words as they are where the code isn't
-/// 0. Codes: 1 to 3 for the image, 4 and 5 for the request, 6 where a task is due, 8 where the words
+/// request was answered, before an era began with it, and the words as they are where the code
+/// isn't
+/// 0. Codes: 1 to 3 for the image, 4 and 5 for the request, 6 where a task is due, 8 where the
+/// words
 /// are such as no step leaves, 9 to 12 for the plan. Source: the request's own.
 #[unsafe(no_mangle)]
 pub extern "C" fn agc_step(
@@ -196,7 +199,8 @@ pub extern "C" fn agc_step(
     }
 }
 
-/// As `agc_step`, for an array that is known to have an image such as every step leaves it. Codes 0,
+/// As `agc_step`, for an array that is known to have an image such as every step leaves it. Codes
+/// 0,
 /// 4 and 5 alone: a number of the plan that is out of its range does nothing, and of two rows or
 /// entries the first counts. Source: the request's own.
 #[unsafe(no_mangle)]
