@@ -251,11 +251,7 @@ fn planned(alloc: Global, parts: &Parts) -> Result<(), BenchFault>
 }
 
 /// The values that numbers and texts spell. Where a text is not of its form, one is noted.
-fn spelled<'a>(
-    alloc: Global,
-    texts: &Texts<'_>,
-    notes: &mut Notes<'a>,
-) -> Result<Parts, BenchFault>
+fn spelled<'a>(alloc: Global, texts: &Texts<'_>, notes: &mut Notes<'a>) -> Result<Parts, BenchFault>
     ensures found { IfOk result (λ p. IsInRange (p) × (texts.now ≡ bench_texts (p))) }
     ensures refused { IfErr result (RefusedLine
         ((b : Benched) → IsInRange b → texts.now ≢ bench_texts b)) }
@@ -290,7 +286,12 @@ pub(crate) fn bench_of<'a>(
     match planned(alloc, &parts) {
         Ok(()) => Ok(Bench { parts }),
         Err(fault) => {
-            notes.plan = refused_at(alloc, fault, parts.rows.as_slice(), parts.entries.as_slice())?;
+            notes.plan = refused_at(
+                alloc,
+                fault,
+                parts.rows.as_slice(),
+                parts.entries.as_slice(),
+            )?;
             Err(fault)
         }
     }

@@ -99,7 +99,11 @@ fn put_in_order(findings: &mut Vec<Finding>) -> Result<(), AllocError>
 /// The digits that stand at a byte of a document.
 fn digits_at(document: &str, at: usize) -> &str {
     let rest = document.get(at..).unwrap_or("");
-    let count = rest.as_bytes().iter().take_while(|byte| byte.is_ascii_digit()).count();
+    let count = rest
+        .as_bytes()
+        .iter()
+        .take_while(|byte| byte.is_ascii_digit())
+        .count();
     rest.get(..count).unwrap_or("")
 }
 

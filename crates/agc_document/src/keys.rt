@@ -631,7 +631,11 @@ fn sets_for(number: u64) -> Sets
     requires { IsBetween 7 8 number }
     ensures { count_of result ≡ number }
 {
-    if number == 7 { Sets::Seven } else { Sets::Eight }
+    if number == 7 {
+        Sets::Seven
+    } else {
+        Sets::Eight
+    }
 }
 
 /// Whether the bench says how many core sets there are.

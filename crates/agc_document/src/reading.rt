@@ -58,28 +58,42 @@ fn found_at(
 
 /// Whether a text is five octal digits.
 fn is_octal_five(text: &str) -> bool {
-    text.len() == 5 && text.as_bytes().iter().all(|byte| b'0' <= *byte && *byte < b'8')
+    text.len() == 5
+        && text
+            .as_bytes()
+            .iter()
+            .all(|byte| b'0' <= *byte && *byte < b'8')
 }
 
 /// Why a text is no document.
-fn found_no_document(
-    alloc: Global,
-    text: &str,
-    error: &Error,
-) -> Result<Vec<Finding>, AllocError>
+fn found_no_document(alloc: Global, text: &str, error: &Error) -> Result<Vec<Finding>, AllocError>
     ensures { IfOk result (λ v. AreFindings text.now refusal.NotToml v.items) }
 {
     if !text.contains('=') {
         return found_only(alloc, text, 0, Place::Whole, "", Wrong::NoKeys);
     }
     let Some(span) = error.span() else {
-        return found_only(alloc, text, 0, Place::Whole, error.message(), Wrong::NotToml);
+        return found_only(
+            alloc,
+            text,
+            0,
+            Place::Whole,
+            error.message(),
+            Wrong::NotToml,
+        );
     };
     let word = text.get(span.start..span.end).unwrap_or("");
     if is_octal_five(word) {
         return found_only(alloc, text, span.start, Place::Whole, word, Wrong::NoQuotes);
     }
-    found_only(alloc, text, span.start, Place::Whole, error.message(), Wrong::NotToml)
+    found_only(
+        alloc,
+        text,
+        span.start,
+        Place::Whole,
+        error.message(),
+        Wrong::NotToml,
+    )
 }
 
 /// What is wrong with keys first, then with texts.
@@ -100,11 +114,7 @@ fn keys_and_texts(
 
 /// What is wrong with texts alone.
 #[tactic(auto, using(crate::proofs::Found::found_front))]
-fn texts_alone(
-    alloc: Global,
-    document: &str,
-    notes: &Notes<'_>,
-) -> Result<Vec<Finding>, AllocError>
+fn texts_alone(alloc: Global, document: &str, notes: &Notes<'_>) -> Result<Vec<Finding>, AllocError>
     requires { AreNoted notes.now.texts.items }
     ensures { IfOk result (λ v. AreFindings document.now refusal.Line v.items) }
 {
@@ -141,11 +151,7 @@ fn found_in(
 /// # Errors
 ///
 /// Where there is no memory.
-#[tactic(auto, using(
-    crate::proofs::Found::checks_none,
-    crate::proofs::Found::checks_refused,
-    crate::proofs::Found::checks_bench
-))]
+#[tactic(auto, using(crate::proofs::Found::checks_none, crate::proofs::Found::checks_refused, crate::proofs::Found::checks_bench))]
 pub fn findings(alloc: Global, text: &str) -> Result<Checked, AllocError>
     ensures { IfOk result (λ c. ChecksAs text.now c.bench c.findings.items) }
 {
