@@ -1,5 +1,7 @@
 //! A bench, or what is wrong with the document that should be one.
-ghost use Rattle.std.specs.Prelude.{IfOk};
+ghost use Rattle.std.specs.Prelude.{◌≡◌, Some, IfOk};
+ghost use Rattle.toml.specs.Parse.{parse_document};
+ghost use Rattle.toml.specs.View.{table_view};
 ghost use Rattle.agc_document.specs.Gives.{AreNoted, IsNotedFor};
 ghost use Rattle.agc_document.specs.Findings.{AreFindings, ChecksAs, refusal_of};
 ghost use Rattle.agc_document.specs.declared.fault.BenchFault.TheVariants as refusal;
@@ -12,6 +14,7 @@ use crate::notes::Notes;
 use crate::place::Place;
 use crate::wrong::Wrong;
 use std::alloc::{AllocError, Global};
+use toml::Table;
 use toml::de::Error;
 
 /// The bench that a text is, or else what is wrong with it.
@@ -143,6 +146,28 @@ fn found_in(
     }
 }
 
+/// The bench that the table of a text is, or why it is none.
+#[tactic(auto, using(crate::proofs::Found::checks_refused, crate::proofs::Found::checks_bench))]
+fn checked_table(alloc: Global, text: &str, table: &Table) -> Result<Checked, AllocError>
+    requires { parse_document text.now ≡ Some (table_view table.now) }
+    ensures { IfOk result (λ c. ChecksAs text.now c.bench c.findings.items) }
+{
+    let mut notes = Notes::new(true);
+    match bench_of(alloc, table, &mut notes) {
+        Ok(bench) => Ok(Checked {
+            bench: Some(bench),
+            findings: Vec::new(alloc),
+        }),
+        Err(fault) => {
+            let findings = found_in(alloc, text, &notes, fault)?;
+            Ok(Checked {
+                bench: None,
+                findings,
+            })
+        }
+    }
+}
+
 /// The bench that a text is, or why it is none: the same that `read_bench` says of it. Nothing is
 /// found in a bench. What is found first has the fault that `read_bench` returns; what is wrong
 /// with keys comes before what is wrong with texts, each in the order of the document, and of
@@ -151,7 +176,7 @@ fn found_in(
 /// # Errors
 ///
 /// Where there is no memory.
-#[tactic(auto, using(crate::proofs::Found::checks_none, crate::proofs::Found::checks_refused, crate::proofs::Found::checks_bench))]
+#[tactic(auto, using(crate::proofs::Found::checks_none))]
 pub fn findings(alloc: Global, text: &str) -> Result<Checked, AllocError>
     ensures { IfOk result (λ c. ChecksAs text.now c.bench c.findings.items) }
 {
@@ -168,18 +193,5 @@ pub fn findings(alloc: Global, text: &str) -> Result<Checked, AllocError>
             });
         }
     };
-    let mut notes = Notes::new(true);
-    match bench_of(alloc, &table, &mut notes) {
-        Ok(bench) => Ok(Checked {
-            bench: Some(bench),
-            findings: Vec::new(alloc),
-        }),
-        Err(fault) => {
-            let findings = found_in(alloc, text, &notes, fault)?;
-            Ok(Checked {
-                bench: None,
-                findings,
-            })
-        }
-    }
+    checked_table(alloc, text, &table)
 }
