@@ -13,7 +13,7 @@ ghost use Rattle.agc_machine.specs.Stands.{BeginsGroups, BeginsEra};
 use crate::tick::list;
 use agc_exec::{findvac, novac};
 use agc_phase::phases;
-use agc_plan::{Delay, Group, JobStart, Phase, PhaseEntry, Plan, Task};
+use agc_plan::{Delay, Group, JobStart, Phase, PhaseEntry, Plans, Task};
 use agc_word::Erasable;
 
 /// Establishes the job of a phase.
@@ -59,13 +59,13 @@ fn begin_task(task: Option<(Delay, Task)>, e: &mut Erasable)
 }
 
 /// The entry of a group that has a phase other than 0.
-fn active(plan: &Plan, group: Group, phase: Phase) -> Option<PhaseEntry>
-    ensures { result ≡ active plan.now.entries group phase }
+fn active<P: Plans>(plan: &P, group: Group, phase: Phase) -> Option<PhaseEntry>
+    ensures { result ≡ active (P.written plan.now).entries group phase }
 {
     if phase.get() == 0 {
         None
     } else {
-        plan.entry(group, phase).copied()
+        plan.entry(group, phase)
     }
 }
 
@@ -85,11 +85,12 @@ fn begin_group(entry: Option<PhaseEntry>, e: &mut Erasable)
 }
 
 /// The six groups begin, in order.
-fn begin_groups(plan: &Plan, phases: &[Phase], e: &mut Erasable)
+fn begin_groups<P: Plans>(plan: &P, phases: &[Phase], e: &mut Erasable)
     requires six { length phases.now ≡ 6 }
     requires clear { Stands e.old (no_work (sets_in e.old)) (no_places (sets_in e.old)) }
     requires sound { IsSound e.old }
-    ensures { BeginsGroups (planned_with plan.now (sets_in e.old)) phases.now e.old e.new }
+    ensures { BeginsGroups (planned_with (P.written plan.now) (sets_in e.old)) phases.now e.old
+        e.new }
 {
     for (k, phase) in phases.iter().enumerate() {
         let group = Group::new(k as u8 + 1).unwrap();
@@ -99,9 +100,9 @@ fn begin_groups(plan: &Plan, phases: &[Phase], e: &mut Erasable)
 
 /// An era begins with the phases in these words: all jobs and tasks are gone but those of the
 /// plan's entries.
-pub(crate) fn begin(plan: &Plan, e: &mut Erasable)
+pub(crate) fn begin<P: Plans>(plan: &P, e: &mut Erasable)
     requires { phases.IsLawfulTable e.old }
-    ensures { BeginsEra (planned_with plan.now (sets_in e.old)) e.old e.new }
+    ensures { BeginsEra (planned_with (P.written plan.now) (sets_in e.old)) e.old e.new }
 {
     let phases = phases(e);
     agc_exec::clear(e);

@@ -9,7 +9,7 @@ ghost use Rattle.agc_machine.specs.Stands.{IsReady, Acts, FiresIn, RaisesIn};
 
 use crate::step::act;
 use crate::tick::{alarm_in, number_in, tick};
-use agc_plan::{Fired, Plan, Reply, Request};
+use agc_plan::{Fired, Plans, Reply, Request};
 use agc_word::{Erasable, Sets};
 use std::marker::Model;
 
@@ -85,12 +85,20 @@ fn copy_of(e: &Erasable) -> Erasable
 
 /// What a request does, before an era begins with it, and which action raised an alarm inside a
 /// tick.
-fn act_told(plan: &Plan, e: &mut Erasable, request: &Request, fired: &mut Fired) -> (Reply, usize)
+fn act_told<P: Plans>(
+    plan: &P,
+    e: &mut Erasable,
+    request: &Request,
+    fired: &mut Fired,
+) -> (Reply, usize)
     requires ready { IsReady e.old }
     requires none { fired.old ≡ [] }
-    ensures acts { Acts (planned_with plan.now (sets_in e.old)) request.now e.old result.0 e.new }
-    ensures fired { FiresIn (planned_with plan.now (sets_in e.old)) request.now e.old fired.new }
-    ensures raised { RaisesIn (planned_with plan.now (sets_in e.old)) request.now e.old result.1 }
+    ensures acts { Acts (planned_with (P.written plan.now) (sets_in e.old)) request.now e.old
+        result.0 e.new }
+    ensures fired { FiresIn (planned_with (P.written plan.now) (sets_in e.old)) request.now e.old
+        fired.new }
+    ensures raised { RaisesIn (planned_with (P.written plan.now) (sets_in e.old)) request.now
+        e.old result.1 }
     ensures none_due { begins result.0 ≡ false → due_now (waits_of e.new) ≡ 0 }
 {
     match *request {
@@ -103,12 +111,13 @@ fn act_told(plan: &Plan, e: &mut Erasable, request: &Request, fired: &mut Fired)
 }
 
 /// The moment of a request that is asked of these words.
-pub(crate) fn moment_of(plan: &Plan, e: &Erasable, request: &Request) -> Moment
+pub(crate) fn moment_of<P: Plans>(plan: &P, e: &Erasable, request: &Request) -> Moment
     requires ready { IsReady e.now }
-    ensures acts { Acts (planned_with plan.now (sets_in e.now)) request.now e.now result.reply
-        result.words }
-    ensures fired { FiresIn (planned_with plan.now (sets_in e.now)) request.now e.now result.fired }
-    ensures raised { RaisesIn (planned_with plan.now (sets_in e.now)) request.now e.now
+    ensures acts { Acts (planned_with (P.written plan.now) (sets_in e.now)) request.now e.now
+        result.reply result.words }
+    ensures fired { FiresIn (planned_with (P.written plan.now) (sets_in e.now)) request.now e.now
+        result.fired }
+    ensures raised { RaisesIn (planned_with (P.written plan.now) (sets_in e.now)) request.now e.now
         result.number }
     ensures none_due { begins result.reply ≡ false → due_now (waits_of result.words) ≡ 0 }
 {

@@ -10,7 +10,7 @@ ghost use Rattle.agc_machine.specs.Stands.{places_ticked, alarm_in, number_in};
 ghost use Rattle.agc_machine.specs.Stands.{listing_told};
 
 use agc_exec::{findvac, job_wake, novac};
-use agc_plan::{Action, Alarm, Delay, Fired, Plan, Task};
+use agc_plan::{Action, Actions, Alarm, Delay, Fired, Plans, Task};
 use agc_wait::{count_time3, dispatch, due};
 use agc_word::Erasable;
 
@@ -88,16 +88,18 @@ fn perform_all(actions: &[Action], e: &mut Erasable) -> Option<Raised>
 }
 
 /// Fires the tasks that are due, until an action raises an alarm, which is answered.
-fn fire(plan: &Plan, e: &mut Erasable, fired: &mut Fired) -> Option<Raised>
+fn fire<P: Plans>(plan: &P, e: &mut Erasable, fired: &mut Fired) -> Option<Raised>
     requires sound { IsSound e.old }
     requires few { due_now (waits_of e.old) ≤ 9 }
     requires none { fired.old ≡ [] }
-    ensures { FiresDue plan.now.rows e.old fired.new (alarm_in result) (number_in result) e.new }
+    ensures { FiresDue (P.written plan.now).rows e.old fired.new (alarm_in result)
+        (number_in result) e.new }
 {
     while due(e) {
         let task = dispatch(e);
         fired.push(task);
-        match perform_all(plan.actions(&task), e) {
+        let mut room = Actions::new();
+        match perform_all(plan.actions(&task, &mut room), e) {
             Some(raised) => return Some(raised),
             None => {}
         }
@@ -108,13 +110,14 @@ fn fire(plan: &Plan, e: &mut Erasable, fired: &mut Fired) -> Option<Raised>
 /// A centisecond passes, and what is due fires. Answers the alarm that ended it, if one did. It
 /// stands apart so that other requests don't pay for its locals.
 #[inline(never)]
-pub(crate) fn tick(plan: &Plan, e: &mut Erasable, fired: &mut Fired) -> Option<Raised>
+pub(crate) fn tick<P: Plans>(plan: &P, e: &mut Erasable, fired: &mut Fired) -> Option<Raised>
     requires ready { IsReady e.old }
     requires none { fired.old ≡ [] }
-    ensures works { Works (ticked plan.now.rows) (places_ticked plan.now.rows) e.old
+    ensures works { Works (ticked (P.written plan.now).rows) (places_ticked (P.written
+        plan.now).rows) e.old
         (Ticked (alarm_in result)) e.new }
-    ensures fired { FiresTick plan.now.rows e.old fired.new }
-    ensures raised { RaisesTick plan.now.rows e.old (number_in result) }
+    ensures fired { FiresTick (P.written plan.now).rows e.old fired.new }
+    ensures raised { RaisesTick (P.written plan.now).rows e.old (number_in result) }
     ensures none_due { alarm_in result ≡ None → due_now (waits_of e.new) ≡ 0 }
 {
     let _ = count_time3(e);

@@ -8,6 +8,7 @@ mod index;
 pub mod laws;
 mod number;
 mod plan;
+mod plans;
 mod reply;
 mod request;
 
@@ -15,5 +16,6 @@ pub use actions::Actions;
 pub use fired::Fired;
 pub use number::{Address, Delay, Group, JobNo, Limit, Phase, Place, Priority};
 pub use plan::{Plan, PlanFault};
+pub use plans::Plans;
 pub use reply::{Alarm, Code, Reply};
 pub use request::{Action, Entry, JobStart, PhaseEntry, Request, Task};

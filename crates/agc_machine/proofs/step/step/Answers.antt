@@ -9,27 +9,27 @@ use Rattle.agc_machine.proofs.Stepping.{steps_over, steps_on}
 use Rattle.agc_machine.proofs.step.step.Goals as goal
 
 pub begin_after-requires : goal.begin_after-requires
-begin_after-requires c = c.act-reply.ensures.acts.sound.phases
+begin_after-requires g c = c.act-reply.ensures.acts.sound.phases
 
 pub returns-then-begins-clause-steps : goal.returns-then-begins-clause-steps
-returns-then-begins-clause-steps c =
+returns-then-begins-clause-steps g c =
     let did = c.act-reply.ensures.acts in
-    let after : BeginsAfter (planned_with c.args.plan.now (sets_in c.args.e.now)) c.alarm.result c.act-reply.new.e c.begin_after.new.e = subst (λ (n : ℕ). BeginsAfter (planned_with c.args.plan.now n) c.alarm.result c.act-reply.new.e c.begin_after.new.e) (same_sets c.args.e.now c.act-reply.new.e did.same_length) c.begin_after.ensures in
+    let after : BeginsAfter (planned_with (g.P.Plans.written c.args.plan.now) (sets_in c.args.e.now)) c.alarm.result c.act-reply.new.e c.begin_after.new.e = subst (λ (n : ℕ). BeginsAfter (planned_with (g.P.Plans.written c.args.plan.now) n) c.alarm.result c.act-reply.new.e c.begin_after.new.e) (same_sets c.args.e.now c.act-reply.new.e did.same_length) c.begin_after.ensures in
     record {
       ready = after.ready;
       same_length = after.same_length ∙ did.same_length;
       steps = λ plain places stands.
-          steps_over (planned_with c.args.plan.now (sets_in c.args.e.now)) c.args.request.now plain places c.act-reply.new.e c.begin_after.new.e c.act-reply.result (did.steps plain places stands) (sym c.begins.ensures ∙ c.if-begins.true)
+          steps_over (planned_with (g.P.Plans.written c.args.plan.now) (sets_in c.args.e.now)) c.args.request.now plain places c.act-reply.new.e c.begin_after.new.e c.act-reply.result (did.steps plain places stands) (sym c.begins.ensures ∙ c.if-begins.true)
           (after.base_is ∙ ap (λ a. base_with a (base_of c.act-reply.new.e)) c.alarm.ensures ∙ base_by_alarm c.act-reply.result (base_of c.act-reply.new.e)) after.stands;
     }
 
 pub returns-else-begins-clause-steps : goal.returns-else-begins-clause-steps
-returns-else-begins-clause-steps c =
+returns-else-begins-clause-steps g c =
     let did = c.act-reply.ensures.acts in
     let on = sym c.begins.ensures ∙ c.if-begins.false in
     record {
       ready = record { sound = did.sound; none_due = c.act-reply.ensures.none_due on };
       same_length = did.same_length;
       steps = λ plain places stands.
-          steps_on (planned_with c.args.plan.now (sets_in c.args.e.now)) c.args.request.now plain places c.act-reply.new.e c.act-reply.result (did.steps plain places stands) on;
+          steps_on (planned_with (g.P.Plans.written c.args.plan.now) (sets_in c.args.e.now)) c.args.request.now plain places c.act-reply.new.e c.act-reply.result (did.steps plain places stands) on;
     }

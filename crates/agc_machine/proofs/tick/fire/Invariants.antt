@@ -9,13 +9,13 @@ use Rattle.agc_machine.proofs.Fires.{GoesOn}
 use Rattle.agc_machine.proofs.tick.fire.Given as goal
 
 abbrev pub invariant-loop-e : goal.invariant-loop-e
-invariant-loop-e l = record {
+invariant-loop-e g l = record {
   sound : IsSound l.e;
   same_length : length l.e ≡ length l.fn.e;
   same_base : base_of l.e ≡ base_of l.fn.e;
-  goes_on : (work : Work) (places : List ℕ) → Stands l.fn.e work places → GoesOn l.plan.rows l.e l.fired (seated_in work places) (fire_all l.plan.rows work [] []);
+  goes_on : (work : Work) (places : List ℕ) → Stands l.fn.e work places → GoesOn (g.P.Plans.written l.plan).rows l.e l.fired (seated_in work places) (fire_all (g.P.Plans.written l.plan).rows work [] []);
   few : length l.fired + due_now (waits_of l.e) ≤ 9;
 }
 
 abbrev pub decreases-loop-e : goal.decreases-loop-e
-decreases-loop-e l = due_now (waits_of l.e)
+decreases-loop-e g l = due_now (waits_of l.e)
