@@ -28,8 +28,8 @@ files = $(patsubst $(HERE)%,%,$(wildcard $(HERE)$(1)))
 PLACED = $(foreach it,README.md CHANGELOG.md $(call files,PROVED-BY.txt),$(it)=$(docdir)) \
     $(foreach it,$(call files,docs/*.md),$(it)=$(docdir)/docs) \
     $(foreach it,$(call files,examples/*.*),$(it)=$(docdir)/examples) \
-    $(foreach it,$(call files,man/*.[1-8]),$(it)=$(mandir)/man$(patsubst .%,%,$(suffix $(it)))) \
-    completions/agc_watch.bash=$(BASH) completions/_agc_watch=$(ZSH)
+    $(foreach it,$(call files,share/man/*.[1-8]),$(it)=$(mandir)/man$(patsubst .%,%,$(suffix $(it)))) \
+    share/completions/agc_watch.bash=$(BASH) share/completions/_agc_watch=$(ZSH)
 
 .PHONY: all install uninstall
 all: $(PROGRAMS)

@@ -14,7 +14,7 @@ use Rattle.agc_plan.specs.Jobs.{best_from, change}
 use Rattle.agc_plan.specs.Places.{place_of, fronted}
 use Rattle.agc_plan.specs.declared.reply.Reply.TheVariants.{Runs}
 use Rattle.agc_exec.specs.Held.{Held}
-use Rattle.agc_exec.specs.Best.{better_of, precedes}
+use Rattle.agc_exec.proofs.Best.{better_of, precedes}
 use Rattle.agc_exec.specs.Blocks.{blocks_of}
 use Rattle.agc_exec.specs.Sets.{Holds, IsLawful, IsStanding, slots_of, running_in}
 use Rattle.agc_exec.specs.Image.{sets_of, IsLawfulBlock, IsTidyBlock, IsLawfulWords, newjob_of, jobs_in, entries_in}

@@ -1,7 +1,6 @@
 pub mod Frames
 pub mod Held
 pub mod Sets
-pub mod Best
 pub mod Blocks
 pub mod Image
 pub mod Calls

@@ -8,7 +8,7 @@ use Rattle.agc_word.specs.Layout.{OutsideWaitlist}
 use Rattle.agc_word.proofs.Keeping.{kept, kept_set, kept_also}
 use Rattle.agc_plan.specs.Tasks.{Waiting, Agenda, StandsFor, later}
 use Rattle.agc_wait.specs.Waits.{is_due, due_now}
-use Rattle.agc_wait.specs.Spreading.{nearer}
+use Rattle.agc_wait.proofs.Spreading.{nearer}
 use Rattle.agc_wait.specs.Table.{IsLawfulTable, waits_of, time3, lst1, at_in, distance_of, gap_of}
 use Rattle.agc_wait.specs.Writing.{place_in, IsCounted}
 use Rattle.agc_wait.specs.Calls.{Counts}

@@ -5,7 +5,7 @@ use Rattle.std.proofs.lemmas.Bool.{cases_eq, cases_lt}
 use Rattle.std.proofs.lemmas.Grind.{common_steps}
 use Rattle.agc_plan.specs.Tasks.{Pending, Waiting, Agenda, timed, StandsFor, InOrder, RisesFrom, listed, later, dispatched, first_due, without_first_due}
 use Rattle.agc_wait.specs.Waits.{is_due, place_for}
-use Rattle.agc_wait.specs.Spreading.{nearer, Spreads}
+use Rattle.agc_wait.proofs.Spreading.{nearer, Spreads}
 use Rattle.agc_wait.proofs.Orders.{set_in, RisesFrom-weaker, InOrder-append, InOrder-first, InOrder-rest, InOrder-none_due, InOrder-nil, InOrder-length}
 
 abbrev pub timed_at : ℕ → Waiting → Pending

@@ -5,7 +5,7 @@ use Rattle.std.proofs.lemmas.Bool.{cases_eq}
 use Rattle.std.proofs.lemmas.Grind.{common_steps}
 use Rattle.agc_plan.specs.Tasks.{Pending, Waiting, Agenda, timed, StandsFor, due_at, count_due}
 use Rattle.agc_wait.specs.Waits.{is_due, due_now}
-use Rattle.agc_wait.specs.Spreading.{Spreads}
+use Rattle.agc_wait.proofs.Spreading.{Spreads}
 use Rattle.agc_wait.proofs.Orders.{NoneBefore, NoneBefore-head, NoneBefore-tail}
 use Rattle.agc_wait.proofs.Distances.{timed_at, Spreads-not_due}
 

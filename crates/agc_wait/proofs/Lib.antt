@@ -3,6 +3,7 @@ pub mod Distances
 pub mod Dues
 pub mod Places
 pub mod Gaps
+pub mod Spreading
 pub mod Writes
 pub mod Tables
 pub mod Same

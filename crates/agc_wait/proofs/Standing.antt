@@ -2,7 +2,7 @@
 use Rattle.std.proofs.Common.{◌≡◌, ℕ, ◌+◌, ◌<◌, ◌≤◌, suc, nat_lt, Bool, List, [], ◌∷◌, length, ap, arith}
 use Rattle.agc_plan.specs.Tasks.{Waiting, timed}
 use Rattle.agc_wait.specs.Waits.{is_due, due_now}
-use Rattle.agc_wait.specs.Spreading.{Spreads, IsLawful}
+use Rattle.agc_wait.proofs.Spreading.{Spreads, IsLawful}
 use Rattle.agc_wait.specs.Table.{IsLawfulTable, waits_of, lst1, gap_of}
 use Rattle.agc_wait.specs.Writing.{place_in}
 use Rattle.agc_wait.specs.Calls.{ShownAgenda, TellsDue}

@@ -1,5 +1,4 @@
 pub mod Waits
-pub mod Spreading
 pub mod Table
 pub mod Writing
 pub mod Calls

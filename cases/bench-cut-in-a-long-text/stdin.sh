@@ -1,2 +1,0 @@
-printf 'script = [\n'
-yes '"tick",' | head -n 20000

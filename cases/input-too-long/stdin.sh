@@ -1,1 +1,0 @@
-yes end | head -c 1048577

@@ -1,3 +1,0 @@
-printf 'limit = 20000\nscript = [\n'
-yes '"tick",' | head -n 20000
-printf ']\n'

@@ -1,1 +1,0 @@
-yes tick | head -1001

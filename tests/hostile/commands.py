@@ -1,0 +1,276 @@
+"""Parts of tests/run hostile: tools/many, ./agc and ./agc_watch, where much goes wrong around them."""
+import os
+import shutil
+import subprocess
+import sys
+import tempfile
+import time
+
+TOP = os.path.realpath(os.path.join(os.path.dirname(os.path.realpath(__file__)), "../.."))
+SECONDS = 60
+
+HEAD = "bench,status,served,a1201,a1202,a1203,restarts,refused,last_alarm,fault\n"
+
+# Seven core sets are taken, the eighth job raises alarm 1202 and two ticks are served; the
+# allowance is spent, and two more are refused.
+EIGHT_JOBS = """allowance = 10
+script = [%s "tick", "tick", "tick", "tick"]
+""" % ('"novac 20 02000 00005", ' * 8)
+
+# A kit that proves nothing: it builds a program that ends with status 7, and tries by saying so.
+KIT = """#!/bin/sh
+name=${PWD##*/}
+case "$1 $2" in
+    'all check') printf '== %s\\n== summary\\n' "$name" ;;
+    'run --') mkdir -p out && cp ../../program "out/$name" && echo "rt: running out/$name; " ;;
+    'try --') echo tried; printf 'checked: ended status=0\\nrun=ended status=0 \\n' >&2 ;;
+esac
+"""
+PROGRAM = "#!/bin/sh\necho ran $*\necho own line >&2\nexit 7\n"
+PROGRAMS = ("agc", "agc_watch")
+NEEDED = "sh dirname find sort xargs cksum cp mkdir mktemp head cat tr awk sed rm".split()
+
+# A program that does what its bench says, as a script of the shell.
+OBEYING = "#!/bin/sh\nexec sh\n"
+REPORT = "printf 'SERVED 3\\nALARMS 0 0 0\\nRESTARTS 0\\n'"
+
+
+def write(path, text, mode=0o644):
+    os.makedirs(os.path.dirname(path), exist_ok=True)
+    with open(path, "w", encoding="ascii") as file:
+        file.write(text)
+    os.chmod(path, mode)
+
+
+def read(path):
+    with open(path, encoding="utf-8", errors="surrogateescape") as file:
+        return file.read()
+
+
+def ended(words, **settings):
+    """The status, standard output and standard error of a command."""
+    settings.setdefault("stdout", subprocess.PIPE)
+    ran = subprocess.run(words, stderr=subprocess.PIPE, stdin=subprocess.DEVNULL, timeout=SECONDS,
+                         check=False, **settings)
+    text = (ran.stdout or b"").decode("utf-8", "surrogateescape")
+    return ran.returncode, text, ran.stderr.decode("utf-8", "surrogateescape")
+
+
+def run_many(hostile, *words, **settings):
+    hostile.runs += 1
+    return ended([sys.executable, f"{TOP}/tools/many", *words], **settings)
+
+
+def many(hostile):
+    """What one bench or run does wrong costs tools/many that row; an output's fault ends it."""
+    with tempfile.TemporaryDirectory() as room:
+        for it in (rows_of_faults, rows_of_runs, tables_left, tables_that_are_none, outputs, wrong_words):
+            it(hostile, os.path.join(room, it.__name__))
+
+
+def rows_of_faults(hostile, room):
+    """A folder, a link to nothing and a file that can't be read are faults of their rows alone."""
+    os.makedirs(f"{room}/a-folder.toml")
+    os.symlink("nowhere", f"{room}/b-link.toml")
+    write(f"{room}/c-jobs.toml", EIGHT_JOBS)
+    write(f"{room}/d-key.toml", "no = 1\n")
+    write(f"{room}/e-closed.toml", "no = 1\n", 0)
+    write(os.fsdecode(room.encode() + b"/f-\xff.toml"), "")
+    is_open = os.access(f"{room}/e-closed.toml", os.R_OK)
+    closed = "1,,,,,,,,agc: key" if is_open else ",,,,,,,,not read: Permission denied"
+    wanted = (HEAD + "a-folder,,,,,,,,,not read: it is no file\n"
+              "b-link,,,,,,,,,not read: No such file or directory\n"
+              "c-jobs,0,10,0,1,0,1,2,8,\nd-key,1,,,,,,,,agc: key\n"
+              f"e-closed,{closed}\nf-\udcff,0,0,0,0,0,0,0,,\n")
+    status, text, _ = run_many(hostile, room)
+    hostile.expect(f"many, of faults: status {status}, {text}", (status, text) == (1, wanted))
+    status, text, _ = run_many(hostile, room, "--mode", "threads", "--part", "3/6")
+    wanted = HEAD + "c-jobs,0,10,0,1,0,1,,,\n"
+    hostile.expect(f"many, of threads: status {status}, {text}", (status, text) == (0, wanted))
+
+
+def rows_of_runs(hostile, room):
+    """A run that goes on, one that is killed and one without a report: told in their rows."""
+    write(f"{room}/obeying", OBEYING, 0o755)
+    write(f"{room}/a-long.toml", "exec sleep 20")
+    write(f"{room}/b-apart.toml", "sleep 20; echo")
+    write(f"{room}/c-killed.toml", "kill -SEGV $$")
+    write(f"{room}/d-silent.toml", "exit 7")
+    write(f"{room}/e-other.toml", "echo SET")
+    began = time.monotonic()
+    words = (room, "--program", f"{room}/obeying", "--seconds", "2", "--keep", f"{room}/kept")
+    status, text, _ = run_many(hostile, *words)
+    wanted = (HEAD + "a-long,,,,,,,,,too long\nb-apart,,,,,,,,,too long\n"
+              "c-killed,,,,,,,,,killed by SIGSEGV\nd-silent,7,,,,,,,,it says nothing\n"
+              "e-other,0,,,,,,,,it wrote no report\n")
+    hostile.expect(f"many, of runs: status {status}, {text}", (status, text) == (1, wanted))
+    hostile.expect("many ends what is too long", time.monotonic() - began < 15)
+    hostile.expect("many keeps what was written", read(f"{room}/kept/e-other.out") == "SET\n")
+
+
+def tables_left(hostile, room):
+    """The rows of a run that is killed are there; --resume adds the others, and runs none again."""
+    write(f"{room}/obeying", OBEYING, 0o755)
+    write(f"{room}/a.toml", f"echo SET; {REPORT}")
+    write(f"{room}/b.toml", "exec sleep 20")
+    write(f"{room}/c.toml", f"echo no job; echo SET; {REPORT}")
+    words = [room, "--program", f"{room}/obeying"]
+    table = f"{room}/table"
+    hostile.runs += 1
+    with open(table, "wb") as file:
+        run = subprocess.Popen([sys.executable, f"{TOP}/tools/many", *words], stdout=file,
+                               stderr=subprocess.DEVNULL)
+    until = time.monotonic() + 8
+    while read(table).count("\n") < 2 and time.monotonic() < until:
+        time.sleep(0.02)
+    run.kill()
+    run.wait()
+    first = HEAD + "a,0,3,0,0,0,0,0,,\n"
+    hostile.expect(f"many, killed: {read(table)}", read(table) == first)
+    write(f"{room}/a.toml", "exit 7")
+    write(f"{room}/b.toml", f"echo alarm 1201; echo refused spent; echo SET; {REPORT}")
+    whole = first + "b,0,3,0,0,0,0,1,1,\nc,0,3,0,0,0,0,0,,\n"
+    for cut in (len(first), len(first) + 1, len(first) + 18, len(whole)):
+        write(table, whole[:cut])
+        status, text, said = run_many(hostile, *words, "--resume", table)
+        is_right = (status, text, read(table)) == (0, "", whole)
+        hostile.expect(f"many, resumed at {cut}: status {status}, {said}, {read(table)}", is_right)
+
+
+def tables_that_are_none(hostile, room):
+    """A file that isn't such a table, or in which a row before the last is cut, stays as it is."""
+    write(f"{room}/a.toml", "")
+    for text in ("bench,status\n", HEAD + "b,0,3\nc,0,3,0,0,0,0,0,,\n", "\0\n"):
+        write(f"{room}/table", text)
+        status, _, said = run_many(hostile, room, "--resume", f"{room}/table")
+        is_right = status == 2 and "is no table of" in said and read(f"{room}/table") == text
+        hostile.expect(f"many, resumed with no table: status {status}, {said}", is_right)
+    status, _, said = run_many(hostile, room, "--resume", "/dev/full")
+    hostile.expect(f"many, resumed with a device: status {status}, {said}", status == 2)
+
+
+def outputs(hostile, room):
+    """An output that is full, broken or closed ends tools/many with status 4 and one line."""
+    for k in range(40):
+        write(f"{room}/{k}.toml", "")
+    reading, broken = os.pipe()
+    os.close(reading)
+    with open("/dev/full", "wb") as full:
+        ways = {"No space left on device": {"stdout": full}, "Broken pipe": {"stdout": broken},
+                "Bad file descriptor": {"preexec_fn": lambda: os.close(1)}}
+        for fault, settings in ways.items():
+            status, _, said = run_many(hostile, room, **settings)
+            is_right = (status, said) == (4, f"many: output: {fault}\n")
+            hostile.expect(f"many, output {fault}: status {status}, {said}", is_right)
+    os.close(broken)
+
+
+def wrong_words(hostile, room):
+    """No job at all, a folder or a program that isn't there: told before a row is written."""
+    write(f"{room}/a.toml", "")
+    for wanted, words in (
+        ((2, "argument --jobs: invalid jobs value: '0'"), (room, "--jobs", "0")),
+        ((4, f"many: there is no folder {room}/none"), (f"{room}/none",)),
+        ((4, f"many: there is no program {room}/none: tools/prove builds it"), (room, "--program", f"{room}/none")),
+    ):
+        status, text, said = run_many(hostile, *words)
+        is_right = status == wanted[0] and text == "" and said.endswith(f"{wanted[1]}\n")
+        hostile.expect(f"many, with {words}: status {status}, {text}, {said}", is_right)
+
+
+class Clone:
+    """A clone of two crates, with ./agc, ./agc_watch, tools/prove and a kit."""
+
+    def __init__(self, hostile, room):
+        self.hostile, self.room = hostile, room
+
+    def fill(self):
+        for name in (*PROGRAMS, "tools/launch", "tools/prove", "tools/repository.py", "tools/sources"):
+            os.makedirs(os.path.dirname(f"{self.room}/{name}"), exist_ok=True)
+            shutil.copy(f"{TOP}/{name}", f"{self.room}/{name}")
+        write(f"{self.room}/crates.txt", "".join(f"{it}:\n" for it in PROGRAMS))
+        for it in PROGRAMS:
+            write(f"{self.room}/crates/{it}/src/main.rt", "fn main() {}\n")
+            write(f"{self.room}/crates/{it}/args", "script\n")
+            write(f"{self.room}/crates/{it}/stdin", "")
+        write(f"{self.room}/program", PROGRAM, 0o755)
+        write(f"{self.room}/kit/rt", KIT, 0o755)
+        os.mkdir(f"{self.room}/tools-of-system")
+        for name in NEEDED:
+            os.symlink(shutil.which(name), f"{self.room}/tools-of-system/{name}")
+
+    def copy(self, name):
+        """A copy whose files are all new, the sources newest."""
+        shutil.copytree(self.room, name, symlinks=True, copy_function=shutil.copy)
+        clone = Clone(self.hostile, name)
+        clone.date(60)
+        return clone
+
+    def date(self, seconds):
+        """Dates the source so many seconds from now, and later than all that was written: times of
+        files move by steps of up to 10 ms, and a change within the same step is no later one."""
+        time.sleep(0.05)
+        when = time.time() + seconds
+        os.utime(f"{self.room}/crates/agc/src/main.rt", (when, when))
+
+    def run(self, command, *words, kit=True):
+        self.hostile.runs += 1
+        path = f"{self.room}/tools-of-system" + (f":{self.room}/kit" if kit else "")
+        return ended([*command, *words], env={"PATH": path})
+
+    def expect(self, what, wanted, *words, kit=True, name="agc"):
+        """What ./agc writes, its status, and the end of the first line on standard error, if any."""
+        status, text, said = self.run([f"{self.room}/{name}"], *words, kit=kit)
+        lines = said.splitlines()
+        first = lines[0] if len(lines) > 1 else ""
+        is_right = (status, text) == wanted[:2] and first.endswith(wanted[2]) and bool(first) == bool(wanted[2])
+        self.hostile.expect(f"./{name}, {what}: status {status}, {text}, {said}", is_right)
+
+
+def starter(hostile):
+    """./agc runs what was built from the sources that stand there; without the kit, what is there."""
+    ran, tried = (7, "ran script\n", ""), (0, "tried\n", "takes about a minute")
+    with tempfile.TemporaryDirectory() as room:
+        clone = Clone(hostile, f"{room}/clone")
+        clone.fill()
+        status, _, said = clone.run([f"{room}/clone/agc"], "script", kit=False)
+        hostile.expect(f"./agc with nothing: status {status}, {said}", status == 70)
+        clone.expect("before it is built", tried, "script")
+        status, text, _ = clone.run([sys.executable, f"{room}/clone/tools/prove"])
+        hostile.expect(f"tools/prove with a kit that proves nothing: status {status}, {text}", status == 0)
+        clone.expect("when it is built", ran, "script")
+        copy = clone.copy(f"{room}/copy")
+        copy.expect("copied", ran, "script")
+        copy.expect("copied, without the kit", ran, "script", kit=False)
+        linked = Clone(hostile, f"{room}/linked")
+        os.mkdir(linked.room)
+        for name in os.listdir(copy.room):
+            os.symlink(f"{copy.room}/{name}", f"{linked.room}/{name}")
+        linked.expect("called in a folder of links", ran, "script")
+        write(f"{room}/copy/crates/agc/src/main.rt", "fn main() { }\n")
+        copy.expect("changed", tried, "script")
+        copy.date(-9999)
+        copy.expect("changed, and dated back", tried, "script")
+        copy.expect("changed, without the kit", (*ran[:2], "is not on the path"), "script", kit=False)
+        write(f"{room}/copy/crates/agc/out/agc", f"{PROGRAM}#\n", 0o755)
+        copy.expect("built by others", ran, "script")
+        copy.date(60)
+        copy.expect("built by others, and older", tried, "script")
+        explained = "docs/FORMATS.md says what script, serial and threads read and write"
+        for words in ([], ["--help"], ["help"], ["script", "serial"]):
+            wanted = (7, f"ran {' '.join(words)}".strip() + "\n", explained)
+            clone.expect(f"asked for {words}", wanted, *words)
+        starter_of_watch(clone, ran[0])
+
+
+def starter_of_watch(clone, ended_with):
+    """./agc_watch does so too, and says nothing before the texts that its program has."""
+    clone.expect("before it is built", (0, "tried\n", "takes a minute or two"), "trace", name="agc_watch")
+    status, text, _ = clone.run([sys.executable, f"{clone.room}/tools/prove"], "agc_watch")
+    clone.hostile.expect(f"tools/prove agc_watch: status {status}, {text}", status == 0)
+    explained = "docs/FORMATS.md says what trace, picture, page and check read and write"
+    for words in ("trace", "picture", "page", "check", "check --script", "--help", "-V", "help check", "trace --help"):
+        clone.expect("when it is built", (ended_with, f"ran {words}\n", ""), *words.split(), name="agc_watch")
+    for words in ("", "serial", "trace trace"):
+        wanted = (ended_with, f"ran {words}".strip() + "\n", explained)
+        clone.expect(f"asked for {words}", wanted, *words.split(), name="agc_watch")

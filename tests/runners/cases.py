@@ -1,0 +1,250 @@
+"""Runs whole runs of the programs, each a file tests/cases/NAME.case, and compares what comes of them.
+
+    tests/run cases                 all
+    tests/run cases NAME ..         those named, with .case or without
+    tests/run cases --input NAME    prints what a case's program reads on standard input
+
+A case's sections begin with a line '=== SECTION', which no output has, and end at the next. Each may
+be missing: it is empty then, and the status is 0. A case named watch-* is of agc_watch, any other of
+agc.
+
+    === args            the words of the command line, one a line
+    === memory KIB      how much the program may address
+    === stdin           standard input
+    === stdout          what has to come on standard output, and
+    === stderr          on standard error
+    === status NUMBER   the exit status
+
+What cannot be written as it is stands behind '=== SECTION escaped': \\xNN is a byte, \\\\ a backslash,
+and a last \\ says that the text has no line end there. '=== SECTION by sh' has commands that write a
+long text. '=== stdin from PATH' names what is read, '=== stdout to PATH' what is written and not
+compared. A run that takes more than two minutes fails.
+"""
+import concurrent.futures
+import os
+import re
+import subprocess
+import sys
+import tempfile
+
+import counting
+import repository
+
+FOLDER = f"{repository.TOP}/tests/cases"
+HEADING = re.compile(r"=== (\w+)(?: (.+))?")
+# How the text of each section may be given.
+FORMS = {"args": "|escaped", "stdin": "|escaped|by sh|from .+", "stdout": "|escaped|by sh|to .+",
+         "stderr": "|escaped|by sh", "memory": r"\d+", "status": r"\d+"}
+ESCAPE = re.compile(rb"\\(?:x([0-9a-f]{2})|(\\)|(.?))", re.S)
+SECONDS = 120
+
+
+class Unread(Exception):
+    """Why a case cannot be read."""
+
+
+class Section:
+    """A part of a case: the number of its heading's line, how it is written, and its lines."""
+
+    def __init__(self, line, how):
+        self.line, self.how = line, how
+        self.lines = []
+
+    def text(self):
+        """Returns its bytes."""
+        text = b"".join(it + b"\n" for it in self.lines)
+        if self.how == "escaped":
+            text = ESCAPE.sub(byte_of, text[:-2] if text.endswith(b"\\\n") and ends_open(text) else text)
+        elif self.how == "by sh":
+            ran = subprocess.run(["sh", "-c", text], stdin=subprocess.DEVNULL, stdout=subprocess.PIPE, check=False)
+            if ran.returncode:
+                raise Unread(f"its commands end with status {ran.returncode}")
+            text = ran.stdout
+        return text
+
+    def words(self):
+        """Returns its lines as the words of a command line, in each of which all that is escaped is put back."""
+        is_escaped = self.how == "escaped"
+        return [ESCAPE.sub(byte_of, it) if is_escaped else it for it in self.lines]
+
+
+def ends_open(text):
+    """Whether the last backslash before a line end is one by itself."""
+    bare = text.rstrip(b"\n")
+    return (len(bare) - len(bare.rstrip(b"\\"))) % 2 == 1
+
+
+def byte_of(found):
+    number, backslash, other = found.groups()
+    if number:
+        return bytes([int(number, 16)])
+    if backslash:
+        return b"\\"
+    raise Unread(f"'\\{other.decode(errors='replace').strip()}' is no \\xNN and no \\\\")
+
+
+class Case:
+    """A case, as its file has it."""
+
+    def __init__(self, name):
+        self.name = name
+        self.path = f"tests/cases/{name}.case"
+        self.parts = {}
+        at = None
+        with open(f"{FOLDER}/{name}.case", "rb") as file:
+            lines = file.read().split(b"\n")
+        if lines.pop():
+            raise Unread(f"{self.path}:{len(lines) + 1}: its last line has no end")
+        for number, line in enumerate(lines, 1):
+            if line.startswith(b"==="):
+                at = self.begun(number, line)
+            elif not at:
+                raise Unread(f"{self.path}:{number}: no section has begun")
+            elif at.how not in ("", "escaped", "by sh"):
+                raise Unread(f"{self.path}:{number}: a section of one line goes on")
+            else:
+                at.lines.append(line)
+        for part in self.parts:
+            self.look_at(part)
+
+    def begun(self, number, line):
+        """Returns the section that begins with a line."""
+        found = HEADING.fullmatch(line.decode(errors="replace"))
+        part, how = (found[1], found[2] or "") if found else ("", "")
+        if part not in FORMS or not re.fullmatch(FORMS[part], how):
+            raise Unread(f"{self.path}:{number}: no section begins so: {line.decode(errors='replace')}")
+        if part in self.parts:
+            raise Unread(f"{self.path}:{number}: it has a second section '{part}'")
+        self.parts[part] = Section(number, how)
+        return self.parts[part]
+
+    def look_at(self, part):
+        """Refuses a section whose escaped text means nothing."""
+        section = self.parts[part]
+        for number, line in enumerate(section.lines if section.how == "escaped" else [], section.line + 1):
+            is_last = number == section.line + len(section.lines)
+            try:
+                ESCAPE.sub(byte_of, line[:-1] if is_last and part != "args" and ends_open(line) else line)
+            except Unread as why:
+                raise Unread(f"{self.path}:{number}: {why}") from why
+
+    def program(self):
+        return "agc_watch" if self.name.startswith("watch-") else "agc"
+
+    def how(self, part):
+        return self.parts[part].how if part in self.parts else ""
+
+    def text(self, part):
+        """Returns the bytes of a section, none where it is missing."""
+        try:
+            return self.parts[part].text() if part in self.parts else b""
+        except Unread as why:
+            raise Unread(f"{self.path}:{self.parts[part].line}: {part}: {why}") from why
+
+    def words(self):
+        """Returns the command that is run."""
+        program = program_of(self.program())
+        words = [program, *(self.parts["args"].words() if "args" in self.parts else [])]
+        if "memory" in self.parts:
+            words = ["sh", "-c", 'ulimit -v "$0" && exec "$@"', self.how("memory"), *words]
+        return words
+
+    def faults(self):
+        """Runs it, and returns a line for each part that differs."""
+        try:
+            with tempfile.TemporaryFile() as given:
+                given.write(self.text("stdin") if not self.how("stdin").startswith("from ") else b"")
+                given.seek(0)
+                ended = self.ended(given)
+            return [it for part in ended for it in self.differs(part, ended[part])]
+        except Unread as why:
+            return [str(why)]
+        except subprocess.TimeoutExpired:
+            return [f"{self.path}: it runs for more than {SECONDS} seconds"]
+
+    def ended(self, given):
+        """Returns of each part that is compared what came of the run."""
+        source = self.how("stdin").removeprefix("from ") if self.how("stdin").startswith("from ") else ""
+        target = self.how("stdout").removeprefix("to ") if self.how("stdout").startswith("to ") else ""
+        files = [os.open(os.path.join(FOLDER, source), os.O_RDONLY)] if source else []
+        files += [os.open(os.path.join(FOLDER, target), os.O_WRONLY)] if target else []
+        try:
+            ran = subprocess.run(self.words(), stdin=files[0] if source else given, stdout=files[-1] if target else subprocess.PIPE,
+                                 stderr=subprocess.PIPE, timeout=SECONDS, check=False)
+        finally:
+            for it in files:
+                os.close(it)
+        found = {"stdout": ran.stdout, "stderr": ran.stderr, "status": ran.returncode}
+        return {part: it for part, it in found.items() if part != "stdout" or not target}
+
+    def differs(self, part, found):
+        """Returns a line that says where a part differs, if it does."""
+        if part == "status":
+            wanted = int(self.how(part) or 0)
+            return [f"{self.path}: status {found}, not {wanted}"] if found != wanted else []
+        wanted = self.text(part)
+        if wanted == found:
+            return []
+        lines = [it.split(b"\n") for it in (found, wanted)]
+        at = next((at for at, (one, other) in enumerate(zip(*lines)) if one != other), min(map(len, lines)))
+        said, should = (shown(it[at]) if at < len(it) else "nothing" for it in lines)
+        is_by_line = part in self.parts and self.how(part) != "by sh"
+        place = f"{self.path}:{self.parts[part].line + 1 + at}" if is_by_line else self.path
+        return [f"{place}: {part} has {said} in line {at + 1}, not {should}"]
+
+
+def shown(line):
+    return repr(line[:100].decode("utf-8", "backslashreplace"))
+
+
+def program_of(name):
+    return f"{repository.TOP}/crates/{name}/out/{name}"
+
+
+def names():
+    """Returns the names of all cases; a file that is none ends the run."""
+    found = sorted(os.listdir(FOLDER))
+    for it in found:
+        if not it.endswith(".case"):
+            counting.refuse("cases", f"tests/cases/{it} is no NAME.case")
+    return [it.removesuffix(".case") for it in found]
+
+
+def read(wanted):
+    """Returns the cases of these names, and what is wrong with those that can't be read."""
+    found, wrong = [], []
+    for it in wanted:
+        try:
+            found.append(Case(it))
+        except Unread as why:
+            wrong.append(str(why))
+    return found, wrong
+
+
+def add_words(parser):
+    parser.add_argument("names", nargs="*", metavar="NAME")
+    parser.add_argument("--input", metavar="NAME", help="prints what a case's program reads")
+
+
+def check():
+    found, wrong = read(names())
+    return counting.checked("cases", len(found) + len(wrong), wrong)
+
+
+def run(given):
+    asked = [it.removesuffix(".case") for it in [*given.names, *([given.input] if given.input else [])]]
+    found, wrong = read(counting.chosen("cases", asked, names()))
+    if wrong:
+        return counting.checked("cases", len(found) + len(wrong), wrong)
+    if given.input:
+        sys.stdout.buffer.write(found[-1].text("stdin"))
+        return 0
+    for name in sorted({it.program() for it in found}):
+        if not os.access(program_of(name), os.X_OK):
+            counting.refuse("cases", f"there is no program crates/{name}/out/{name}: tools/prove {name} builds it")
+    failed = 0
+    with concurrent.futures.ThreadPoolExecutor(len(os.sched_getaffinity(0))) as pool:
+        for faults in pool.map(Case.faults, found):
+            failed += bool(faults)
+            print(*faults, sep="\n", end="\n" if faults else "")
+    return counting.told("cases", len(found) - failed, failed)

@@ -1,0 +1,285 @@
+"""Runs the built programs where memory, reads and writes fail, and agc on benches with faults in them.
+
+    tests/run hostile           all of it
+    tests/run hostile PART ..   the parts named: growths, reads, writes, ends, texts, benches, many and
+                                starter of commands.py, and release of releases.py
+
+`failing.c` is put under the program: each growth of memory, each read of standard input and each write
+of standard output is refused in turn, until a run has none refused; reads and writes then move one byte
+at a time. What has to come of it is said beside each part. A run that ends otherwise has failed.
+"""
+import os
+import random
+import resource
+import subprocess
+import tempfile
+
+import counting
+from commands import many, starter
+from releases import release
+from repository import TOP
+
+FAILING = f"{TOP}/tests/hostile/failing.c"
+PROGRAMS = {name: f"{TOP}/crates/{name}/out/{name}" for name in ("agc", "agc_watch")}
+
+# By these words agc_watch is run, by all others agc.
+WATCHED = {"trace", "picture", "page", "check", "--help", "--version"}
+
+SECONDS = 120
+
+NO_MEMORY = (3, b"agc: no memory\n")
+NO_THREAD = (3, b"agc: no thread\n")
+INPUT = (4, b"agc: input\n")
+OUTPUT = (4, b"agc: output\n")
+DONE = (0, b"")
+
+# What `read_bench` may say of a text that is no bench.
+FAULTS = {"not toml", "key", "line", "task twice", "phase twice", "too many areas"}
+
+SCRIPT = b"phase 2 3\n" + b"list 5 02000 00005\n" * 10 + b"tick\nfindvac 10 02000 00005\nchange\n"
+
+# Power comes back with inactive groups. An alarm 1203 comes of the tenth listing, and the restart
+# brings the phase's job and task back.
+BENCH = b"""limit = 100
+power = [%s]
+script = ["phase 2 3", %s]
+[[phase]]
+group = 2
+phase = 3
+job = "findvac 20 04100 00007"
+task = "list 100 04000 00007"
+""" % (b", ".join([b'"77777", "00000"'] * 6), b", ".join([b'"list 5 02000 00005"'] * 10))
+
+# Workers and devices of which each order leaves the same words and totals.
+THREADS = BENCH + b"""
+[[worker]]
+script = ["restart", "restart", "restart"]
+[[worker]]
+script = ["restart", "restart"]
+[[device]]
+line = "radar"
+pulses = 20
+"""
+
+
+def program_of(word):
+    return "agc_watch" if word in WATCHED else "agc"
+
+
+def told(word, ran):
+    """Its status and standard error, with agc's name for its own; another name is a fault."""
+    name = f"{program_of(word)}: ".encode()
+    line = b"agc: " + ran.stderr[len(name) :] if ran.stderr.startswith(name) else b"no name: " + ran.stderr
+    return ran.returncode, line if ran.stderr else b""
+
+
+class Ended:
+    """How a run of the program ended, and how many growths, reads and writes it made."""
+
+    def __init__(self, room, word, text, **settings):
+        counts = os.path.join(room, "counts")
+        given = {name.upper(): str(value) for name, value in settings.items()}
+        under = {**os.environ, "LD_PRELOAD": os.path.join(room, "failing.so"), "COUNTS": counts, **given}
+        called = [PROGRAMS[program_of(word)], word]
+        ran = subprocess.run(called, input=text, capture_output=True, timeout=SECONDS, env=under, check=False)
+        self.said = told(word, ran)
+        self.text = ran.stdout
+        with open(counts, encoding="ascii") as file:
+            self.growths, self.before_input, self.reads, self.writes = map(int, file.read().split())
+        os.remove(counts)
+
+
+class Hostile:
+    def __init__(self, room):
+        self.room = room
+        self.runs = 0
+        self.passed = self.failed = 0
+
+    def run(self, word, text, **settings):
+        self.runs += 1
+        return Ended(self.room, word, text, **settings)
+
+    def expect(self, what, holds, ended=None):
+        self.passed += bool(holds)
+        if not holds:
+            self.failed += 1
+            print(f"hostile: {what}{f': {ended.said}, {len(ended.text)} bytes' if ended else ''}")
+
+
+def words(hostile):
+    """Each way to run the program, its input, and the whole text that comes of it."""
+    watched = [(word, BENCH) for word in ("trace", "picture", "page", "check")]
+    for word, text in (("script", SCRIPT), ("serial", BENCH), ("threads", THREADS), *watched):
+        whole = hostile.run(word, text)
+        hostile.expect(f"{word} with nothing refused", whole.said == DONE and whole.text, whole)
+        yield word, text, whole
+
+
+def growths(hostile):
+    """A run of which one growth is refused says so, and has written nothing. Before it reads, the program takes memory
+    for the command line, some of which it can do without: then the run goes on as if nothing was refused."""
+    for word, text, whole in words(hostile):
+        refusals = {NO_MEMORY, NO_THREAD} if word == "threads" else {NO_MEMORY}
+        spared = 0
+        for k in range(1, whole.growths + 1):
+            ended = hostile.run(word, text, fail_growth=k)
+            is_told = ended.said in refusals and not ended.text
+            is_spared = k <= whole.before_input and ended.said == DONE and ended.text == whole.text
+            spared += is_spared
+            hostile.expect(f"{word}, growth {k}", is_told or is_spared, ended)
+        ended = hostile.run(word, text, fail_growth=whole.growths + 1)
+        is_whole = ended.said == DONE and ended.growths == whole.growths
+        hostile.expect(f"{word}, no growth left to refuse", is_whole, ended)
+        hostile.expect(f"{word} can do without one growth at most", spared <= 1)
+        counts = f"{whole.before_input} of them for the command line, {spared} it can do without"
+        print(f"hostile: {word}: {whole.growths} growths refused one at a time, {counts}")
+
+
+def reads(hostile):
+    """A run of which one read fails says so, and has written nothing; one byte a read is the same input."""
+    for word, text, whole in words(hostile):
+        for k in range(1, whole.reads + 1):
+            ended = hostile.run(word, text, fail_read=k)
+            hostile.expect(f"{word}, read {k}", ended.said == INPUT and not ended.text, ended)
+        singly = hostile.run(word, text, most_read=1)
+        hostile.expect(f"{word}, one byte a read", singly.said == DONE and singly.text == whole.text, singly)
+        for k in (1, 2, singly.reads // 2, singly.reads):
+            ended = hostile.run(word, text, most_read=1, fail_read=k)
+            hostile.expect(f"{word}, read {k} of one byte each", ended.said == INPUT and not ended.text, ended)
+
+
+def writes(hostile):
+    """A run of which one write fails says so, and has written a front of the whole text, in order."""
+    for word, text, _ in words(hostile):
+        singly = hostile.run(word, text, most_written=1)
+        whole = singly.text
+        hostile.expect(f"{word}, one byte a write", singly.said == DONE and singly.writes == len(whole), singly)
+        for k in (*range(1, 60), *range(60, singly.writes, 37), singly.writes):
+            ended = hostile.run(word, text, most_written=1, fail_write=k)
+            hostile.expect(f"{word}, write {k}", ended.said == OUTPUT and whole.startswith(ended.text), ended)
+        ended = hostile.run(word, text, most_written=0)
+        hostile.expect(f"{word}, writes that take nothing", ended.said == OUTPUT and not ended.text, ended)
+
+
+def ends(hostile):
+    """Standard input and output that are closed, full, broken or no file: the status and line, and no signal."""
+    for word, text, _ in words(hostile):
+        with open("/dev/full", "wb") as full:
+            hostile.expect(f"{word} to a full device", said_by(hostile, word, text, stdout=full) == OUTPUT)
+        reading, writing = os.pipe()
+        os.close(reading)
+        hostile.expect(f"{word} to a broken pipe", said_by(hostile, word, text, stdout=writing) == OUTPUT)
+        os.close(writing)
+        closed = said_by(hostile, word, text, preexec_fn=lambda: os.close(1))
+        hostile.expect(f"{word} without an output", closed == OUTPUT)
+        folder = os.open("/", os.O_RDONLY)
+        hostile.expect(f"{word} from a folder", said_by(hostile, word, None, stdin=folder) == INPUT)
+        os.close(folder)
+        closed = said_by(hostile, word, None, stdin=subprocess.DEVNULL, preexec_fn=lambda: os.close(0))
+        hostile.expect(f"{word} without an input", closed == INPUT)
+        small = said_by(hostile, word, text, preexec_fn=within_8_mib)
+        hostile.expect(f"{word} in 8 MiB", small in {DONE, NO_MEMORY, NO_THREAD})
+
+
+def texts(hostile):
+    """The help and the version, which read nothing: each growth and write refused in turn."""
+    for word in ("--help", "--version"):
+        whole = hostile.run(word, b"")
+        hostile.expect(f"{word} with nothing refused", whole.said == DONE and whole.text and not whole.reads, whole)
+        spared = 0
+        for k in range(1, whole.growths + 1):
+            ended = hostile.run(word, b"", fail_growth=k)
+            is_spared = ended.said == DONE and ended.text == whole.text
+            spared += is_spared
+            hostile.expect(f"{word}, growth {k}", is_spared or (ended.said == NO_MEMORY and not ended.text), ended)
+        hostile.expect(f"{word} can do without one growth at most", spared <= 1)
+        singly = hostile.run(word, b"", most_written=1)
+        hostile.expect(f"{word}, one byte a write", singly.said == DONE and singly.writes == len(whole.text), singly)
+        for k in range(1, singly.writes + 1):
+            ended = hostile.run(word, b"", most_written=1, fail_write=k)
+            hostile.expect(f"{word}, write {k}", ended.said == OUTPUT and whole.text.startswith(ended.text), ended)
+        closed = said_by(hostile, word, b"", preexec_fn=lambda: os.close(1))
+        hostile.expect(f"{word} without an output", closed == OUTPUT)
+        closed = said_by(hostile, word, None, stdin=subprocess.DEVNULL, preexec_fn=lambda: os.close(0))
+        hostile.expect(f"{word} without an input", closed == DONE)
+        print(f"hostile: {word}: {whole.growths} growths and {singly.writes} writes refused one at a time")
+
+
+def within_8_mib():
+    resource.setrlimit(resource.RLIMIT_AS, (8 << 20, 8 << 20))
+
+
+def said_by(hostile, word, text, **settings):
+    """How the program ended, with nothing under it: its status, below 0 for a signal, and its standard error."""
+    hostile.runs += 1
+    settings.setdefault("stdout", subprocess.PIPE)
+    if text is not None:
+        settings["input"] = text
+    called = [PROGRAMS[program_of(word)], word]
+    ran = subprocess.run(called, stderr=subprocess.PIPE, timeout=SECONDS, check=False, **settings)
+    return told(word, ran)
+
+
+def benches(hostile):
+    """Each of 500 benches, made of the examples by seeded changes, is run or has one of the six faults of a bench."""
+    examples = sorted(name for name in os.listdir(f"{TOP}/examples") if name.endswith(".toml"))
+    texts = [read(f"{TOP}/examples/{name}") for name in examples][:5]
+    dice = random.Random(1202)
+    wanted = {DONE} | {(1, f"agc: {fault}\n".encode()) for fault in FAULTS}
+    seen = {}
+    for number in range(500):
+        text = changed(dice.choice(texts), dice)
+        said = said_by(hostile, "serial", text.encode())
+        seen[said] = seen.get(said, 0) + 1
+        hostile.expect(f"bench {number} of 500 ends in {said}", said in wanted)
+    hostile.expect("all benches end alike", len(seen) > 3)
+
+
+def changed(text, dice):
+    """One to three changes: a character or a line dropped, doubled or exchanged, a number or a word made another."""
+    pieces = ["0", "7", "9", "-1", "_", '"', "[", "]", "=", "\n", " ", "#", "é"]
+    pieces += ["limit", "77777", "00000", "tick", "sets = 9"]
+    for _ in range(dice.randint(1, 3)):
+        at, to = sorted(dice.randrange(len(text) + 1) for _ in range(2))
+        lines = text.split("\n")
+        line = dice.randrange(len(lines))
+        text = dice.choice([
+            text[:at] + text[at + 1 :],
+            text[:at] + dice.choice(pieces) + text[at:],
+            text[:at] + dice.choice(pieces) + text[at + 1 :],
+            text[:at] + text[to:] if to - at < 80 else text[:to],
+            "\n".join(lines[:line] + lines[line + 1 :]),
+            "\n".join(lines[: line + 1] + lines[line:]),
+        ])
+    return text
+
+
+def read(path):
+    with open(path, encoding="utf-8") as file:
+        return file.read()
+
+
+PARTS = {it.__name__: it for it in (growths, reads, writes, ends, texts, benches, many, starter, release)}
+
+
+def add_words(parser):
+    parser.add_argument("parts", nargs="*", metavar="PART")
+
+
+def check():
+    missing = [] if os.path.isfile(FAILING) else [f"{FAILING}: it isn't there"]
+    return counting.checked("hostile", len(PARTS), missing)
+
+
+def run(given):
+    parts = counting.chosen("hostile", given.parts, PARTS)
+    for name, path in PROGRAMS.items():
+        if not os.access(path, os.X_OK):
+            counting.refuse("hostile", f"there is no program {path}: tools/prove {name} builds it")
+    with tempfile.TemporaryDirectory() as room:
+        made = ["cc", "-std=c11", "-O1", "-shared", "-fPIC", FAILING, "-o", os.path.join(room, "failing.so"), "-ldl"]
+        subprocess.run(made, check=True)
+        hostile = Hostile(room)
+        for name in parts:
+            PARTS[name](hostile)
+    return counting.told("hostile", hostile.passed, hostile.failed, f", in {hostile.runs} runs")
