@@ -54,16 +54,8 @@ fn trace_command<'a>(alloc: Global) -> Result<Command<'a>, AllocError> {
         "brief",
         "Counts refusals, no job, no sleeper, and ticks that fire nothing",
     ))?
-    .arg(numbered(
-        alloc,
-        "from",
-        "Tells only the requests from number N on",
-    ))?
-    .arg(numbered(
-        alloc,
-        "to",
-        "Tells only the requests up to number N",
-    ))
+    .arg(numbered(alloc, "from", "Tells only the requests from number N on"))?
+    .arg(numbered(alloc, "to", "Tells only the requests up to number N"))
 }
 
 /// The command `picture`.

@@ -10,6 +10,7 @@ ghost use Rattle.agc_watch.specs.Program.{DrawsText, PagesText, TracesBench, Tra
 ghost use Rattle.agc_watch.specs.Program.{ChecksBench, ChecksScript, TracesText, WorksOn};
 ghost use Rattle.agc_watch.specs.Program.{status_by};
 
+use crate::words::{Asked, Refused, TraceOptions, Work, asked_for};
 use agc_document::{Bench, BenchFault, read_bench};
 use agc_lint::{bench_findings, script_findings, tell_all, tell_bench};
 use agc_page::page;
@@ -18,14 +19,12 @@ use agc_program::{Fault, Program, buffered, ended, flushed, given_words};
 use agc_text::{read_all, read_script};
 use agc_trace::{Choice, trace, trace_script};
 use agc_warn::{bench_warnings, tell_warnings};
-use crate::words::{Asked, Refused, TraceOptions, Work, asked_for};
 use clap::Error;
 use std::alloc::Global;
-use std::fs;
-use std::io;
 use std::io::{Eprint, ErrorKind, Input, Print, Read, Write};
 use std::process::ExitCode;
 use std::rt::{Env, Files};
+use std::{fs, io};
 
 /// How many bytes an input may have.
 const MOST_BYTES: u64 = 1_048_576;
