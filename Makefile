@@ -26,7 +26,7 @@ ZSH = $(datarootdir)/zsh/site-functions
 # The files that are copied, from this folder, and for each its folder: FILE=FOLDER
 files = $(patsubst $(HERE)%,%,$(wildcard $(HERE)$(1)))
 PLACED = $(foreach it,README.md CHANGELOG.md $(call files,PROVED-BY.txt),$(it)=$(docdir)) \
-    $(foreach it,$(call files,docs/*.md),$(it)=$(docdir)/docs) \
+    $(foreach it,$(call files,docs/*.*),$(it)=$(docdir)/docs) \
     $(foreach it,$(call files,examples/*.*),$(it)=$(docdir)/examples) \
     $(foreach it,$(call files,share/man/*.[1-8]),$(it)=$(mandir)/man$(patsubst .%,%,$(suffix $(it)))) \
     share/completions/agc_watch.bash=$(BASH) share/completions/_agc_watch=$(ZSH)

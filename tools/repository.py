@@ -89,6 +89,16 @@ def root_of(crate):
     return next(it for it in ("src/lib.rt", "src/main.rt") if os.path.isfile(f"{TOP}/crates/{crate}/{it}"))
 
 
+def exports_of(crate):
+    """Returns the names that a crate's root gives out, and its open modules; None, and none, for a program."""
+    path = f"{TOP}/crates/{crate}/src/lib.rt"
+    if not os.path.isfile(path):
+        return None, set()
+    root = text_of(path)
+    names = {it.strip() for group in re.findall(r"pub use \w+::\{([^}]*)\}", root) for it in group.split(",")}
+    return names | set(re.findall(r"pub use \w+::(\w+);", root)), set(re.findall(r"pub mod (\w+);", root))
+
+
 def unnamed_uses():
     """Yields the crates that a line of crates.txt names, and no source of its crate."""
     for crate, (_, uses) in rows().items():
@@ -351,27 +361,36 @@ def tool(name):
 # The command
 
 def places_of(name):
-    """Yields the places of functions, edits, tests and cases of a name, and what tries these functions."""
-    keys = {}
+    """Yields the places of functions, edits and cases of a name, and what tries these functions."""
+    found = {}
     for crate in crates():
         for file in files_below(f"{TOP}/crates/{crate}/src", ".rt"):
             path = os.path.relpath(file, f"{TOP}/crates/{crate}")
             for it in functions_in(text_of(file)):
-                if it.name == name or f"{it.kind}::{it.name}" == name:
-                    keys[key_of(crate, path, it)] = f"crates/{crate}/{path}:{it.at + 1}: a function of {crate}"
-    yield from keys.values()
+                if name in (it.name, f"{it.kind}::{it.name}"):
+                    found[key_of(crate, path, it)] = f"crates/{crate}/{path}:{it.at + 1}"
+    for key, place in found.items():
+        yield f"{place}: {key}"
     for it in edits().all:
-        changed = [key for key in it.applied()[1] if key in keys]
+        changed = [key for key in it.applied()[1] if key in found]
         if changed or it.name == name:
             yield f"{it.place}: edit {it.name}" + "".join(f", which changes {key}" for key in changed)
-    last = name.split("::")[-1]
-    for path in [*files_below(f"{TOP}/tests/crates", ".test"), *files_below(f"{TOP}/tests/refused", ".case")]:
-        lines = text_of(path).split("\n")
-        at = next((at for at, it in enumerate(lines) if re.search(rf"(?<![\w-]){last}\b", it) and "use " not in it), None)
-        if at is not None and keys:
-            yield f"{os.path.relpath(path, TOP)}:{at + 1}: it is named there"
+    yield from calls_of(name.split("::")[-1], {key.split("::")[0] for key in found})
     for path in sorted(glob.glob(f"{TOP}/tests/*/*{name}*.case")):
         yield f"{os.path.relpath(path, TOP)}:1: a case"
+
+
+def calls_of(name, owners):
+    """Yields where the tests of some crates call a function first, and how many other files of tests do."""
+    others = 0
+    for path in [*files_below(f"{TOP}/tests/crates", ".test"), *files_below(f"{TOP}/tests/refused", ".case")]:
+        text, place = text_of(path), os.path.relpath(path, TOP)
+        call = re.search(rf"(?<![\w-]){name}(?:::<[^;{{]*?>)?\(", text)
+        if call and place.split("/")[2] in owners:
+            yield f"{place}:{text.count(chr(10), 0, call.start()) + 1}: the first call in this test"
+        others += bool(call) and place.split("/")[2] not in owners
+    if owners and others:
+        yield f"tests/: files of other tests that call {name}: {others}"
 
 
 def main(words):

@@ -1,6 +1,7 @@
 """A part of tests/run hostile: tools/release, on a copy of the repository in which stand-ins are built."""
 import hashlib
 import os
+import re
 import shutil
 import subprocess
 import sys
@@ -130,7 +131,12 @@ def unpacked(hostile, room, place):
     top = f"{place}/{names[0].split('/')[0]}"
     hostile.expect("the checksums of a release", printed(["sha256sum", "--quiet", "-c", "SHA256SUMS"], top) == "")
     printed(["make", "-s", "install", f"PREFIX={place}/usr"], top)
-    placed = ("bin/agc", "bin/agc_watch", "lib/libagc.so.1", "share/man/man3/agc.3", "share/doc/agc/docs/FORMATS.md")
+    documents = [it.split("/", 1)[1] for it in names if re.search(r"/docs/[^/]+[.]", it)]
+    hostile.expect(f"a release has the documents {documents}", "docs/FORMATS.md" in documents)
+    pictures = set(re.findall(r"\]\((\S+[.]png)\)", read(f"{top}/docs/LANDING.md")))
+    hostile.expect(f"a release has the pictures {pictures}", {f"docs/{it}" for it in pictures} <= set(documents))
+    placed = ["bin/agc", "bin/agc_watch", "lib/libagc.so.1", "share/man/man3/agc.3"]
+    placed += [f"share/doc/agc/{it}" for it in documents]
     missing = [it for it in placed if not os.path.isfile(f"{place}/usr/{it}")]
     hostile.expect(f"make install from a release leaves out {missing}", not missing)
     printed(["make", "-s", "uninstall", f"PREFIX={place}/usr"], top)

@@ -6,7 +6,8 @@
 
 The files tests/crates/CRATE/NAME.test become modules of one crate that uses all others, so that these
 are compiled once; files NAME.test beside the folders are modules that all may use. In the copy nothing
-is private, so that a test may call what its crate doesn't offer. `rt try --test` compiles it with the
+is private, so that a test may call what its crate doesn't offer. Growths of memory go through
+tests/crates/growths.c, which refuses one where a test asks for it. `rt try --test` compiles all with the
 address sanitizer and runs the tests; nothing is proved. Each crate has a line, and what `rt` says comes
 whole after them where a test fails.
 """
@@ -62,9 +63,11 @@ def faults_of(crate):
 
 def lay(room, wanted):
     """Lays the crates into a folder, and the crate of these tests. Returns where each file stands in it."""
-    repository.copy_crates(room, f"{NAME}: {' '.join(dict.fromkeys([*repository.below(wanted), *wanted, *kit_of(wanted)]))}")
+    uses = dict.fromkeys([*repository.below(wanted), *wanted, *kit_of(wanted)])
+    repository.copy_crates(room, f"{NAME}: {' '.join(uses)}")
     make_public(f"{room}/crates")
     os.mkdir(f"{room}/tmp")
+    os.makedirs(f"{room}/crates/{NAME}/c")
     placed = {"": ""} | {crate: f"/of_{crate}" for crate in wanted}
     files = {}
     for crate, folder in placed.items():
@@ -87,6 +90,24 @@ def kit_of(wanted):
     return list(dict.fromkeys(found))
 
 
+def kit_with_growths(room):
+    """Makes a kit like the one on the path, but that growths.c is its heap. Returns its folder."""
+    kit = os.path.dirname(os.path.dirname(os.path.realpath(shutil.which("rt"))))
+    made = f"{room}/kit"
+    own = {"bin": ["rt", "rtlib.py"], "c": ["liblibc_c.a"]}
+    for folder in ("", *own):
+        os.mkdir(os.path.join(made, folder))
+        for it in set(os.listdir(os.path.join(kit, folder))) - {*own, *own.get(folder, [])}:
+            os.symlink(os.path.join(kit, folder, it), os.path.join(made, folder, it))
+    # `rt` takes the folder above its own for its kit.
+    for it in own["bin"]:
+        shutil.copy(f"{kit}/bin/{it}", f"{made}/bin")
+    compiled = ["cc", "-std=c11", "-O2", "-fPIC", "-c", f"{TOP}/{TESTS}/growths.c", "-o", f"{made}/c/growths.o"]
+    subprocess.run(compiled, check=True)
+    subprocess.run(["ar", "rc", f"{made}/c/liblibc_c.a", f"{made}/c/growths.o"], check=True)
+    return made
+
+
 def make_public(path):
     """Opens what the crates of a folder keep private to themselves."""
     for it in repository.files_below(path, ".rt"):
@@ -95,14 +116,22 @@ def make_public(path):
 
 
 def layout_faults(room, files):
-    """Returns what `rt fmt` says of each file that isn't in its layout."""
-    rattle = os.path.join(os.path.dirname(os.path.realpath(shutil.which("rt"))), "rattle")
-    ran = subprocess.run([rattle, "fmt", "--check", *files], cwd=room, stdout=subprocess.PIPE, stderr=subprocess.STDOUT,
-                         text=True, check=False)
-    said = ran.stdout
-    for path, file in files.items():
-        said = said.replace(path, file)
-    return (said.split("\n")[:-1] or ["crates: rt fmt failed"]) if ran.returncode else []
+    """Returns a line for each file that isn't as `rt fmt` lays it out."""
+    ran = subprocess.run(["rt", "fmt"], cwd=f"{room}/crates/{NAME}", stdin=subprocess.DEVNULL, stdout=subprocess.PIPE,
+                         stderr=subprocess.STDOUT, text=True, check=False)
+    if ran.returncode:
+        said = ran.stdout
+        for path, file in files.items():
+            said = said.replace(path, file)
+        return [it for it in said.split("\n") if it and not it.startswith("rt: formatted ")]
+    pairs = [(file, repository.text_of(f"{TOP}/{file}"), repository.text_of(path)) for path, file in files.items()]
+    return [f"{file}:{differs_at(old, new)}: `rt fmt` lays it out otherwise" for file, old, new in pairs if old != new]
+
+
+def differs_at(old, new):
+    """Returns the number of the first line in which two texts differ."""
+    pairs = zip(old.split("\n"), new.split("\n"))
+    return next((at for at, (one, other) in enumerate(pairs, 1) if one != other), 1)
 
 
 def laid_and_looked_at(room, wanted):
@@ -119,11 +148,11 @@ def laid_and_looked_at(room, wanted):
 def tried(room, wanted):
     """Runs the tests, with a line for each crate. Returns how many passed and failed."""
     began = time.monotonic()
-    words = ["rt", "try", "--test", "--seconds", str(SECONDS)]
-    path = f"{TOP}/tools/without-hint:{os.environ['PATH']}"
-    how = {"cwd": f"{room}/crates/{NAME}", "env": {**os.environ, "TMPDIR": f"{room}/tmp", "PATH": path}}
+    words = [f"{kit_with_growths(room)}/bin/rt", "try", "--test", "--seconds", str(SECONDS)]
+    own = {"TMPDIR": f"{room}/tmp", "PATH": f"{TOP}/tools/without-hint:{os.environ['PATH']}", "RT_ALLOW_C": NAME}
     ran = subprocess.Popen(
-        words, stdin=subprocess.DEVNULL, stdout=subprocess.PIPE, stderr=subprocess.STDOUT, text=True, errors="replace", **how)
+        words, cwd=f"{room}/crates/{NAME}", env={**os.environ, **own}, stdin=subprocess.DEVNULL,
+        stdout=subprocess.PIPE, stderr=subprocess.STDOUT, text=True, errors="replace")
     try:
         said = ran.communicate()[0]
     finally:
@@ -132,6 +161,8 @@ def tried(room, wanted):
     passed = collections.Counter(re.findall(r"^test of_(\w+?)::.* \.\.\. ok$", said, re.M))
     for crate in wanted:
         print(f"{crate}: {passed[crate]} passed")
+    for it in re.findall(r"^ +(growths: .*)$", said, re.M):
+        print(it)
     print(f"crates: compiled and run in {time.monotonic() - began:.0f} s")
     # All that it began with and that didn't pass have failed.
     begun = re.search(r"^tests: (\d+)$", said, re.M)
