@@ -8,8 +8,6 @@ use Rattle.agc_text.specs.Reading.{request_of}
 use Rattle.agc_text.specs.Script.{IsLine, IsFirstRefused, lines_of}
 use Rattle.agc_text.proofs.Cuts.{eqb-false}
 use Rattle.agc_text.proofs.Requests.{request_takes, request_again}
-use Rattle.agc_lint.specs.Kinds.{requests}
-use Rattle.agc_lint.specs.Faults.{fault_of}
 use Rattle.agc_lint.specs.Findings.{Found}
 use Rattle.agc_lint.specs.Scripts.{found_unless, left_unless, found_from, IsTold, IsFoundIn, most_told}
 
@@ -38,9 +36,9 @@ found_end most n = refl
 pub noted_some : (items : List Found) (most n : ℕ) (l : List ℕ) (r : Request) → 0 < most → request_of l ≡ Some r → (ls : List (List ℕ)) → items ++ found_from most (n + 1) ls ≡ items ++ found_from most n (l ∷ ls)
 noted_some items most n l r some e ls = ap (λ (fs : List Found). items ++ fs) (sym (found_next most n l ls (Some r) some e))
 
-pub noted_none : (items new : List Found) (most n : ℕ) (l : List ℕ) → 0 < most → request_of l ≡ None → new ≡ items ++ record { line = n; text = l; fault = fault_of requests l } ∷ [] → (ls : List (List ℕ)) → new ++ found_from (most - 1) (n + 1) ls ≡ items ++ found_from most n (l ∷ ls)
+pub noted_none : (items new : List Found) (most n : ℕ) (l : List ℕ) → 0 < most → request_of l ≡ None → new ≡ items ++ record { line = n; text = l } ∷ [] → (ls : List (List ℕ)) → new ++ found_from (most - 1) (n + 1) ls ≡ items ++ found_from most n (l ∷ ls)
 noted_none items new most n l some e is ls =
-    let it : Found = record { line = n; text = l; fault = fault_of requests l } in
+    let it : Found = record { line = n; text = l } in
     ap (λ (fs : List Found). fs ++ found_from (most - 1) (n + 1) ls) is
     ∙ append_assoc items (it ∷ []) (found_from (most - 1) (n + 1) ls)
     ∙ ap (λ (fs : List Found). items ++ fs) (sym (found_next most n l ls None some e))

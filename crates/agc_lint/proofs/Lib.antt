@@ -1,4 +1,1 @@
 pub mod Found
-pub mod Pieces
-pub mod Documents
-pub mod Tellings

@@ -1,11 +1,2 @@
-pub mod Kinds
-pub mod Parts
-pub mod Names
-pub mod Faults
 pub mod Findings
-pub mod Sentences
 pub mod Scripts
-pub mod Keys
-pub mod Documents
-pub mod Spotting
-pub mod Tellings

@@ -5,15 +5,12 @@ use Rattle.std.specs.List.{AllByRecursion}
 use Rattle.agc_plan.specs.declared.request.Request.{Request}
 use Rattle.agc_text.specs.Reading.{request_of}
 use Rattle.agc_text.specs.Script.{IsLine, IsFirstRefused, lines_of}
-use Rattle.agc_lint.specs.Kinds.{requests}
-use Rattle.agc_lint.specs.Faults.{fault_of}
 use Rattle.agc_lint.specs.Findings.{Found}
 
 -- a line with this number that is no request, before others
 abbrev pub found_unless : Option Request → ℕ → List ℕ → List Found → List Found
 found_unless (Some request) n l others = others
-found_unless None n l others =
-    record { line = n; text = l; fault = fault_of requests l } ∷ others
+found_unless None n l others = record { line = n; text = l } ∷ others
 
 -- how many may still be found after a line
 abbrev pub left_unless : Option Request → ℕ → ℕ

@@ -14,5 +14,5 @@ impl<'a> Model for Finding<'a> {
 
     ghost Value = { Found };
 
-    ghost view = { λ f. record { line = f.line; text = f.text.now; fault = f.fault } };
+    ghost view = { λ f. record { line = f.line; text = f.text.now } };
 }

@@ -1,7 +1,6 @@
 //! The kinds of lines.
-ghost use Rattle.std.specs.Prelude.{◌≡◌};
-ghost use Rattle.agc_lint.specs.Kinds.{name_of, parts_of, form_of};
 
+use crate::names::Named;
 use crate::part::Part;
 
 /// What a line asks for, by its first word. Source: profile.
@@ -23,6 +22,38 @@ pub enum Kind {
     Fresh,
 }
 
+/// All requests.
+pub(crate) const REQUESTS: [Kind; 13] = [
+    Kind::Novac,
+    Kind::Findvac,
+    Kind::EndOfJob,
+    Kind::Sleep,
+    Kind::Rouse,
+    Kind::Prio,
+    Kind::Change,
+    Kind::Store,
+    Kind::Listing,
+    Kind::Tick,
+    Kind::SetPhase,
+    Kind::Restart,
+    Kind::Fresh,
+];
+
+/// What an action asks for.
+pub(crate) const ACTIONS: [Kind; 5] = [
+    Kind::Nothing,
+    Kind::Novac,
+    Kind::Findvac,
+    Kind::Rouse,
+    Kind::Listing,
+];
+
+/// What establishes a job.
+pub(crate) const JOBS: [Kind; 2] = [Kind::Novac, Kind::Findvac];
+
+/// What lists a task.
+pub(crate) const LISTINGS: [Kind; 1] = [Kind::Listing];
+
 const ENTRY: [Part; 3] = [Part::Priority, Part::Address, Part::Word];
 
 const LISTED: [Part; 3] = [Part::Delay, Part::Address, Part::Word];
@@ -35,11 +66,8 @@ const PRIORITY: [Part; 1] = [Part::Priority];
 
 const ADDRESS: [Part; 1] = [Part::Address];
 
-impl Kind {
-    /// The first word of its lines.
-    pub(crate) fn name(self) -> &'static str
-        ensures { result.now ≡ name_of self }
-    {
+impl Named for Kind {
+    fn name(self) -> &'static str {
         match self {
             Kind::Nothing => "nothing",
             Kind::Novac => "novac",
@@ -57,11 +85,11 @@ impl Kind {
             Kind::Fresh => "fresh",
         }
     }
+}
 
+impl Kind {
     /// What follows it.
-    pub(crate) fn parts(self) -> &'static [Part]
-        ensures { result.now ≡ parts_of self }
-    {
+    pub(crate) fn parts(self) -> &'static [Part] {
         match self {
             Kind::Novac | Kind::Findvac => &ENTRY,
             Kind::Sleep | Kind::Rouse => &ADDRESS,
@@ -74,9 +102,7 @@ impl Kind {
     }
 
     /// How its line is written.
-    pub(crate) fn form(self) -> &'static str
-        ensures { result.now ≡ form_of self }
-    {
+    pub(crate) fn form(self) -> &'static str {
         match self {
             Kind::Novac => "novac P A W",
             Kind::Findvac => "findvac P A W",

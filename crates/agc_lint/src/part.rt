@@ -1,7 +1,4 @@
 //! The numbers of a line.
-ghost use Rattle.std.specs.Prelude.{◌≡◌};
-ghost use Rattle.agc_lint.specs.Parts.{is_spelled};
-ghost use Rattle.agc_lint.specs.Sentences.{spelling_of};
 
 use agc_text::numbers::{address, delay, group, phase, place, priority, word};
 
@@ -26,10 +23,7 @@ pub enum Part {
 
 impl Part {
     /// Whether a text is such a number.
-    #[tactic(auto, unfolding(crate::specs::Parts::is_spelled))]
-    pub(crate) fn is_spelled(self, text: &str) -> bool
-        ensures { result ≡ is_spelled self text.now }
-    {
+    pub(crate) fn is_spelled(self, text: &str) -> bool {
         match self {
             Part::Priority => priority(text).is_some(),
             Part::Address => address(text).is_some(),
@@ -42,9 +36,7 @@ impl Part {
     }
 
     /// How it is spelled.
-    pub(crate) fn spelling(self) -> &'static str
-        ensures { result.now ≡ spelling_of self }
-    {
+    pub(crate) fn spelling(self) -> &'static str {
         match self {
             Part::Priority => "a priority is octal, 01 to 37",
             Part::Address => "an address is five octal digits, 00001 to 37777",

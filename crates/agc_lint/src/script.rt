@@ -5,28 +5,12 @@ ghost use Rattle.agc_text.specs.Script.{lines_of};
 ghost use Rattle.agc_lint.specs.Scripts.{found_from, script_findings, IsTold, IsFoundIn};
 
 use crate::finding::Finding;
-use crate::kind::Kind;
-use crate::line::fault_of;
+use crate::line::script_fault;
 use agc_text::parse_line;
 use std::alloc::{AllocError, Global};
 
+/// How many faults are told.
 pub(crate) const MOST_TOLD: usize = 20;
-
-pub(crate) const REQUESTS: [Kind; 13] = [
-    Kind::Novac,
-    Kind::Findvac,
-    Kind::EndOfJob,
-    Kind::Sleep,
-    Kind::Rouse,
-    Kind::Prio,
-    Kind::Change,
-    Kind::Store,
-    Kind::Listing,
-    Kind::Tick,
-    Kind::SetPhase,
-    Kind::Restart,
-    Kind::Fresh,
-];
 
 /// The first line without its end, and what follows.
 fn first_line(text: &str) -> (&str, &str)
@@ -40,7 +24,7 @@ fn first_line(text: &str) -> (&str, &str)
     }
 }
 
-/// Notes a line that is no request, and answers how many more may be noted.
+/// Notes a line that is no request, and returns how many more may be noted.
 fn note<'a>(
     findings: &mut Vec<Finding<'a>>,
     left: usize,
@@ -56,7 +40,7 @@ fn note<'a>(
     match parse_line(line) {
         Some(_request) => Ok(left),
         None => {
-            let fault = fault_of(&REQUESTS, line);
+            let fault = script_fault(line);
             findings.push(Finding {
                 line: number,
                 text: line,

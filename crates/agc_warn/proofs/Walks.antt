@@ -3,7 +3,7 @@ use Rattle.std.proofs.Common.{Option, None, ◌≡◌, ℕ, ◌+◌, ◌<◌, �
 use Rattle.std.specs.List.{fold}
 use Rattle.std.proofs.lemmas.List.{get_or_default}
 use Rattle.std.proofs.lemmas.List.Sums.{fold-append}
-use Rattle.agc_lint.specs.declared.place.Place.{Place}
+use Rattle.agc_document.specs.declared.place.Place.{Place}
 use Rattle.agc_plan.proofs.Lists.{next_is, none_left}
 use Rattle.agc_document.specs.Benches.{Benched}
 use Rattle.agc_warn.specs.declared.warning.Warned.{Warned}

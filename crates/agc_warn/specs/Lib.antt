@@ -4,4 +4,3 @@ pub mod Tasks
 pub mod Refusals
 pub mod Runners
 pub mod Warnings
-pub mod Tellings

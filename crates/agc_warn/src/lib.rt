@@ -8,6 +8,7 @@ mod noting;
 mod reasons;
 mod rows;
 mod running;
+mod summary;
 mod tasks;
 mod telling;
 mod walk;
@@ -15,5 +16,6 @@ mod warning;
 
 pub use locating::bench_warnings;
 pub use running::{FirstRefused, first_refused};
-pub use telling::tell_warnings;
+pub use summary::{add_bench_summary, add_script_summary};
+pub use telling::warnings_told;
 pub use warning::{Located, Warned, Warning};

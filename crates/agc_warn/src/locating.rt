@@ -1,13 +1,12 @@
 //! The lines of a document in which the reasons of warnings stand.
 ghost use Rattle.std.specs.Prelude.{◌≡◌, IfOk, map};
 ghost use Rattle.std.specs.List.{AllByRecursion};
-ghost use Rattle.agc_lint.specs.Documents.{StandsIn};
+ghost use Rattle.agc_document.specs.Findings.{StandsIn};
 ghost use Rattle.agc_warn.specs.Warnings.{AreWarned};
 
 use crate::walk::warned_of;
 use crate::warning::{Located, Warned};
-use agc_document::Bench;
-use agc_lint::{Place, line_at, places_in};
+use agc_document::{Bench, Place, line_at, places_in};
 use std::alloc::{AllocError, Global};
 
 /// Where these warnings begin in a document.

@@ -4,7 +4,7 @@ ghost use Rattle.std.specs.List.{fold, list_any};
 ghost use Rattle.agc_warn.specs.Warnings.{is_like, is_told, placed, noted};
 
 use crate::warning::{Warned, Warning};
-use agc_lint::Place;
+use agc_document::Place;
 use std::alloc::AllocError;
 
 const MOST_TOLD: usize = 20;

@@ -28,7 +28,7 @@ pub struct FirstRefused {
 }
 
 /// How many requests are run: more than a document has room to write out.
-const MOST_RUN: u32 = 200_000;
+pub(crate) const MOST_RUN: u32 = 200_000;
 
 /// A run: its machine, how many requests were asked, how many may still be, the first that were
 /// refused, and whether there were more.

@@ -14,8 +14,7 @@ use crate::reasons::{
 };
 use crate::running::first_refused;
 use crate::warning::Warned;
-use agc_document::Bench;
-use agc_lint::{Key, Place};
+use agc_document::{Bench, Key, Place};
 use agc_plan::{Action, Actions, Line, PhaseEntry, Request, Task};
 use std::alloc::{AllocError, Global};
 

@@ -1,5 +1,5 @@
 //! What is warned of.
-use agc_lint::Place;
+use agc_document::Place;
 use agc_plan::{Group, Limit, Line, Phase, Task};
 use agc_word::Word;
 

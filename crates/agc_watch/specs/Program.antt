@@ -1,11 +1,12 @@
 -- What the program makes of its input.
 use Rattle.std.specs.Prelude.{◌≡◌, ℕ, ◌⊎◌, List, [], ◌∷◌, Option, Result, Ok, Err}
-use Rattle.std.specs.Prelude.{Bool, true, false, ◌≤◌, length, map}
-use Rattle.std.specs.List.{flat_map, AllByRecursion}
+use Rattle.std.specs.Prelude.{Bool, true, false, map}
+use Rattle.std.specs.List.{AllByRecursion}
 use Rattle.std.specs.Io.KnownBytes.{Appends}
 use Rattle.toml.specs.Parse.{parse_document}
 use Rattle.agc_document.specs.Benches.{Benched}
 use Rattle.agc_document.specs.Faults.{RefusesBench}
+use Rattle.agc_document.specs.declared.fault.BenchFault.{BenchFault}
 use Rattle.agc_session.specs.declared.run_fault.RunFault.{RunFault}
 use Rattle.agc_program.specs.declared.fault.Fault.{Fault}
 use Rattle.agc_program.specs.declared.fault.Fault.TheVariants as fault
@@ -13,16 +14,9 @@ use Rattle.agc_program.specs.Inputs.{IsDocument}
 use Rattle.agc_plan.specs.declared.request.Request.{Request}
 use Rattle.agc_text.specs.Faults.{RefusesScript}
 use Rattle.agc_text.specs.Lines.{line_of}
-use Rattle.agc_text.specs.Script.{lines_of}
+use Rattle.agc_text.specs.Script.{IsFirstRefused, IsLine, lines_of}
 use Rattle.agc_text.specs.Writing.{AppendsFront}
 use Rattle.agc_program.specs.Statuses.{status_of}
-use Rattle.agc_lint.specs.Scripts.{script_findings}
-use Rattle.agc_lint.specs.Sentences.{told}
-use Rattle.agc_lint.specs.Documents.{BenchFound, IsFoundInDocument, IsToldOf}
-use Rattle.agc_lint.specs.Tellings.{told_of_bench}
-use Rattle.agc_warn.specs.declared.warning.Located.{Located}
-use Rattle.agc_warn.specs.Warnings.{AreWarned}
-use Rattle.agc_warn.specs.Tellings.{told_warning}
 use Rattle.agc_trace.specs.declared.choice.Choice.{Choice}
 use Rattle.agc_trace.specs.Runs.{WritesTrace, script_text, trace_text}
 use Rattle.agc_picture.specs.Pictures.{WritesPicture}
@@ -96,41 +90,37 @@ abbrev pub is_nothing : {F : Type 0} → List F → Bool
 is_nothing [] = true
 is_nothing (f ∷ fs) = false
 
--- what is told of this text as a script
-abbrev pub script_told : List ℕ → List ℕ
-script_told text = flat_map told (script_findings text)
+-- whether this text is a script: each line is a request, or there is a first that is none
+abbrev pub IsScriptIf : Bool → List ℕ → Type 0
+IsScriptIf true text = AllByRecursion IsLine (lines_of text)
+IsScriptIf false text = (n : ℕ) × IsFirstRefused (lines_of text) n
 
--- what comes of checking this text as a script: all that is wrong with it was told, and the answer
--- is whether that is nothing; or a write failed, or there was no memory
+-- whether it is a bench, or is refused for a fault
+abbrev pub IsBenchIf : Bool → List ℕ → Type 0
+IsBenchIf true text = (bench : Benched) × IsDocument text bench
+IsBenchIf false text = (fault : BenchFault) × RefusesBench (parse_document text) fault
+
+-- what comes of a check: something was written, and the outcome is whether the text is well; or a
+-- write failed, or there was no memory
+abbrev pub Checks : (Bool → List ℕ → Type 0) → List ℕ → Option (List ℕ) → Option (List ℕ)
+    → Result Bool Fault → Type 0
+Checks is_if text old new (Ok well) = ((told : List ℕ) × Appends old new told) × is_if well text
+Checks is_if text old new (Err fault.Output) = (told : List ℕ) × AppendsFront old new told
+Checks is_if text old new (Err fault.NoMemory) = new ≡ old
+Checks is_if text old new (Err why) = ⊥
+
+-- what a check tells was put, or a front of it
+abbrev pub PutsTold : Bool → Option (List ℕ) → Option (List ℕ) → Result Bool Fault → Type 0
+PutsTold is old new (Ok well) = ((told : List ℕ) × Appends old new told) × (well ≡ is)
+PutsTold is old new (Err fault.Output) = (told : List ℕ) × AppendsFront old new told
+PutsTold is old new (Err why) = ⊥
+
+-- so it comes of checking this text as a script, and as a bench
 abbrev pub ChecksScript : List ℕ → Option (List ℕ) → Option (List ℕ) → Result Bool Fault → Type 0
-ChecksScript text old new (Ok well) =
-    Appends old new (script_told text) × (well ≡ is_nothing (script_findings text))
-ChecksScript text old new (Err fault.Output) = AppendsFront old new (script_told text)
-ChecksScript text old new (Err fault.NoMemory) = new ≡ old
-ChecksScript text old new (Err why) = ⊥
+ChecksScript = Checks IsScriptIf
 
--- some are found in this text, at most twenty, each in a line of it: the first why it is no bench
-pub record IsFoundOf (text : List ℕ) (fs : List BenchFound) : Type 0 where
-  pub told : IsToldOf text fs
-  pub lines : AllByRecursion (IsFoundInDocument text) fs
-  pub few : length fs ≤ 20
-
--- what is told of this text, and whether it is a bench: the warnings of one; else what is found
-abbrev pub IsToldAs : List ℕ → Bool → List ℕ → Type 0
-IsToldAs text true lines = (bench : Benched) × IsDocument text bench
-    × (all : List Located) × AreWarned text bench all × (lines ≡ flat_map told_warning all)
-IsToldAs text false lines =
-    (fs : List BenchFound) × IsFoundOf text fs × (lines ≡ flat_map told_of_bench fs)
-
--- what comes of checking this text as a bench: all was told, and the answer is whether it is one;
--- or a write failed, or there was no memory
 abbrev pub ChecksBench : List ℕ → Option (List ℕ) → Option (List ℕ) → Result Bool Fault → Type 0
-ChecksBench text old new (Ok well) =
-    (lines : List ℕ) × IsToldAs text well lines × Appends old new lines
-ChecksBench text old new (Err fault.Output) =
-    (well : Bool) × (lines : List ℕ) × IsToldAs text well lines × AppendsFront old new lines
-ChecksBench text old new (Err fault.NoMemory) = new ≡ old
-ChecksBench text old new (Err why) = ⊥
+ChecksBench = Checks IsBenchIf
 
 -- work that tells of nothing wrong ends so, and answers true
 abbrev pub EndsWell : (Result Unit Fault → Type 0) → Result Bool Fault → Type 0

@@ -2,25 +2,23 @@
 //! order.
 ghost use Rattle.std.specs.Prelude.{◌≡◌};
 ghost use Rattle.std.specs.Process.{exit_status};
-ghost use Rattle.toml.specs.Parse.{parse_document};
-ghost use Rattle.agc_document.specs.Faults.{RefusesBench};
-ghost use Rattle.agc_program.specs.Inputs.{CanEnd, EndsBy, IsDocument};
+ghost use Rattle.agc_program.specs.Inputs.{CanEnd, EndsBy};
 ghost use Rattle.agc_watch.specs.Program.{choice_of, is_nothing};
 ghost use Rattle.agc_watch.specs.Program.{DrawsText, PagesText, TracesBench, TracesScript};
-ghost use Rattle.agc_watch.specs.Program.{ChecksBench, ChecksScript, TracesText, WorksOn};
+ghost use Rattle.agc_watch.specs.Program.{ChecksBench, ChecksScript, PutsTold, TracesText, WorksOn};
 ghost use Rattle.agc_watch.specs.Program.{status_by};
 
 use crate::words::{Asked, Refused, TraceOptions, Work, asked_for};
-use agc_document::{Bench, BenchFault, read_bench};
-use agc_lint::{bench_findings, script_findings, tell_all, tell_bench};
+use agc_document::{Checked, findings, read_bench};
+use agc_lint::{Finding, bench_told, script_findings, script_told};
 use agc_page::page;
 use agc_picture::picture;
 use agc_program::{Fault, Program, buffered, ended, flushed, given_words};
-use agc_text::{read_all, read_script};
+use agc_text::{put, read_all, read_script};
 use agc_trace::{Choice, trace, trace_script};
-use agc_warn::{bench_warnings, tell_warnings};
+use agc_warn::{add_bench_summary, add_script_summary, bench_warnings, warnings_told};
 use clap::Error;
-use std::alloc::Global;
+use std::alloc::{AllocError, Global};
 use std::io::{Eprint, ErrorKind, Input, Print, Read, Write};
 use std::process::ExitCode;
 use std::rt::{Env, Files};
@@ -131,60 +129,56 @@ fn is_nothing<T>(findings: &[T]) -> bool
     }
 }
 
-/// Writes what is wrong with a script, and answers whether that is nothing.
+/// Writes what a check tells, and returns what it found.
+fn put_told<W: Write>(told: &str, is_well: bool, writer: &mut W) -> Result<bool, Fault>
+    ensures { PutsTold is_well (W.contents writer.old) (W.contents writer.new) result }
+{
+    match put(writer, told.as_bytes()) {
+        Ok(()) => Ok(is_well),
+        Err(_failed) => Err(Fault::Output),
+    }
+}
+
+/// What is told of a script, or of a text that is none.
+fn told_of_script(alloc: Global, text: &str, found: &[Finding<'_>]) -> Result<String, AllocError> {
+    let mut told = script_told(alloc, found)?;
+    if let Ok(requests) = read_script(alloc, text) {
+        add_script_summary(alloc, &mut told, requests.as_slice())?;
+    }
+    Ok(told)
+}
+
+/// Writes what is wrong with a script, and returns whether that is nothing.
+#[tactic(auto, using(crate::proofs::Checks::checks_script))]
 fn check_script<W: Write>(alloc: Global, text: &str, writer: &mut W) -> Result<bool, Fault>
     ensures { ChecksScript text.now (W.contents writer.old) (W.contents writer.new) result }
 {
-    let findings = script_findings(alloc, text)?;
-    match tell_all(findings.as_slice(), writer) {
-        Ok(()) => Ok(is_nothing(findings.as_slice())),
-        Err(_failed) => Err(Fault::Output),
+    let found = script_findings(alloc, text)?;
+    let told = told_of_script(alloc, text, found.as_slice())?;
+    put_told(told.as_str(), is_nothing(found.as_slice()), writer)
+}
+
+/// What is told of a bench, or of a document that is none.
+fn told_of_bench(alloc: Global, text: &str, checked: &Checked) -> Result<String, AllocError> {
+    match &checked.bench {
+        Some(bench) => {
+            let warnings = bench_warnings(alloc, text, bench)?;
+            let mut told = warnings_told(alloc, warnings.as_slice())?;
+            add_bench_summary(alloc, &mut told, bench)?;
+            Ok(told)
+        }
+        None => bench_told(alloc, checked.findings.as_slice()),
     }
 }
 
-/// Writes what is warned of in a bench, and answers that it is one.
-fn warn_of<W: Write>(
-    alloc: Global,
-    text: &str,
-    bench: &Bench,
-    writer: &mut W,
-) -> Result<bool, Fault>
-    requires { IsDocument text.now bench.now }
-    ensures { ChecksBench text.now (W.contents writer.old) (W.contents writer.new) result }
-{
-    let warnings = bench_warnings(alloc, text, bench)?;
-    match tell_warnings(warnings.as_slice(), writer) {
-        Ok(()) => Ok(true),
-        Err(_failed) => Err(Fault::Output),
-    }
-}
-
-/// Writes why a text is no bench, which `read_bench` refuses with this fault, and answers that it
-/// is none.
-fn tell_of<W: Write>(
-    alloc: Global,
-    text: &str,
-    fault: BenchFault,
-    writer: &mut W,
-) -> Result<bool, Fault>
-    requires { RefusesBench (parse_document text.now) fault }
-    ensures { ChecksBench text.now (W.contents writer.old) (W.contents writer.new) result }
-{
-    let found = bench_findings(alloc, text, fault)?;
-    match tell_bench(found.as_slice(), writer) {
-        Ok(()) => Ok(false),
-        Err(_failed) => Err(Fault::Output),
-    }
-}
-
-/// Writes what is wrong with a bench, or else what is warned of, and answers whether it is one.
+/// Writes what is wrong with a bench, or else what is warned of, and returns whether it is one.
+#[tactic(auto, using(crate::proofs::Checks::checks_bench))]
 fn check_bench<W: Write>(alloc: Global, text: &str, writer: &mut W) -> Result<bool, Fault>
     ensures { ChecksBench text.now (W.contents writer.old) (W.contents writer.new) result }
 {
-    match read_bench(alloc, text) {
-        Ok(checked) => warn_of(alloc, text, &checked, writer),
-        Err(fault) => tell_of(alloc, text, fault, writer),
-    }
+    let checked = findings(alloc, text)?;
+    let told = told_of_bench(alloc, text, &checked)?;
+    put_told(told.as_str(), checked.bench.is_some(), writer)
 }
 
 /// Does what is asked of a text. False where that is a check, and something is wrong.

@@ -1,5 +1,4 @@
-use Rattle.std.proofs.Common.{[], ◌∷◌, ◌++◌, ap, ◌∙◌, arith}
-use Rattle.agc_lint.specs.declared.line.LineFault.{LineFault}
+use Rattle.std.proofs.Common.{arith}
 use Rattle.agc_lint.proofs.Found.{none_spelled, some_spelled, noted_none, noted_some}
 use Rattle.agc_lint.proofs.script.note.Goals as goal
 
@@ -12,5 +11,4 @@ pub returns-in_ok-push-in-None-clause-found : goal.returns-in_ok-push-in-None-cl
 returns-in_ok-push-in-None-clause-found c =
     let is = none_spelled c.args.line.now c.in-None.ensures.only in
     noted_none c.args.findings.now.items c.push.new.self.items c.args.left c.args.number c.args.line.now (omega arith) is
-    (c.in_ok-push-in-None.ensures.items
-    ∙ ap (λ (x : LineFault). c.args.findings.now.items ++ record { line = c.args.number; text = c.args.line.now; fault = x } ∷ []) c.fault_of-fault.ensures)
+    c.in_ok-push-in-None.ensures.items

@@ -1,8 +1,0 @@
-use Rattle.std.proofs.Common.{drop}
-use Rattle.std.specs.List.{flat_map}
-use Rattle.agc_text.specs.Writing.{AppendsUpTo}
-use Rattle.agc_lint.specs.Tellings.{told_of_bench}
-use Rattle.agc_lint.proofs.bench_telling.tell_bench.Given as goal
-
-abbrev pub invariant-loop-finding : goal.invariant-loop-finding
-invariant-loop-finding g l = AppendsUpTo (g.W.Write.contents l.initial.writer) (g.W.Write.contents l.writer) (flat_map told_of_bench l.findings) (flat_map told_of_bench (drop l.finding-index l.findings))

@@ -1,0 +1,226 @@
+//! What is said of what was found.
+use crate::kind::{ACTIONS, JOBS, Kind, LISTINGS, REQUESTS};
+use crate::line::{LineFault, fault_of};
+use crate::names::{Named, called, meant_by};
+use crate::part::Part;
+use crate::text::{add, add_decimal, add_shown};
+use agc_document::{Form, Key, KeyFault, Kind as Valued, Level, Wrong};
+use std::alloc::AllocError;
+
+impl Named for Key {
+    fn name(self) -> &'static str {
+        self.row().name
+    }
+}
+
+/// Says which words a request may begin with.
+fn add_words(told: &mut String) -> Result<(), AllocError> {
+    for (k, kind) in REQUESTS.iter().enumerate() {
+        let before = match k {
+            0 => ": a request begins with ",
+            12 => " or ",
+            _ => ", ",
+        };
+        add(told, &[before, kind.name()])?;
+    }
+    Ok(())
+}
+
+/// Says what was expected in a line's place.
+pub(crate) fn add_line_fault(told: &mut String, fault: LineFault) -> Result<(), AllocError> {
+    match fault {
+        LineFault::Empty => add(told, &["a line may not be empty"]),
+        LineFault::CarriageReturn => add(told, &["a line ends with LF alone, not with CR LF"]),
+        LineFault::ByteOrderMark => add(
+            told,
+            &["a byte order mark stands before it; a script has none"],
+        ),
+        LineFault::OfBench => add(
+            told,
+            &["this is a line of a bench, which is checked without --script"],
+        ),
+        LineFault::Unknown(None) => {
+            add(told, &["its first word is unknown"])?;
+            add_words(told)
+        }
+        LineFault::Unknown(Some(kind)) => {
+            let name = kind.name();
+            add(
+                told,
+                &["its first word is unknown; did you mean \"", name, "\"?"],
+            )
+        }
+        LineFault::Form(kind) => {
+            add(
+                told,
+                &["it has the form \"", kind.form(), "\", with single spaces"],
+            )
+        }
+        LineFault::Wrong(part) => add(told, &[part.spelling()]),
+    }
+}
+
+/// Says what was expected in the place of a text that should be of one of these kinds: `other`
+/// where its first word is none of theirs.
+fn add_text_fault(
+    told: &mut String,
+    kinds: &[Kind],
+    text: &str,
+    other: &str,
+) -> Result<(), AllocError> {
+    match fault_of(kinds, text) {
+        LineFault::Unknown(None) => add(told, &[other]),
+        fault => add_line_fault(told, fault),
+    }
+}
+
+/// Says what was expected in the place of a text of this form.
+fn add_form(told: &mut String, form: Form, text: &str) -> Result<(), AllocError> {
+    match form {
+        Form::Request => add_line_fault(told, fault_of(&REQUESTS, text)),
+        Form::Action => {
+            let other = "an action is nothing, or begins with novac, findvac, rouse or list";
+            add_text_fault(told, &ACTIONS, text, other)
+        }
+        Form::Job => add_text_fault(told, &JOBS, text, "a job begins with novac or findvac"),
+        Form::Listing => add_text_fault(told, &LISTINGS, text, "a task begins with list"),
+        Form::Address => add(told, &[Part::Address.spelling()]),
+        Form::Word => add(told, &[Part::Word.spelling()]),
+        Form::Device => add(told, &["a line is timer, key or radar"]),
+    }
+}
+
+/// Says what the value of a key has to be.
+fn add_expected(told: &mut String, key: Key) -> Result<(), AllocError> {
+    let row = key.row();
+    match row.kind {
+        Valued::Integer(low, high) => {
+            add(told, &["expected an integer, "])?;
+            add_decimal(told, low)?;
+            add(
+                told,
+                &[if high.saturating_sub(low) == 1 {
+                    " or "
+                } else {
+                    " to "
+                }],
+            )?;
+            add_decimal(told, high)
+        }
+        Valued::Text(_form) => add(told, &["expected a string"]),
+        Valued::OneOrMore(_form, low, high) => {
+            add(told, &["expected a string, or an array of "])?;
+            add_decimal(told, low)?;
+            add(told, &[" to "])?;
+            add_decimal(told, high)?;
+            add(told, &[" strings"])
+        }
+        Valued::Texts(_form, 0, _most) => add(told, &["expected an array of strings"]),
+        Valued::Texts(_form, count, _most) => {
+            add(told, &["expected an array of "])?;
+            add_decimal(told, count)?;
+            add(told, &[" strings"])
+        }
+        Valued::Tables(_level, _least, u64::MAX) => {
+            add(
+                told,
+                &[
+                    "expected an array of tables, each below its line [[",
+                    row.name,
+                    "]]",
+                ],
+            )
+        }
+        Valued::Tables(_level, _least, most) => {
+            add(told, &["expected at most "])?;
+            add_decimal(told, most)?;
+            add(told, &[" tables, each below its line [[", row.name, "]]"])
+        }
+    }
+}
+
+/// Says how octal digits are written that stand without quotes.
+fn add_quoted(told: &mut String, digits: &str) -> Result<(), AllocError> {
+    let is_octal = digits
+        .as_bytes()
+        .iter()
+        .all(|byte| b'0' <= *byte && *byte < b'8');
+    if digits.is_empty() || digits.len() > 5 || !is_octal {
+        return Ok(());
+    }
+    add(told, &[": write \""])?;
+    for _ in digits.len()..5 {
+        add(told, &["0"])?;
+    }
+    add(told, &[digits, "\""])
+}
+
+/// Says what may be meant by a key that is unknown in a table of this level.
+fn add_meant(told: &mut String, level: Level, name: &str) -> Result<(), AllocError> {
+    if level != Level::Bench && called(name, Level::Bench.keys()).is_some() {
+        return add(told, &["; it belongs above all tables"]);
+    }
+    match meant_by(name, level.keys()) {
+        Some(key) => add(told, &["; did you mean \"", key.name(), "\"?"]),
+        None => Ok(()),
+    }
+}
+
+/// Says what is wrong with a key.
+fn add_key_fault(told: &mut String, fault: KeyFault, text: &str) -> Result<(), AllocError> {
+    match fault {
+        KeyFault::Unknown(level) => {
+            add(told, &["unknown key \""])?;
+            add_shown(told, text)?;
+            add(told, &["\""])?;
+            add_meant(told, level, text)
+        }
+        KeyFault::Missing(key) => add(told, &["the key \"", key.name(), "\" is missing"]),
+        KeyFault::Value(key) => {
+            add_expected(told, key)?;
+            add_quoted(told, text)
+        }
+        KeyFault::Item(key) => {
+            let is_table = matches!(key.row().kind, Valued::Tables(..));
+            add(
+                told,
+                &[if is_table {
+                    "expected a table"
+                } else {
+                    "expected a string"
+                }],
+            )?;
+            add_quoted(told, text)
+        }
+    }
+}
+
+/// Says what is wrong with a bench at one place, where this text stands.
+pub(crate) fn add_wrong(told: &mut String, wrong: Wrong, text: &str) -> Result<(), AllocError> {
+    match wrong {
+        Wrong::NotToml => add(told, &["not TOML: ", text]),
+        Wrong::NoQuotes => {
+            add(told, &["not TOML: five octal digits stand in quotes"])?;
+            add_quoted(told, text)
+        }
+        Wrong::NoKeys => add(
+            told,
+            &["a bench has keys with values behind =; a script is told by check --script"],
+        ),
+        Wrong::Key(fault) => add_key_fault(told, fault, text),
+        Wrong::Text(form) => {
+            add(told, &["\""])?;
+            add_shown(told, text)?;
+            add(told, &["\": "])?;
+            add_form(told, form, text)
+        }
+        Wrong::TaskTwice => add(told, &["an earlier task has the same at and bank"]),
+        Wrong::PhaseTwice => add(told, &["an earlier phase has the same group and phase"]),
+        Wrong::TooManyAreas => {
+            add(
+                told,
+                &["each of the six groups has a job that wants a VAC area"],
+            )
+        }
+    }
+}
