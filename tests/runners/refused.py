@@ -3,8 +3,9 @@
     tests/run refused             all
     tests/run refused NAME ..     those named, with .case or without
 
-Each is a library on the desk's crates, and its first lines say what comes of it: '// refused: ' and
-what the compiler says, a line for each error, or '// compiles'; the tests of one that compiles are run.
+Each is a library on the desk's crates, or on those that its line '// crates: ' names. Its first lines
+say what comes of it: '// refused: ' and what the compiler says, a line for each error, or
+'// compiles'; the tests of one that compiles are run.
 Nothing is proved; all is done in folders that are removed at the end.
 """
 import concurrent.futures
@@ -32,6 +33,8 @@ class Attempt:
         self.text = repository.text_of(f"{TOP}/{path}")
         self.errors = re.findall(r"(?m)^// refused: (.+)$", self.text)
         self.compiles = self.text.startswith("// compiles\n")
+        named = re.search(r"(?m)^// crates: (.+)$", self.text)
+        self.used = named[1].split() if named else [*repository.below([HIGHEST]), HIGHEST]
 
     def fault(self):
         """Returns why it cannot be tried, or ""."""
@@ -42,7 +45,7 @@ class Attempt:
     def tried(self):
         """Compiles it, and runs its tests. Returns what is wrong, and what was said, or nothing."""
         with tempfile.TemporaryDirectory(prefix="refused-") as room:
-            repository.copy_crates(room, f"attempt: {' '.join([*repository.below([HIGHEST]), HIGHEST])}")
+            repository.copy_crates(room, f"attempt: {' '.join(self.used)}")
             folder = f"{room}/crates/attempt"
             repository.write(f"{folder}/src/lib.rt", f"#![tactic(auto)]\n{self.text}{PASSES}")
             path = f"{TOP}/tools/without-hint:{os.environ['PATH']}"

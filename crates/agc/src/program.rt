@@ -6,8 +6,7 @@ ghost use Rattle.agc_program.specs.Inputs.{CanEnd, EndsBy};
 ghost use Rattle.agc.specs.Program.{EndsFor, IsEnd, RunsText};
 
 use crate::mode::{Mode, mode_of};
-use agc_bench::threads;
-use agc_desk::OpenGate;
+use agc_bench::{OpenGate, threads};
 use agc_document::read_bench;
 use agc_program::{Fault, buffered, flushed, given_words};
 use agc_session::{run_script, serial};

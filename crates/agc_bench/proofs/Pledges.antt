@@ -1,7 +1,7 @@
 use Rattle.std.proofs.Common.{◌≡◌, ℕ, ◌+◌, ◌<◌, List, [], ◌∷◌, ◌++◌, length, map, get_or, arith, refl, sym, ◌∙◌}
 use Rattle.std.proofs.lemmas.List.{get_or_append_left, get_or-map}
 use Rattle.atomic_table.specs.Seated.{TableId}
-use Rattle.agc_latch.specs.declared.line.Line.{Line}
+use Rattle.agc_plan.specs.declared.line.Line.{Line}
 use Rattle.agc_latch.specs.Ends.{Posting}
 use Rattle.agc_desk.specs.History.{Holder}
 use Rattle.agc_document.specs.Benches.{Benched}

@@ -6,10 +6,11 @@ use Rattle.std.proofs.lemmas.List.Sums.{sum_by-cons}
 use Rattle.atomic_table.specs.Seated.{TableId}
 use Rattle.agc_latch.specs.Accounts.{IsOf, LineAccounts, posted_by}
 use Rattle.agc_latch.specs.declared.accounts.Settled.{Settled}
-use Rattle.agc_latch.specs.declared.line.Line.{Line}
+use Rattle.agc_plan.specs.declared.line.Line.{Line}
 use Rattle.agc_latch.specs.Ends.{Posting}
-use Rattle.agc_latch.specs.declared.line.Line.TheVariants.{Timer, Key, Radar}
-use Rattle.agc_latch.specs.Lines.{on, word_of, zeros}
+use Rattle.agc_plan.specs.declared.line.Line.TheVariants.{Timer, Key, Radar}
+use Rattle.agc_latch.specs.Lines.{on, zeros}
+use Rattle.agc_plan.specs.Pulses.{word_of}
 use Rattle.agc_desk.specs.Lending.{Lent}
 use Rattle.agc_desk.specs.Keeping.{lent_of}
 use Rattle.agc_document.specs.Benches.{Benched}

@@ -4,10 +4,11 @@ use Rattle.std.specs.Prelude.{Bool, IsSome}
 use Rattle.std.specs.List.{All}
 use Rattle.atomic_table.specs.Seated.{TableId}
 use Rattle.agc_latch.specs.declared.accounts.Settled.{Settled}
-use Rattle.agc_latch.specs.declared.line.Line.{Line}
+use Rattle.agc_plan.specs.declared.line.Line.{Line}
 use Rattle.agc_latch.specs.Accounts.{posted_by}
 use Rattle.agc_latch.specs.Ends.{Posting, new_device}
-use Rattle.agc_latch.specs.Lines.{on, raised, word_of, zeros}
+use Rattle.agc_latch.specs.Lines.{on, raised, zeros}
+use Rattle.agc_plan.specs.Pulses.{word_of}
 use Rattle.agc_machine.specs.Machines.{Machined}
 use Rattle.agc_machine.specs.Said.{Said}
 use Rattle.agc_desk.specs.declared.ties.Call.{Call}

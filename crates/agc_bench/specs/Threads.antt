@@ -5,8 +5,9 @@ use Rattle.std.specs.Prelude.{Result, Err}
 use Rattle.std.specs.List.{All, enumerate_from}
 use Rattle.agc_plan.specs.declared.request.Request.{Request}
 use Rattle.agc_latch.specs.declared.accounts.Settled.{Settled}
-use Rattle.agc_latch.specs.declared.line.Line.{Line}
-use Rattle.agc_latch.specs.Lines.{on, word_of}
+use Rattle.agc_plan.specs.declared.line.Line.{Line}
+use Rattle.agc_latch.specs.Lines.{on}
+use Rattle.agc_plan.specs.Pulses.{word_of}
 use Rattle.agc_machine.specs.Image.{HandsOut}
 use Rattle.agc_machine.specs.Machines.{Machined, after_all}
 use Rattle.agc_machine.specs.Said.{Said}

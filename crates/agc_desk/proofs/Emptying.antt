@@ -8,7 +8,7 @@ use Rattle.std.proofs.lemmas.List.{length-map}
 use Rattle.std.proofs.lemmas.Option.{slice_get-map}
 use Rattle.std.proofs.lemmas.List.Elements.{All-append, All-nil, All-push}
 use Rattle.std.proofs.lemmas.List.Sums.{fold-append}
-use Rattle.agc_latch.specs.declared.line.Line.{Line}
+use Rattle.agc_plan.specs.declared.line.Line.{Line}
 use Rattle.agc_latch.specs.Lines.{on}
 use Rattle.agc_latch.specs.Accounts.{Applies, Begins, LineAccounts}
 use Rattle.agc_plan.specs.declared.request.Request.{Request}
@@ -24,7 +24,8 @@ use Rattle.agc_desk.specs.Books.{told_in}
 use Rattle.agc_desk.specs.Desks.{Desked, with_lines}
 use Rattle.agc_desk.specs.Draining.{NoneRefused, ServesAll, answers_to, calls_of, pulse_refusal, requests_by, with_asked}
 use Rattle.agc_desk.specs.History.{Holder, with_heard}
-use Rattle.agc_desk.specs.Pulses.{Pulse, left_on, pulse_of, pulse_requests, repeated}
+use Rattle.agc_desk.specs.Pulses.{Pulse, left_on, pulse_of}
+use Rattle.agc_plan.specs.Pulses.{pulse_requests, repeated}
 use Rattle.agc_desk.specs.Stages.{DrainsLine, Marks, NextIs, Proceeds, line_left, pulse_on}
 use Rattle.agc_desk.proofs.Calls.{with_nothing}
 use Rattle.agc_desk.proofs.Marking.{repeated_nothing}

@@ -5,10 +5,11 @@ use Rattle.std.proofs.lemmas.Bool.Decides.{nat_tests}
 use Rattle.std.proofs.lemmas.List.{flat_map_more, map-append, replicate_more, take_all, take_more}
 use Rattle.std.proofs.lemmas.List.Elements.{All-push, filter-append}
 use Rattle.std.proofs.lemmas.Option.{get_or_from_slice_get, slice_get-get_or, slice_get_within}
-use Rattle.agc_latch.specs.declared.line.Line.{Line}
-use Rattle.agc_latch.specs.declared.line.Line.TheVariants.{Timer, Key, Radar}
+use Rattle.agc_plan.specs.declared.line.Line.{Line}
+use Rattle.agc_plan.specs.declared.line.Line.TheVariants.{Timer, Key, Radar}
 use Rattle.agc_latch.specs.Accounts.{Applies, LineAccounts}
-use Rattle.agc_latch.specs.Lines.{on, word_of}
+use Rattle.agc_latch.specs.Lines.{on}
+use Rattle.agc_plan.specs.Pulses.{pulse_requests, repeated, word_of}
 use Rattle.agc_plan.specs.declared.reply.Reply.{Reply}
 use Rattle.agc_plan.specs.declared.request.Request.{Request}
 use Rattle.agc_plan.specs.declared.request.Task.{Task}
@@ -18,7 +19,6 @@ use Rattle.agc_machine.specs.Said.{Said}
 use Rattle.agc_desk.specs.declared.ties.Call.{Call}
 use Rattle.agc_desk.specs.Desks.{ArePulses}
 use Rattle.agc_desk.specs.History.{served_on, serves_line}
-use Rattle.agc_desk.specs.Pulses.{pulse_requests, repeated}
 use Rattle.agc_desk.specs.Stages.{Marks, NextIs, Proceeds}
 
 -- one line or two

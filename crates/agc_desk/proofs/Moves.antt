@@ -9,7 +9,7 @@ use mathlib.Core.Option.{some, none, some-ne-none, some-injective}
 use lib.ListN.{get_elem?}
 use Rattle.atomic_table.specs.Table.{State, Splits, Joins, Allows, keeps, step}
 use Rattle.atomic_table.proofs.Lists.{at_set, set_again}
-use Rattle.agc_latch.specs.declared.line.Line.{Line}
+use Rattle.agc_plan.specs.declared.line.Line.{Line}
 use Rattle.agc_machine.specs.Said.{Said}
 use Rattle.agc_desk.specs.declared.ties.Call.{Call}
 use Rattle.agc_desk.specs.declared.ties.View.{View}

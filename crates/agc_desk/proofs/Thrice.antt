@@ -2,9 +2,10 @@
 use Rattle.std.proofs.Common.{◌≡◌, ◌≢◌, ◌↔◌, ℕ, ◌+◌, ◌<◌, true≢false, List, [], ◌∷◌, ◌++◌, slice_get, take, Option, None, Some, IsNone, IsOk, is_some, zero, suc, refl, sym, ap, ◌∙◌, subst, append_assoc, append-nil, arith}
 use Rattle.std.specs.Option.{option_and_then}
 use Rattle.std.proofs.lemmas.List.Elements.{All-append}
-use Rattle.agc_latch.specs.declared.line.Line.{Line}
-use Rattle.agc_latch.specs.declared.line.Line.TheVariants.{Timer, Key, Radar}
-use Rattle.agc_latch.specs.Lines.{on, word_of}
+use Rattle.agc_plan.specs.declared.line.Line.{Line}
+use Rattle.agc_plan.specs.declared.line.Line.TheVariants.{Timer, Key, Radar}
+use Rattle.agc_latch.specs.Lines.{on}
+use Rattle.agc_plan.specs.Pulses.{pulse_requests, word_of}
 use Rattle.agc_latch.specs.Accounts.{Applies, Collects, IsTakenOnce, LineAccounts, given_of, latch_of, taken_on}
 use Rattle.agc_latch.specs.Ends.{Taking}
 use Rattle.agc_plan.specs.Plans.{Planned}
@@ -14,7 +15,7 @@ use Rattle.agc_machine.specs.Said.{Said}
 use Rattle.agc_desk.specs.Desks.{Desked, with_lines}
 use Rattle.agc_desk.specs.Draining.{Drains, IdleWait, Moves, NoneRefused, ServesAll, calls_of, left_by, pulse_refusal, with_asked}
 use Rattle.agc_desk.specs.History.{Holder, with_drain, with_heard}
-use Rattle.agc_desk.specs.Pulses.{Pulse, left_of, left_on, pulse_requests}
+use Rattle.agc_desk.specs.Pulses.{Pulse, left_of, left_on}
 use Rattle.agc_desk.specs.Stages.{DrainsLine, line_left, tried_after}
 use Rattle.agc_desk.proofs.Emptying.{after_by, idle_left, none_owed, same_plan, serves_append, told_by, told_by_append}
 

@@ -1,7 +1,7 @@
 -- The desk, as callers see it.
 use Rattle.std.specs.Prelude.{◌≡◌, ℕ, ◌+◌, ◌<◌, ◌≤◌, List, [], ◌++◌, IfSome, length, take}
 use Rattle.std.specs.List.{All, Contains}
-use Rattle.agc_latch.specs.declared.line.Line.{Line}
+use Rattle.agc_plan.specs.declared.line.Line.{Line}
 use Rattle.agc_latch.specs.Lines.{on}
 use Rattle.agc_plan.specs.Plans.{Planned}
 use Rattle.agc_latch.specs.Accounts.{LineAccounts, no_accounts}
@@ -11,7 +11,7 @@ use Rattle.agc_machine.specs.Told.{add, nothing}
 use Rattle.agc_desk.specs.declared.ties.Call.{Call}
 use Rattle.agc_desk.specs.Books.{Ledgered}
 use Rattle.agc_desk.specs.History.{Known, Leads, served_on}
-use Rattle.agc_desk.specs.Pulses.{pulse_requests, repeated}
+use Rattle.agc_plan.specs.Pulses.{pulse_requests, repeated}
 
 -- a desk: its machine, the calls that led to it, the books, how many shares were given out, and the
 -- accounts of the lines on which devices post

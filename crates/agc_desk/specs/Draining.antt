@@ -4,8 +4,9 @@ use Rattle.std.specs.Prelude.{Option, Some, IsNone, IsOk, slice_get}
 use Rattle.std.specs.List.{All}
 use Rattle.std.specs.Option.{option_and_then}
 use Rattle.atomic_table.specs.Seated.{TableId}
-use Rattle.agc_latch.specs.declared.line.Line.{Line}
-use Rattle.agc_latch.specs.Lines.{on, word_of}
+use Rattle.agc_plan.specs.declared.line.Line.{Line}
+use Rattle.agc_latch.specs.Lines.{on}
+use Rattle.agc_plan.specs.Pulses.{pulse_requests, word_of}
 use Rattle.agc_latch.specs.Accounts.{IsKept, IsOf, IsTakenOnce, LineAccounts}
 use Rattle.agc_latch.specs.Accounts.{given_of, latch_of, taken_on}
 use Rattle.agc_plan.specs.declared.request.Request.{Request}
@@ -19,7 +20,7 @@ use Rattle.agc_desk.specs.declared.drain.Drained.{Drained}
 use Rattle.agc_desk.specs.Books.{told_in}
 use Rattle.agc_desk.specs.Desks.{ArePulses, Desked, with_lines}
 use Rattle.agc_desk.specs.History.{Holder, Leads, with_drain, with_heard}
-use Rattle.agc_desk.specs.Pulses.{Pulse, left_of, pulse_requests}
+use Rattle.agc_desk.specs.Pulses.{Pulse, left_of}
 
 -- what a machine answers these requests, in order, each as its step answers it there
 unfoldable pub answers_to : Machined → List Request → List Said

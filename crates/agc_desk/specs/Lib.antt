@@ -13,3 +13,4 @@ pub mod Views
 pub mod Knowing
 pub mod Lending
 pub mod Keeping
+pub mod Laws

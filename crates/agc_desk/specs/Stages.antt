@@ -2,7 +2,7 @@
 use Rattle.std.specs.Prelude.{◌≡◌, ◌↔◌, ◌⊎◌, ℕ, ◌+◌, ◌<◌, List, [], ◌++◌, length, take, slice_get}
 use Rattle.std.specs.Prelude.{Option, Some, None, IsNone, Result, Ok, Err}
 use Rattle.std.specs.Option.{option_and_then, option_or}
-use Rattle.agc_latch.specs.declared.line.Line.{Line}
+use Rattle.agc_plan.specs.declared.line.Line.{Line}
 use Rattle.agc_latch.specs.Lines.{on}
 use Rattle.agc_latch.specs.Accounts.{Applies, Begins, LineAccounts}
 use Rattle.agc_plan.specs.declared.request.Request.{Request}
@@ -13,7 +13,8 @@ use Rattle.agc_machine.specs.Machines.{after_all}
 use Rattle.agc_desk.specs.Desks.{Desked}
 use Rattle.agc_desk.specs.Draining.{NoneRefused, ServesAll, answers_to, pulse_refusal, requests_by}
 use Rattle.agc_desk.specs.History.{Holder}
-use Rattle.agc_desk.specs.Pulses.{Pulse, left_on, pulse_requests}
+use Rattle.agc_desk.specs.Pulses.{Pulse, left_on}
+use Rattle.agc_plan.specs.Pulses.{pulse_requests}
 
 -- what the accounts leave to be asked for on one line
 abbrev pub line_left : Planned → Line → LineAccounts → List Pulse

@@ -12,17 +12,16 @@ ghost use Rattle.agc_desk.specs.Desks.{ArePulses, new_desk, with_lines};
 ghost use Rattle.agc_desk.specs.History.{IsHistory, Leads, new_holder, own_call};
 ghost use Rattle.agc_desk.specs.History.{with_drain, with_heard};
 ghost use Rattle.agc_desk.specs.Opening.{names_of};
-ghost use Rattle.agc_desk.specs.Pulses.{pulse_requests};
+ghost use Rattle.agc_plan.specs.Pulses.{pulse_requests};
 ghost use Rattle.agc_desk.specs.Runs.{IsGiven};
 ghost use Rattle.agc_desk.specs.Stages.{Marks, NextIs};
 
 use crate::history::{History, Own};
 use crate::ledgers::{Amounts, Ledgers, growth};
 use crate::names::{Blanks, Names};
-use crate::pulse::pulse_request;
 use agc_latch::{Accounts, Device, Latch, Line, Settled, Taker, Unjoined};
 use agc_machine::{Answer, Machine, Totals};
-use agc_plan::Request;
+use agc_plan::{Request, pulse_request};
 use std::marker::Model;
 
 /// How many shares a desk gives out.

@@ -1,14 +1,14 @@
 ghost use Rattle.std.specs.Prelude.{◌<◌, None, length};
 ghost use Rattle.agc_latch.specs.Accounts.{IsOf};
 ghost use Rattle.agc_desk.specs.Draining.{Drains};
-ghost use Rattle.agc_desk.specs.Pulses.{pulse_requests};
+ghost use Rattle.agc_plan.specs.Pulses.{pulse_requests};
 ghost use Rattle.agc_desk.specs.Stages.{DrainsLine};
 
 use crate::desk::{Desk, Share};
 use crate::names::Names;
-use crate::pulse::pulse_request;
 use agc_latch::{Latch, Line};
 use agc_machine::Refusal;
+use agc_plan::pulse_request;
 
 /// What a drain did. Source: profile.
 #[derive(Clone, Copy, PartialEq, Eq, Debug)]

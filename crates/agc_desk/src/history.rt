@@ -5,8 +5,8 @@ ghost use Rattle.agc_desk.specs.Knowing.{knower};
 
 use crate::names::Names;
 use crate::ties::{Pass, Ties, check, count, deal, gather, note, open_ties};
-use agc_latch::Line;
 use agc_machine::{Answer, NoMemory};
+use agc_plan::Line;
 use std::alloc::Global;
 use std::marker::{Model, PhantomData};
 

@@ -7,8 +7,8 @@ ghost use Rattle.agc_desk.specs.History.{calls_by, new_holder};
 ghost use Rattle.agc_desk.specs.Views.{call_by, hearing, joined, nobody, owner, with_call};
 ghost use Rattle.agc_desk.specs.Knowing.{knower};
 
-use agc_latch::Line;
 use agc_machine::{Answer, NoMemory};
+use agc_plan::Line;
 use atomic_table::{Join, Play, Seat, Split, Table, TableRule};
 use std::alloc::Global;
 use std::collections::LinkedList;
@@ -40,7 +40,7 @@ pub struct View {
 /// Which answer is noted, and of which line's pulse. A call with `Brand` picks both.
 trait Noting {
     ghost use Rattle.std.specs.Prelude.{Option};
-    ghost use Rattle.agc_latch.specs.declared.line.Line.{Line};
+    ghost use Rattle.agc_plan.specs.declared.line.Line.{Line};
     ghost use Rattle.agc_machine.specs.Said.{Said};
 
     ghost answer: { Said };

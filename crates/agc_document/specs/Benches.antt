@@ -13,8 +13,8 @@ use Rattle.agc_plan.specs.declared.request.Request.TheVariants.{Novac, Findvac, 
 use Rattle.agc_plan.specs.Begins.{Begins}
 use Rattle.agc_plan.specs.Plans.{Rows, fault_of}
 use Rattle.agc_plan.specs.Ranges.{IsBetween, IsSix, IsRequest, IsAction, IsTask}
-use Rattle.agc_latch.specs.declared.line.Line.{Line}
-use Rattle.agc_latch.specs.declared.line.Line.TheVariants.{Timer, Key, Radar}
+use Rattle.agc_plan.specs.declared.line.Line.{Line}
+use Rattle.agc_plan.specs.declared.line.Line.TheVariants.{Timer, Key, Radar}
 use Rattle.agc_text.specs.Numbers.{octal, IsWord}
 use Rattle.agc_text.specs.Lines.{line_of, action_line_of}
 use Rattle.agc_document.specs.Texts.{RowTexts, EntryTexts, DeviceTexts, Settings, Lists, Texts}

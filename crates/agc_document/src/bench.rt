@@ -14,8 +14,7 @@ use crate::texts::Texts;
 use crate::values::{
     actions_of, devices_of, entries_of, power_of, requests_of, rows_of, workers_of,
 };
-use agc_latch::Line;
-use agc_plan::{Actions, Limit, PhaseEntry, Plan, Request, Task};
+use agc_plan::{Actions, Limit, Line, PhaseEntry, Plan, Request, Task};
 use agc_word::{Sets, Word};
 use std::alloc::Global;
 use std::marker::Model;
@@ -234,7 +233,7 @@ fn planned(alloc: Global, parts: Parts) -> Result<Bench, BenchFault>
         ⊎ ((f : PlanFault) × (fault ≡ bench_fault f)
         × (fault_of parts.rows parts.entries ≡ Some f))) }
 {
-    match Plan::new(
+    match Plan::with_lists(
         alloc,
         parts.rows.as_slice(),
         parts.entries.as_slice(),

@@ -8,6 +8,6 @@ mod keys;
 mod texts;
 mod values;
 
-pub use agc_latch::Line;
+pub use agc_plan::Line;
 pub use bench::{Bench, read_bench};
 pub use fault::BenchFault;

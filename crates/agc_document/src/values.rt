@@ -10,7 +10,7 @@ ghost use Rattle.agc_plan.specs.declared.request.JobStart.{JobStart};
 ghost use Rattle.agc_plan.specs.Begins.{Begins};
 ghost use Rattle.agc_plan.specs.Ranges.{IsRequest, IsAction};
 ghost use Rattle.agc_plan.specs.Plans.{Rows};
-ghost use Rattle.agc_latch.specs.declared.line.Line.{Line};
+ghost use Rattle.agc_plan.specs.declared.line.Line.{Line};
 ghost use Rattle.agc_text.specs.Numbers.{octal, IsWord};
 ghost use Rattle.agc_text.specs.Lines.{line_of, action_line_of};
 ghost use Rattle.agc_document.specs.Benches.{job_request, timed_request, kind_text, row_texts};
@@ -21,8 +21,7 @@ ghost use Rattle.agc_document.specs.Gives.{RefusedLine};
 
 use crate::fault::BenchFault;
 use crate::texts::{DeviceTexts, EntryTexts, RowTexts, Text, WorkerTexts};
-use agc_latch::Line;
-use agc_plan::{Actions, Delay, Group, JobStart, Phase, PhaseEntry, Request, Task};
+use agc_plan::{Actions, Delay, Group, JobStart, Line, Phase, PhaseEntry, Request, Task};
 use agc_text::{parse_action, parse_address, parse_line, parse_word};
 use agc_word::Word;
 use std::alloc::Global;

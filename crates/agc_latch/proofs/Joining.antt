@@ -3,9 +3,10 @@ use Rattle.std.proofs.Common.{◌≡◌, ◌+◌, ◌<◌, List, [], ◌∷◌, 
 use Rattle.std.proofs.lemmas.List.Elements.{All-pop}
 use Rattle.std.proofs.lemmas.List.Sums.{sum_by_push}
 use Rattle.atomic_table.specs.Seated.{TableId}
-use Rattle.agc_latch.specs.declared.line.Line.{Line}
-use Rattle.agc_latch.specs.declared.line.Line.TheVariants.{Timer, Key, Radar}
-use Rattle.agc_latch.specs.Lines.{added, on, word_of}
+use Rattle.agc_plan.specs.declared.line.Line.{Line}
+use Rattle.agc_plan.specs.declared.line.Line.TheVariants.{Timer, Key, Radar}
+use Rattle.agc_latch.specs.Lines.{added, on}
+use Rattle.agc_plan.specs.Pulses.{word_of}
 use Rattle.agc_latch.specs.Ends.{Posting}
 use Rattle.agc_latch.specs.Holders.{Joining}
 use Rattle.agc_latch.specs.Accounts.{posted_by}

@@ -3,7 +3,7 @@
 use Rattle.std.specs.Prelude.{◌≡◌, ◌≢◌, ℕ, ◌+◌, ◌*◌, ◌<◌, ◌≤◌, List, length, sum_by}
 use Rattle.std.specs.Prelude.{Option, Some, None, IfSome}
 use Rattle.atomic_table.specs.Seated.{TableId}
-use Rattle.agc_latch.specs.declared.line.Line.{Line}
+use Rattle.agc_plan.specs.declared.line.Line.{Line}
 use Rattle.agc_latch.specs.Lines.{on, zeros}
 use Rattle.agc_latch.specs.Ends.{Posting, Taking, new_taker}
 

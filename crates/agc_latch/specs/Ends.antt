@@ -2,8 +2,9 @@
 use Rattle.std.specs.Prelude.{◌≡◌, ℕ, ◌+◌, List, [], sum}
 use Rattle.atomic_table.specs.Seated.{TableId}
 use Rattle.agc_latch.specs.declared.views.Role.TheVariants.{Posts}
-use Rattle.agc_latch.specs.declared.line.Line.{Line}
-use Rattle.agc_latch.specs.Lines.{raised, word_of, zeros}
+use Rattle.agc_plan.specs.declared.line.Line.{Line}
+use Rattle.agc_latch.specs.Lines.{raised, zeros}
+use Rattle.agc_plan.specs.Pulses.{word_of}
 use Rattle.agc_latch.specs.Steps.{Seated}
 
 -- a device: its latch, how many pulses it may post in all, and what it posted per line

@@ -2,8 +2,9 @@
 use Rattle.std.specs.Prelude.{◌≡◌, ℕ, ◌+◌, List, [], length}
 use Rattle.atomic_table.specs.Seated.{TableId}
 use Rattle.agc_latch.specs.declared.views.Role.TheVariants.{Takes}
-use Rattle.agc_latch.specs.declared.line.Line.{Line}
-use Rattle.agc_latch.specs.Lines.{raised, word_of}
+use Rattle.agc_plan.specs.declared.line.Line.{Line}
+use Rattle.agc_latch.specs.Lines.{raised}
+use Rattle.agc_plan.specs.Pulses.{word_of}
 use Rattle.agc_latch.specs.Steps.{Seated}
 use Rattle.agc_latch.specs.Ends.{Taking}
 

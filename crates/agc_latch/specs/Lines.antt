@@ -1,13 +1,7 @@
--- The three lines, and numbers that stand one for each line.
+-- Numbers that stand one for each line.
 use Rattle.std.specs.Prelude.{ℕ, ◌+◌, List, [], ◌∷◌, slice_index, slice_set}
-use Rattle.agc_latch.specs.declared.line.Line.{Line}
-use Rattle.agc_latch.specs.declared.line.Line.TheVariants.{Timer, Key, Radar}
-
--- the place of a line's word, and of its number
-abbrev pub word_of : Line → ℕ
-word_of Timer = 0
-word_of Key = 1
-word_of Radar = 2
+use Rattle.agc_plan.specs.declared.line.Line.{Line}
+use Rattle.agc_plan.specs.Pulses.{word_of}
 
 -- the number of a line
 abbrev pub on : Line → List ℕ → ℕ

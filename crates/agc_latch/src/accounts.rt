@@ -4,12 +4,12 @@ ghost use Rattle.agc_latch.specs.Accounts.{AreAll, Applies, Begins, Collects, Gi
 ghost use Rattle.agc_latch.specs.Accounts.{IsKept, IsOf, given_of, no_accounts, with_taker};
 ghost use Rattle.agc_latch.specs.Ends.{new_device};
 ghost use Rattle.agc_latch.specs.Lines.{on};
-ghost use Rattle.agc_latch.specs.declared.line.Line.{Line};
+ghost use Rattle.agc_plan.specs.declared.line.Line.{Line};
 
 use crate::device::Device;
 use crate::latch::Latch;
-use crate::line::Line;
 use crate::taker::{AttachedTaker, Taker};
+use agc_plan::Line;
 use std::marker::Model;
 
 /// How many devices are given out at most.

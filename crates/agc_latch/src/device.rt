@@ -4,9 +4,9 @@ ghost use Rattle.agc_latch.specs.Steps.{device_view};
 ghost use Rattle.agc_latch.specs.declared.views.Role.TheVariants.{Posts};
 
 use crate::latch::Latch;
-use crate::line::Line;
 use crate::steps::Post;
 use crate::views::View;
+use agc_plan::Line;
 use atomic_table::Seat;
 use std::marker::Model;
 use thiserror::Error;

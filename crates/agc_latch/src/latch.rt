@@ -3,8 +3,9 @@ ghost use Rattle.std.specs.Prelude.{◌≡◌, IfOk};
 use crate::steps::Rule;
 use crate::taker::Taker;
 use crate::views::View;
+use agc_plan::NoMemory;
 use atomic_table::Table;
-use std::alloc::{AllocError, Global};
+use std::alloc::Global;
 use std::marker::Model;
 
 /// Three words, one for each line. Contracts see which latch it is.
@@ -34,8 +35,8 @@ impl Latch {
     ///
     /// # Errors
     ///
-    /// Want of memory.
-    pub fn new(alloc: Global) -> Result<(Latch, Taker), AllocError>
+    /// `NoMemory`.
+    pub fn new(alloc: Global) -> Result<(Latch, Taker), NoMemory>
         ensures { IfOk result (λ r. r.1 ≡ r.0) }
     {
         let (table, seat) = Table::of_words(alloc, &[0, 0, 0], &())?;

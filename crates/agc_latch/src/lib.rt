@@ -11,14 +11,13 @@ mod accounts;
 mod device;
 mod latch;
 mod laws;
-mod line;
 mod steps;
 mod taker;
 mod views;
 
 pub use accounts::{Accounts, Settled, Unjoined};
+pub use agc_plan::{Line, NoMemory};
 pub use device::{Device, PostSpent};
 pub use latch::Latch;
 pub use laws::steps_keep_the_rule;
-pub use line::Line;
 pub use taker::Taker;

@@ -2,15 +2,16 @@ ghost use Rattle.std.specs.Prelude.{◌≡◌, ◌+◌, ◌*◌, ◌<◌, ◌≤
 ghost use Rattle.agc_latch.specs.Accounts.{posted_by};
 ghost use Rattle.agc_latch.specs.Ends.{new_device, new_taker};
 ghost use Rattle.agc_latch.specs.Holders.{with_one_given, with_taken};
-ghost use Rattle.agc_latch.specs.Lines.{added, on, raised, word_of};
+ghost use Rattle.agc_latch.specs.Lines.{added, on, raised};
+ghost use Rattle.agc_plan.specs.Pulses.{word_of};
 ghost use Rattle.agc_latch.specs.Tellings.{first_view};
-ghost use Rattle.agc_latch.specs.declared.line.Line.{Line};
+ghost use Rattle.agc_plan.specs.declared.line.Line.{Line};
 
 use crate::device::Device;
 use crate::latch::Latch;
-use crate::line::Line;
 use crate::steps::{GiveOut, Take, TakeBack};
 use crate::views::View;
+use agc_plan::Line;
 use atomic_table::Seat;
 use std::marker::Model;
 

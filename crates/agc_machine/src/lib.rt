@@ -10,8 +10,9 @@ mod step;
 mod tick;
 mod totals;
 
+pub use agc_plan::NoMemory;
 pub use answer::{Answer, Refusal};
-pub use machine::{Machine, NoMemory};
+pub use machine::Machine;
 pub use migration::migrate;
 pub use moment::Moment;
 pub use totals::Totals;

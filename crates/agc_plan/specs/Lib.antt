@@ -4,6 +4,7 @@ pub mod Tasks
 pub mod Base
 pub mod Begins
 pub mod Plans
+pub mod Pulses
 pub mod Index
 pub mod Eras
 pub mod Steps

@@ -1,7 +1,8 @@
 -- A plan: the actions of tasks, what begins again with a phase, and what may be wrong with them.
 use Rattle.std.specs.Prelude.{ℕ, ◌==◌, ◌&&◌, ◌||◌, Bool, true, false, if◌then◌else◌, List, [], ◌∷◌}
-use Rattle.std.specs.Prelude.{Option, Some, None}
+use Rattle.std.specs.Prelude.{Option, Some, None, map}
 use Rattle.agc_plan.specs.declared.request.Action.{Action}
+use Rattle.agc_plan.specs.declared.request.Action.TheVariants.{Nothing}
 use Rattle.agc_plan.specs.declared.request.JobStart.{JobStart}
 use Rattle.agc_plan.specs.declared.request.JobStart.TheVariants.{Novac, Findvac}
 use Rattle.agc_plan.specs.declared.request.Task.{Task}
@@ -32,6 +33,15 @@ pub record Planned : Type 0 where
 -- the plan that is written so, on a computer with so many core sets
 abbrev pub planned_with : Written → ℕ → Planned
 planned_with plan sets = record { rows = plan.rows; entries = plan.entries; key = plan.key; radar = plan.radar; sets = sets }
+
+-- rows of one action each, as rows of lists
+abbrev pub one_each : List (Task × Action) → Rows
+one_each rows = map (λ row. (row.0, row.1 ∷ [])) rows
+
+-- the first of some actions, nothing where there is none
+abbrev pub first_action : List Action → Action
+first_action [] = Nothing
+first_action (act ∷ acts) = act
 
 -- whether two tasks have the same address and bank
 abbrev pub same_task : Task → Task → Bool

@@ -1,7 +1,8 @@
-ghost use Rattle.std.specs.Prelude.{◌≡◌, ◌≤◌, ◌⊎◌, [], Some, None, IfOk, IfErr, OnOk, length};
+ghost use Rattle.std.specs.Prelude.{◌≡◌, ◌≤◌, ◌⊎◌, [], ◌∷◌, Some, None, IfOk, IfErr, OnOk};
+ghost use Rattle.std.specs.Prelude.{length};
 ghost use Rattle.agc_plan.specs.Plans.{Written, has_entry};
 ghost use Rattle.agc_plan.specs.Plans.{phase_twice, wants_area, group_wants, all_want, fault_of};
-ghost use Rattle.agc_plan.specs.Plans.{actions_in, entry_at, is_for};
+ghost use Rattle.agc_plan.specs.Plans.{actions_in, entry_at, is_for, first_action, one_each};
 ghost use Rattle.std.specs.Option.{option_copied};
 ghost use Rattle.agc_plan.specs.Quiet.{BeginsQuietly};
 ghost use Rattle.agc_plan.specs.Messages.{plan_fault_text};
@@ -167,14 +168,74 @@ fn copied_rows(alloc: Global, rows: &[(Task, Actions)]) -> Result<Vec<(Task, Act
     Ok(own)
 }
 
+/// Rows of one action each, as rows of lists.
+fn listed_rows(alloc: Global, rows: &[(Task, Action)]) -> Result<Vec<(Task, Actions)>, PlanFault>
+    ensures listed { IfOk result (λ own. own.items ≡ one_each rows.now) }
+    ensures refused { IfErr result (λ fault. fault ≡ PlanFault.NoMemory) }
+{
+    let Ok(mut own) = Vec::with_capacity(alloc, rows.len()) else {
+        return Err(PlanFault::NoMemory);
+    };
+    for row in rows {
+        if own.push((row.0, Actions::one(row.1))).is_err() {
+            return Err(PlanFault::NoMemory);
+        }
+    }
+    Ok(own)
+}
+
+/// The first of some actions, `Nothing` where there is none.
+fn first_action(actions: &[Action]) -> Action
+    ensures { result ≡ first_action actions.now }
+{
+    match actions {
+        [] => Action::Nothing,
+        [first, ..] => *first,
+    }
+}
+
 impl Plan {
+    /// A plan of these rows, entries and actions of pulses: one action for each task that has a
+    /// row, and for each pulse. `Nothing` stands for none.
+    ///
+    /// # Errors
+    ///
+    /// `NoMemory`, or else the first of `TaskTwice`, `PhaseTwice` and `TooManyAreas` that applies.
+    pub fn new(
+        alloc: Global,
+        rows: &[(Task, Action)],
+        entries: &[PhaseEntry],
+        key: Action,
+        radar: Action,
+    ) -> Result<Plan, PlanFault>
+        ensures plan { IfOk result (λ p. p ≡ record {
+          rows = one_each rows.now;
+          entries = entries.now;
+          key = key ∷ [];
+          radar = radar ∷ [];
+        }) }
+        ensures accepted { OnOk result (fault_of (one_each rows.now) entries.now ≡ None) }
+        ensures refused { IfErr result (λ fault. (fault ≡ PlanFault.NoMemory)
+            ⊎ (fault_of (one_each rows.now) entries.now ≡ Some fault)) }
+        ensures quiet { IfOk result BeginsQuietly }
+    {
+        let own_rows = listed_rows(alloc, rows)?;
+        Plan::of(
+            alloc,
+            own_rows,
+            entries,
+            Actions::one(key),
+            Actions::one(radar),
+        )
+    }
+
     /// A plan of these rows, entries and actions of pulses, each row the actions of one task:
     /// copies of them, in this order.
     ///
     /// # Errors
     ///
     /// `NoMemory`, or else the first of `TaskTwice`, `PhaseTwice` and `TooManyAreas` that applies.
-    pub fn new(
+    pub fn with_lists(
         alloc: Global,
         rows: &[(Task, Actions)],
         entries: &[PhaseEntry],
@@ -189,15 +250,33 @@ impl Plan {
         ensures quiet { IfOk result BeginsQuietly }
     {
         let own_rows = copied_rows(alloc, rows)?;
+        Plan::of(alloc, own_rows, entries, key, radar)
+    }
+
+    /// A plan of these rows, of a copy of the entries, and of the actions of pulses.
+    fn of(
+        alloc: Global,
+        rows: Vec<(Task, Actions)>,
+        entries: &[PhaseEntry],
+        key: Actions,
+        radar: Actions,
+    ) -> Result<Plan, PlanFault>
+        ensures plan { IfOk result (λ p. p
+            ≡ record { rows = rows.items; entries = entries.now; key = key; radar = radar }) }
+        ensures accepted { OnOk result (fault_of rows.items entries.now ≡ None) }
+        ensures refused { IfErr result (λ fault. (fault ≡ PlanFault.NoMemory)
+            ⊎ (fault_of rows.items entries.now ≡ Some fault)) }
+        ensures quiet { IfOk result BeginsQuietly }
+    {
         let mut own_entries = Vec::new(alloc);
         if own_entries.extend_from_slice(entries).is_err() {
             return Err(PlanFault::NoMemory);
         }
-        let index = index_of(alloc, rows)?;
+        let index = index_of(alloc, rows.as_slice())?;
         match entries_fault(entries) {
             Some(fault) => Err(fault),
             None => Ok(Plan {
-                rows: own_rows,
+                rows,
                 index,
                 entries: own_entries,
                 key,
@@ -213,6 +292,15 @@ impl Plan {
         ensures quiet { BeginsQuietly self.now }
     {
         let _ = &self.rows;
+    }
+
+    /// What is done when this task fires, in a plan of one action each: `Nothing` for a task that
+    /// has no row. In a plan with lists it is the first of the task's actions, `Nothing` where
+    /// there is none.
+    pub fn action(&self, task: &Task) -> Action
+        ensures { result ≡ first_action (actions_in self.now.rows task.now) }
+    {
+        first_action(self.actions(task))
     }
 
     /// What is done when this task fires, in order: nothing for a task that has no row.
@@ -233,8 +321,24 @@ impl Plan {
         entry_at(&self.entries, group, phase)
     }
 
+    /// What is done for a key pulse, in a plan of one action each. In a plan with lists it is the
+    /// first of its actions, `Nothing` where there is none.
+    pub fn key(&self) -> Action
+        ensures { result ≡ first_action self.now.key }
+    {
+        first_action(self.key_actions())
+    }
+
+    /// What is done for a radar pulse, in a plan of one action each. In a plan with lists it is the
+    /// first of its actions, `Nothing` where there is none.
+    pub fn radar(&self) -> Action
+        ensures { result ≡ first_action self.now.radar }
+    {
+        first_action(self.radar_actions())
+    }
+
     /// What is done for a key pulse, in order: at most four actions.
-    pub fn key(&self) -> &[Action]
+    pub fn key_actions(&self) -> &[Action]
         ensures value { result.now ≡ self.now.key }
         ensures most { length result.now ≤ 4 }
     {
@@ -242,7 +346,7 @@ impl Plan {
     }
 
     /// What is done for a radar pulse, in order: at most four actions.
-    pub fn radar(&self) -> &[Action]
+    pub fn radar_actions(&self) -> &[Action]
         ensures value { result.now ≡ self.now.radar }
         ensures most { length result.now ≤ 4 }
     {

@@ -1,14 +1,13 @@
 // One walk of a bench, whoever is asked.
 ghost use Rattle.std.specs.Prelude.{◌≡◌, ◌==◌, length};
 ghost use Rattle.std.specs.List.{flat_map};
-ghost use Rattle.agc_desk.specs.Pulses.{asks_nothing, pulse_requests, requests_for};
+ghost use Rattle.agc_plan.specs.Pulses.{asks_nothing, pulse_requests, requests_for};
 ghost use Rattle.agc_session.specs.Runs.{bench_plan, bench_requests, device_requests};
 ghost use Rattle.agc_session.specs.Walks.{AsksInOrder};
 
 use crate::asks::Asks;
-use agc_desk::{Line, action_request};
 use agc_document::Bench;
-use agc_plan::{Action, Request};
+use agc_plan::{Action, Line, Request, action_request};
 use agc_text::Output;
 use std::io::Write;
 

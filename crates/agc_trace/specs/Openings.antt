@@ -7,8 +7,8 @@ use Rattle.agc_word.specs.Words.{complement}
 use Rattle.agc_phase.specs.Image.{minus_in, phase_in}
 use Rattle.agc_machine.specs.Machines.{Machined, plain_of, places_of}
 use Rattle.agc_text.specs.Numbers.{octal}
-use Rattle.agc_latch.specs.declared.line.Line.{Line}
-use Rattle.agc_desk.specs.Pulses.{asks_nothing}
+use Rattle.agc_plan.specs.declared.line.Line.{Line}
+use Rattle.agc_plan.specs.Pulses.{asks_nothing}
 use Rattle.agc_document.specs.Benches.{Benched, kind_text}
 use Rattle.agc_session.specs.Runs.{bench_plan, pairs_agree}
 use Rattle.agc_trace.specs.Accounts.{phases_text}

@@ -7,8 +7,8 @@ use Rattle.agc_plan.specs.declared.request.Request.{Request}
 use Rattle.agc_plan.specs.declared.request.Request.TheVariants.{List as ListTask, SetPhase}
 use Rattle.agc_plan.specs.Begins.{Begins}
 use Rattle.agc_plan.specs.Plans.{Rows, has_task, has_entry}
-use Rattle.agc_latch.specs.declared.line.Line.{Line}
-use Rattle.agc_desk.specs.Pulses.{asks_nothing}
+use Rattle.agc_plan.specs.declared.line.Line.{Line}
+use Rattle.agc_plan.specs.Pulses.{asks_nothing}
 use Rattle.agc_document.specs.Benches.{Benched}
 use Rattle.agc_session.specs.Runs.{bench_plan}
 use Rattle.agc_warn.specs.declared.warning.Warning.{Warning}

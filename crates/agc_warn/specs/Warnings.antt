@@ -7,7 +7,7 @@ use Rattle.agc_plan.specs.declared.request.Task.{Task}
 use Rattle.agc_plan.specs.declared.request.Request.{Request}
 use Rattle.agc_plan.specs.Begins.{Begins}
 use Rattle.agc_plan.specs.Plans.{same_task}
-use Rattle.agc_latch.specs.declared.line.Line.{Line}
+use Rattle.agc_plan.specs.declared.line.Line.{Line}
 use Rattle.agc_document.specs.Benches.{Benched}
 use Rattle.agc_lint.specs.declared.key.Key.TheVariants as key
 use Rattle.agc_lint.specs.declared.place.Place.{Place}

@@ -10,8 +10,7 @@ ghost use Rattle.agc_warn.specs.Reasons.{log_full_warning, spent_warning, cut_wa
 use crate::index::Indexed;
 use crate::warning::Warning;
 use agc_document::Bench;
-use agc_latch::Line;
-use agc_plan::{Action, Group, Phase, PhaseEntry, Request, Task};
+use agc_plan::{Action, Group, Line, Phase, PhaseEntry, Request, Task};
 use agc_session::asks_nothing;
 use agc_word::Word;
 

@@ -8,9 +8,8 @@ ghost use Rattle.agc_warn.specs.Tellings.{first_sentence, log_full_sentence, spe
 ghost use Rattle.agc_warn.specs.Tellings.{cut_sentence};
 
 use crate::warning::{Located, Warning};
-use agc_latch::Line;
 use agc_lint::tell_where;
-use agc_plan::{Limit, Task};
+use agc_plan::{Limit, Line, Task};
 use agc_text::{Output, add_number, add_word, put};
 use arrayvec::ArrayString;
 use std::io::Write;

@@ -15,9 +15,8 @@ use crate::reasons::{
 use crate::running::first_refused;
 use crate::warning::Warned;
 use agc_document::Bench;
-use agc_latch::Line;
 use agc_lint::{Key, Place};
-use agc_plan::{Action, Actions, PhaseEntry, Request, Task};
+use agc_plan::{Action, Actions, Line, PhaseEntry, Request, Task};
 use std::alloc::{AllocError, Global};
 
 /// The place of a request: of the script, or of a worker.

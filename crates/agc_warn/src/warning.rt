@@ -1,7 +1,6 @@
 //! What is warned of.
-use agc_latch::Line;
 use agc_lint::Place;
-use agc_plan::{Group, Limit, Phase, Task};
+use agc_plan::{Group, Limit, Line, Phase, Task};
 use agc_word::Word;
 
 /// What a bench may have that is no fault, and of which nothing comes, or less than it asks for.

@@ -1,7 +1,7 @@
 use Rattle.std.proofs.Common.{◌≡◌, ◌<◌, ◌∷◌, [], ◌++◌, List, length, get_or, arith, length-append, append_assoc, append-nil, sym, ap, ◌∙◌}
 use Rattle.std.specs.Vec.Iter.{into_iter_items}
 use Rattle.std.proofs.lemmas.List.{get_or_default, length-map, length_push}
-use Rattle.agc_latch.specs.declared.line.Line.TheVariants.{Timer}
+use Rattle.agc_plan.specs.declared.line.Line.TheVariants.{Timer}
 use Rattle.agc_latch.specs.Ends.{Posting, new_device}
 use Rattle.agc_bench.specs.Sharing.{IsPosts, new_devices}
 use Rattle.agc_desk.proofs.Runs.{each_push}

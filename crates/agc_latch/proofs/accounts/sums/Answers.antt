@@ -1,5 +1,5 @@
 use Rattle.std.proofs.Common.{rules}
-use Rattle.agc_latch.specs.declared.line.Line.TheVariants.{Timer, Key, Radar}
+use Rattle.agc_plan.specs.declared.line.Line.TheVariants.{Timer, Key, Radar}
 use Rattle.agc_latch.proofs.accounts.sums.Goals as goal
 
 pub overflow_add-result : goal.overflow_add-result

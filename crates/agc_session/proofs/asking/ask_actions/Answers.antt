@@ -2,7 +2,7 @@ use Rattle.std.proofs.Common.{◌≡◌, ◌++◌, ◌∷◌, ◌+◌, List, Non
 use Rattle.std.specs.Option.{option_to_list}
 use Rattle.agc_plan.specs.declared.request.Action.{Action}
 use Rattle.agc_plan.specs.declared.request.Request.{Request}
-use Rattle.agc_desk.specs.Pulses.{action_request, requests_for}
+use Rattle.agc_plan.specs.Pulses.{action_request, requests_for}
 use Rattle.agc_session.proofs.Walks.{all_left, left_as, one_asked, one_failed, next_item, no_item, walk_done}
 use Rattle.agc_session.proofs.asking.ask_actions.Goals as goal
 use Rattle.agc_session.proofs.asking.ask_actions.Goals.{in-Some+in_ok-ask, in_default}

@@ -1,5 +1,5 @@
 use Rattle.std.proofs.Common.{drop}
-use Rattle.agc_desk.specs.Pulses.{requests_for}
+use Rattle.agc_plan.specs.Pulses.{requests_for}
 use Rattle.agc_session.proofs.Walks.{IsLeft}
 use Rattle.agc_session.proofs.asking.ask_actions.Given as goal
 

@@ -1,6 +1,6 @@
 use Rattle.std.proofs.Common.{◌<◌, ◌≤◌, length, replicate, sym}
 use Rattle.std.proofs.lemmas.List.{get_or-replicate, length-replicate}
-use Rattle.agc_desk.specs.Pulses.{pulse_requests}
+use Rattle.agc_plan.specs.Pulses.{pulse_requests}
 use Rattle.agc_session.specs.Runs.{bench_plan}
 use Rattle.agc_session.proofs.Walks.{all_left, left_as, some_asked, walk_stopped, walk_done, next_item, no_item}
 use Rattle.agc_session.proofs.asking.ask_device.Goals as goal

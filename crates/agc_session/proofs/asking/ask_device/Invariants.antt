@@ -1,6 +1,6 @@
 use Rattle.std.proofs.Common.{drop, replicate}
 use Rattle.std.specs.List.{flat_map}
-use Rattle.agc_desk.specs.Pulses.{pulse_requests}
+use Rattle.agc_plan.specs.Pulses.{pulse_requests}
 use Rattle.agc_session.specs.Runs.{bench_plan, device_requests}
 use Rattle.agc_session.proofs.Walks.{IsLeft}
 use Rattle.agc_session.proofs.asking.ask_device.Given as goal

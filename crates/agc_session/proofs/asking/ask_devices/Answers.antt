@@ -1,8 +1,8 @@
 use Rattle.std.proofs.Common.{ℕ, ◌+◌, List, drop, get_or, subst}
 use Rattle.std.specs.List.{flat_map}
 use Rattle.std.proofs.lemmas.List.{get_or_default}
-use Rattle.agc_latch.specs.declared.line.Line.{Line}
-use Rattle.agc_latch.specs.declared.line.Line.TheVariants.{Timer}
+use Rattle.agc_plan.specs.declared.line.Line.{Line}
+use Rattle.agc_plan.specs.declared.line.Line.TheVariants.{Timer}
 use Rattle.agc_session.specs.Runs.{device_requests}
 use Rattle.agc_session.specs.Walks.{AsksInOrder}
 use Rattle.agc_session.proofs.Walks.{all_left, left_as, some_asked, walk_stopped, walk_done, next_item, no_item}

@@ -1,8 +1,8 @@
 use Rattle.std.proofs.Common.{◌≡◌, ℕ, List, get_or, ◌∙◌, subst}
 use Rattle.std.specs.Io.KnownBytes.{Appends}
 use Rattle.std.specs.List.{flat_map}
-use Rattle.agc_latch.specs.declared.line.Line.{Line}
-use Rattle.agc_latch.specs.declared.line.Line.TheVariants.{Timer}
+use Rattle.agc_plan.specs.declared.line.Line.{Line}
+use Rattle.agc_plan.specs.declared.line.Line.TheVariants.{Timer}
 use Rattle.agc_text.specs.Writing.{AppendsFront}
 use Rattle.agc_text.proofs.Steps.{up_to_item, up_to_more, fails_next}
 use Rattle.agc_trace.specs.Openings.{idle_text}

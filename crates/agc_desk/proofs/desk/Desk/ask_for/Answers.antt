@@ -1,6 +1,6 @@
 use Rattle.std.proofs.Common.{rules, ◌≡◌, ap, sym, subst, ◌∙◌, ◌∷◌, [], ◌++◌, ◌<◌, ◌≤◌, length, IfSome, Option, None, Some}
 use Rattle.std.proofs.lemmas.Option.{slice_get_within}
-use Rattle.agc_latch.specs.declared.line.Line.{Line}
+use Rattle.agc_plan.specs.declared.line.Line.{Line}
 use Rattle.agc_latch.specs.Accounts.{LineAccounts}
 use Rattle.agc_latch.specs.Lines.{on}
 use Rattle.agc_plan.specs.declared.request.Request.{Request}
@@ -12,7 +12,7 @@ use Rattle.agc_desk.specs.declared.ties.Call.{Call}
 use Rattle.agc_desk.specs.Books.{told_in}
 use Rattle.agc_desk.specs.Desks.{ArePulses, Desked}
 use Rattle.agc_desk.specs.History.{Leads}
-use Rattle.agc_desk.specs.Pulses.{pulse_requests}
+use Rattle.agc_plan.specs.Pulses.{pulse_requests}
 use Rattle.agc_desk.specs.Stages.{Marks, NextIs}
 use Rattle.agc_desk.proofs.Calls.{leads_on, same_growth, same_setting, told_after, told_push}
 use Rattle.agc_desk.proofs.Emptying.{plan_after}

@@ -4,7 +4,7 @@ use Rattle.agc_latch.specs.Lines.{on}
 use Rattle.agc_plan.specs.declared.reply.Reply.{Reply}
 use Rattle.agc_plan.specs.Plans.{Planned}
 use Rattle.agc_machine.specs.declared.answer.Refusal.{Refusal}
-use Rattle.agc_desk.specs.Pulses.{pulse_requests}
+use Rattle.agc_plan.specs.Pulses.{pulse_requests}
 use Rattle.agc_desk.specs.Stages.{Marks, NextIs}
 use Rattle.agc_desk.proofs.Emptying.{asked_nothing, asked_more, left_less, line_done, line_refused, plan_stays}
 use Rattle.agc_desk.proofs.desk.Desk.ask_owed.Goals as goal

@@ -1,5 +1,5 @@
 use Rattle.std.proofs.Common.{None, subst}
-use Rattle.agc_latch.specs.declared.line.Line.TheVariants.{Timer}
+use Rattle.agc_plan.specs.declared.line.Line.TheVariants.{Timer}
 use Rattle.agc_desk.specs.History.{Holder}
 use Rattle.agc_desk.specs.Stages.{DrainsLine}
 use Rattle.agc_desk.proofs.Thrice.{drains}

@@ -1,5 +1,5 @@
 use Rattle.std.proofs.Common.{rules, ◌≡◌, ◌∙◌, slice_get}
-use Rattle.agc_desk.specs.Pulses.{pulse_requests}
+use Rattle.agc_plan.specs.Pulses.{pulse_requests}
 use Rattle.agc_desk.proofs.Emptying.{line_idle, line_stopped}
 use Rattle.agc_desk.proofs.Marking.{none_first}
 use Rattle.agc_desk.proofs.desk.Desk.drain_line.Goals as goal

@@ -1,7 +1,7 @@
 use Rattle.std.proofs.Common.{◌≡◌, ◌∙◌, [], ap, sym}
 use Rattle.agc_plan.specs.Plans.{Planned}
 use Rattle.agc_desk.specs.Desks.{Desked}
-use Rattle.agc_desk.specs.Pulses.{pulse_requests}
+use Rattle.agc_plan.specs.Pulses.{pulse_requests}
 use Rattle.agc_desk.proofs.Calls.{same_setting}
 use Rattle.agc_desk.proofs.Marking.{unasked}
 use Rattle.agc_desk.proofs.desk.Desk.mark_applied.Goals as goal

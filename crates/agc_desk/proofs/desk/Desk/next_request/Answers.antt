@@ -3,7 +3,7 @@ use Rattle.agc_latch.specs.Lines.{on}
 use Rattle.agc_plan.specs.declared.request.Request.{Request}
 use Rattle.agc_plan.specs.Plans.{Planned}
 use Rattle.agc_desk.specs.Desks.{ArePulses, Desked}
-use Rattle.agc_desk.specs.Pulses.{pulse_requests}
+use Rattle.agc_plan.specs.Pulses.{pulse_requests}
 use Rattle.agc_desk.proofs.Calls.{same_setting}
 use Rattle.agc_desk.proofs.Marking.{none_next}
 use Rattle.agc_desk.proofs.desk.Desk.next_request.Goals as goal

@@ -1,5 +1,5 @@
 use Rattle.std.proofs.Common.{rules}
-use Rattle.agc_latch.specs.declared.line.Line.TheVariants.{Timer}
+use Rattle.agc_plan.specs.declared.line.Line.TheVariants.{Timer}
 use Rattle.agc_latch.proofs.accounts.Accounts.device.Goals as goal
 
 pub device-device-requires-clause-room : goal.device-device-requires-clause-room

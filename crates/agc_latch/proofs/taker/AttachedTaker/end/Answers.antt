@@ -1,5 +1,5 @@
 use Rattle.std.proofs.Common.{rules}
-use Rattle.agc_latch.specs.declared.line.Line.TheVariants.{Timer, Key, Radar}
+use Rattle.agc_plan.specs.declared.line.Line.TheVariants.{Timer, Key, Radar}
 use Rattle.agc_latch.proofs.taker.AttachedTaker.end.Goals as goal
 
 pub prove-unreachable-requires : goal.prove-unreachable-requires

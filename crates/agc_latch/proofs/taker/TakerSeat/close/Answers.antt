@@ -1,5 +1,5 @@
 use Rattle.std.proofs.Common.{◌≡◌, ◌+◌, [], ◌∷◌, slice_index, subst, ◌∙◌, ap, sym}
-use Rattle.agc_latch.specs.Lines.{word_of}
+use Rattle.agc_plan.specs.Pulses.{word_of}
 use Rattle.agc_latch.specs.Holders.{Joining}
 use Rattle.agc_latch.proofs.Keeps.{closes, three_read}
 use Rattle.agc_latch.proofs.Joining.{word_inside}

@@ -1,5 +1,5 @@
 ghost use Rattle.std.specs.Prelude.{◌≡◌, ◌<◌};
-ghost use Rattle.agc_latch.specs.Lines.{word_of};
+ghost use Rattle.agc_plan.specs.Pulses.{word_of};
 
 /// Whose pulses these are. Source: profile.
 #[derive(Clone, Copy, PartialEq, Eq, Debug)]

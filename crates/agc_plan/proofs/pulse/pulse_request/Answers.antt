@@ -4,8 +4,8 @@ use Rattle.std.proofs.lemmas.List.{length-append}
 use Rattle.std.proofs.lemmas.Option.{slice_get_within}
 use Rattle.agc_plan.specs.declared.request.Action.{Action}
 use Rattle.agc_plan.specs.declared.request.Request.{Request}
-use Rattle.agc_desk.specs.Pulses.{action_request, requests_for}
-use Rattle.agc_desk.proofs.pulse.pulse_request.Goals as goal
+use Rattle.agc_plan.specs.Pulses.{action_request, requests_for}
+use Rattle.agc_plan.proofs.pulse.pulse_request.Goals as goal
 
 at_most_one : (o : Option Request) → length (option_to_list o) ≤ 1
 at_most_one None = omega arith
@@ -24,8 +24,8 @@ within_four actions (Some q) others is few =
     omega (arith, slice_get_within (requests_for actions) others q (sym is), no_more actions, few)
 
 pub returns-in-Key-clause-few : goal.returns-in-Key-clause-few
-returns-in-Key-clause-few c = within_four c.key.result.now c.request_after.result c.args.others c.request_after.ensures c.key.ensures.most
+returns-in-Key-clause-few c = within_four c.key_actions.result.now c.request_after.result c.args.others c.request_after.ensures c.key_actions.ensures.most
 
 pub returns-in-Radar-clause-few : goal.returns-in-Radar-clause-few
 returns-in-Radar-clause-few c =
-    within_four c.radar.result.now c.request_after-in-Radar.result c.args.others c.request_after-in-Radar.ensures c.radar.ensures.most
+    within_four c.radar_actions.result.now c.request_after-in-Radar.result c.args.others c.request_after-in-Radar.ensures c.radar_actions.ensures.most

@@ -1,9 +1,10 @@
 ghost use Rattle.std.specs.Prelude.{◌≡◌, ◌<◌, ℕ, IfSome, slice_get};
 ghost use Rattle.agc_plan.specs.Plans.{planned_with};
-ghost use Rattle.agc_desk.specs.Pulses.{action_request, pulse_requests, requests_for};
+ghost use Rattle.agc_plan.specs.Pulses.{action_request, pulse_requests, requests_for};
 
-use agc_latch::Line;
-use agc_plan::{Action, Plan, Request};
+use crate::line::Line;
+use crate::plan::Plan;
+use crate::request::{Action, Request};
 
 /// The request by which an action is asked for; none for [`Action::Nothing`]. Source: profile.
 pub fn action_request(action: Action) -> Option<Request>
@@ -49,7 +50,7 @@ pub fn pulse_request(plan: &Plan, line: Line, others: u64) -> Option<Request>
                 None
             }
         }
-        Line::Key => request_after(plan.key(), others),
-        Line::Radar => request_after(plan.radar(), others),
+        Line::Key => request_after(plan.key_actions(), others),
+        Line::Radar => request_after(plan.radar_actions(), others),
     }
 }

@@ -1,0 +1,25 @@
+ghost use Rattle.std.specs.Prelude.{Some, codes};
+
+use std::alloc::AllocError;
+use std::error::Error;
+use std::fmt;
+
+/// The allocator refused what a call wants to make. Source: profile.
+#[derive(Clone, Copy, PartialEq, Eq, Debug)]
+pub struct NoMemory;
+
+impl From<AllocError> for NoMemory {
+    fn from(_error: AllocError) -> NoMemory {
+        NoMemory
+    }
+}
+
+impl fmt::Display for NoMemory {
+    ghost output = { λ _. Some (codes "no memory") };
+
+    fn fmt<W: fmt::Write>(&self, f: &mut fmt::Formatter<W>) -> fmt::Result {
+        f.write_str("no memory")
+    }
+}
+
+impl Error for NoMemory {}
