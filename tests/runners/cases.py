@@ -169,8 +169,9 @@ class Case:
         files = [os.open(os.path.join(FOLDER, source), os.O_RDONLY)] if source else []
         files += [os.open(os.path.join(FOLDER, target), os.O_WRONLY)] if target else []
         try:
-            ran = subprocess.run(self.words(), stdin=files[0] if source else given, stdout=files[-1] if target else subprocess.PIPE,
-                                 stderr=subprocess.PIPE, timeout=SECONDS, check=False)
+            ran = subprocess.run(
+                self.words(), stdin=files[0] if source else given, stdout=files[-1] if target else subprocess.PIPE,
+                stderr=subprocess.PIPE, timeout=SECONDS, check=False)
         finally:
             for it in files:
                 os.close(it)

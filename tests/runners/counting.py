@@ -3,7 +3,7 @@ import sys
 
 
 def told(kind, passed, failed, more="", least=1):
-    """Prints the last line of a run, and returns its exit status: fewer than the least have to pass for none to be wrong."""
+    """Prints the last line of a run, and returns its exit status: 1 if one failed, or fewer passed than the least."""
     print(f"{kind}: {passed} passed, {failed} failed{more}")
     return int(failed > 0 or passed < least)
 

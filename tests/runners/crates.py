@@ -63,7 +63,8 @@ def faults_of(crate):
 
 def lay(room, wanted):
     """Lays the crates into a folder, and the crate of these tests. Returns where each file stands in it."""
-    repository.copy_crates(room, f"{NAME}: {' '.join(dict.fromkeys([*repository.below(wanted), *wanted, *kit_of(wanted)]))}")
+    uses = dict.fromkeys([*repository.below(wanted), *wanted, *kit_of(wanted)])
+    repository.copy_crates(room, f"{NAME}: {' '.join(uses)}")
     make_public(f"{room}/crates")
     os.mkdir(f"{room}/tmp")
     os.makedirs(f"{room}/crates/{NAME}/c")
@@ -149,9 +150,9 @@ def tried(room, wanted):
     began = time.monotonic()
     words = [f"{kit_with_growths(room)}/bin/rt", "try", "--test", "--seconds", str(SECONDS)]
     own = {"TMPDIR": f"{room}/tmp", "PATH": f"{TOP}/tools/without-hint:{os.environ['PATH']}", "RT_ALLOW_C": NAME}
-    how = {"cwd": f"{room}/crates/{NAME}", "env": {**os.environ, **own}}
     ran = subprocess.Popen(
-        words, stdin=subprocess.DEVNULL, stdout=subprocess.PIPE, stderr=subprocess.STDOUT, text=True, errors="replace", **how)
+        words, cwd=f"{room}/crates/{NAME}", env={**os.environ, **own}, stdin=subprocess.DEVNULL,
+        stdout=subprocess.PIPE, stderr=subprocess.STDOUT, text=True, errors="replace")
     try:
         said = ran.communicate()[0]
     finally:

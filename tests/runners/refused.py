@@ -49,8 +49,9 @@ class Attempt:
             folder = f"{room}/crates/attempt"
             repository.write(f"{folder}/src/lib.rt", f"#![tactic(auto)]\n{self.text}{PASSES}")
             path = f"{TOP}/tools/without-hint:{os.environ['PATH']}"
-            ran = subprocess.run(["rt", "try", "--test"], cwd=folder, env={**os.environ, "PATH": path}, stdin=subprocess.DEVNULL,
-                                 stdout=subprocess.PIPE, stderr=subprocess.STDOUT, text=True, errors="replace", check=False)
+            ran = subprocess.run(
+                ["rt", "try", "--test"], cwd=folder, env={**os.environ, "PATH": path}, stdin=subprocess.DEVNULL,
+                stdout=subprocess.PIPE, stderr=subprocess.STDOUT, text=True, errors="replace", check=False)
         why = self.differs(ran.returncode, ran.stdout)
         return f"{self.path}: {why}\n" + re.sub("(?m)^", "    ", ran.stdout.rstrip("\n")) if why else ""
 
