@@ -114,17 +114,17 @@ run_of may_answer is_told bench first history last starts back settled begun_by 
     let asks : (i : ℕ) → i < length (askers_of bench) → AsksOwn may_answer is_told (asker_at bench i) (get_or starts i (new_holder i)) (get_or back i (new_holder i)) =
     (λ i below. asked i (new_holder i) (new_holder i) (omega (arith, many, for_each, below))) in
     let own : (i : ℕ) (below : i < length (askers_of bench)) → calls_by i rest ≡ (asks i below).calls = (λ i below.
-      let d : Holder = new_holder i in
-      let a : AsksOwn may_answer is_told (asker_at bench i) (get_or starts i d) (get_or back i d) = asks i below in
-      let start = begun i d (omega (arith, for_each, below)) in
-      let number : (get_or back i d).number ≡ i = number_at begin may_answer is_told bench starts back begun asked many i d (omega (arith, many, for_each, below)) in
-      let heard : calls_by i begin ++ calls_by i rest ≡ calls_by i begin ++ a.calls =
-      sym (calls_by_append i begin rest)
-      ∙ (ap (calls_by i) (sym parts)
-      ∙ (ap (λ n. calls_by n history) (sym number)
-      ∙ (whole.each i d (omega (arith, many, for_each, below))
-      ∙ (a.with_it.heard ∙ ap (λ h. h.heard ++ a.calls) start)))) in
-      append_cancel_left (calls_by i begin) _ _ heard) in
+    let d : Holder = new_holder i in
+    let a : AsksOwn may_answer is_told (asker_at bench i) (get_or starts i d) (get_or back i d) = asks i below in
+    let start = begun i d (omega (arith, for_each, below)) in
+    let number : (get_or back i d).number ≡ i = number_at begin may_answer is_told bench starts back begun asked many i d (omega (arith, many, for_each, below)) in
+    let heard : calls_by i begin ++ calls_by i rest ≡ calls_by i begin ++ a.calls =
+    sym (calls_by_append i begin rest)
+    ∙ (ap (calls_by i) (sym parts)
+    ∙ (ap (λ n. calls_by n history) (sym number)
+    ∙ (whole.each i d (omega (arith, many, for_each, below))
+    ∙ (a.with_it.heard ∙ ap (λ h. h.heard ++ a.calls) start)))) in
+    append_cancel_left (calls_by i begin) _ _ heard) in
     record {
       run = record {
         calls = rest;
