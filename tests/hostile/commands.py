@@ -229,7 +229,7 @@ class Clone:
 
 def starter(hostile):
     """./agc runs what was built from the sources that stand there; without the kit, what is there."""
-    ran, tried = (7, "ran script\n", ""), (0, "tried\n", "takes about a minute")
+    ran, tried = (7, "ran script\n", ""), (0, "tried\n", "takes a minute or two")
     with tempfile.TemporaryDirectory() as room:
         clone = Clone(hostile, f"{room}/clone")
         clone.fill()
