@@ -5,3 +5,4 @@ pub mod Blocks
 pub mod Image
 pub mod Calls
 pub mod Stages
+pub mod Seats

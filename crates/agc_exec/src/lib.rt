@@ -12,6 +12,7 @@ mod lawful;
 mod leave;
 mod newjob;
 mod search;
+mod seats;
 mod wake;
 
 pub use change::{change_job, prio_change, running, store};
@@ -19,4 +20,5 @@ pub use clearing::clear;
 pub use establish::{findvac, novac};
 pub use lawful::is_lawful;
 pub use leave::{end_of_job, job_sleep};
+pub use seats::{Seat, job_at, named_job};
 pub use wake::job_wake;

@@ -12,7 +12,7 @@ mod totals;
 
 pub use agc_plan::NoMemory;
 pub use answer::{Answer, Refusal};
-pub use machine::Machine;
+pub use machine::{Machine, starts_over};
 pub use migration::migrate;
 pub use moment::Moment;
 pub use totals::Totals;

@@ -63,6 +63,14 @@ impl Base {
         self.phases
     }
 
+    /// The first, the second and the latest code. Source: profile.
+    pub fn codes(&self) -> [Option<Code>; 3]
+        ensures codes { result ≡ self.now.codes }
+        ensures three { length self.now.codes ≡ 3 }
+    {
+        self.codes
+    }
+
     /// What a restart keeps of these words: all phases and codes. Source: the listings' PHASE TABLE
     /// MAINTENANCE section; what FAILREG keeps is profile.
     pub fn read(e: &Erasable) -> Base

@@ -19,8 +19,8 @@ pub(crate) fn inactive() -> Phase
     }
 }
 
-/// The word of a code: its digits in octal, or 00000 for none.
-pub(crate) fn code_word(code: Option<Code>) -> Word
+/// The word of a code: its digits in octal, or 00000 for none. Source: profile.
+pub fn code_word(code: Option<Code>) -> Word
     ensures { result ≡ code_word code }
 {
     match code {

@@ -9,5 +9,5 @@ mod table;
 
 pub use agc_plan::Code;
 pub use bases::{Base, Phases};
-pub use image::recover;
+pub use image::{code_word, recover};
 pub use table::{clear, failreg, is_lawful, phases, record_alarm, set_phase};

@@ -18,3 +18,4 @@ pub mod Whole
 pub mod Firings
 pub mod Histories
 pub mod OneImage
+pub mod Ordered

@@ -17,7 +17,7 @@ pub(crate) struct Spot {
 }
 
 /// Whether a task stands in a place: whether its address in LST2 isn't 00000.
-fn is_occupied(e: &Erasable, place: usize) -> bool
+pub(crate) fn is_occupied(e: &Erasable, place: usize) -> bool
     requires { place ≤ 8 }
     ensures { IsTrue result ↔ (1 ≤ at_in e.now place) }
 {

@@ -1,0 +1,4 @@
+pub mod Scenes
+pub mod Showing
+pub mod Steps
+pub mod Eventful

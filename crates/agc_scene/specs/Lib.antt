@@ -1,0 +1,4 @@
+pub mod Scenes
+pub mod Origins
+pub mod Events
+pub mod Reading

@@ -1,0 +1,135 @@
+// What is shown of a state.
+ghost use Rattle.std.specs.Prelude.{◌≡◌, ◌≤◌, length};
+ghost use Rattle.agc_word.specs.Layout.{IsSized};
+ghost use Rattle.agc_exec.specs.Seats.{seats_in};
+ghost use Rattle.agc_scene.specs.Reading.{IsReadable, scene_in};
+ghost use Rattle.agc_scene.specs.Scenes.{owner_of};
+
+use agc_exec::{Seat, job_at, named_job, running};
+use agc_phase::{Base, Code, Phases};
+use agc_plan::JobNo;
+use agc_wait::{Waiting, Waits, tasks_waiting};
+use agc_word::Erasable;
+use arrayvec::ArrayVec;
+use std::marker::Model;
+
+/// What is shown of a state: who runs, whom NEWJOB names, what each core set holds, the tasks that
+/// wait, phases and FAILREG. Source: profile.
+#[derive(Drop)]
+pub struct Scene {
+    running: Option<JobNo>,
+    named: Option<u16>,
+    seats: ArrayVec<Option<Seat>, 8>,
+    waits: Waits,
+    base: Base,
+}
+
+impl Model for Scene {
+    ghost use Rattle.agc_scene.specs.Scenes as shown;
+
+    ghost Value = { shown.Scene };
+
+    ghost view = { λ s. record {
+      running = s.running;
+      named = s.named;
+      seats = s.seats.items;
+      waits = s.waits;
+      base = s.base;
+    } };
+}
+
+/// What each core set holds.
+fn seats_of(e: &Erasable) -> ArrayVec<Option<Seat>, 8>
+    requires { IsSized e.now }
+    ensures { result.items ≡ seats_in e.now }
+{
+    let mut seats = ArrayVec::new();
+    for k in 0..e.sets().count() {
+        seats.push(job_at(e, k));
+    }
+    seats
+}
+
+/// What is shown of these words.
+pub(crate) fn scene_of(e: &Erasable) -> Scene
+    requires { IsReadable e.now }
+    ensures { result ≡ scene_in e.now }
+{
+    Scene {
+        running: running(e),
+        named: named_job(e),
+        seats: seats_of(e),
+        waits: tasks_waiting(e),
+        base: Base::read(e),
+    }
+}
+
+impl Scene {
+    /// The number of the job that runs, None where nobody does. Source: the listings' EXECUTIVE
+    /// section; numbers: profile.
+    pub fn running(&self) -> Option<JobNo>
+        ensures { result ≡ self.now.running }
+    {
+        self.running
+    }
+
+    /// The number, 1 to 8, of the job that NEWJOB names: the best, where it is strictly more urgent
+    /// than the one that runs; else None. Source: the listings' EXECUTIVE section; numbers:
+    /// profile.
+    pub fn named(&self) -> Option<u16>
+        ensures { result ≡ self.now.named }
+    {
+        self.named
+    }
+
+    /// What each core set holds, set 0 first: seven or eight. Source: the listings' EXECUTIVE
+    /// section.
+    pub fn seats(&self) -> &[Option<Seat>]
+        ensures seats { result.now ≡ self.now.seats }
+        ensures eight { length result.now ≤ 8 }
+    {
+        self.seats.as_slice()
+    }
+
+    /// The number of the job that owns an area, 1 to 5; None where nobody does. Source: the
+    /// listings' EXECUTIVE section; numbers: profile.
+    pub fn owner(&self, area: u16) -> Option<u16>
+        ensures { result ≡ owner_of area self.now.seats }
+    {
+        for seat in self.seats() {
+            match *seat {
+                Some(seat) => {
+                    if seat.area == area {
+                        return Some(seat.number);
+                    }
+                }
+                None => {}
+            }
+        }
+        None
+    }
+
+    /// The tasks that wait, in order, each with the centiseconds that it still has. Source: the
+    /// listings' WAITLIST section.
+    pub fn waits(&self) -> &[Waiting]
+        ensures waits { result.now ≡ self.now.waits }
+        ensures nine { length result.now ≤ 9 }
+    {
+        self.waits.as_slice()
+    }
+
+    /// The phases of groups 1 to 6, 0 for inactive. Source: the listings' PHASE TABLE MAINTENANCE
+    /// section.
+    pub fn phases(&self) -> Phases
+        ensures { result ≡ self.now.base.phases }
+    {
+        self.base.phases()
+    }
+
+    /// FAILREG: the first, the second and the latest code. Source: profile.
+    pub fn codes(&self) -> [Option<Code>; 3]
+        ensures { result ≡ self.now.base.codes }
+    {
+        self.base.codes()
+    }
+}
