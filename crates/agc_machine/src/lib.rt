@@ -9,10 +9,13 @@ mod moment;
 mod step;
 mod tick;
 mod totals;
+mod words;
 
 pub use agc_plan::NoMemory;
 pub use answer::{Answer, Refusal};
-pub use machine::{Machine, starts_over};
+pub use era::begin;
+pub use machine::{Machine, recover_into, starts_over};
 pub use migration::migrate;
 pub use moment::Moment;
 pub use totals::Totals;
+pub use words::{act_words, finish_words};
