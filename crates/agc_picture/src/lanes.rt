@@ -8,8 +8,8 @@ use std::io::Write;
 /// Where the mark of who runs stands: just below core set 0.
 const RUNS_Y: u64 = 76;
 
-/// What is drawn of a scene: all lanes, those that have changed, or, as an era begins, besides those
-/// in which something is there, since what was there before is gone.
+/// What is drawn of a scene: all lanes, those that have changed, or, as an era begins, these and
+/// those in which something is there, since what was there before is gone.
 #[derive(Clone, Copy)]
 pub(crate) enum Part {
     All,
