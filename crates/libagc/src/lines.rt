@@ -5,7 +5,8 @@ ghost use Rattle.agc_plan.specs.declared.request.Action.{Action};
 ghost use Rattle.agc_plan.specs.declared.request.Request.{Request};
 ghost use Rattle.agc_plan.specs.Ranges.{IsRequest, IsAction};
 ghost use Rattle.agc_text.specs.Lines.{line_of, action_line_of};
-ghost use Rattle.libagc.specs.Spelled.{asked, numbers_of, action_numbers, ReadsRequest, ReadsAction};
+ghost use Rattle.libagc.specs.Spelled.{asked, numbers_of, action_numbers, ReadsRequest};
+ghost use Rattle.libagc.specs.Spelled.{ReadsAction};
 
 use agc_image::{AgcRequest, Fault};
 use agc_plan::{Action, Delay, Entry, Priority, Request, Task};
