@@ -9,6 +9,7 @@ mod moment;
 mod step;
 mod tick;
 mod totals;
+mod words;
 
 pub use agc_plan::NoMemory;
 pub use answer::{Answer, Refusal};
@@ -16,3 +17,4 @@ pub use machine::{Machine, starts_over};
 pub use migration::migrate;
 pub use moment::Moment;
 pub use totals::Totals;
+pub use words::step_words;
