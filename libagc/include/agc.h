@@ -1,8 +1,10 @@
 /*
  * agc.h: the job tables of the Apollo Guidance Computer, Block II, on an array of your own.
  *
- * The calls of the Executive (jobs), the Waitlist (tasks) and the phase tables, each proved to do
- * what it says. docs/EMBEDDING.md has a first program, docs/MODEL.md what each call means.
+ * agc_step does one request, with all that follows from it, by a plan of your own: tasks fire, and
+ * after an alarm the era begins anew. Below it are the single calls of the Executive (jobs), the
+ * Waitlist (tasks) and the phase tables. Each is proved to do what it says. docs/EMBEDDING.md has a
+ * first program, docs/MODEL.md what each call means.
  *
  * THE IMAGE. `words` is an array of AGC_WORDS numbers that you own: the words of the tables, each
  * of fifteen bits in ones' complement. With seven core sets the first 132 are used, with eight all
@@ -13,7 +15,9 @@
  * memory, has no global state, opens nothing and calls back nothing.
  *
  * POINTERS. `words` must point to AGC_WORDS numbers of uint16_t (agc_recover: AGC_PHASE_WORDS),
- * aligned as uint16_t is, and not be null: agc_pointer tells. No other array may share them.
+ * aligned as uint16_t is, and not be null: agc_pointer tells. No other array may share them. Rows and
+ * entries of a plan may be null where there are none of them; every other pointer must point to what
+ * its type says, aligned as that is.
  *
  * THREADS. Each call may be made on any thread. During a call no other thread may read or write its
  * array, but for those that take it as const, at which others may read. Two arrays know nothing of
@@ -29,7 +33,8 @@
  * isn't const, with AGC_OK; agc_check with AGC_OK; agc_migrate with AGC_OK, for 8 sets. And nobody
  * wrote to the array since, nor changed the number of sets. It is proved that this suffices: after
  * AGC_OK the array has a lawful image again. Where the condition isn't met, anything may happen.
- * Numbers of the call are looked at by both forms.
+ * Numbers of the call are looked at by both forms. agc_step_trusted wants a little more: that earlier
+ * call was agc_clear, agc_begin, agc_power_up or agc_step. After others ask agc_step once.
  */
 #ifndef AGC_H
 #define AGC_H
@@ -37,7 +42,6 @@
 #include <stdbool.h>
 #include <stddef.h>
 #include <stdint.h>
-#include <string.h>
 
 #ifdef __cplusplus
 extern "C" {
@@ -52,6 +56,9 @@ extern "C" {
 /* How many numbers an array has, how many agc_recover wants, and the place of -PHASE1, their first. */
 enum { AGC_WORDS = 144, AGC_PHASE_WORDS = 12, AGC_PHASE_PLACE = 117 };
 
+/* How many tasks fire in a step at most, and how many actions a row of a plan has. */
+enum { AGC_FIRED = 9, AGC_ACTIONS = 4 };
+
 /* The codes. A call answers the first that applies. */
 enum {
     AGC_OK = 0,           /* the call was served */
@@ -61,7 +68,14 @@ enum {
     AGC_OUT_OF_RANGE = 4, /* a number of the call is out of its range */
     AGC_NOT_A_WORD = 5,   /* a word of the call is above 077777 */
     AGC_NOT_NOW = 6,      /* a task is due, or at agc_dispatch none is */
-    AGC_NULL = 7          /* agc_pointer alone: the pointer is null or not aligned */
+    AGC_NULL = 7,         /* agc_pointer alone: the pointer is null or not aligned */
+    AGC_UNTIDY = 8,       /* the image is lawful, and no step leaves it so: MODE or PUSHLOC of a job
+                             isn't 0, or a gap of LST1 is 077777 */
+    AGC_PLAN_RANGE = 9,   /* a number of the plan is out of its range */
+    AGC_TASK_TWICE = 10,  /* one task, of one address and bank, has two rows of the plan */
+    AGC_PHASE_TWICE = 11, /* one group and phase has two entries of the plan */
+    AGC_TOO_MANY_AREAS = 12 /* each of the six groups has an entry with a job of AGC_FINDVAC, and there
+                               are five VAC areas */
 };
 
 /* The kinds of replies, and what the reply's number then is. */
@@ -75,7 +89,32 @@ enum {
     AGC_RUNS = 7,        /* who runs now */
     AGC_STORED = 8,      /* a work word was set */
     AGC_LISTED = 9,      /* a task was listed */
-    AGC_ALARMED = 10     /* a table is full, and nothing changed: the alarm, as below */
+    AGC_ALARMED = 10,    /* a table is full, and nothing changed: the alarm, as below. In a step an
+                            era began */
+    AGC_PHASED = 11,     /* a phase was set */
+    AGC_TICKED = 12,     /* a tick passed */
+    AGC_TICK_ALARMED = 13, /* an action raised this alarm in a tick, and an era began */
+    AGC_RESTARTED = 14   /* a restart or a fresh start, with which an era began */
+};
+
+/* The kinds of requests, and their numbers, in the order of a script's line. An action of a plan is
+   one of AGC_NOTHING, AGC_NOVAC, AGC_FINDVAC, AGC_ROUSE and AGC_LIST. The job of a plan's entry is
+   established by AGC_NOVAC or AGC_FINDVAC; 0 where it has none. */
+enum {
+    AGC_NOTHING = 0,  /* of a plan alone: nothing is done */
+    AGC_NOVAC = 1,    /* a priority, 1 to 31, an address, 1 to 16383, a bank's word */
+    AGC_FINDVAC = 2,  /* the same */
+    AGC_END = 3,      /* end of job */
+    AGC_SLEEP = 4,    /* an address */
+    AGC_ROUSE = 5,    /* an address */
+    AGC_PRIO = 6,     /* a priority */
+    AGC_CHANGE = 7,   /* change of job */
+    AGC_STORE = 8,    /* a work word's place, 1 to 6, and the word */
+    AGC_LIST = 9,     /* a delay, 1 to 16250, an address, a bank's word */
+    AGC_TICK = 10,    /* a centisecond passes */
+    AGC_PHASE = 11,   /* a group, 1 to 6, and its phase, 0 to 127 */
+    AGC_RESTART = 12, /* a software restart */
+    AGC_FRESH = 13    /* a fresh start */
 };
 
 /* Alarms, as FAILREG has them. */
@@ -85,9 +124,6 @@ enum {
     AGC_ALARM_1202 = 01202, /* no core set is free */
     AGC_ALARM_1203 = 01203  /* nine tasks wait */
 };
-
-/* How the job of a plan's entry is established; 0 where the entry has no job. */
-enum { AGC_NOVAC = 1, AGC_FINDVAC = 2 };
 
 /* A function of this header itself, and a type that has a bool. C90 has neither `inline` nor
    `bool`, and GNU's compilers have words by which they take both there. */
@@ -130,6 +166,24 @@ AGC_TYPE struct { uint32_t code, bits; bool overflow; } AgcSum;
 /* The value of a word, -16383 to 16383. */
 typedef struct { uint32_t code; int32_t value; } AgcValue;
 
+/* A request: its kind, and its numbers. Those that its kind doesn't have aren't looked at. */
+typedef struct { uint32_t kind, first, second, third; } AgcRequest;
+
+/* What a plan has done: a request of one of five kinds. */
+typedef AgcRequest AgcAction;
+
+/* A row of a plan: a task, and what is done when it fires, in order, up to the first that raises an
+   alarm. */
+typedef struct { uint32_t at, bank; AgcAction actions[AGC_ACTIONS]; } AgcRow;
+
+/* A task that fired. */
+typedef struct { uint32_t at, bank; } AgcFired;
+
+/* What a step answers: the kind of the reply, and its number, or 0; how many tasks fired; and which
+   action, 1 to 4, of the last of these raised the alarm, 0 where none did. An era began where the
+   reply is AGC_ALARMED, AGC_TICK_ALARMED or AGC_RESTARTED. */
+typedef struct { uint32_t code, reply, number, fired, action; } AgcStep;
+
 /* An entry of a plan: what begins again while a restart group, 1 to 6, stands in a phase, 1 to 127.
    A job, where `job` isn't 0, and a task, where `delay` isn't 0; their numbers are those of the
    calls agc_novac, agc_findvac and agc_list. */
@@ -150,6 +204,11 @@ AGC_INLINE const char *agc_code_text(uint32_t code) {
     case AGC_NOT_A_WORD: return "a word of the call is above 077777";
     case AGC_NOT_NOW: return "a task is due, or none is where one has to be";
     case AGC_NULL: return "the pointer is null or not aligned";
+    case AGC_UNTIDY: return "the image is lawful, and no step leaves it so";
+    case AGC_PLAN_RANGE: return "a number of the plan is out of its range";
+    case AGC_TASK_TWICE: return "a task has two rows of the plan";
+    case AGC_PHASE_TWICE: return "a group's phase has two entries of the plan";
+    case AGC_TOO_MANY_AREAS: return "each of six groups wants a VAC area, and there are five";
     default: return "no call answers this code";
     }
 }
@@ -167,6 +226,10 @@ AGC_INLINE const char *agc_reply_text(uint32_t reply) {
     case AGC_STORED: return "a work word was set";
     case AGC_LISTED: return "a task was listed";
     case AGC_ALARMED: return "a table is full, and nothing changed";
+    case AGC_PHASED: return "a phase was set";
+    case AGC_TICKED: return "a tick passed";
+    case AGC_TICK_ALARMED: return "an action raised an alarm in a tick, and an era began";
+    case AGC_RESTARTED: return "an era began by a restart or a fresh start";
     default: return "no reply is of this kind";
     }
 }
@@ -176,6 +239,46 @@ AGC_INLINE uint32_t agc_pointer(const uint16_t *words) {
     if (words && AGC_PLACE(words) % sizeof *words == 0) return AGC_OK;
     return AGC_NULL;
 }
+
+/* Whether rows and entries make a plan: AGC_OK, and then no era of it begins with an alarm; or the
+   first of AGC_PLAN_RANGE, AGC_TASK_TWICE, AGC_PHASE_TWICE and AGC_TOO_MANY_AREAS. */
+uint32_t agc_plan_check(const AgcRow *rows, size_t row_count, const AgcPhaseEntry *entries, size_t entry_count);
+
+/* One request, with all that follows from it: in a tick each task that is due fires, and the actions
+   of its row are done; after an alarm, and at a restart or fresh start, an era begins by the plan's
+   entries. `fired` gets the tasks that fired, in order, in its first places; the others stay.
+   `moment` is always filled: with the words as they were when the request was answered, before an era
+   began with it, and where the code isn't AGC_OK with the words as they are. Codes, the first that
+   applies: those of the image; AGC_OUT_OF_RANGE and AGC_NOT_A_WORD for the request; AGC_NOT_NOW where
+   a task is due; AGC_UNTIDY; those of agc_plan_check. The trusted form looks at the request alone; a
+   number of the plan that is out of range then does nothing, and of two rows or entries the first
+   counts. */
+AgcStep agc_step(uint16_t words[AGC_WORDS], uint32_t sets, const AgcRow *rows, size_t row_count,
+                 const AgcPhaseEntry *entries, size_t entry_count, const AgcRequest *request,
+                 AgcFired fired[AGC_FIRED], uint16_t moment[AGC_WORDS]);
+AgcStep agc_step_trusted(uint16_t words[AGC_WORDS], uint32_t sets, const AgcRow *rows, size_t row_count,
+                         const AgcPhaseEntry *entries, size_t entry_count, const AgcRequest *request,
+                         AgcFired fired[AGC_FIRED], uint16_t moment[AGC_WORDS]);
+
+/* An era begins, as after an alarm: its code is recorded, all jobs and tasks are gone, and then for
+   groups 1 to 6 in order the plan's entry for the group's phase begins, its job and then its task.
+   `alarm` is one of the four, or 0 where none is recorded, as at a restart by request. A group of
+   phase 0, or of one that has no entry, begins nothing. AGC_OUT_OF_RANGE is that of the alarm; the
+   codes of agc_plan_check are those of the entries, at which the trusted form doesn't look. */
+uint32_t agc_begin(uint16_t words[AGC_WORDS], uint32_t sets, uint32_t alarm, const AgcPhaseEntry *entries,
+                   size_t entry_count);
+uint32_t agc_begin_trusted(uint16_t words[AGC_WORDS], uint32_t sets, uint32_t alarm, const AgcPhaseEntry *entries,
+                           size_t entry_count);
+
+/* Power comes back with these phase words, -PHASE1 first, whatever stood in the array: an era begins
+   with the phases that they tell and no codes, and the number is 0. Where they don't agree it is a
+   fresh start with code 01107, and the number is AGC_ALARM_1107. AGC_NO_SUCH_SETS; AGC_NOT_WORDS where
+   a phase word is above 077777; the codes of agc_plan_check for the entries, at which the trusted form
+   doesn't look. */
+AgcNumber agc_power_up(uint16_t words[AGC_WORDS], uint32_t sets, const AgcPhaseEntry *entries, size_t entry_count,
+                       const uint16_t phase_words[AGC_PHASE_WORDS]);
+AgcNumber agc_power_up_trusted(uint16_t words[AGC_WORDS], uint32_t sets, const AgcPhaseEntry *entries,
+                               size_t entry_count, const uint16_t phase_words[AGC_PHASE_WORDS]);
 
 /* The image of a fresh start, whatever stood there: no jobs, no tasks, six phases 0, no codes. */
 uint32_t agc_clear(uint16_t words[AGC_WORDS], uint32_t sets);
@@ -260,49 +363,6 @@ AgcPhases agc_recover(const uint16_t words[AGC_PHASE_WORDS]);
 AgcSum agc_add(uint32_t a, uint32_t b);
 AgcNumber agc_negative(uint32_t word);
 AgcValue agc_value(uint32_t word);
-
-/* What an entry has begins: its job, then its task. For agc_begin. */
-AGC_INLINE uint32_t agc_begin_entry(uint16_t words[AGC_WORDS], uint32_t sets, const AgcPhaseEntry *entry) {
-    AgcReply reply = {AGC_OK, 0, 0};
-    switch (entry->job) {
-    case 0: break;
-    case AGC_NOVAC: reply = agc_novac_trusted(words, sets, entry->priority, entry->job_at, entry->job_bank); break;
-    case AGC_FINDVAC: reply = agc_findvac_trusted(words, sets, entry->priority, entry->job_at, entry->job_bank); break;
-    default: return AGC_OUT_OF_RANGE;
-    }
-    if (reply.reply == AGC_ALARMED) return AGC_OUT_OF_RANGE;
-    if (reply.code == AGC_OK && entry->delay != 0)
-        reply = agc_list_trusted(words, sets, entry->delay, entry->task_at, entry->task_bank);
-    return reply.code;
-}
-
-/* An era begins, as after an alarm: its code is recorded, all jobs and tasks are gone, and then for
-   groups 1 to 6 in order the plan's entry for the group's phase begins, its job and then its task.
-   `alarm` is one of the four, or 0 where none is recorded, as at a restart by request. A group of
-   phase 0, or of one that has no entry, begins nothing; of two for a phase the first counts.
-   AGC_OUT_OF_RANGE and AGC_NOT_A_WORD are those of the alarm and of the entries that begin, in this
-   order; AGC_OUT_OF_RANGE also where all six groups begin a job by AGC_FINDVAC: there are five
-   VAC areas. It looks at the whole image, and has no trusted form. */
-AGC_INLINE uint32_t agc_begin(uint16_t words[AGC_WORDS], uint32_t sets, uint32_t alarm, const AgcPhaseEntry *plan,
-                              size_t entries) {
-    uint16_t era[AGC_WORDS] = {0};
-    const size_t size = (sets == 8 ? 144 : 132) * sizeof *words;
-    AgcPhases now;
-    uint32_t code, group, phase;
-    size_t k;
-    if (sets != 7 && sets != 8) return AGC_NO_SUCH_SETS;
-    memcpy(era, words, size);
-    code = agc_restart(era, sets);
-    if (code == AGC_OK && alarm != 0) code = agc_record_alarm_trusted(era, sets, alarm);
-    now = agc_recover(era + AGC_PHASE_PLACE);
-    for (group = 1; code == AGC_OK && group <= 6; group++) {
-        phase = now.phases[group - 1];
-        for (k = 0; k < entries && (plan[k].group != group || plan[k].phase != phase); k++) {}
-        if (phase != 0 && k < entries) code = agc_begin_entry(era, sets, plan + k);
-    }
-    if (code == AGC_OK) memcpy(words, era, size);
-    return code;
-}
 
 #undef AGC_INLINE
 #undef AGC_TYPE

@@ -1,3 +1,4 @@
 pub mod Arrays
 pub mod Codes
 pub mod Frames
+pub mod Finding

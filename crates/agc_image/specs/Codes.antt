@@ -12,6 +12,13 @@ code_of fault.Unlawful = 3
 code_of fault.OutOfRange = 4
 code_of fault.NotAWord = 5
 code_of fault.NotNow = 6
+code_of fault.Untidy = 8
+code_of fault.PlanRange = 9
+code_of fault.TaskTwice = 10
+code_of fault.PhaseTwice = 11
+code_of fault.TooManyAreas = 12
+code_of fault.NotSpelled = 13
+code_of fault.NoRoom = 14
 
 -- the code of a fault, 0 where there is none
 abbrev pub code_for : Option Fault → ℕ

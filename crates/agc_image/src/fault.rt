@@ -22,10 +22,25 @@ pub enum Fault {
     NotAWord,
     /// It isn't the time for the call: a task is due, or at a dispatch none is.
     NotNow,
+    /// The image is lawful, and no step leaves it so: MODE or PUSHLOC of a job isn't 0, or a gap of
+    /// LST1 is minus zero.
+    Untidy,
+    /// A number of the plan is out of its range.
+    PlanRange,
+    /// One task, of one address and bank, has two rows of the plan.
+    TaskTwice,
+    /// One group and phase has two entries of the plan.
+    PhaseTwice,
+    /// Each of the six groups has an entry whose job wants a VAC area, and there are five areas.
+    TooManyAreas,
+    /// A text spells no request, or no action.
+    NotSpelled,
+    /// A text doesn't fit into the room that is lent.
+    NoRoom,
 }
 
 impl Fault {
-    /// The code of the fault, 1 to 6. Source: profile.
+    /// The code of the fault: 1 to 6, or 8 to 14. Source: profile.
     pub fn code(self) -> u32
         ensures { result ≡ code_of self }
     {
@@ -36,6 +51,13 @@ impl Fault {
             Fault::OutOfRange => 4,
             Fault::NotAWord => 5,
             Fault::NotNow => 6,
+            Fault::Untidy => 8,
+            Fault::PlanRange => 9,
+            Fault::TaskTwice => 10,
+            Fault::PhaseTwice => 11,
+            Fault::TooManyAreas => 12,
+            Fault::NotSpelled => 13,
+            Fault::NoRoom => 14,
         }
     }
 }

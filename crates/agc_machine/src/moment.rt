@@ -85,7 +85,7 @@ fn copy_of(e: &Erasable) -> Erasable
 
 /// What a request does, before an era begins with it, and which action raised an alarm inside a
 /// tick.
-fn act_told<P: Plans>(
+pub(crate) fn act_told<P: Plans>(
     plan: &P,
     e: &mut Erasable,
     request: &Request,

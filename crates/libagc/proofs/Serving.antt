@@ -18,13 +18,20 @@ use Rattle.libagc.specs.declared.reply.AgcReply.{AgcReply}
 pub all_there : (code sets : ℕ) (array : List ℕ) (R W T : Type 0) → code ≡ 0 → IsImage sets array → R → W → T → Coded code sets array R W T
 all_there code sets array R W T served image r w t = rw served (coded_served sets array R W T image r w t)
 
-one_or_more : (found : Fault) → 1 ≤ code_of found
+pub one_or_more : (found : Fault) → 1 ≤ code_of found
 one_or_more fault.NoSuchSets = omega arith
 one_or_more fault.NotWords = omega arith
 one_or_more fault.Unlawful = omega arith
 one_or_more fault.OutOfRange = omega arith
 one_or_more fault.NotAWord = omega arith
 one_or_more fault.NotNow = omega arith
+one_or_more fault.Untidy = omega arith
+one_or_more fault.PlanRange = omega arith
+one_or_more fault.TaskTwice = omega arith
+one_or_more fault.PhaseTwice = omega arith
+one_or_more fault.TooManyAreas = omega arith
+one_or_more fault.NotSpelled = omega arith
+one_or_more fault.NoRoom = omega arith
 
 -- there is no image
 pub no_image : (found : Option Fault) (this : Fault) (code sets : ℕ) (array : List ℕ) (R W T : Type 0) → found ≡ Some this → code ≡ code_of this → Coded (code_for found) sets array (Unit {0}) (Unit {0}) (Unit {0}) → Coded code sets array R W T

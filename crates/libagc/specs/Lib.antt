@@ -3,3 +3,5 @@ pub mod Tasks
 pub mod Phases
 pub mod Arithmetic
 pub mod Beginnings
+pub mod Stepping
+pub mod Eras

@@ -3,13 +3,18 @@
 #![tactic(auto)]
 
 mod clearing;
+mod eras;
 mod images;
 mod jobs;
 mod phases;
+mod plans;
+mod ready;
 mod reply;
+mod steps;
 mod tasks;
 mod words;
 
 pub use phases::AgcPhases;
 pub use reply::{AgcNumber, AgcReply, AgcTask, AgcTruth};
+pub use steps::{AgcFired, AgcStep};
 pub use words::{AgcSum, AgcValue};

@@ -20,7 +20,7 @@ pub struct AgcReply {
 }
 
 /// The word that FAILREG has for an alarm.
-fn alarm_code(alarm: Alarm) -> u32
+pub(crate) fn alarm_code(alarm: Alarm) -> u32
     ensures { result ≡ alarm_code alarm }
 {
     match alarm {

@@ -1,0 +1,228 @@
+// Numbers of a caller as requests, and their parts.
+ghost use Rattle.std.specs.Prelude.{◌≡◌};
+ghost use Rattle.agc_image.specs.Told.{word_told, priority_told, address_told, delay_told};
+ghost use Rattle.agc_image.specs.Told.{six_told};
+ghost use Rattle.agc_image.specs.Told.{phase_told, entry_told, start_told, task_told, listing_told};
+ghost use Rattle.agc_image.specs.Asked.{request_told, storing_told, phasing_told};
+ghost use Rattle.agc_image.specs.Asked.{asked_fault, without_word};
+
+use crate::fault::Fault;
+use crate::numbers;
+use agc_plan::{Address, Delay, Entry, Group, Phase, Place, Priority, Request, Task};
+use agc_word::Word;
+
+/// A request: its kind, and its numbers in the order of a script's line. Those that the kind
+/// doesn't
+/// have aren't looked at. An action is a request of kind 0 (nothing), 1, 2, 5 or 9. Source:
+/// profile.
+#[repr(C)]
+#[derive(Clone, Copy)]
+pub struct AgcRequest {
+    /// 1 NOVAC, 2 FINDVAC, 3 end of job, 4 a sleep, 5 a rouse, 6 a priority, 7 a change of job, 8 a
+    /// store, 9 a listing, 10 a tick, 11 a phase, 12 a restart, 13 a fresh start.
+    pub kind: u32,
+    /// A priority, an address, a place, a delay or a group.
+    pub first: u32,
+    /// An address, a word or a phase.
+    pub second: u32,
+    /// The word of a bank.
+    pub third: u32,
+}
+
+/// A word.
+fn word_of(number: u32) -> Option<Word>
+    ensures { result ≡ word_told number }
+{
+    match numbers::word(number) {
+        Some(word) => Some(word),
+        None => None,
+    }
+}
+
+/// A priority.
+fn priority_of(number: u32) -> Option<Priority>
+    ensures { result ≡ priority_told number }
+{
+    match numbers::priority(number) {
+        Some(priority) => Some(priority),
+        None => None,
+    }
+}
+
+/// An address.
+pub(crate) fn address_of(number: u32) -> Option<Address>
+    ensures { result ≡ address_told number }
+{
+    match numbers::address(number) {
+        Some(address) => Some(address),
+        None => None,
+    }
+}
+
+/// A delay.
+fn delay_of(number: u32) -> Option<Delay>
+    ensures { result ≡ delay_told number }
+{
+    match numbers::delay(number) {
+        Some(delay) => Some(delay),
+        None => None,
+    }
+}
+
+/// A group.
+pub(crate) fn group_of(number: u32) -> Option<Group>
+    ensures { result ≡ six_told number }
+{
+    match numbers::group(number) {
+        Some(group) => Some(group),
+        None => None,
+    }
+}
+
+/// A place.
+fn place_of(number: u32) -> Option<Place>
+    ensures { result ≡ six_told number }
+{
+    match numbers::place(number) {
+        Some(place) => Some(place),
+        None => None,
+    }
+}
+
+/// A phase.
+pub(crate) fn phase_of(number: u32) -> Option<Phase>
+    ensures { result ≡ phase_told number }
+{
+    match numbers::phase(number) {
+        Some(phase) => Some(phase),
+        None => None,
+    }
+}
+
+/// Where a job begins.
+fn entry_of(at: u32, bank: u32) -> Option<Entry>
+    ensures { result ≡ entry_told at bank }
+{
+    match (address_of(at), word_of(bank)) {
+        (Some(at), Some(bank)) => Some(Entry { at, bank }),
+        _ => None,
+    }
+}
+
+/// A task.
+pub(crate) fn task_of(at: u32, bank: u32) -> Option<Task>
+    ensures { result ≡ task_told at bank }
+{
+    match (address_of(at), word_of(bank)) {
+        (Some(at), Some(bank)) => Some(Task { at, bank }),
+        _ => None,
+    }
+}
+
+/// A job's priority and where it begins.
+pub(crate) fn start_of(priority: u32, at: u32, bank: u32) -> Option<(Priority, Entry)>
+    ensures { result ≡ start_told priority at bank }
+{
+    match (priority_of(priority), entry_of(at, bank)) {
+        (Some(priority), Some(entry)) => Some((priority, entry)),
+        _ => None,
+    }
+}
+
+/// A task and its delay.
+pub(crate) fn listing_of(delay: u32, at: u32, bank: u32) -> Option<(Delay, Task)>
+    ensures { result ≡ listing_told delay at bank }
+{
+    match (delay_of(delay), task_of(at, bank)) {
+        (Some(delay), Some(task)) => Some((delay, task)),
+        _ => None,
+    }
+}
+
+/// A place and a word.
+fn storing_of(place: u32, word: u32) -> Option<Request>
+    ensures { result ≡ storing_told place word }
+{
+    match (place_of(place), word_of(word)) {
+        (Some(place), Some(word)) => Some(Request::Store(place, word)),
+        _ => None,
+    }
+}
+
+/// A group and its phase.
+fn phasing_of(group: u32, phase: u32) -> Option<Request>
+    ensures { result ≡ phasing_told group phase }
+{
+    match (group_of(group), phase_of(phase)) {
+        (Some(group), Some(phase)) => Some(Request::SetPhase(group, phase)),
+        _ => None,
+    }
+}
+
+/// A request. None where a number is out of its range, or a word is none. Source: profile.
+pub fn request_of(request: &AgcRequest) -> Option<Request>
+    ensures { result ≡ request_told request.now }
+{
+    match request.kind {
+        1 => match start_of(request.first, request.second, request.third) {
+            Some(start) => Some(Request::Novac(start.0, start.1)),
+            None => None,
+        },
+        2 => match start_of(request.first, request.second, request.third) {
+            Some(start) => Some(Request::Findvac(start.0, start.1)),
+            None => None,
+        },
+        3 => Some(Request::EndOfJob),
+        4 => match address_of(request.first) {
+            Some(at) => Some(Request::Sleep(at)),
+            None => None,
+        },
+        5 => match address_of(request.first) {
+            Some(at) => Some(Request::Rouse(at)),
+            None => None,
+        },
+        6 => match priority_of(request.first) {
+            Some(priority) => Some(Request::Prio(priority)),
+            None => None,
+        },
+        7 => Some(Request::Change),
+        8 => storing_of(request.first, request.second),
+        9 => match listing_of(request.first, request.second, request.third) {
+            Some(listing) => Some(Request::List(listing.0, listing.1)),
+            None => None,
+        },
+        10 => Some(Request::Tick),
+        11 => phasing_of(request.first, request.second),
+        12 => Some(Request::Restart),
+        13 => Some(Request::Fresh),
+        _ => None,
+    }
+}
+
+/// The same numbers with 0 in place of the word.
+fn without_word(request: &AgcRequest) -> AgcRequest
+    ensures { result ≡ without_word request.now }
+{
+    let (second, third) = match request.kind {
+        8 => (0, request.third),
+        _ => (request.second, 0),
+    };
+    AgcRequest {
+        kind: request.kind,
+        first: request.first,
+        second,
+        third,
+    }
+}
+
+/// Why numbers that are no request are none: its word alone is no word, or a number is out of its
+/// range. Source: profile.
+#[inline(never)]
+pub fn asked_fault(request: &AgcRequest) -> Fault
+    ensures { result ≡ asked_fault request.now }
+{
+    match request_of(&without_word(request)) {
+        Some(_request) => Fault::NotAWord,
+        None => Fault::OutOfRange,
+    }
+}

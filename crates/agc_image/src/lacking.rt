@@ -1,0 +1,192 @@
+// What a caller's plan lacks.
+ghost use Rattle.std.specs.Prelude.{◌≡◌, IfNone};
+ghost use Rattle.agc_plan.specs.Plans.{has_task, task_twice, has_entry, phase_twice, group_wants};
+ghost use Rattle.agc_plan.specs.Plans.{wants_area, all_want};
+ghost use Rattle.agc_plan.specs.Quiet.{BeginsQuietly};
+ghost use Rattle.agc_image.specs.Written.{rows_told, entries_told, written_told, job_told};
+ghost use Rattle.agc_image.specs.Lacking.{is_action, is_row, is_job, is_listed, is_entry};
+ghost use Rattle.agc_image.specs.Lacking.{are_rows, are_entries, lacking};
+
+use crate::asked::{AgcRequest, address_of, group_of, listing_of, phase_of, start_of, task_of};
+use crate::fault::Fault;
+use crate::lent::{AgcPhaseEntry, AgcRow, job_of, listed_of};
+use agc_plan::JobStart;
+
+/// Whether a task has a row.
+fn has_row(rows: &[AgcRow], at: u32, bank: u32) -> bool
+    ensures { result ≡ has_task (rows_told rows.now) (record { at = at; bank = bank }) }
+{
+    for row in rows {
+        if row.at == at && row.bank == bank {
+            return true;
+        }
+    }
+    false
+}
+
+/// Whether one task has two rows.
+fn task_twice(rows: &[AgcRow]) -> bool
+    ensures { result ≡ task_twice (rows_told rows.now) }
+{
+    for (k, row) in rows.iter().enumerate() {
+        if has_row(&rows[k + 1..], row.at, row.bank) {
+            return true;
+        }
+    }
+    false
+}
+
+/// Whether a group's phase has an entry.
+fn has_entry(entries: &[AgcPhaseEntry], group: u32, phase: u32) -> bool
+    ensures { result ≡ has_entry (entries_told entries.now) group phase }
+{
+    for other in entries {
+        if other.group == group && other.phase == phase {
+            return true;
+        }
+    }
+    false
+}
+
+/// Whether a group's phase has two entries.
+fn phase_twice(entries: &[AgcPhaseEntry]) -> bool
+    ensures { result ≡ phase_twice (entries_told entries.now) }
+{
+    for (k, entry) in entries.iter().enumerate() {
+        if has_entry(&entries[k + 1..], entry.group, entry.phase) {
+            return true;
+        }
+    }
+    false
+}
+
+/// Whether a job wants a VAC area.
+fn wants_area(job: Option<JobStart>) -> bool
+    ensures { result ≡ wants_area job }
+{
+    match job {
+        None => false,
+        Some(JobStart::Novac(_, _)) => false,
+        Some(JobStart::Findvac(_, _)) => true,
+    }
+}
+
+/// Whether an entry of the group names a job with an area.
+fn group_wants(entries: &[AgcPhaseEntry], group: u32) -> bool
+    ensures { result ≡ group_wants (entries_told entries.now) group }
+{
+    for entry in entries {
+        if entry.group == group && wants_area(job_of(entry)) {
+            return true;
+        }
+    }
+    false
+}
+
+/// Whether each of the six groups has such an entry.
+fn all_want(entries: &[AgcPhaseEntry]) -> bool
+    ensures { result ≡ all_want (entries_told entries.now) }
+{
+    group_wants(entries, 1)
+        && group_wants(entries, 2)
+        && group_wants(entries, 3)
+        && group_wants(entries, 4)
+        && group_wants(entries, 5)
+        && group_wants(entries, 6)
+}
+
+/// Whether numbers are an action.
+fn is_action(a: &AgcRequest) -> bool
+    ensures { result ≡ is_action a.now }
+{
+    match a.kind {
+        0 => true,
+        1 => start_of(a.first, a.second, a.third).is_some(),
+        2 => start_of(a.first, a.second, a.third).is_some(),
+        5 => address_of(a.first).is_some(),
+        9 => listing_of(a.first, a.second, a.third).is_some(),
+        _ => false,
+    }
+}
+
+/// Whether numbers are a row.
+fn is_row(row: &AgcRow) -> bool
+    ensures { result ≡ is_row row.now }
+{
+    task_of(row.at, row.bank).is_some()
+        && is_action(&row.first)
+        && is_action(&row.second)
+        && is_action(&row.third)
+        && is_action(&row.fourth)
+}
+
+/// Whether an entry has no job, or one whose numbers are in range.
+fn is_job(e: &AgcPhaseEntry) -> bool
+    ensures { result ≡ is_job e.now }
+{
+    e.job == 0 || job_of(e).is_some()
+}
+
+/// Whether an entry has no task, or one whose numbers are in range.
+fn is_listed(e: &AgcPhaseEntry) -> bool
+    ensures { result ≡ is_listed e.now }
+{
+    e.delay == 0 || listed_of(e).is_some()
+}
+
+/// Whether numbers are an entry.
+fn is_entry(e: &AgcPhaseEntry) -> bool
+    ensures { result ≡ is_entry e.now }
+{
+    group_of(e.group).is_some()
+        && phase_of(e.phase).is_some()
+        && 0 < e.phase
+        && is_job(e)
+        && is_listed(e)
+}
+
+/// Whether all rows are.
+fn are_rows(rows: &[AgcRow]) -> bool
+    ensures { result ≡ are_rows rows.now }
+{
+    for row in rows {
+        if !is_row(row) {
+            return false;
+        }
+    }
+    true
+}
+
+/// Whether all entries are.
+fn are_entries(entries: &[AgcPhaseEntry]) -> bool
+    ensures { result ≡ are_entries entries.now }
+{
+    for entry in entries {
+        if !is_entry(entry) {
+            return false;
+        }
+    }
+    true
+}
+
+/// What rows and entries lack to be a plan: the first of `PlanRange`, `TaskTwice`, `PhaseTwice` and
+/// `TooManyAreas`. None where they are one, and then an era of it begins with no alarm, whatever
+/// the six phases. Source: profile.
+pub fn plan_lacks(rows: &[AgcRow], entries: &[AgcPhaseEntry]) -> Option<Fault>
+    ensures first { result ≡ lacking rows.now entries.now }
+    ensures quiet { IfNone result (BeginsQuietly (written_told rows.now entries.now)) }
+{
+    if !are_rows(rows) {
+        Some(Fault::PlanRange)
+    } else if !are_entries(entries) {
+        Some(Fault::PlanRange)
+    } else if task_twice(rows) {
+        Some(Fault::TaskTwice)
+    } else if phase_twice(entries) {
+        Some(Fault::PhaseTwice)
+    } else if all_want(entries) {
+        Some(Fault::TooManyAreas)
+    } else {
+        None
+    }
+}

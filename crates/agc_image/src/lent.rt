@@ -1,0 +1,163 @@
+// A plan in memory of a caller's own.
+ghost use Rattle.std.specs.Prelude.{◌≡◌, ◌<◌};
+ghost use Rattle.agc_image.specs.Written.{action_told, actions_told, rows_told, job_told};
+ghost use Rattle.agc_image.specs.Written.{listed_told, entries_told, written_told};
+ghost use Rattle.agc_plan.specs.Plans.{actions_in, entry_at};
+
+use crate::asked::{AgcRequest, address_of, listing_of, start_of};
+use agc_plan::{Action, Actions, Delay, Group, JobStart, Phase, PhaseEntry, Plans, Task};
+
+/// What is done when a task fires: four actions, in order. Source: profile.
+#[repr(C)]
+#[derive(Clone, Copy)]
+pub struct AgcRow {
+    /// Where the task begins.
+    pub at: u32,
+    /// The word for its bank.
+    pub bank: u32,
+    /// The first action.
+    pub first: AgcRequest,
+    /// The second.
+    pub second: AgcRequest,
+    /// The third.
+    pub third: AgcRequest,
+    /// The fourth.
+    pub fourth: AgcRequest,
+}
+
+/// What begins again while a group stands in a phase: a job, a task, both or neither. Source:
+/// profile.
+#[repr(C)]
+#[derive(Clone, Copy)]
+pub struct AgcPhaseEntry {
+    /// The group, 1 to 6.
+    pub group: u32,
+    /// The phase, 1 to 127.
+    pub phase: u32,
+    /// 0 no job, 1 NOVAC, 2 FINDVAC.
+    pub job: u32,
+    /// The job's priority.
+    pub priority: u32,
+    /// Where the job begins.
+    pub job_at: u32,
+    /// The word for its bank.
+    pub job_bank: u32,
+    /// The task's delay in centiseconds; 0 where there is no task.
+    pub delay: u32,
+    /// Where the task begins.
+    pub task_at: u32,
+    /// The word for its bank.
+    pub task_bank: u32,
+}
+
+/// A plan whose rows and entries lie in memory of a caller's own: a number out of its range does
+/// nothing, and of two rows or entries the first counts. Source: profile.
+#[derive(Clone, Copy)]
+pub struct Lent<'a> {
+    /// What is done when a task fires.
+    pub rows: &'a [AgcRow],
+    /// What begins again in a phase.
+    pub entries: &'a [AgcPhaseEntry],
+}
+
+/// An action of these numbers.
+fn action_of(a: &AgcRequest) -> Action
+    ensures { result ≡ action_told a.now }
+{
+    match a.kind {
+        1 => match start_of(a.first, a.second, a.third) {
+            Some(start) => Action::Novac(start.0, start.1),
+            None => Action::Nothing,
+        },
+        2 => match start_of(a.first, a.second, a.third) {
+            Some(start) => Action::Findvac(start.0, start.1),
+            None => Action::Nothing,
+        },
+        5 => match address_of(a.first) {
+            Some(at) => Action::Rouse(at),
+            None => Action::Nothing,
+        },
+        9 => match listing_of(a.first, a.second, a.third) {
+            Some(listing) => Action::List(listing.0, listing.1),
+            None => Action::Nothing,
+        },
+        _ => Action::Nothing,
+    }
+}
+
+/// The four actions of a row.
+fn actions_of(row: &AgcRow) -> Actions
+    ensures { result ≡ actions_told row.now }
+{
+    let mut actions = Actions::one(action_of(&row.first));
+    actions.push(action_of(&row.second));
+    actions.push(action_of(&row.third));
+    actions.push(action_of(&row.fourth));
+    actions
+}
+
+/// The job of an entry.
+pub(crate) fn job_of(e: &AgcPhaseEntry) -> Option<JobStart>
+    ensures { result ≡ job_told e.now }
+{
+    match e.job {
+        1 => match start_of(e.priority, e.job_at, e.job_bank) {
+            Some(start) => Some(JobStart::Novac(start.0, start.1)),
+            None => None,
+        },
+        2 => match start_of(e.priority, e.job_at, e.job_bank) {
+            Some(start) => Some(JobStart::Findvac(start.0, start.1)),
+            None => None,
+        },
+        _ => None,
+    }
+}
+
+/// The task of an entry.
+pub(crate) fn listed_of(e: &AgcPhaseEntry) -> Option<(Delay, Task)>
+    ensures { result ≡ listed_told e.now }
+{
+    listing_of(e.delay, e.task_at, e.task_bank)
+}
+
+/// The actions of the first row of a task.
+fn actions_at(rows: &[AgcRow], task: &Task) -> Actions
+    ensures { result ≡ actions_in (rows_told rows.now) task.now }
+{
+    let at = u32::from(task.at.get());
+    let bank = u32::from(task.bank.bits());
+    for row in rows {
+        if row.at == at && row.bank == bank {
+            return actions_of(row);
+        }
+    }
+    Actions::new()
+}
+
+/// The first entry of a group's phase.
+fn entry_at(entries: &[AgcPhaseEntry], group: Group, phase: Phase) -> Option<PhaseEntry>
+    requires { 0 < phase }
+    ensures { result ≡ entry_at (entries_told entries.now) group phase }
+{
+    let of_group = u32::from(group.get());
+    let of_phase = u32::from(phase.get());
+    for entry in entries {
+        if entry.group == of_group && entry.phase == of_phase {
+            return PhaseEntry::new(group, phase, job_of(entry), listed_of(entry));
+        }
+    }
+    None
+}
+
+impl<'a> Plans for Lent<'a> {
+    ghost written = { λ p. written_told p.rows.now p.entries.now };
+
+    fn actions<'b>(&'b self, task: &Task, room: &'b mut Actions) -> &'b [Action] {
+        *room = actions_at(self.rows, task);
+        room.as_slice()
+    }
+
+    fn entry(&self, group: Group, phase: Phase) -> Option<PhaseEntry> {
+        entry_at(self.entries, group, phase)
+    }
+}

@@ -1,0 +1,6 @@
+use Rattle.libagc.proofs.Rising.{era_begun}
+use Rattle.libagc.proofs.eras.begin_era.Goals as goal
+
+pub returns : goal.returns
+returns c =
+    era_begun c.args.entries.now c.args.alarm c.args.sets c.args.words.now c.write_back.new.array c.open.new.image c.note.new.e c.begin.new.e c.requires.count c.open.ensures c.note.ensures c.begin.ensures c.write_back.ensures

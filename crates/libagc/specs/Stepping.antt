@@ -1,0 +1,143 @@
+-- What a whole step does to a caller's words, and what it answers.
+use Rattle.std.specs.Prelude.{◌≡◌, ◌↔◌, ℕ, ◌==◌, nat_lt, Bool, true, false, if◌then◌else◌, List}
+use Rattle.std.specs.Prelude.{Option, Some, None, length, slice_get}
+use Rattle.std.specs.Option.{is_some}
+use Rattle.agc_plan.specs.declared.reply.Reply.{Reply}
+use Rattle.agc_plan.specs.declared.reply.Reply.TheVariants as reply
+use Rattle.agc_plan.specs.declared.request.Request.{Request}
+use Rattle.agc_plan.specs.declared.request.Task.{Task}
+use Rattle.agc_plan.specs.Plans.{Planned, planned_with}
+use Rattle.agc_word.specs.Layout.{sets_in}
+use Rattle.agc_wait.specs.Table.{waits_of}
+use Rattle.agc_wait.specs.Waits.{is_due}
+use Rattle.agc_image.specs.declared.asked.AgcRequest.{AgcRequest}
+use Rattle.agc_image.specs.declared.lent.AgcPhaseEntry.{AgcPhaseEntry}
+use Rattle.agc_image.specs.declared.lent.AgcRow.{AgcRow}
+use Rattle.agc_image.specs.Asked.{request_told, asked_fault}
+use Rattle.agc_image.specs.Codes.{Coded, code_of, code_for}
+use Rattle.agc_image.specs.Images.{Changed, IsImage, image_of}
+use Rattle.agc_image.specs.Lacking.{lacking}
+use Rattle.agc_image.specs.Written.{written_told}
+use Rattle.agc_machine.specs.Stands.{Acts, StepsTo, FiresIn, RaisesIn, IsReady}
+use Rattle.libagc.specs.declared.steps.AgcFired.{AgcFired}
+use Rattle.libagc.specs.declared.steps.AgcStep.{AgcStep}
+use Rattle.libagc.specs.Replies.{alarm_code}
+
+-- a reply of this kind, with this number, with so many tasks that fired, the last of which raised
+-- an alarm by the action of this number
+abbrev pub step_said : ℕ → ℕ → ℕ → ℕ → AgcStep
+step_said kind number fired action = record {
+  code = 0;
+  reply = kind;
+  number = number;
+  fired =
+      fired;
+  action = action;
+}
+
+-- a reply's kind, and the job or the alarm that it names
+abbrev pub step_told : Reply → ℕ → ℕ → AgcStep
+step_told (reply.Established number) fired action = step_said 1 number fired action
+step_told (reply.Left (Some number)) fired action = step_said 2 number fired action
+step_told (reply.Left None) fired action = step_said 3 0 fired action
+step_told (reply.Roused number) fired action = step_said 4 number fired action
+step_told reply.NoSleeper fired action = step_said 5 0 fired action
+step_told reply.NoJob fired action = step_said 6 0 fired action
+step_told (reply.Runs number) fired action = step_said 7 number fired action
+step_told reply.Stored fired action = step_said 8 0 fired action
+step_told reply.Listed fired action = step_said 9 0 fired action
+step_told (reply.Alarmed alarm) fired action = step_said 10 (alarm_code alarm) fired action
+step_told reply.Phased fired action = step_said 11 0 fired action
+step_told (reply.Ticked None) fired action = step_said 12 0 fired action
+step_told (reply.Ticked (Some alarm)) fired action = step_said 13 (alarm_code alarm) fired action
+step_told reply.Restarted fired action = step_said 14 0 fired action
+
+-- the number of an action: a row has four, and one that fits no number of C would be told as 0
+abbrev pub action_told : ℕ → ℕ
+action_told number = if nat_lt number 4294967296 then number else 0
+
+-- a step was not served
+abbrev pub step_refusal : ℕ → AgcStep
+step_refusal code = record { code = code; reply = 0; number = 0; fired = 0; action = 0 }
+
+-- the plan of these rows and entries, on a computer with as many core sets as these words have
+abbrev pub plan_for : List AgcRow → List AgcPhaseEntry → List ℕ → Planned
+plan_for rows entries words = planned_with (written_told rows entries) (sets_in words)
+
+-- what a task that fired is told as
+abbrev pub fired_told : Task → AgcFired
+fired_told task = record { at = task.at; bank = task.bank }
+
+-- the first places have these tasks, in order, and the others are as before
+pub record AreTold (fired : List Task) (before after : List AgcFired) : Type 0 where
+  pub first : (k : ℕ) (task : Task) → slice_get fired k ≡ Some task → slice_get after k ≡ Some
+      (fired_told task)
+  pub others : (k : ℕ) → slice_get fired k ≡ None → slice_get after k ≡ slice_get before k
+
+-- the step of this request by the caller's plan: the array's words became others by it, these tasks
+-- fired, and the reply is told. The moment has the words before an era began
+pub record Steps (rows : List AgcRow) (entries : List AgcPhaseEntry) (asked : Request) (sets : ℕ)
+    (old new moment : List ℕ) (before after : List AgcFired) (result : AgcStep) : Type 0 where
+  pub reply : Reply
+  pub fired : List Task
+  pub action : ℕ
+  pub told : result ≡ step_told reply (length fired) (action_told action)
+  pub handed_out : AreTold fired before after
+  pub fires : FiresIn (plan_for rows entries (image_of sets old)) asked (image_of sets old) fired
+  pub raises : RaisesIn (plan_for rows entries (image_of sets old)) asked (image_of sets old) action
+  pub acted : Changed (λ these those. Acts (plan_for rows entries these) asked these reply those)
+      sets old moment
+  pub changed : Changed (λ these those. StepsTo (plan_for rows entries these) asked these reply
+      those)
+      sets old new
+
+-- the numbers are a request, and it was served
+pub record Serves (rows : List AgcRow) (entries : List AgcPhaseEntry) (asked : AgcRequest)
+    (sets : ℕ)
+    (old new moment : List ℕ) (before after : List AgcFired) (result : AgcStep) : Type 0 where
+  pub request : Request
+  pub asked_is : request_told asked ≡ Some request
+  pub steps : Steps rows entries request sets old new moment before after result
+
+-- nothing was done: the array and what fired are as before, and the moment has the array
+pub record Refuses (old new moment : List ℕ) (before after : List AgcFired) (result : AgcStep)
+    : Type 0 where
+  pub words : new ≡ old
+  pub fired : after ≡ before
+  pub moment_is : moment ≡ old
+  pub told : result ≡ step_refusal result.code
+
+-- the first of two codes that isn't 0
+abbrev pub first_of : ℕ → ℕ → ℕ
+first_of a b = if a == 0 then b else a
+
+-- the code of numbers that are to be a request
+abbrev pub asked_code : AgcRequest → ℕ
+asked_code asked = if is_some (request_told asked) then 0 else code_of (asked_fault asked)
+
+-- the code of lawful words that are to be between requests: a task is due, or else they are such as
+-- no step leaves
+pub record Timed (code : ℕ) (words : List ℕ) : Type 0 where
+  pub ready : (code ≡ 0) ↔ IsReady words
+  pub due : (code ≡ 6) ↔ (is_due (waits_of words) ≡ true)
+  pub untidy : (code ≡ 8) ↔ ((is_due (waits_of words) ≡ false) × ¬ IsReady words)
+
+-- the code of lawful words and of a plan, the first that isn't 0
+pub record Lacks (code : ℕ) (words : List ℕ) (rows : List AgcRow) (entries : List AgcPhaseEntry)
+    : Type 0 where
+  pub time : ℕ
+  pub timed : Timed time words
+  pub first : code ≡ first_of time (code_for (lacking rows entries))
+
+-- the code of a call that wants an image, and then what has this code: the first that isn't 0
+pub record ImageThen (code sets : ℕ) (array : List ℕ) (other : ℕ) : Type 0 where
+  pub image : ℕ
+  pub image_is : Coded image sets array (Unit {0}) (Unit {0}) (Unit {0})
+  pub first : code ≡ first_of image other
+
+-- the code of a step: the first that isn't 0 of its image's, its request's, its time's and its
+-- plan's
+pub record StepCoded (code sets : ℕ) (array : List ℕ) (asked : AgcRequest) (plan : ℕ) : Type 0 where
+  pub time : ℕ
+  pub timed : IsImage sets array → asked_code asked ≡ 0 → Timed time (image_of sets array)
+  pub first : ImageThen code sets array (first_of (asked_code asked) (first_of time plan))

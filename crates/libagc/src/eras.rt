@@ -1,0 +1,194 @@
+// The beginning of an era, and power coming back.
+ghost use Rattle.std.specs.Prelude.{◌≡◌, ℕ, []};
+ghost use Rattle.agc_image.specs.Codes.{code_of, code_for};
+ghost use Rattle.agc_image.specs.Images.{AreWords, Changed, IsImage, IsSets};
+ghost use Rattle.agc_image.specs.Lacking.{lacking};
+ghost use Rattle.agc_phase.specs.Image.{Becomes, IsLawfulTable, base_of};
+ghost use Rattle.agc_word.specs.Profiles.{count_of};
+ghost use Rattle.libagc.specs.Eras.{Begins, BeginCoded, PowersUp, PowerCoded, alarm_lack};
+ghost use Rattle.libagc.specs.Eras.{base_after};
+ghost use Rattle.libagc.specs.Eras.{power_number};
+
+use crate::reply::AgcNumber;
+use agc_image::{
+    AgcPhaseEntry, Fault, Lent, alarm_code, blank, image_fault, open, plan_lacks, twelve,
+    write_back,
+};
+use agc_machine::{begin, recover_into};
+use agc_phase::record_alarm;
+use agc_word::{Erasable, Sets, Word};
+
+/// Whether a number is an alarm to be recorded, or 0 where none is.
+fn alarm_fault(alarm: u32) -> Option<Fault>
+    ensures { code_for result ≡ alarm_lack alarm }
+{
+    if alarm == 0 {
+        return None;
+    }
+    match alarm_code(alarm) {
+        Some(_code) => None,
+        None => Some(Fault::OutOfRange),
+    }
+}
+
+/// Records an alarm, if it is one.
+fn note(alarm: u32, e: &mut Erasable)
+    requires { IsLawfulTable e.old }
+    ensures { Becomes (base_after alarm (base_of e.old)) e.old e.new }
+{
+    match alarm_code(alarm) {
+        Some(code) => record_alarm(e, code),
+        None => {}
+    }
+}
+
+/// An era begins in an image.
+fn begin_era(words: &mut [u16; 144], sets: u32, alarm: u32, entries: &[AgcPhaseEntry])
+    requires { IsImage sets words.old }
+    ensures { Changed (Begins entries.now alarm) sets words.old words.new }
+{
+    let mut image = blank(sets);
+    open(words, sets, &mut image);
+    note(alarm, &mut image);
+    let plan = Lent { rows: &[], entries };
+    begin(&plan, &mut image);
+    write_back(&image, words);
+}
+
+/// An era begins, as after an alarm: its code, 01107, 01201, 01202 or 01203, is recorded, or none
+/// where it is 0. All jobs and tasks are gone, and then for groups 1 to 6 in order the entry of the
+/// group's phase begins, its job and then its task. Returns the code: 1 to 3 for the image, 4 for
+/// the alarm, 9, 11 or 12 for the entries. Source: the listings' FRESH START AND RESTART section.
+#[unsafe(no_mangle)]
+pub extern "C" fn agc_begin(
+    words: &mut [u16; 144],
+    sets: u32,
+    alarm: u32,
+    entries: &[AgcPhaseEntry],
+) -> u32
+    ensures code { BeginCoded result sets words.old alarm (code_for (lacking [] entries.now)) }
+    ensures served { result ≡ 0 → Changed (Begins entries.now alarm) sets words.old words.new }
+    ensures refused { ¬ (result ≡ 0) → words.new ≡ words.old }
+{
+    match image_fault(words, sets) {
+        Some(fault) => fault.code(),
+        None => match alarm_fault(alarm) {
+            Some(fault) => fault.code(),
+            None => match plan_lacks(&[], entries) {
+                Some(fault) => fault.code(),
+                None => {
+                    begin_era(words, sets, alarm, entries);
+                    0
+                }
+            },
+        },
+    }
+}
+
+/// As `agc_begin`, for an array that is known to have an image. Codes 0 and 4 alone: a number of an
+/// entry that is out of its range does nothing, and of two entries the first counts. Source: the
+/// listings' FRESH START AND RESTART section.
+#[unsafe(no_mangle)]
+pub extern "C" fn agc_begin_trusted(
+    words: &mut [u16; 144],
+    sets: u32,
+    alarm: u32,
+    entries: &[AgcPhaseEntry],
+) -> u32
+    requires { IsImage sets words.old }
+    ensures code { result ≡ alarm_lack alarm }
+    ensures served { result ≡ 0 → Changed (Begins entries.now alarm) sets words.old words.new }
+    ensures refused { ¬ (result ≡ 0) → words.new ≡ words.old }
+{
+    match alarm_fault(alarm) {
+        Some(fault) => fault.code(),
+        None => {
+            begin_era(words, sets, alarm, entries);
+            0
+        }
+    }
+}
+
+/// The number of code 01107, where phase words don't agree.
+fn power_number(recovered: bool) -> u32
+    ensures { result ≡ power_number recovered }
+{
+    if recovered { 0 } else { 0o1107 }
+}
+
+/// Power comes back with these phase words.
+fn rise(
+    words: &mut [u16; 144],
+    count: Sets,
+    entries: &[AgcPhaseEntry],
+    phase_words: &[Word; 12],
+) -> AgcNumber
+    ensures served { (sets : ℕ) → IsSets sets → count_of count ≡ sets
+        → PowersUp sets entries.now phase_words.now words.old words.new result.number }
+    ensures code { result.code ≡ 0 }
+{
+    let mut image = Erasable::new(count);
+    let recovered = recover_into(phase_words, &mut image);
+    let plan = Lent { rows: &[], entries };
+    begin(&plan, &mut image);
+    write_back(&image, words);
+    AgcNumber {
+        code: 0,
+        number: power_number(recovered),
+    }
+}
+
+/// Power comes back with these phase words, -PHASE1, PHASE1 to -PHASE6, PHASE6, whatever stood in
+/// the array. An era begins with the phases that they tell and no codes; where they don't agree, it
+/// is a fresh start with code 01107, and the number is 01107, else 0. Codes: 1 for the number of
+/// core sets, 2 where a phase word is no word, 9, 11 or 12 for the entries. Source: the listings'
+/// FRESH START AND RESTART section; the codes are profile.
+#[unsafe(no_mangle)]
+pub extern "C" fn agc_power_up(
+    words: &mut [u16; 144],
+    sets: u32,
+    entries: &[AgcPhaseEntry],
+    phase_words: &[u16; 12],
+) -> AgcNumber
+    ensures code { PowerCoded result.code sets phase_words.now
+        (code_for (lacking [] entries.now)) }
+    ensures served { result.code ≡ 0
+        → PowersUp sets entries.now phase_words.now words.old words.new result.number }
+    ensures refused { ¬ (result.code ≡ 0) → (words.new ≡ words.old) × (result.number ≡ 0) }
+{
+    match agc_image::sets(sets) {
+        None => AgcNumber::refused(Fault::NoSuchSets),
+        Some(count) => match twelve(phase_words) {
+            None => AgcNumber::refused(Fault::NotWords),
+            Some(found) => match plan_lacks(&[], entries) {
+                Some(fault) => AgcNumber::refused(fault),
+                None => rise(words, count, entries, &found),
+            },
+        },
+    }
+}
+
+/// As `agc_power_up`, and doesn't look at the entries: a number of one that is out of its range
+/// does
+/// nothing, and of two entries the first counts. Source: the listings' FRESH START AND RESTART
+/// section.
+#[unsafe(no_mangle)]
+pub extern "C" fn agc_power_up_trusted(
+    words: &mut [u16; 144],
+    sets: u32,
+    entries: &[AgcPhaseEntry],
+    phase_words: &[u16; 12],
+) -> AgcNumber
+    ensures code { PowerCoded result.code sets phase_words.now 0 }
+    ensures served { result.code ≡ 0
+        → PowersUp sets entries.now phase_words.now words.old words.new result.number }
+    ensures refused { ¬ (result.code ≡ 0) → (words.new ≡ words.old) × (result.number ≡ 0) }
+{
+    match agc_image::sets(sets) {
+        None => AgcNumber::refused(Fault::NoSuchSets),
+        Some(count) => match twelve(phase_words) {
+            None => AgcNumber::refused(Fault::NotWords),
+            Some(found) => rise(words, count, entries, &found),
+        },
+    }
+}

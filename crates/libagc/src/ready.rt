@@ -1,0 +1,93 @@
+// Whether words of a caller's own are such as each step leaves them.
+ghost use Rattle.std.specs.Prelude.{◌≡◌, ◌<◌, true, false, [], slice_index_or};
+ghost use Rattle.agc_word.specs.Layout.{IsSized, sets_in};
+ghost use Rattle.agc_exec.specs.Blocks.{blocks_of};
+ghost use Rattle.agc_exec.specs.Image as cores;
+ghost use Rattle.agc_wait.specs.Table as table;
+ghost use Rattle.agc_image.specs.Images.{IsLawful};
+ghost use Rattle.agc_image.specs.Codes.{code_for};
+ghost use Rattle.agc_machine.specs.Stands.{IsReady};
+ghost use Rattle.agc_wait.specs.Table.{waits_of};
+ghost use Rattle.agc_wait.specs.Waits.{is_due};
+ghost use Rattle.libagc.specs.Stepping.{Timed};
+
+use agc_image::Fault;
+use agc_word::Erasable;
+use agc_word::layout::{LST1, set_place};
+
+/// Whether a set is free, or MODE and PUSHLOC of its job are 00000.
+fn is_tidy_set(e: &Erasable, k: usize) -> bool
+    requires set { k < sets_in e.now }
+    requires sized { IsSized e.now }
+    ensures yes { result ≡ true → cores.IsTidyBlock (slice_index_or (blocks_of e.now) k []) }
+    ensures no { cores.IsTidyBlock (slice_index_or (blocks_of e.now) k []) → result ≡ true }
+{
+    let at = set_place(k);
+    let priority = e.get(at + 11).bits();
+    if priority == 0o77777 {
+        return true;
+    }
+    let mode = e.get(at + 7).bits();
+    let pushloc = e.get(at + 10).bits();
+    if mode != 0 {
+        return false;
+    }
+    pushloc == 0
+}
+
+/// Whether each set is so.
+fn are_tidy_sets(e: &Erasable) -> bool
+    requires { IsSized e.now }
+    ensures yes { result ≡ true → cores.IsTidy e.now }
+    ensures no { cores.IsTidy e.now → result ≡ true }
+{
+    for k in 0..e.sets().count() {
+        if !is_tidy_set(e, k) {
+            return false;
+        }
+    }
+    true
+}
+
+/// Whether no gap is written as minus zero.
+fn are_tidy_gaps(e: &Erasable) -> bool
+    ensures yes { result ≡ true → table.IsTidy e.now }
+    ensures no { table.IsTidy e.now → result ≡ true }
+{
+    for k in 0..8usize {
+        if e.get(LST1 + k).bits() == 0o77777 {
+            return false;
+        }
+    }
+    true
+}
+
+/// Whether lawful words are tidy, and no task is due.
+fn is_ready(e: &Erasable) -> bool
+    requires { IsLawful e.now }
+    ensures yes { result ≡ true → IsReady e.now }
+    ensures no { IsReady e.now → result ≡ true }
+    ensures due { result ≡ true → is_due (waits_of e.now) ≡ false }
+{
+    if !are_tidy_sets(e) {
+        return false;
+    }
+    if !are_tidy_gaps(e) {
+        return false;
+    }
+    !agc_wait::due(e)
+}
+
+/// Why lawful words aren't between requests: a task is due, or else they aren't tidy.
+pub(crate) fn time_fault(e: &Erasable) -> Option<Fault>
+    requires { IsLawful e.now }
+    ensures { Timed (code_for result) e.now }
+{
+    if is_ready(e) {
+        None
+    } else if agc_wait::due(e) {
+        Some(Fault::NotNow)
+    } else {
+        Some(Fault::Untidy)
+    }
+}

@@ -1,0 +1,234 @@
+// The whole step.
+ghost use Rattle.std.specs.Prelude.{◌≡◌, ℕ};
+ghost use Rattle.agc_plan.specs.declared.request.Request.{Request};
+ghost use Rattle.agc_image.specs.Codes.{code_of, code_for};
+ghost use Rattle.agc_image.specs.Images.{IsImage, IsLawful, IsOpened, IsSets, image_of};
+ghost use Rattle.agc_image.specs.Lacking.{lacking};
+ghost use Rattle.agc_machine.specs.Stands.{IsReady};
+ghost use Rattle.libagc.specs.Replies.{alarm_code};
+ghost use Rattle.libagc.specs.Stepping.{AreTold, Steps, Serves, Refuses, StepCoded, asked_code};
+ghost use Rattle.libagc.specs.Stepping.{Lacks};
+ghost use Rattle.libagc.specs.Stepping.{step_told, step_refusal, action_told};
+
+use crate::ready::time_fault;
+use crate::reply::alarm_code;
+use agc_image::{
+    AgcPhaseEntry, AgcRequest, AgcRow, Fault, Lent, asked_fault, blank, image_fault, open,
+    plan_lacks, request_of, write_back,
+};
+use agc_machine::{act_words, finish_words};
+use agc_plan::{Fired, Reply, Request};
+use agc_word::Erasable;
+
+/// A task that fired. Source: profile.
+#[repr(C)]
+#[derive(Clone, Copy)]
+pub struct AgcFired {
+    /// Where the task begins.
+    pub at: u32,
+    /// The word for its bank.
+    pub bank: u32,
+}
+
+/// What a step answers. Source: profile.
+#[repr(C)]
+#[derive(Clone, Copy)]
+pub struct AgcStep {
+    /// 0 where the request was served, else the code of what it lacked.
+    pub code: u32,
+    /// The kind of the reply, 1 to 14; 0 where the request was not served.
+    pub reply: u32,
+    /// The number of the job that the reply names, or the alarm's code; else 0.
+    pub number: u32,
+    /// How many tasks fired, 0 to 9.
+    pub fired: u32,
+    /// Which action of the last of them raised the alarm, 1 to 4; 0 where none did.
+    pub action: u32,
+}
+
+impl AgcStep {
+    /// The step was not served.
+    fn refused(fault: Fault) -> AgcStep
+        ensures { result ≡ step_refusal (code_of fault) }
+    {
+        AgcStep {
+            code: fault.code(),
+            reply: 0,
+            number: 0,
+            fired: 0,
+            action: 0,
+        }
+    }
+
+    /// What a reply is told as.
+    fn of(reply: &Reply, fired: u32, action: u32) -> AgcStep
+        ensures reply { result ≡ step_told reply.now fired action }
+        ensures served { result.code ≡ 0 }
+    {
+        let (kind, number) = match reply {
+            Reply::Established(number) => (1, u32::from(number.get())),
+            Reply::Left(Some(number)) => (2, u32::from(number.get())),
+            Reply::Left(None) => (3, 0),
+            Reply::Roused(number) => (4, u32::from(number.get())),
+            Reply::NoSleeper => (5, 0),
+            Reply::NoJob => (6, 0),
+            Reply::Runs(number) => (7, u32::from(number.get())),
+            Reply::Stored => (8, 0),
+            Reply::Listed => (9, 0),
+            Reply::Alarmed(alarm) => (10, alarm_code(*alarm)),
+            Reply::Phased => (11, 0),
+            Reply::Ticked(None) => (12, 0),
+            Reply::Ticked(Some(alarm)) => (13, alarm_code(*alarm)),
+            Reply::Restarted => (14, 0),
+        };
+        AgcStep {
+            code: 0,
+            reply: kind,
+            number,
+            fired,
+            action,
+        }
+    }
+}
+
+/// Writes the tasks that fired into the caller's places.
+fn hand_out(list: &Fired, fired: &mut [AgcFired; 9])
+    ensures { AreTold list.now fired.old fired.new }
+{
+    for k in 0..list.len() {
+        match list.get(k) {
+            Some(task) => {
+                fired[k] = AgcFired {
+                    at: u32::from(task.at.get()),
+                    bank: u32::from(task.bank.bits()),
+                };
+            }
+            None => {}
+        }
+    }
+}
+
+/// The number of an action.
+fn action_told(number: usize) -> u32
+    ensures { result ≡ action_told number }
+{
+    match u32::try_from(number) {
+        Ok(number) => number,
+        Err(_) => 0,
+    }
+}
+
+/// Serves a request on an open image, and writes it back.
+fn serve(
+    words: &mut [u16; 144],
+    plan: &Lent<'_>,
+    request: &Request,
+    image: &mut Erasable,
+    fired: &mut [AgcFired; 9],
+    moment: &mut [u16; 144],
+) -> AgcStep
+    requires moment { moment.old ≡ words.old }
+    requires ready { IsReady image.old }
+    ensures served { (sets : ℕ) → IsSets sets → IsOpened sets words.old image.old
+        → Steps plan.now.rows.now plan.now.entries.now request.now sets words.old words.new
+        moment.new fired.old fired.new result }
+    ensures code { result.code ≡ 0 }
+{
+    let mut list = Fired::new();
+    let (reply, action) = act_words(plan, image, request, &mut list);
+    write_back(image, moment);
+    finish_words(plan, &reply, image);
+    write_back(image, words);
+    hand_out(&list, fired);
+    AgcStep::of(&reply, list.len() as u32, action_told(action))
+}
+
+/// What a step lacks besides an image and a request: the time for it, tidy words, a plan.
+fn lacks(image: &Erasable, rows: &[AgcRow], entries: &[AgcPhaseEntry]) -> Option<Fault>
+    requires { IsLawful image.now }
+    ensures { Lacks (code_for result) image.now rows.now entries.now }
+{
+    match time_fault(image) {
+        Some(fault) => Some(fault),
+        None => plan_lacks(rows, entries),
+    }
+}
+
+/// One request, with all that follows from it: what fires in a tick has the actions of its row
+/// done, and an era begins by the plan's entries, where one begins with the reply. `fired` gets the
+/// tasks that fired in its first places, in order. `moment` gets the words as they were when the
+/// request was answered, before an era began with it, and the words as they are where the code
+/// isn't
+/// 0. Codes: 1 to 3 for the image, 4 and 5 for the request, 6 where a task is due, 8 where the
+/// words
+/// are such as no step leaves, 9 to 12 for the plan. Source: the request's own.
+#[unsafe(no_mangle)]
+pub extern "C" fn agc_step(
+    words: &mut [u16; 144],
+    sets: u32,
+    rows: &[AgcRow],
+    entries: &[AgcPhaseEntry],
+    request: &AgcRequest,
+    fired: &mut [AgcFired; 9],
+    moment: &mut [u16; 144],
+) -> AgcStep
+    ensures code { StepCoded result.code sets words.old request.now
+        (code_for (lacking rows.now entries.now)) }
+    ensures served { result.code ≡ 0 → Serves rows.now entries.now request.now sets words.old
+        words.new moment.new fired.old fired.new result }
+    ensures refused { ¬ (result.code ≡ 0)
+        → Refuses words.old words.new moment.new fired.old fired.new result }
+{
+    *moment = *words;
+    match image_fault(words, sets) {
+        Some(fault) => AgcStep::refused(fault),
+        None => match request_of(request) {
+            None => AgcStep::refused(asked_fault(request)),
+            Some(asked) => {
+                let mut image = blank(sets);
+                open(words, sets, &mut image);
+                match lacks(&image, rows, entries) {
+                    Some(fault) => AgcStep::refused(fault),
+                    None => {
+                        let plan = Lent { rows, entries };
+                        serve(words, &plan, &asked, &mut image, fired, moment)
+                    }
+                }
+            }
+        },
+    }
+}
+
+/// As `agc_step`, for an array that is known to have an image such as every step leaves it. Codes
+/// 0,
+/// 4 and 5 alone: a number of the plan that is out of its range does nothing, and of two rows or
+/// entries the first counts. Source: the request's own.
+#[unsafe(no_mangle)]
+pub extern "C" fn agc_step_trusted(
+    words: &mut [u16; 144],
+    sets: u32,
+    rows: &[AgcRow],
+    entries: &[AgcPhaseEntry],
+    request: &AgcRequest,
+    fired: &mut [AgcFired; 9],
+    moment: &mut [u16; 144],
+) -> AgcStep
+    requires image { IsImage sets words.old }
+    requires ready { IsReady (image_of sets words.old) }
+    ensures code { result.code ≡ asked_code request.now }
+    ensures served { result.code ≡ 0 → Serves rows.now entries.now request.now sets words.old
+        words.new moment.new fired.old fired.new result }
+    ensures refused { ¬ (result.code ≡ 0)
+        → Refuses words.old words.new moment.new fired.old fired.new result }
+{
+    *moment = *words;
+    match request_of(request) {
+        None => AgcStep::refused(asked_fault(request)),
+        Some(asked) => {
+            let mut image = blank(sets);
+            open(words, sets, &mut image);
+            let plan = Lent { rows, entries };
+            serve(words, &plan, &asked, &mut image, fired, moment)
+        }
+    }
+}
