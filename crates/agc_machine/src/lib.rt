@@ -7,9 +7,9 @@ mod machine;
 mod migration;
 mod moment;
 mod step;
-mod stepping;
 mod tick;
 mod totals;
+mod whole;
 mod words;
 
 pub use agc_plan::NoMemory;
@@ -18,6 +18,6 @@ pub use era::begin;
 pub use machine::{Machine, recover_into, starts_over};
 pub use migration::migrate;
 pub use moment::Moment;
-pub use stepping::step_words;
 pub use totals::Totals;
+pub use whole::step_words;
 pub use words::{act_words, finish_words};
