@@ -10,7 +10,7 @@ import tempfile
 
 TOP = os.path.realpath(os.path.join(os.path.dirname(os.path.realpath(__file__)), "../.."))
 LEFT_OUT = [f":!{it}" for it in ("crates/*/src", "crates/*/specs", "crates/*/proofs", "tests")]
-COMMANDS = "crates/agc_words/src/commands.rt"
+COMMANDS = "crates/agc_watch/src/commands.rt"
 WATCHED = {"trace": "trace", "picture": "svg", "page": "html"}
 BUILT = ["crates/agc/out/agc", "crates/agc_watch/out/agc_watch", "crates/libagc/out/liblibagc.a"]
 HEADER = "libagc/include/agc.h"

@@ -18,12 +18,12 @@ pub struct Program {
 
 /// A fault as a program tells it, in a line on standard error.
 #[derive(Clone, Copy, Debug)]
-pub struct Told {
+pub struct FaultLine {
     pub program: Program,
     pub fault: Fault,
 }
 
-impl fmt::Display for Told {
+impl fmt::Display for FaultLine {
     ghost output = { λ told.
         Some (told_text told.program.name.now told.program.usage.now told.fault) };
 
@@ -42,7 +42,7 @@ impl fmt::Display for Told {
     }
 }
 
-impl std::error::Error for Told {}
+impl std::error::Error for FaultLine {}
 
 /// How a program ends: with status 0, or with a line on standard error and the fault's status.
 pub fn ended(rt: &impl Eprint, program: Program, outcome: Result<(), Fault>) -> ExitCode
@@ -51,7 +51,7 @@ pub fn ended(rt: &impl Eprint, program: Program, outcome: Result<(), Fault>) -> 
     match outcome {
         Ok(()) => ExitCode::SUCCESS,
         Err(fault) => {
-            let told = Told { program, fault };
+            let told = FaultLine { program, fault };
             let _ = eprintln!(rt; "{told}");
             ExitCode::from(fault.status())
         }

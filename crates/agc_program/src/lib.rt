@@ -8,6 +8,6 @@ mod fault;
 mod output;
 
 pub use command::{given_words, only_word};
-pub use ending::{Program, Told, ended};
+pub use ending::{FaultLine, Program, ended};
 pub use fault::Fault;
 pub use output::{buffered, flushed};

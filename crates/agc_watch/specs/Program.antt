@@ -9,7 +9,7 @@ use Rattle.agc_document.specs.Faults.{RefusesBench}
 use Rattle.agc_session.specs.declared.run_fault.RunFault.{RunFault}
 use Rattle.agc_program.specs.declared.fault.Fault.{Fault}
 use Rattle.agc_program.specs.declared.fault.Fault.TheVariants as fault
-use Rattle.agc_program.specs.Inputs.{CanEnd, IsDocument}
+use Rattle.agc_program.specs.Inputs.{IsDocument}
 use Rattle.agc_plan.specs.declared.request.Request.{Request}
 use Rattle.agc_text.specs.Faults.{RefusesScript}
 use Rattle.agc_text.specs.Lines.{line_of}
@@ -27,17 +27,9 @@ use Rattle.agc_trace.specs.declared.choice.Choice.{Choice}
 use Rattle.agc_trace.specs.Runs.{WritesTrace, script_text, trace_text}
 use Rattle.agc_picture.specs.Pictures.{WritesPicture}
 use Rattle.agc_page.specs.Pages.{WritesPage}
-use Rattle.agc_words.specs.Words.{AskFor}
-use Rattle.agc_words.specs.declared.options.TraceOptions.{TraceOptions}
-use Rattle.agc_words.specs.declared.words.WordsFault.{WordsFault}
-use Rattle.agc_words.specs.declared.words.WordsFault.TheVariants as words
-use Rattle.agc_words.specs.declared.words.Work.{Work}
-use Rattle.agc_words.specs.declared.words.Work.TheVariants as work
-
--- the fault of words that are refused
-abbrev pub fault_for : WordsFault → Fault
-fault_for words.Words = fault.Words
-fault_for words.NoMemory = fault.NoMemory
+use Rattle.agc_watch.specs.declared.words.TraceOptions.{TraceOptions}
+use Rattle.agc_watch.specs.declared.words.Work.{Work}
+use Rattle.agc_watch.specs.declared.words.Work.TheVariants as work
 
 -- what was written of a bench, by what is there before and after, and how it ended
 abbrev pub Writing : Type 1
@@ -153,25 +145,6 @@ WorksOn work.Picture text old new = EndsWell (DrawsText text old new)
 WorksOn work.Page text old new = EndsWell (PagesText text old new)
 WorksOn work.CheckBench text old new = ChecksBench text old new
 WorksOn work.CheckScript text old new = ChecksScript text old new
-
--- the help or the version was printed; or it wasn't
-abbrev pub CanEndPrinting : Result Bool Fault → Type 0
-CanEndPrinting (Ok well) = well ≡ true
-CanEndPrinting (Err why) = why ≡ fault.Output
-
--- words that ask for no work can end so: by a text that is printed, or refused
-abbrev pub CanEndWithout : Result Bool Fault → Type 0
-CanEndWithout outcome =
-    CanEndPrinting outcome ⊎ (outcome ≡ Err fault.Words) ⊎ (outcome ≡ Err fault.NoMemory)
-
--- words can end so: as the work for which they ask, or they ask for none
-abbrev pub EndsFor : (words : List (List ℕ)) → Result Bool Fault → Type 0
-EndsFor words outcome = ((wanted : Work) × AskFor words wanted × CanEnd (WorksOn wanted) outcome)
-    ⊎ (((wanted : Work) → AskFor words wanted → ⊥) × CanEndWithout outcome)
-
--- a run can end so, for some words
-abbrev pub IsEnd : Result Bool Fault → Type 0
-IsEnd outcome = (words : List (List ℕ)) × EndsFor words outcome
 
 -- the exit status: 2 where the input isn't what it should be
 abbrev pub status_by : Result Bool Fault → ℕ

@@ -1,28 +1,50 @@
 //! What the program does: the words, the reading, the bench, its trace, picture or page, in this
 //! order.
-ghost use Rattle.std.specs.Prelude.{◌≡◌, map};
-ghost use Rattle.std.specs.String.{string_bytes};
+ghost use Rattle.std.specs.Prelude.{◌≡◌};
+ghost use Rattle.std.specs.Process.{exit_status};
 ghost use Rattle.toml.specs.Parse.{parse_document};
 ghost use Rattle.agc_document.specs.Faults.{RefusesBench};
 ghost use Rattle.agc_program.specs.Inputs.{CanEnd, EndsBy, IsDocument};
-ghost use Rattle.agc_watch.specs.Program.{choice_of, fault_for, is_nothing};
+ghost use Rattle.agc_watch.specs.Program.{choice_of, is_nothing};
 ghost use Rattle.agc_watch.specs.Program.{DrawsText, PagesText, TracesBench, TracesScript};
 ghost use Rattle.agc_watch.specs.Program.{ChecksBench, ChecksScript, TracesText, WorksOn};
-ghost use Rattle.agc_watch.specs.Program.{CanEndPrinting, EndsFor, IsEnd};
+ghost use Rattle.agc_watch.specs.Program.{status_by};
 
+use crate::words::{Asked, Refused, TraceOptions, Work, asked_for};
 use agc_document::{Bench, BenchFault, read_bench};
 use agc_lint::{bench_findings, script_findings, tell_all, tell_bench};
 use agc_page::page;
 use agc_picture::picture;
-use agc_program::{Fault, buffered, flushed, given_words};
+use agc_program::{Fault, Program, buffered, ended, flushed, given_words};
 use agc_text::{read_all, read_script};
 use agc_trace::{Choice, trace, trace_script};
 use agc_warn::{bench_warnings, tell_warnings};
-use agc_words::{Asked, TraceOptions, WordsFault, Work, asked_for};
 use clap::Error;
 use std::alloc::Global;
-use std::io::{Read, Write};
-use std::rt::Env;
+use std::io::{Eprint, ErrorKind, Input, Print, Read, Write};
+use std::process::ExitCode;
+use std::rt::{Env, Files};
+use std::{fs, io};
+
+/// How many bytes an input may have.
+const MOST_BYTES: u64 = 1_048_576;
+
+/// What the program is called, and which words it takes.
+const PROGRAM: Program = Program {
+    name: "agc_watch",
+    usage: "use trace, picture, page or check",
+};
+
+/// How the program ends: with status 2 where its input isn't what it should be.
+fn ended_by(rt: &impl Eprint, outcome: Result<bool, Fault>) -> ExitCode
+    ensures { exit_status result ≡ status_by outcome }
+{
+    match outcome {
+        Ok(true) => ended(rt, PROGRAM, Ok(())),
+        Ok(false) => ExitCode::from(2),
+        Err(fault) => ended(rt, PROGRAM, Err(fault)),
+    }
+}
 
 /// The requests that options of a trace choose.
 fn choice_of(options: TraceOptions) -> Choice
@@ -193,54 +215,76 @@ fn work_input<R: Read, W: Write>(
     work_text(alloc, work, text.as_str(), writer)
 }
 
-/// Does what is asked of standard input, and writes it through a buffer that is flushed at the end.
-fn run_work<R: AllocGlobal + Input + Print>(rt: &R, work: Work) -> Result<bool, Fault>
+/// Does what is asked of an input, and writes it through a buffer that is flushed at the end.
+fn run_work<H: AllocGlobal + Print, R: Read>(
+    rt: &H,
+    work: Work,
+    reader: &mut R,
+) -> Result<bool, Fault>
     ensures { CanEnd (WorksOn work) result }
 {
     let mut output = buffered(rt)?;
-    let is_well = work_input(rt.alloc(), work, &mut rt.reader(), &mut output)?;
+    let is_well = work_input(rt.alloc(), work, reader, &mut output)?;
     flushed(&mut output)?;
     Ok(is_well)
 }
 
-/// The program's fault where its words are refused.
-fn fault_for(refused: WordsFault) -> Fault
-    ensures { result ≡ fault_for refused }
-{
-    match refused {
-        WordsFault::Words => Fault::Words,
-        WordsFault::NoMemory => Fault::NoMemory,
+/// The bytes of a file, as many as an input may have, and one more.
+fn read_file<H: AllocGlobal + Files>(rt: &H, name: &str) -> io::Result<Vec<u8>> {
+    let mut bytes = Vec::new(rt.alloc());
+    let mut file = fs::open(rt, name)?.take(MOST_BYTES + 1);
+    file.read_to_end(&mut bytes)?;
+    Ok(bytes)
+}
+
+/// Says why a file can't be read, and how the program ends by that.
+fn ended_unread(rt: &impl Eprint, name: &str, error: &io::Error) -> ExitCode {
+    if error.kind() == ErrorKind::OutOfMemory {
+        return ended_by(rt, Err(Fault::NoMemory));
+    }
+    let _ = eprintln!(rt; "agc_watch: {name}: {error}");
+    ExitCode::from(4)
+}
+
+/// Does what is asked for, of the file that is named or of standard input.
+fn run_asked<H: AllocGlobal + Files + Input + Print + Eprint>(
+    rt: &H,
+    asked: &Asked<'_>,
+) -> ExitCode {
+    match asked.file {
+        None => ended_by(rt, run_work(rt, asked.work, &mut rt.reader())),
+        Some(name) => match read_file(rt, name) {
+            Ok(bytes) => ended_by(rt, run_work(rt, asked.work, &mut bytes.as_slice())),
+            Err(error) => ended_unread(rt, name, &error),
+        },
     }
 }
 
-/// Prints the help or the version.
-fn print_text<R: Print + Eprint>(rt: &R, text: &Error) -> Result<bool, Fault>
-    ensures { CanEndPrinting result }
-{
+/// Prints the help or the version, or what is wrong with the words.
+fn printed<H: Print + Eprint>(rt: &H, text: &Error) -> ExitCode {
     match text.print(rt) {
-        Ok(()) => Ok(true),
-        Err(_failed) => Err(Fault::Output),
+        Ok(()) if text.use_stderr() => ExitCode::from(2),
+        Ok(()) => ExitCode::SUCCESS,
+        Err(_failed) => ended_by(rt, Err(Fault::Output)),
     }
 }
 
 /// Does what these words ask for, of which the first is the program's own name.
-fn run_words<R: AllocGlobal + Input + Print + Eprint>(
-    rt: &R,
+fn run_words<H: AllocGlobal + Files + Input + Print + Eprint>(
+    rt: &H,
     words: &[String],
-) -> Result<bool, Fault>
-    ensures { EndsFor (map string_bytes words.now) result }
-{
+) -> ExitCode {
     match asked_for(rt.alloc(), words) {
-        Ok(Asked::Work(work)) => run_work(rt, work),
-        Ok(Asked::Text(text)) => print_text(rt, &text),
-        Err(refused) => Err(fault_for(refused)),
+        Ok(asked) => run_asked(rt, &asked),
+        Err(Refused::Text(text)) => printed(rt, &text),
+        Err(Refused::NoMemory) => ended_by(rt, Err(Fault::NoMemory)),
     }
 }
 
-/// Runs the program. False where it was asked what is wrong with its input, and something is.
-pub fn run(rt: &(impl Env + AllocGlobal + Input + Print + Eprint)) -> Result<bool, Fault>
-    ensures { IsEnd result }
-{
-    let given = given_words(rt)?;
-    run_words(rt, given.as_slice())
+/// Runs the program.
+pub fn run(rt: &(impl Env + AllocGlobal + Files + Input + Print + Eprint)) -> ExitCode {
+    match given_words(rt) {
+        Ok(given) => run_words(rt, given.as_slice()),
+        Err(fault) => ended_by(rt, Err(fault)),
+    }
 }

@@ -1,0 +1,103 @@
+//! The commands of `agc_watch`, as `clap` reads them.
+use clap::{Arg, ArgAction, Command, value_parser};
+use std::alloc::{AllocError, Global};
+
+/// An option that takes no value.
+fn flag<'a>(alloc: Global, name: &'a str, help: &'a str) -> Arg<'a> {
+    Arg::new(alloc, name)
+        .long(name)
+        .action(ArgAction::SetTrue)
+        .help(help)
+}
+
+/// An option that takes a request's number.
+fn numbered<'a>(alloc: Global, name: &'a str, help: &'a str) -> Arg<'a> {
+    Arg::new(alloc, name)
+        .long(name)
+        .value_name("N")
+        .value_parser(value_parser!(u64))
+        .help(help)
+}
+
+/// A command that reads a file or standard input, of which its help tells an example.
+fn reading_command<'a>(
+    alloc: Global,
+    name: &'a str,
+    about: &'a str,
+    example: &'a str,
+) -> Result<Command<'a>, AllocError> {
+    let file = Arg::new(alloc, "file")
+        .value_name("FILE")
+        .help("The file to read; standard input if none is named, or -");
+    Command::new(alloc, name)
+        .about(about)
+        .after_help(example)
+        .arg(file)
+}
+
+/// The command `trace`.
+fn trace_command<'a>(alloc: Global) -> Result<Command<'a>, AllocError> {
+    reading_command(
+        alloc,
+        "trace",
+        "Writes a line for each request, with the tables",
+        "Example: agc_watch trace --alarms examples/no-vac-area.toml",
+    )?
+    .arg(flag(alloc, "script", "Reads a script"))?
+    .arg(flag(
+        alloc,
+        "alarms",
+        "Tells only the requests that raised an alarm",
+    ))?
+    .arg(flag(
+        alloc,
+        "brief",
+        "Counts refusals, no job, no sleeper, and ticks that fire nothing",
+    ))?
+    .arg(numbered(alloc, "from", "Tells only the requests from number N on"))?
+    .arg(numbered(alloc, "to", "Tells only the requests up to number N"))
+}
+
+/// The command `picture`.
+fn picture_command<'a>(alloc: Global) -> Result<Command<'a>, AllocError> {
+    reading_command(
+        alloc,
+        "picture",
+        "Draws the tables, request by request, as an SVG",
+        "Example: agc_watch picture examples/no-vac-area.toml > run.svg",
+    )
+}
+
+/// The command `page`.
+fn page_command<'a>(alloc: Global) -> Result<Command<'a>, AllocError> {
+    reading_command(
+        alloc,
+        "page",
+        "Writes a page that steps through the requests in a browser",
+        "Example: agc_watch page examples/no-vac-area.toml > run.html",
+    )
+}
+
+/// The command `check`.
+fn check_command<'a>(alloc: Global) -> Result<Command<'a>, AllocError> {
+    reading_command(
+        alloc,
+        "check",
+        "Says what is wrong with an input, in which line",
+        "Example: agc_watch check examples/no-vac-area.toml",
+    )?
+    .arg(flag(alloc, "script", "Reads a script"))
+}
+
+/// The program, with all of its commands. Without a word it prints its help.
+pub(crate) fn whole_command<'a>(alloc: Global) -> Result<Command<'a>, AllocError> {
+    Command::new(alloc, "agc_watch")
+        .version("1.0.0")
+        .about("Shows what the requests of a bench do to the tables")
+        .subcommand_required(true)
+        .arg_required_else_help(true)
+        .subcommand(trace_command(alloc)?)?
+        .subcommand(picture_command(alloc)?)?
+        .subcommand(page_command(alloc)?)?
+        .subcommand(check_command(alloc)?)
+}

@@ -1,4 +1,0 @@
-pub mod Numbers
-pub mod Fronts
-pub mod Adding
-pub mod Alone
