@@ -79,6 +79,7 @@ enum {
     AGC_PHASE_TWICE = 11, /* one group and phase has two entries of the plan */
     AGC_TOO_MANY_AREAS = 12, /* each of the six groups has an entry with a job of AGC_FINDVAC, and
                                 there are five VAC areas */
+    AGC_NOT_SPELLED = 13, /* the modules for other languages alone: a line spells no request */
     AGC_NO_ROOM = 14      /* a text doesn't fit: the number says how many bytes it wants */
 };
 
@@ -217,6 +218,7 @@ AGC_INLINE const char *agc_code_text(uint32_t code) {
     case AGC_TASK_TWICE: return "a task has two rows of the plan";
     case AGC_PHASE_TWICE: return "a group's phase has two entries of the plan";
     case AGC_TOO_MANY_AREAS: return "each of six groups wants a VAC area, and there are five";
+    case AGC_NOT_SPELLED: return "the line spells no request";
     case AGC_NO_ROOM: return "the text doesn't fit into the room that is lent";
     default: return "no call answers this code";
     }
