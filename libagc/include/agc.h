@@ -79,7 +79,7 @@ enum {
     AGC_PHASE_TWICE = 11, /* one group and phase has two entries of the plan */
     AGC_TOO_MANY_AREAS = 12, /* each of the six groups has an entry with a job of AGC_FINDVAC, and
                                 there are five VAC areas */
-    AGC_NOT_SPELLED = 13, /* the modules for other languages alone: a line spells no request */
+    AGC_NOT_SPELLED = 13, /* a line spells no request, or no action */
     AGC_NO_ROOM = 14      /* a text doesn't fit: the number says how many bytes it wants */
 };
 
@@ -290,6 +290,12 @@ AgcNumber agc_power_up(uint16_t words[AGC_WORDS], uint32_t sets, const AgcPhaseE
                        const uint16_t phase_words[AGC_PHASE_WORDS]);
 AgcNumber agc_power_up_trusted(uint16_t words[AGC_WORDS], uint32_t sets, const AgcPhaseEntry *entries,
                                size_t entry_count, const uint16_t phase_words[AGC_PHASE_WORDS]);
+
+/* The request that a line of a script spells, of so many bytes, without the line's end: AGC_OK, or
+   AGC_NOT_SPELLED, and then *request stays. Numbers that the kind doesn't have become 0.
+   agc_read_action: `nothing`, or the line of a novac, findvac, rouse or list. */
+uint32_t agc_read_request(const char *text, size_t length, AgcRequest *request);
+uint32_t agc_read_action(const char *text, size_t length, AgcAction *action);
 
 /* The line that `agc` writes for a step's reply, with its end and no zero byte: AGC_OK, and the number
    is how many bytes were written; AGC_NO_ROOM, and then nothing was; AGC_OUT_OF_RANGE where agc_step

@@ -200,6 +200,8 @@ export interface Library {
     answer: bigint, words: bigint, sets: number, entries: bigint, entry_count: bigint,
     phase_words: bigint,
   ): void;
+  agc_read_request(text: bigint, length: bigint, request: bigint): number;
+  agc_read_action(text: bigint, length: bigint, action: bigint): number;
   agc_write_reply(answer: bigint, step: bigint, fired: bigint, text: bigint, room: bigint): void;
   agc_write_report(
     answer: bigint, words: bigint, sets: number, totals: bigint, text: bigint, room: bigint,

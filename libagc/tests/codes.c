@@ -238,6 +238,27 @@ static void power(void) {
     IS("agc_power_up of words that don't agree", 0, agc_power_up(w, s, NULL, 0, phases).code);
 }
 
+static void lines(void) {
+    const char *wrong[] = {"", "end ", " end", "END", "novac 20 2000 00005", "novac 00 02000 00005", "list 0 02000 00005",
+                           "list 01 02000 00005", "list 16251 02000 00005", "phase 7 1", "phase 1 128", "store 0 00000",
+                           "sleep 00000", "rouse 40000", "prio 40", "novac 20 02000 00005 ", "novac 20 02000 100000", "tick\n", "nothing"};
+    AgcRequest it = {1, 2, 3, 4}, was = it;
+    for (size_t k = 0; k < sizeof wrong / sizeof *wrong; k++) {
+        char *own = malloc(strlen(wrong[k]) + 1);
+        memcpy(own, wrong[k], strlen(wrong[k]));
+        check(agc_read_request(own, strlen(wrong[k]), &it) == 13 && !memcmp(&it, &was, sizeof it), wrong[k], 7, 13);
+        free(own);
+    }
+    check(agc_read_request("tick\0", 5, &it) == 13 && agc_read_request("tick", 3, &it) == 13, "a part of tick", 7, 13);
+    check(agc_read_request("tick", 4, &it) == 0 && it.kind == AGC_TICK && it.first + it.second + it.third == 0, "tick", 7, 0);
+    check(agc_read_request("store 6 77777", 13, &it) == 0 && it.kind == AGC_STORE && it.first == 6 && it.second == 077777, "store", 7, 0);
+    check(agc_read_action("nothing", 7, &it) == 0 && it.kind == AGC_NOTHING, "nothing", 7, 0);
+    check(agc_read_action("list 16250 37777 77777", 22, &it) == 0 && it.kind == AGC_LIST && it.first == 16250 && it.second == 037777 &&
+          it.third == 077777, "list", 7, 0);
+    was = it;
+    check(agc_read_action("tick", 4, &it) == 13 && agc_read_action("end", 3, &it) == 13 && !memcmp(&it, &was, sizeof it), "no action", 7, 13);
+}
+
 static void replies(void) {
     AgcFired fired[AGC_FIRED] = {{0, 0}};
     AgcStep step = {AGC_OK, AGC_TICKED, 0, 10, 0};
@@ -305,6 +326,7 @@ int main(void) {
     eras();
     steps();
     power();
+    lines();
     replies();
     reports();
     ticks();

@@ -6,6 +6,7 @@ mod clearing;
 mod eras;
 mod images;
 mod jobs;
+mod lines;
 mod phases;
 mod plans;
 mod ready;
