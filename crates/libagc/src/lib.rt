@@ -12,9 +12,11 @@ mod ready;
 mod reply;
 mod steps;
 mod tasks;
+mod texts;
 mod words;
 
 pub use phases::AgcPhases;
 pub use reply::{AgcNumber, AgcReply, AgcTask, AgcTruth};
 pub use steps::{AgcFired, AgcStep};
+pub use texts::AgcTotals;
 pub use words::{AgcSum, AgcValue};
