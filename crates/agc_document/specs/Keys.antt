@@ -1,11 +1,16 @@
 -- A document's numbers and texts by key, before any text is read. None stands for a fault Key.
 use Rattle.std.specs.Prelude.{ℕ, ℤ, pos, negsuc, List, [], ◌∷◌, codes, length, Option, Some, None}
-use Rattle.std.specs.Prelude.{Bool, true, false, is_some, nat_lt, ◌==◌, ◌&&◌, ◌||◌}
+use Rattle.std.specs.Prelude.{Bool, true, false, is_some, nat_lt, ◌&&◌, ◌||◌}
 use Rattle.std.specs.Prelude.{if◌then◌else◌}
 use Rattle.std.specs.Str.{bytes_eq}
 use Rattle.toml.specs.Data.{Data, Items, no_items, item, Members, no_members, member, get_member}
 use Rattle.toml.specs.Data.{as_str, as_integer, as_array, as_table}
 use Rattle.agc_text.specs.Chain.{◌>>=◌}
+use Rattle.agc_document.specs.declared.key.Key.{Key as BenchKey}
+use Rattle.agc_document.specs.declared.key.Key.TheVariants as key
+use Rattle.agc_document.specs.declared.key.Level.{Level}
+use Rattle.agc_document.specs.declared.key.Level.TheVariants as level
+use Rattle.agc_document.specs.Rows.{row_of, bounds_of, names_of}
 use Rattle.agc_document.specs.Texts.{RowTexts, EntryTexts, DeviceTexts, Settings, Lists, Texts}
 
 -- whether a key is one of these
@@ -18,22 +23,37 @@ abbrev pub has_only : List (List ℕ) → Members → Bool
 has_only names no_members = true
 has_only names (member k d ms) = is_among names k && has_only names ms
 
--- a table whose keys are all among these
-abbrev pub table_of : List (List ℕ) → Data → Option Members
-table_of names d = as_table d >>= λ ms. if has_only names ms then Some ms else None
+-- the members of a table, where they have the keys of a level and no others
+abbrev pub known_to : Level → Members → Option Members
+known_to l ms = if has_only (names_of l) ms then Some ms else None
+
+-- a table that has these keys and no others
+abbrev pub table_of : Level → Data → Option Members
+table_of l d = as_table d >>= known_to l
+
+-- the value of a key
+abbrev pub value_of : BenchKey → Members → Option Data
+value_of k ms = get_member (row_of k).name ms
+
+-- the least and the most that the row of a key allows
+abbrev pub least : BenchKey → ℕ
+least k = (bounds_of (row_of k).kind).0
+
+abbrev pub most : BenchKey → ℕ
+most k = (bounds_of (row_of k).kind).1
 
 -- an integer, from low to high
 abbrev pub between : ℕ → ℕ → ℤ → Option ℕ
 between low high (pos n) = if nat_lt n low || nat_lt high n then None else Some n
 between low high (negsuc n) = None
 
--- a value that is such an integer
-abbrev pub number_in : ℕ → ℕ → Data → Option ℕ
-number_in low high d = as_integer d >>= between low high
+-- a value that is an integer in the range of a key
+abbrev pub number_of : BenchKey → Data → Option ℕ
+number_of k d = as_integer d >>= between (least k) (most k)
 
 -- what reading gives of a required key's value
-abbrev pub read_at : {X : Type 0} → (Data → Option X) → List ℕ → Members → Option X
-read_at read k ms = get_member k ms >>= read
+abbrev pub read_at : {X : Type 0} → (Data → Option X) → BenchKey → Members → Option X
+read_at read k ms = value_of k ms >>= read
 
 -- what reading gives of a key's value, and what stands for it where the key is missing
 abbrev pub read_or : {X : Type 0} → X → (Data → Option X) → Option Data → Option X
@@ -49,76 +69,71 @@ abbrev pub each : {X : Type 0} → (Data → Option X) → Items → Option (Lis
 each read no_items = Some []
 each read (item d ds) = read d >>= λ x. each read ds >>= λ xs. Some (x ∷ xs)
 
--- the items of an array
-abbrev pub items_of : {X : Type 0} → (Data → Option X) → Data → Option (List X)
-items_of read d = as_array d >>= each read
+-- the items of an array, as many as the row of a key allows
+abbrev pub items_of : {X : Type 0} → (Data → Option X) → BenchKey → Data → Option (List X)
+items_of read k d = (as_array d >>= each read) >>= λ xs.
+    if nat_lt (length xs) (least k) || nat_lt (most k) (length xs) then None else Some xs
 
--- the items of an array, at most 32
-abbrev pub few_of : {X : Type 0} → (Data → Option X) → Data → Option (List X)
-few_of read d = items_of read d >>= λ xs. if nat_lt 32 (length xs) then None else Some xs
+-- texts that might be missing, and are there
+abbrev pub given_texts : BenchKey → Data → Option (Option (List (List ℕ)))
+given_texts k d = items_of as_str k d >>= λ ts. Some (Some ts)
 
--- twelve texts that might be missing, and are there
-abbrev pub twelve_texts : Data → Option (Option (List (List ℕ)))
-twelve_texts d = items_of as_str d >>= λ ts. if length ts == 12 then Some (Some ts) else None
+-- some texts, or one alone
+abbrev pub texts_by : Option (List ℕ) → BenchKey → Data → Option (List (List ℕ))
+texts_by (Some text) k d = Some (text ∷ [])
+texts_by None k d = items_of as_str k d
 
--- one to four texts, or one alone
-abbrev pub texts_by : Option (List ℕ) → Data → Option (List (List ℕ))
-texts_by (Some text) d = Some (text ∷ [])
-texts_by None d =
-    items_of as_str d >>= λ ts. if (length ts == 0) || nat_lt 4 (length ts) then None
-    else Some ts
-
-abbrev pub action_texts : Data → Option (List (List ℕ))
-action_texts d = texts_by (as_str d) d
+abbrev pub action_texts : BenchKey → Data → Option (List (List ℕ))
+action_texts k d = texts_by (as_str d) k d
 
 -- the texts of a row
 unfoldable pub row : Data → Option RowTexts
 row d = do
-  ms ← table_of (codes "at" ∷ codes "bank" ∷ codes "action" ∷ []) d
-  at ← read_at as_str (codes "at") ms
-  bank ← read_at as_str (codes "bank") ms
-  actions ← read_at action_texts (codes "action") ms
+  ms ← table_of level.Task d
+  at ← read_at as_str key.At ms
+  bank ← read_at as_str key.Bank ms
+  actions ← read_at (action_texts key.Action) key.Action ms
   Some (record { at = at; bank = bank; actions = actions })
 
 -- the numbers and texts of a phase entry
 unfoldable pub entry : Data → Option EntryTexts
 entry d = do
-  ms ← table_of (codes "group" ∷ codes "phase" ∷ codes "job" ∷ codes "task" ∷ []) d
-  group ← read_at (number_in 1 6) (codes "group") ms
-  phase ← read_at (number_in 1 127) (codes "phase") ms
-  job ← read_or None given_text (get_member (codes "job") ms)
-  task ← read_or None given_text (get_member (codes "task") ms)
+  ms ← table_of level.Phase d
+  group ← read_at (number_of key.Group) key.Group ms
+  phase ← read_at (number_of key.Phase) key.Phase ms
+  job ← read_or None given_text (value_of key.Job ms)
+  task ← read_or None given_text (value_of key.Listing ms)
   Some (record { group = group; phase = phase; job = job; task = task })
 
 -- the script of a worker
 unfoldable pub worker : Data → Option (List (List ℕ))
-worker d = table_of (codes "script" ∷ []) d >>= read_at (items_of as_str) (codes "script")
+worker d = table_of level.Worker d >>= read_at (items_of as_str key.Requests) key.Requests
 
 -- the text and number of a device
 unfoldable pub device : Data → Option DeviceTexts
 device d = do
-  ms ← table_of (codes "line" ∷ codes "pulses" ∷ []) d
-  line ← read_at as_str (codes "line") ms
-  pulses ← read_at (number_in 0 1000000) (codes "pulses") ms
+  ms ← table_of level.Device d
+  line ← read_at as_str key.Line ms
+  pulses ← read_at (number_of key.Pulses) key.Pulses ms
   Some (record { line = line; pulses = pulses })
 
 -- what a bench has once
 unfoldable pub settings_in : Members → Option Settings
 settings_in ms = do
-  sets ← read_or 7 (number_in 7 8) (get_member (codes "sets") ms)
-  limit ← read_or 1000 (number_in 1 1000000) (get_member (codes "limit") ms)
-  allowance ← read_or 1000000 (number_in 0 9223372036854775807) (get_member (codes "allowance") ms)
-  attends ← read_or 16 (number_in 0 1000) (get_member (codes "attends") ms)
-  key ← read_or (codes "nothing" ∷ []) action_texts (get_member (codes "key") ms)
-  radar ← read_or (codes "nothing" ∷ []) action_texts (get_member (codes "radar") ms)
-  power ← read_or None twelve_texts (get_member (codes "power") ms)
+  sets ← read_or 7 (number_of key.Sets) (value_of key.Sets ms)
+  limit ← read_or 1000 (number_of key.Limit) (value_of key.Limit ms)
+  allowance ← read_or 1000000 (number_of key.Allowance) (value_of key.Allowance ms)
+  attends ← read_or 16 (number_of key.Attends) (value_of key.Attends ms)
+  pressed ← read_or (codes "nothing" ∷ []) (action_texts key.Key) (value_of key.Key ms)
+  radar ← read_or (codes "nothing" ∷ []) (action_texts key.Radar) (value_of key.Radar ms)
+  power ← read_or None (given_texts key.Power) (value_of key.Power ms)
   Some (record {
     sets = sets;
-    names_sets = is_some (get_member (codes "sets") ms);
+    names_sets = is_some (value_of key.Sets ms);
     limit = limit;
     allowance = allowance;
     attends = attends;
-    key = key;
+    key = pressed;
     radar = radar;
     power = power;
   })
@@ -126,11 +141,11 @@ settings_in ms = do
 -- what a bench has many of
 unfoldable pub lists_in : Members → Option Lists
 lists_in ms = do
-  script ← read_or [] (items_of as_str) (get_member (codes "script") ms)
-  rows ← read_or [] (items_of row) (get_member (codes "task") ms)
-  entries ← read_or [] (items_of entry) (get_member (codes "phase") ms)
-  workers ← read_or [] (few_of worker) (get_member (codes "worker") ms)
-  devices ← read_or [] (few_of device) (get_member (codes "device") ms)
+  script ← read_or [] (items_of as_str key.Script) (value_of key.Script ms)
+  rows ← read_or [] (items_of row key.Tasks) (value_of key.Tasks ms)
+  entries ← read_or [] (items_of entry key.Phases) (value_of key.Phases ms)
+  workers ← read_or [] (items_of worker key.Workers) (value_of key.Workers ms)
+  devices ← read_or [] (items_of device key.Devices) (value_of key.Devices ms)
   Some (record {
     script = script;
     rows = rows;
@@ -139,16 +154,10 @@ lists_in ms = do
     devices = devices;
   })
 
--- the keys of a bench
-abbrev pub bench_keys : List (List ℕ)
-bench_keys =
-    codes "sets" ∷ codes "limit" ∷ codes "allowance" ∷ codes "attends" ∷ codes "key" ∷ codes "radar"
-    ∷ codes "power" ∷ codes "script" ∷ codes "task" ∷ codes "phase" ∷ codes "worker"
-    ∷ codes "device" ∷ []
-
 -- the numbers and texts of a bench
 unfoldable pub texts_in : Members → Option Texts
-texts_in ms = if has_only bench_keys ms then
-    (settings_in ms >>= λ settings. lists_in ms >>= λ lists.
-    Some (record { settings = settings; lists = lists }))
-    else None
+texts_in ms = do
+  known ← known_to level.Bench ms
+  settings ← settings_in known
+  lists ← lists_in known
+  Some (record { settings = settings; lists = lists })

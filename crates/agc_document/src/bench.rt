@@ -1,16 +1,21 @@
 ghost use Rattle.std.specs.Prelude.{◌≡◌, ◌≢◌, ◌≤◌, ◌⊎◌, length, map, Some, None, IfOk, IfErr};
 ghost use Rattle.toml.specs.Parse.{parse_document};
+ghost use Rattle.toml.specs.View.{table_view};
 ghost use Rattle.agc_word.specs.Profiles.{count_of};
 ghost use Rattle.agc_plan.specs.Plans.{fault_of};
 ghost use Rattle.agc_plan.specs.Ranges.{IsBetween};
 ghost use Rattle.agc_plan.specs.declared.plan.PlanFault.{PlanFault};
 ghost use Rattle.agc_document.specs.Benches.{Benched, bench_texts, IsInRange, IsBench};
 ghost use Rattle.agc_document.specs.Faults.{bench_fault, HasTexts, RefusesBench};
-ghost use Rattle.agc_document.specs.Gives.{RefusedLine};
+ghost use Rattle.agc_document.specs.Gives.{AreNoted, IsNotedFor, RefusedLine};
 
 use crate::fault::BenchFault;
+use crate::key::Form;
 use crate::keys::texts_in;
+use crate::notes::Notes;
+use crate::place::Place;
 use crate::texts::Texts;
+use crate::twice::refused_at;
 use crate::values::{
     actions_of, devices_of, entries_of, power_of, requests_of, rows_of, workers_of,
 };
@@ -18,6 +23,7 @@ use agc_plan::{Actions, Limit, Line, PhaseEntry, Plan, Request, Task};
 use agc_word::{Sets, Word};
 use std::alloc::Global;
 use std::marker::Model;
+use toml::Table;
 
 #[derive(Drop)]
 struct Parts {
@@ -225,13 +231,12 @@ fn parts_of(alloc: Global, texts: &Texts<'_>) -> Result<Parts, BenchFault>
     })
 }
 
-/// The bench of parts whose rows and entries make a plan.
-fn planned(alloc: Global, parts: Parts) -> Result<Bench, BenchFault>
-    requires { IsInRange (parts) }
-    ensures found { IfOk result (λ b. IsBench b × (b ≡ parts)) }
+/// Whether the rows and entries of parts make a plan.
+fn planned(alloc: Global, parts: &Parts) -> Result<(), BenchFault>
+    ensures found { IfOk result (λ _. fault_of parts.now.rows parts.now.entries ≡ None) }
     ensures refused { IfErr result (λ fault. (fault ≡ BenchFault.NoMemory)
         ⊎ ((f : PlanFault) × (fault ≡ bench_fault f)
-        × (fault_of parts.rows parts.entries ≡ Some f))) }
+        × (fault_of parts.now.rows parts.now.entries ≡ Some f))) }
 {
     match Plan::with_lists(
         alloc,
@@ -240,8 +245,55 @@ fn planned(alloc: Global, parts: Parts) -> Result<Bench, BenchFault>
         parts.key.copied(),
         parts.radar.copied(),
     ) {
-        Ok(_plan) => Ok(Bench { parts }),
+        Ok(_plan) => Ok(()),
         Err(fault) => Err(BenchFault::from(fault)),
+    }
+}
+
+/// The values that numbers and texts spell. Where a text is not of its form, one is noted.
+fn spelled<'a>(alloc: Global, texts: &Texts<'_>, notes: &mut Notes<'a>) -> Result<Parts, BenchFault>
+    ensures found { IfOk result (λ p. IsInRange (p) × (texts.now ≡ bench_texts (p))) }
+    ensures refused { IfErr result (RefusedLine
+        ((b : Benched) → IsInRange b → texts.now ≢ bench_texts b)) }
+    ensures noted { IfErr result (λ _. AreNoted notes.new.texts.items) }
+{
+    match parts_of(alloc, texts) {
+        Ok(parts) => Ok(parts),
+        Err(fault) => {
+            // For the proof: each text was looked at when it was read.
+            if notes.texts.is_empty() {
+                notes.text(Place::Whole, "", Form::Request);
+            }
+            Err(fault)
+        }
+    }
+}
+
+/// The bench that a document's table is. What is wrong is noted.
+#[tactic(auto, using(crate::proofs::Refusals::noted_line, crate::proofs::Refusals::noted_plan))]
+pub(crate) fn bench_of<'a>(
+    alloc: Global,
+    table: &'a Table,
+    notes: &mut Notes<'a>,
+) -> Result<Bench, BenchFault>
+    ensures found { IfOk result (λ b. IsBench b
+        × HasTexts (Some (table_view table.now)) (bench_texts b)) }
+    ensures refused { IfErr result (RefusesBench (Some (table_view table.now))) }
+    ensures noted { IfErr result (IsNotedFor notes.new.keys.items notes.new.texts.items) }
+{
+    let texts = texts_in(alloc, table, notes)?;
+    let parts = spelled(alloc, &texts, notes)?;
+    match planned(alloc, &parts) {
+        Ok(()) => Ok(Bench { parts }),
+        Err(fault) => {
+            notes.plan = refused_at(
+                alloc,
+                fault,
+                parts.rows.as_slice(),
+                parts.entries.as_slice(),
+            )?;
+            Err(fault)
+        }
     }
 }
 
@@ -254,6 +306,7 @@ fn planned(alloc: Global, parts: Parts) -> Result<Bench, BenchFault>
 /// value of another kind, an integer out of range, `power` or actions of another length, more than
 /// 32 workers or devices; `Line`, a text that is not of its form; `TaskTwice`, `PhaseTwice` and
 /// `TooManyAreas`, rows and entries that make no plan. `NoMemory` may come in place of any.
+#[tactic(auto, using(crate::proofs::Refusals::refused_in, crate::proofs::Refusals::texts_of))]
 pub fn read_bench(alloc: Global, text: &str) -> Result<Bench, BenchFault>
     ensures found { IfOk result (λ b. IsBench b
         × HasTexts (parse_document text.now) (bench_texts b)) }
@@ -268,7 +321,9 @@ pub fn read_bench(alloc: Global, text: &str) -> Result<Bench, BenchFault>
             return Err(BenchFault::NotToml);
         }
     };
-    let texts = texts_in(alloc, &table)?;
-    let parts = parts_of(alloc, &texts)?;
-    planned(alloc, parts)
+    let mut notes = Notes::new(false);
+    match bench_of(alloc, &table, &mut notes) {
+        Ok(bench) => Ok(bench),
+        Err(fault) => Err(fault),
+    }
 }

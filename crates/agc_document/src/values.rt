@@ -93,7 +93,7 @@ pub(crate) fn rows_of(
 }
 
 /// The job that a request establishes. None where it establishes none.
-fn job_of(request: &Request) -> Option<JobStart>
+pub(crate) fn job_of(request: &Request) -> Option<JobStart>
     ensures { result ≡ job_of request.now }
 {
     match *request {
@@ -104,7 +104,7 @@ fn job_of(request: &Request) -> Option<JobStart>
 }
 
 /// The task that a request lists, and its delay. None where it lists none.
-fn timed_of(request: &Request) -> Option<(Delay, Task)>
+pub(crate) fn timed_of(request: &Request) -> Option<(Delay, Task)>
     ensures { result ≡ timed_of request.now }
 {
     match *request {
@@ -200,7 +200,7 @@ pub(crate) fn workers_of(
 }
 
 /// The line of a device that a text names.
-fn parse_kind(text: &str) -> Option<Line>
+pub(crate) fn parse_kind(text: &str) -> Option<Line>
     ensures found { IfSome result (λ l. text.now ≡ kind_text l) }
     ensures only { (l : Line) → text.now ≡ kind_text l → result ≡ Some l }
 {

@@ -1,6 +1,7 @@
 use Rattle.std.proofs.Common.{◌≡◌, drop, map}
+use Rattle.agc_document.specs.Rows.{row_of}
 use Rattle.agc_document.specs.Keys.{is_among}
 use Rattle.agc_document.proofs.keys.is_among.Given as goal
 
-abbrev pub invariant-loop-name : goal.invariant-loop-name
-invariant-loop-name l = is_among (map (λ n. n.now) (drop l.name-index l.names)) l.key ≡ is_among (map (λ n. n.now) l.names) l.key
+abbrev pub invariant-loop-key : goal.invariant-loop-key
+invariant-loop-key l = is_among (map (λ k. (row_of k).name) (drop l.key-index l.keys)) l.name ≡ is_among (map (λ k. (row_of k).name) l.keys) l.name

@@ -1,0 +1,47 @@
+//! Where in a bench something stands.
+use crate::key::Key;
+
+/// Where in a bench something stands. Numbers are from 1, in the order of the document. Source:
+/// profile.
+#[derive(Clone, Copy, PartialEq, Eq, Debug)]
+pub enum Place {
+    /// The document.
+    Whole,
+    /// The value of a key.
+    Value(Key),
+    /// An item of a key's array.
+    Item(Key, u64),
+    /// A table of a key's array.
+    Table(Key, u64),
+    /// The value of that table's key.
+    Field(Key, u64, Key),
+    /// An item of that value.
+    FieldItem(Key, u64, Key, u64),
+}
+
+impl Place {
+    /// The place of a key's value in the table at this place.
+    pub(crate) fn of_value(self, key: Key) -> Place {
+        match self {
+            Place::Table(tables, number) => Place::Field(tables, number, key),
+            _ => Place::Value(key),
+        }
+    }
+
+    /// The place of an item of the array at this place.
+    pub(crate) fn of_item(self, item: u64) -> Place {
+        match self {
+            Place::Value(key) => Place::Item(key, item),
+            Place::Field(tables, number, key) => Place::FieldItem(tables, number, key, item),
+            _ => self,
+        }
+    }
+
+    /// The place of the table that the item at this place is.
+    pub(crate) fn of_table(self) -> Place {
+        match self {
+            Place::Item(key, number) => Place::Table(key, number),
+            _ => self,
+        }
+    }
+}
