@@ -105,8 +105,10 @@ def unnamed_uses():
         texts = []
         for part, ending in (("src", ".rt"), ("specs", ".antt"), ("proofs", ".antt")):
             texts += map(text_of, files_below(f"{TOP}/crates/{crate}/{part}", ending))
-        words = set(re.findall(r"\w+", "\n".join(texts)))
-        yield from ((crate, it) for it in uses if it not in words)
+        code = re.sub(r"(?m)^ *//.*|^ *--.*", "", "\n".join(texts))
+        paths = set(re.findall(r"\bRattle\.(\w+)\.|(?<![\w:.])(\w+)::", code))
+        named = {it for pair in paths for it in pair}
+        yield from ((crate, it) for it in uses if it not in named)
 
 
 def copy_crates(room, row=""):

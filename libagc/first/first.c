@@ -3,32 +3,20 @@
 #include <stdio.h>
 
 int main(void) {
-    uint16_t words[AGC_WORDS];
+    uint16_t words[AGC_WORDS], moment[AGC_WORDS];
+    AgcFired fired[AGC_FIRED];
+    AgcPhaseEntry plan[] = {{4, 5, AGC_FINDVAC, 025, 06000, 7, 10, 06100, 7}};
+    AgcRequest phase = {AGC_PHASE, 4, 5, 0}, job = {AGC_FINDVAC, 030, 02100, 5};
+    AgcRequest tick = {AGC_TICK, 0, 0, 0};
 
     agc_clear(words, 7);
-    AgcReply reply = agc_novac(words, 7, 020, 02000, 5);
-    printf("job %u\n", reply.number);
-    reply = agc_findvac(words, 7, 030, 02100, 5);
-    printf("job %u\n", reply.number);
-    reply = agc_change_job(words, 7);
-    printf("runs %u, at %05o\n", reply.number, words[8]);
-
-    agc_list(words, 7, 2, 04000, 7);
-    for (int tick = 1; tick <= 2; tick++) {
-        agc_count_time3(words, 7);
-        while (agc_due(words, 7).truth)
-            printf("tick %d fires %05o\n", tick, agc_dispatch(words, 7).at);
-    }
-
-    AgcPhaseEntry plan[] = {{4, 5, AGC_FINDVAC, 025, 06000, 7, 10, 06100, 7}};
-    agc_set_phase(words, 7, 4, 5);
-    do
-        reply = agc_findvac(words, 7, 030, 02100, 5);
-    while (reply.reply != AGC_ALARMED);
-    agc_begin(words, 7, reply.number, plan, 1);
-    printf("alarm %o, then job %u, at %05o\n", reply.number, agc_running(words, 7).number, words[8]);
-
-    reply = agc_novac(words, 7, 32, 02000, 5);
-    printf("priority 32: code %u\n", reply.code);
+    AgcStep step = agc_step(words, 7, NULL, 0, plan, 1, &phase, fired, moment);
+    while (step.reply != AGC_ALARMED)
+        step = agc_step(words, 7, NULL, 0, plan, 1, &job, fired, moment);
+    printf("alarm %o, then job %u ", step.number, agc_running(words, 7).number);
+    printf("runs at %05o\n", words[8]);
+    while (step.fired == 0)
+        step = agc_step(words, 7, NULL, 0, plan, 1, &tick, fired, moment);
+    printf("tick %05o/%05o\n", fired[0].at, fired[0].bank);
     return 0;
 }

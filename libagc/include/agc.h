@@ -59,6 +59,9 @@ enum { AGC_WORDS = 144, AGC_PHASE_WORDS = 12, AGC_PHASE_PLACE = 117 };
 /* How many tasks fire in a step at most, and how many actions a row of a plan has. */
 enum { AGC_FIRED = 9, AGC_ACTIONS = 4 };
 
+/* Room for each line of agc_write_reply, and for each report of agc_write_report. */
+enum { AGC_LINE = 128, AGC_REPORT = 2048 };
+
 /* The codes. A call answers the first that applies. */
 enum {
     AGC_OK = 0,           /* the call was served */
@@ -74,8 +77,10 @@ enum {
     AGC_PLAN_RANGE = 9,   /* a number of the plan is out of its range */
     AGC_TASK_TWICE = 10,  /* one task, of one address and bank, has two rows of the plan */
     AGC_PHASE_TWICE = 11, /* one group and phase has two entries of the plan */
-    AGC_TOO_MANY_AREAS = 12 /* each of the six groups has an entry with a job of AGC_FINDVAC, and there
-                               are five VAC areas */
+    AGC_TOO_MANY_AREAS = 12, /* each of the six groups has an entry with a job of AGC_FINDVAC, and
+                                there are five VAC areas */
+    AGC_NOT_SPELLED = 13, /* a line spells no request, or no action */
+    AGC_NO_ROOM = 14      /* a text doesn't fit: the number says how many bytes it wants */
 };
 
 /* The kinds of replies, and what the reply's number then is. */
@@ -184,6 +189,10 @@ typedef struct { uint32_t at, bank; } AgcFired;
    reply is AGC_ALARMED, AGC_TICK_ALARMED or AGC_RESTARTED. */
 typedef struct { uint32_t code, reply, number, fired, action; } AgcStep;
 
+/* Counts of the requests that were served, which you keep: all, those that raised each alarm, by
+   themselves or in a tick, and those with which an era began. */
+typedef struct { uint64_t served, alarms_1201, alarms_1202, alarms_1203, restarts; } AgcTotals;
+
 /* An entry of a plan: what begins again while a restart group, 1 to 6, stands in a phase, 1 to 127.
    A job, where `job` isn't 0, and a task, where `delay` isn't 0; their numbers are those of the
    calls agc_novac, agc_findvac and agc_list. */
@@ -209,6 +218,8 @@ AGC_INLINE const char *agc_code_text(uint32_t code) {
     case AGC_TASK_TWICE: return "a task has two rows of the plan";
     case AGC_PHASE_TWICE: return "a group's phase has two entries of the plan";
     case AGC_TOO_MANY_AREAS: return "each of six groups wants a VAC area, and there are five";
+    case AGC_NOT_SPELLED: return "the line spells no request";
+    case AGC_NO_ROOM: return "the text doesn't fit into the room that is lent";
     default: return "no call answers this code";
     }
 }
@@ -279,6 +290,22 @@ AgcNumber agc_power_up(uint16_t words[AGC_WORDS], uint32_t sets, const AgcPhaseE
                        const uint16_t phase_words[AGC_PHASE_WORDS]);
 AgcNumber agc_power_up_trusted(uint16_t words[AGC_WORDS], uint32_t sets, const AgcPhaseEntry *entries,
                                size_t entry_count, const uint16_t phase_words[AGC_PHASE_WORDS]);
+
+/* The request that a line of a script spells, of so many bytes, without the line's end: AGC_OK, or
+   AGC_NOT_SPELLED, and then *request stays. Numbers that the kind doesn't have become 0.
+   agc_read_action: `nothing`, or the line of a novac, findvac, rouse or list. */
+uint32_t agc_read_request(const char *text, size_t length, AgcRequest *request);
+uint32_t agc_read_action(const char *text, size_t length, AgcAction *action);
+
+/* The line that `agc` writes for a step's reply, with its end and no zero byte: AGC_OK, and the number
+   is how many bytes were written; AGC_NO_ROOM, and then nothing was; AGC_OUT_OF_RANGE where agc_step
+   answers no such step. */
+AgcNumber agc_write_reply(const AgcStep *step, const AgcFired fired[AGC_FIRED], char *text, size_t room);
+
+/* The report that `agc` writes of these words and counts, in the same way; codes also those of the
+   image. */
+AgcNumber agc_write_report(const uint16_t words[AGC_WORDS], uint32_t sets, const AgcTotals *totals, char *text,
+                           size_t room);
 
 /* The image of a fresh start, whatever stood there: no jobs, no tasks, six phases 0, no codes. */
 uint32_t agc_clear(uint16_t words[AGC_WORDS], uint32_t sets);

@@ -131,7 +131,9 @@ static void eras(void) {
     IS("agc_begin", 1, agc_begin(w, 4294967295u, 0, NULL, 0));
     IS("agc_begin", 4, agc_begin(w, s, 1201, NULL, 0));
     IS("agc_begin", 0, agc_begin(w, s, AGC_ALARM_1107, NULL, 0));
-    IS("agc_begin of phase 0", 0, agc_begin(w, s, 0, &of_phase_0, 1));
+    IS("agc_begin of phase 0", 9, agc_begin(w, s, 0, &of_phase_0, 1));
+    IS("agc_begin_trusted", 4, agc_begin_trusted(w, s, 1201, NULL, 0));
+    IS("agc_begin_trusted", 0, agc_begin_trusted(w, s, AGC_ALARM_1203, NULL, 0));
 #define ONE(ENTRY, CHANGE, CODE)                                                             \
     do {                                                                                     \
         AgcPhaseEntry e = ENTRY;                                                                  \
@@ -139,27 +141,143 @@ static void eras(void) {
         IS("agc_begin, " #ENTRY " " #CHANGE, CODE,                                           \
            (agc_set_phase(w, s, 6, 127), memcpy(was, w, sizeof w), agc_begin(w, s, AGC_ALARM_1202, &e, 1))); \
     } while (0)
-    ONE(job, job = 3, 4);
-    ONE(job, priority = 0, 4);
-    ONE(job, priority = 32, 4);
-    ONE(job, job_at = 0, 4);
-    ONE(job, job_at = 16384, 4);
-    ONE(job, job_bank = 32768, 5);
-    ONE(job, delay = 1, 4);
+    ONE(job, job = 3, 9);
+    ONE(job, priority = 0, 9);
+    ONE(job, priority = 32, 9);
+    ONE(job, job_at = 0, 9);
+    ONE(job, job_at = 16384, 9);
+    ONE(job, job_bank = 32768, 9);
+    ONE(job, delay = 1, 9);
     ONE(job, delay = 0, 0);
-    ONE(task, delay = 16251, 4);
-    ONE(task, task_at = 0, 4);
-    ONE(task, task_bank = 32768, 5);
+    ONE(task, delay = 16251, 9);
+    ONE(task, task_at = 0, 9);
+    ONE(task, task_bank = 32768, 9);
+    ONE(task, group = 0, 9);
+    ONE(task, group = 7, 9);
     ONE(task, group = 5, 0);
-    ONE(task, phase = 0, 0);
+    ONE(task, phase = 0, 9);
+    ONE(task, phase = 128, 9);
     for (uint32_t k = 0; k < 6; k++) {
         AgcPhaseEntry it = {k + 1, 1, AGC_FINDVAC, 1, 1, 0, 0, 0, 0};
         six[k] = it;
         agc_set_phase(image, 7, k + 1, 1);
     }
-    IS("agc_begin, six areas", 4, agc_begin(w, s, AGC_ALARM_1201, six, 6));
+    IS("agc_begin, six areas", 12, agc_begin(w, s, AGC_ALARM_1201, six, 6));
+    six[5] = six[0];
+    IS("agc_begin, one phase twice", 11, agc_begin(w, s, AGC_ALARM_1201, six, 6));
     IS("agc_begin, five areas", 0, agc_begin(w, s, AGC_ALARM_1201, six + 1, 5));
     agc_clear(image, 7);
+}
+
+/* agc_step on `w` and `s`, with this plan. The moment is filled whatever the code, and nothing else is changed with another. */
+static uint32_t step(uint16_t *w, uint32_t s, const AgcRow *rows, size_t n, const AgcPhaseEntry *entries, size_t m, AgcRequest asked) {
+    AgcFired fired[AGC_FIRED], was[AGC_FIRED];
+    uint16_t moment[AGC_WORDS], before[AGC_WORDS];
+    memset(fired, 7, sizeof fired);
+    memset(was, 7, sizeof was);
+    memset(moment, 7, sizeof moment);
+    memcpy(before, w, sizeof before);
+    AgcStep it = agc_step(w, s, rows, n, entries, m, &asked, fired, moment);
+    check(it.code == 0 || !memcmp(fired, was, sizeof was), "places for tasks", s, it.code);
+    check(it.code == 0 || (it.reply | it.number | it.fired | it.action) == 0, "the rest of agc_step", s, it.code);
+    check(it.code == 0 || !memcmp(moment, before, (s == 8 ? 144 : 132) * sizeof *moment), "a moment", s, it.code);
+    return it.code;
+}
+
+static void steps(void) {
+    AgcRequest change = {AGC_CHANGE, 9, 9, 9}, none = {AGC_NOTHING, 0, 0, 0}, beyond = {14, 0, 0, 0};
+    AgcRequest novac = {AGC_NOVAC, 32, 1, 0}, store = {AGC_STORE, 1, 32768, 0}, phase = {AGC_PHASE, 7, 0, 0};
+    AgcRow rows[2] = {{1, 0, {{AGC_LIST, 1, 1, 0}}}, {1, 0, {{AGC_NOTHING, 9, 9, 9}}}}, row = rows[0];
+    BROKEN("agc_step", step(w, s, NULL, 0, NULL, 0, change));
+    IS("agc_step", 0, step(w, s, NULL, 0, NULL, 0, change));
+    IS("agc_step of no kind", 4, step(w, s, NULL, 0, NULL, 0, none));
+    IS("agc_step of no kind", 4, step(w, s, NULL, 0, NULL, 0, beyond));
+    IS("agc_step", 4, step(w, s, NULL, 0, NULL, 0, novac));
+    IS("agc_step", 4, step(w, s, NULL, 0, NULL, 0, phase));
+    IS("agc_step", 5, step(w, s, NULL, 0, NULL, 0, store));
+    IS("agc_step in a tick", 6, (agc_list(w, s, 1, 1, 0), agc_count_time3(w, s), memcpy(was, w, sizeof w),
+                                 step(w, s, NULL, 0, NULL, 0, change)));
+    IS("agc_step, MODE", 8, (agc_novac(w, s, 1, 1, 0), w[7] = 1, memcpy(was, w, sizeof w), step(w, s, NULL, 0, NULL, 0, change)));
+    IS("agc_step, PUSHLOC", 8, (agc_novac(w, s, 1, 1, 0), w[10] = 1, memcpy(was, w, sizeof w), step(w, s, NULL, 0, NULL, 0, change)));
+    IS("agc_step, a gap", 8, (agc_list(w, s, 1, 1, 0), agc_list(w, s, 2, 1, 0), w[91] = 077777, memcpy(was, w, sizeof w),
+                              step(w, s, NULL, 0, NULL, 0, change)));
+    IS("agc_step, a row twice", 10, step(w, s, rows, 2, NULL, 0, change));
+    check(agc_plan_check(rows, 2, NULL, 0) == 10 && agc_plan_check(rows, 1, NULL, 0) == 0, "agc_plan_check", 7, 10);
+#define ROW(CHANGE)                                                                         \
+    do {                                                                                    \
+        row = rows[0];                                                                      \
+        row.CHANGE;                                                                         \
+        check(agc_plan_check(&row, 1, NULL, 0) == 9, "agc_plan_check " #CHANGE, 7, 9);      \
+        IS("agc_step, " #CHANGE, 9, step(w, s, &row, 1, NULL, 0, change));                  \
+    } while (0)
+    ROW(at = 0);
+    ROW(at = 16384);
+    ROW(bank = 32768);
+    ROW(actions[3].kind = AGC_END);
+    ROW(actions[3].kind = AGC_TICK);
+    ROW(actions[3].kind = AGC_NOVAC);
+    ROW(actions[3].kind = AGC_ROUSE);
+    ROW(actions[0].first = 16251);
+    ROW(actions[0].second = 0);
+    ROW(actions[0].third = 32768);
+}
+
+static void power(void) {
+    AgcPhaseEntry entries[2] = {{6, 127, AGC_NOVAC, 31, 16383, 32767, 0, 0, 0}, {6, 127, 0, 0, 0, 0, 0, 0, 0}};
+    uint16_t phases[AGC_PHASE_WORDS] = {077777, 0, 077777, 0, 077777, 0, 077777, 0, 077777, 0, 077600, 0177};
+    IS("agc_power_up", 1, agc_power_up(w, 6, entries, 1, phases).code);
+    IS("agc_power_up", 11, agc_power_up(w, s, entries, 2, phases).code);
+    IS("agc_power_up", 0, agc_power_up(w, s, entries, 1, phases).code);
+    entries[0].job_at = 0;
+    IS("agc_power_up", 9, agc_power_up(w, s, entries, 1, phases).code);
+    phases[11] = 32768;
+    IS("agc_power_up", 2, agc_power_up(w, s, NULL, 0, phases).code);
+    IS("agc_power_up_trusted", 2, agc_power_up_trusted(w, s, NULL, 0, phases).code);
+    IS("agc_power_up_trusted", 1, agc_power_up_trusted(w, 9, NULL, 0, phases).code);
+    phases[11] = 0176;
+    IS("agc_power_up of words that don't agree", 0, agc_power_up(w, s, NULL, 0, phases).code);
+}
+
+static void lines(void) {
+    const char *wrong[] = {"", "end ", " end", "END", "novac 20 2000 00005", "novac 00 02000 00005", "list 0 02000 00005",
+                           "list 01 02000 00005", "list 16251 02000 00005", "phase 7 1", "phase 1 128", "store 0 00000",
+                           "sleep 00000", "rouse 40000", "prio 40", "novac 20 02000 00005 ", "novac 20 02000 100000", "tick\n", "nothing"};
+    AgcRequest it = {1, 2, 3, 4}, was = it;
+    for (size_t k = 0; k < sizeof wrong / sizeof *wrong; k++) {
+        char *own = malloc(strlen(wrong[k]) + 1);
+        memcpy(own, wrong[k], strlen(wrong[k]));
+        check(agc_read_request(own, strlen(wrong[k]), &it) == 13 && !memcmp(&it, &was, sizeof it), wrong[k], 7, 13);
+        free(own);
+    }
+    check(agc_read_request("tick\0", 5, &it) == 13 && agc_read_request("tick", 3, &it) == 13, "a part of tick", 7, 13);
+    check(agc_read_request("tick", 4, &it) == 0 && it.kind == AGC_TICK && it.first + it.second + it.third == 0, "tick", 7, 0);
+    check(agc_read_request("store 6 77777", 13, &it) == 0 && it.kind == AGC_STORE && it.first == 6 && it.second == 077777, "store", 7, 0);
+    check(agc_read_action("nothing", 7, &it) == 0 && it.kind == AGC_NOTHING, "nothing", 7, 0);
+    check(agc_read_action("list 16250 37777 77777", 22, &it) == 0 && it.kind == AGC_LIST && it.first == 16250 && it.second == 037777 &&
+          it.third == 077777, "list", 7, 0);
+    was = it;
+    check(agc_read_action("tick", 4, &it) == 13 && agc_read_action("end", 3, &it) == 13 && !memcmp(&it, &was, sizeof it), "no action", 7, 13);
+}
+
+static void replies(void) {
+    AgcFired fired[AGC_FIRED] = {{0, 0}};
+    AgcStep step = {AGC_OK, AGC_TICKED, 0, 10, 0};
+    check(agc_write_reply(&step, fired, NULL, 0).code == 4, "a reply of ten tasks", 7, 4);
+    step.fired = 0;
+    check(agc_write_reply(&step, fired, NULL, 0).code == 14 && agc_write_reply(&step, fired, NULL, 0).number == 5, "no room", 7, 14);
+    step.reply = 15;
+    check(agc_write_reply(&step, fired, NULL, 0).code == 4, "a reply of no kind", 7, 4);
+    step.reply = 0;
+    check(agc_write_reply(&step, fired, NULL, 0).code == 4, "a reply of no kind", 7, 4);
+}
+
+static void reports(void) {
+    AgcTotals most = {UINT64_MAX, UINT64_MAX, UINT64_MAX, UINT64_MAX, UINT64_MAX};
+    char text[AGC_REPORT];
+    BROKEN("agc_write_report", agc_write_report(w, s, &most, text, sizeof text).code);
+    check(agc_write_report(image, 7, &most, text, sizeof text).code == 0, "the greatest counts", 7, 0);
+    text[AGC_REPORT - 1] = 0;
+    check(strstr(text, "SERVED 18446744073709551615\nALARMS 18446744073709551615 ") != NULL, "the greatest counts", 7, 0);
 }
 
 static void ticks(void) {
@@ -189,12 +307,14 @@ static void words(void) {
     check(agc_negative(0).number == 077777 && agc_negative(32768).code == 5, "agc_negative", 7, 5);
     check(agc_value(040000).value == -16383 && agc_value(32768).code == 5, "agc_value", 7, 5);
     check(agc_pointer(NULL) == AGC_NULL && agc_pointer(image) == AGC_OK, "agc_pointer", 7, 7);
+    check(agc_pointer((const uint16_t *)(const void *)((const char *)image + 1)) == AGC_NULL, "a pointer that is not aligned", 7, 7);
 }
 
 static void texts(void) {
     check(!strcmp(agc_code_text(AGC_OK), "the call was served"), "agc_code_text", 7, 0);
     check(!strcmp(agc_code_text(4), "a number of the call is out of its range"), "agc_code_text", 7, 4);
-    check(!strcmp(agc_code_text(8), "no call answers this code"), "agc_code_text", 7, 8);
+    check(!strcmp(agc_code_text(13), "the line spells no request"), "agc_code_text", 7, 13);
+    check(!strcmp(agc_code_text(15), "no call answers this code"), "agc_code_text", 7, 15);
     check(!strcmp(agc_reply_text(AGC_NO_SLEEPER), "no job sleeps at that address"), "agc_reply_text", 7, 0);
     check(!strcmp(agc_reply_text(0), "no reply is of this kind"), "agc_reply_text", 7, 0);
 }
@@ -204,6 +324,11 @@ int main(void) {
     images();
     numbers();
     eras();
+    steps();
+    power();
+    lines();
+    replies();
+    reports();
     ticks();
     words();
     texts();

@@ -99,7 +99,7 @@ def words_are_a_tuple():
 
 def an_era_begins():
     """Group 4 in phase 5: after the alarm there are its job, with the first area, and its task."""
-    others = [PhaseEntry(4, 5), PhaseEntry(4, 6, JobStart(1, 1, 1)), PhaseEntry(3, 0, JobStart(1, 1, 1))]
+    others = [PhaseEntry(4, 6, JobStart(1, 1, 1)), PhaseEntry(3, 1, JobStart(1, 1, 1))]
     plan = [PhaseEntry(4, 5, JobStart(0o25, 0o6000, 9, area=True), Listing(10, 0o6100, 9)), *others]
     for image in (busy(), Image(8)):
         image.set_phase(4, 5)
@@ -124,9 +124,12 @@ def an_era_that_cannot_begin():
     job, task = JobStart(1, 1, 1), Listing(1, 1, 1)
     for code, plan, alarm in [
         (Code.OUT_OF_RANGE, [], 1201),
-        (Code.OUT_OF_RANGE, six, 0o1201),
-        (Code.OUT_OF_RANGE, [PhaseEntry(6, 1, job._replace(priority=2**32 + 1))], 0),
-        (Code.NOT_A_WORD, [PhaseEntry(1, 1, job), PhaseEntry(6, 1, None, task._replace(bank=32768))], 0o1203),
+        (Code.TOO_MANY_AREAS, six, 0o1201),
+        (Code.PLAN_RANGE, [PhaseEntry(6, 1, job._replace(priority=2**32 + 1))], 0),
+        (Code.PLAN_RANGE, [PhaseEntry(1, 1, job), PhaseEntry(6, 2, None, task._replace(bank=32768))], 0o1203),
+        (Code.PLAN_RANGE, [PhaseEntry(6, 1, None, task._replace(delay=0))], 0),
+        (Code.PLAN_RANGE, [PhaseEntry(6, 0, job)], 0),
+        (Code.PHASE_TWICE, [PhaseEntry(6, 1, job), PhaseEntry(6, 1)], 0),
     ]:
         try:
             image.begin(plan, alarm)

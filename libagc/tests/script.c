@@ -13,7 +13,7 @@ static bool trusted;
 static unsigned served, alarms[3], restarts;
 
 /* The plan: what begins again, and the actions of tasks, each a script line. */
-enum { MOST = 32 };
+enum { MOST = 64 };
 static AgcPhaseEntry entries[MOST];
 static struct { unsigned at, bank; char action[64]; } rows[MOST];
 static size_t entry_count, row_count;
@@ -67,13 +67,13 @@ static AgcReply ask(const char *line) {
     return none;
 }
 
-/* A task's action. Returns the alarm that it raised, or 0. */
+/* A task's actions, a row for each. Returns the alarm that one raised, which is then the last, or 0. */
 static uint32_t perform(AgcTask task) {
     for (size_t k = 0; k < row_count; k++) {
-        if (rows[k].at != task.at || rows[k].bank != task.bank) continue;
+        if (rows[k].at != task.at || rows[k].bank != task.bank || !strcmp(rows[k].action, "nothing")) continue;
         AgcReply r = ask(rows[k].action);
         want(r.code);
-        return r.reply == AGC_ALARMED ? r.number : 0;
+        if (r.reply == AGC_ALARMED) return r.number;
     }
     return 0;
 }

@@ -74,12 +74,14 @@ impl Run {
             let task = agc_dispatch(&mut self.words, self.sets);
             want(task.code);
             write!(self.out, " {:05o}/{:05o}", task.at, task.bank).unwrap();
-            let named = self.rows.iter().find(|row| row.0 == task.at && row.1 == task.bank);
-            let Some(reply) = named.map(|row| row.2.clone()).and_then(|it| self.ask(&it)) else { continue };
-            want(reply.code);
-            if reply.reply == ALARMED {
-                write!(self.out, " alarm {:o}", reply.number).unwrap();
-                return self.begin(reply.number);
+            let is_of = |row: &&(u32, u32, String)| (row.0, row.1) == (task.at, task.bank) && row.2 != "nothing";
+            let lines: Vec<String> = self.rows.iter().filter(is_of).map(|row| row.2.clone()).collect();
+            for reply in lines.iter().map_while(|it| self.ask(it)) {
+                want(reply.code);
+                if reply.reply == ALARMED {
+                    write!(self.out, " alarm {:o}", reply.number).unwrap();
+                    return self.begin(reply.number);
+                }
             }
         }
     }
@@ -212,13 +214,13 @@ fn refuses() {
     let was = words;
     assert_eq!(agc_begin(&mut words, 9, 0, &[]), NO_SUCH_SETS);
     assert_eq!(agc_begin(&mut words, 8, 1201, &[]), OUT_OF_RANGE);
-    assert_eq!(agc_begin(&mut words, 8, 0o1201, &[job(32768)]), NOT_A_WORD);
+    assert_eq!(agc_begin(&mut words, 8, 0o1201, &[job(32768)]), PLAN_RANGE);
     let six: Vec<PhaseEntry> = (1..=6)
         .map(|group| PhaseEntry { group, phase: 1, job: Some(JobStart::Findvac { priority: 1, at: 1, bank: 1 }), task: None })
         .collect();
     assert_eq!(words, was);
     (1..=5).for_each(|group| want(agc_set_phase(&mut words, 8, group, 1)));
-    assert_eq!(agc_begin(&mut words, 8, 0, &six), OUT_OF_RANGE);
+    assert_eq!(agc_begin(&mut words, 8, 0, &six), TOO_MANY_AREAS);
     want(agc_begin(&mut words, 8, 0, &six[1..]));
     assert_eq!((agc_running(&words, 8).number, words[84]), (1, 0));
 }

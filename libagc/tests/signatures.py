@@ -1,6 +1,8 @@
-"""Compares the exports as crates/libagc has them with agc.h, agc.py and agc.rs: each call's name, what it takes, by
-which names and in which order, what it answers, each struct's fields, each code, and the texts of codes and replies.
-Prints what differs, and fails then.
+"""Compares the exports as crates/libagc has them with agc.h, agc.py, agc.rs and agc.d.ts: each call's name, what it
+takes, by which names and in which order, what it answers, each struct's fields, each code, and the texts of codes and
+replies; and what machine.js exports with what agc.d.ts declares. Prints what differs, and fails then.
+
+A slice of the crate is a pointer and a length elsewhere, of the names that LENGTHS has.
 """
 
 import ctypes
@@ -14,7 +16,10 @@ HERE = os.path.dirname(os.path.abspath(__file__))
 sys.path.insert(0, f"{HERE}/../python")
 import agc
 
-NUMBERS = {"uint32_t": "u32", "int32_t": "i32", "uint8_t": "u8", "bool": "bool"}
+NUMBERS = {"uint32_t": "u32", "int32_t": "i32", "uint8_t": "u8", "bool": "bool", "char": "u8", "uint64_t": "u64"}
+NUMBERS |= {"uint16_t": "u16", "AgcAction": "AgcRequest"}
+SIZES = {"AGC_WORDS": 144, "AGC_PHASE_WORDS": 12, "AGC_FIRED": 9, "AGC_ACTIONS": 4}
+LENGTHS = {"rows": "row_count", "entries": "entry_count", "text: &[": "length", "text: &mut [": "room"}
 
 
 def text_of(path):
@@ -25,67 +30,133 @@ def text_of(path):
 def parameter(text):
     """A parameter of Rattle or Rust, as `name: type`."""
     name, kind = (it.strip() for it in text.split(":", 1))
-    kind = kind.replace("Words", "[u16; 144]") if "Phase" not in kind else kind.replace("PhaseWords", "[u16; 12]")
+    kind = kind.replace("PhaseWords", "[u16; 12]").replace("Words", "[u16; 144]").replace("AgcAction", "AgcRequest")
+    kind = kind.replace("FIRED", "9").replace("*const ", "&").replace("*mut ", "&mut ")
     return f"{name}: {kind}"
+
+
+def length_of(shown):
+    """What the length of a slice is called."""
+    return next((name for begin, name in LENGTHS.items() if shown.startswith(begin)), None)
+
+
+def as_slices(takes):
+    """Parameters, with each pointer and its length as a slice."""
+    found = []
+    for it in takes:
+        name, kind = it.split(": ")
+        if kind != "usize":
+            found.append(it)
+            continue
+        own, pointer = found.pop().split(": &")
+        element = pointer.removeprefix("mut ")
+        shown = f"{own}: &{pointer.removesuffix(element)}[{element}]"
+        found.append(shown if length_of(shown) == name else f"{shown} of {name}")
+    return found
+
+
+def parameters(text):
+    """Those between the brackets: of a fixed array, a comma or semicolon inside doesn't part them."""
+    return [parameter(it) for it in re.split(r",(?![^\[]*\])", text) if ":" in it]
 
 
 def of_rust(text, keyword):
     """Returns calls and structs of Rattle or Rust: the exports or the safe and unsafe declarations."""
     calls = {}
     for name, takes, answers in re.findall(keyword + r"fn (agc_\w+)\(([^)]*)\)\s*->\s*(\w+)", text):
-        takes = [parameter(it) for it in takes.split(",") if ":" in it]
-        calls[name] = (takes, answers)
+        calls[name] = (as_slices(parameters(takes)), answers)
     structs = {}
     for name, body in re.findall(r"pub struct (Agc\w+) \{(.*?)\n\}", text, re.S):
-        structs[name] = re.findall(r"pub (\w+): ([^,\n]+),", body)
+        fields = [(field, kind.replace("ACTIONS", "4")) for field, kind in re.findall(r"pub (\w+): ([^,\n]+),", body)]
+        if name == "AgcRow" and len(fields) == 6:
+            fields[2:] = [("actions", "[AgcRequest; 4]")]
+        structs[name] = fields
     return calls, structs
 
 
+def of_c_parameter(text):
+    """`const AgcFired fired[AGC_FIRED]`, as Rattle has it."""
+    is_const, kind, star, name, size = re.fullmatch(r"(const )?(\w+) (\*?)(\w+)(?:\[(\w+)\])?", text).groups()
+    shown, by = NUMBERS.get(kind, "usize" if kind == "size_t" else kind), "&" if is_const else "&mut "
+    if size:
+        return f"{name}: {by}[{shown}; {SIZES[size]}]"
+    return f"{name}: {by if star else ''}{shown}"
+
+
 def of_c(text):
+    text = re.sub(r"\s+", " ", re.sub(r"/\*.*?\*/", "", text, flags=re.S))
     calls = {}
-    for answers, name, takes in re.findall(r"^(\w+) (agc_\w+)\(([^)]*)\);", text, re.M):
-        shown = []
-        for it in takes.split(", "):
-            array = re.search(r"\[(\w+)\]", it)
-            size = {"AGC_WORDS": 144, "AGC_PHASE_WORDS": 12}[array.group(1)] if array else 0
-            by = "&" if it.startswith("const ") else "&mut "
-            named = re.search(r"(\w+)(?:\[\w+\])?$", it)[1]
-            shown.append(f"{named}: {f'{by}[u16; {size}]' if array else NUMBERS[it.split()[0]]}")
-        calls[name] = (shown, NUMBERS.get(answers, answers))
+    for answers, name, takes in re.findall(r"(?<=[;}] )(\w+) (agc_\w+)\(([^)]*)\);", text):
+        calls[name] = (as_slices([of_c_parameter(it) for it in takes.split(", ")]), NUMBERS.get(answers, answers))
     structs = {}
-    for body, name in re.findall(r"(?:typedef|AGC_TYPE) struct \{ (.*?) \} (Agc\w+);", text):
+    for body, name in re.findall(r"(?:typedef|AGC_TYPE) struct \{ ([^}]*?) \} (Agc\w+);", text):
         structs[name] = []
         for part in body.strip(" ;").split("; "):
             kind, names = part.split(" ", 1)
             for field in names.split(", "):
-                array = re.match(r"(\w+)\[(\d+)\]", field)
-                shown = f"[{NUMBERS[kind]}; {array.group(2)}]" if array else NUMBERS[kind]
-                structs[name].append((array.group(1) if array else field, shown))
+                array = re.match(r"(\w+)\[(\w+)\]", field)
+                shown = f"[{NUMBERS[kind]}; {SIZES.get(array[2], array[2])}]" if array else NUMBERS[kind]
+                structs[name].append((array[1] if array else field, shown))
     return calls, structs
 
 
 PYTHON = {ctypes.c_uint32: "u32", ctypes.c_int32: "i32", ctypes.c_bool: "bool", ctypes.c_uint8 * 6: "[u8; 6]"}
+PYTHON |= {ctypes.c_uint64: "u64", ctypes.c_size_t: "u64", agc.AgcRequest * 4: "[AgcRequest; 4]", ctypes.c_char_p: "u8"}
 
 
 def of_python():
-    """The types alone. Python says of an array neither its size nor whether it is written to."""
-    calls, structs = {}, {}
+    """The types alone. Python says of a pointer neither how many it points to nor whether it is written to."""
+    calls = {}
     for name, (takes, answers) in agc.signatures().items():
-        calls[name] = ([PYTHON.get(it, "array") for it in takes], PYTHON.get(answers, answers.__name__))
-        if answers not in PYTHON:
-            structs[answers.__name__] = [(field, PYTHON[kind]) for field, kind in answers._fields_]
-    return calls, structs
+        pointed = {it: getattr(it, "_type_", None) for it in takes}
+        shown = [PYTHON.get(it) or getattr(pointed[it], "__name__", "") for it in takes]
+        calls[name] = ([it.replace("c_ushort", "u16") for it in shown], PYTHON.get(answers, answers.__name__))
+    structs = {name: it for name, it in vars(agc).items() if name.startswith("Agc")}
+    return calls, {name: [(field, PYTHON[kind]) for field, kind in it._fields_] for name, it in structs.items()}
 
 
-def types_without_arrays(calls):
-    types = {name: [it.split(": ")[1] for it in takes] for name, (takes, _) in calls.items()}
-    return {name: (["array" if "[" in it else it for it in types[name]], calls[name][1]) for name in calls}
+def pointed_types(calls):
+    """What each call takes, as of_python has it."""
+    for name, (takes, answers) in calls.items():
+        found = []
+        for it in takes:
+            found.append(re.sub(r"[&\[\]]|mut |; \d+", "", it.split(": ")[1]))
+            found += ["u64"] * (length_of(it) is not None)
+        yield name, (found, answers)
+
+
+def of_javascript(calls):
+    """Each call's line of agc.d.ts, as the export has it: a struct is answered behind a pointer that comes first."""
+    for name, (takes, answers) in calls.items():
+        found = ["answer: bigint"] * answers.startswith("Agc")
+        for it in takes:
+            own, kind = it.split(": ")
+            found.append(f"{own}: {'bigint' if '&' in kind else 'number'}")
+            found += [f"{length_of(it)}: bigint"] * (length_of(it) is not None)
+        yield name, f"({', '.join(found)}): {'void' if answers.startswith('Agc') else 'number'};"
+
+
+def compared_javascript(calls, constants):
+    """What agc.d.ts declares, beside the exports of the crate and of machine.js."""
+    module, types = text_of(f"{HERE}/../js/machine.js"), text_of(f"{HERE}/../js/agc.d.ts")
+    declared = {name: re.sub(r"\s+", " ", rest) for name, rest in re.findall(r"(?s)^  (agc_\w+)(\(.*?;)$", types, re.M)}
+    declared = {name: it.replace("( ", "(").replace(", )", ")") for name, it in declared.items()}
+    yield from compared("agc.d.ts", dict(of_javascript(calls)), declared)
+    exported = set(re.findall(r"(?m)^export (?:async )?(?:const|class|function) (\w+)", module))
+    named = set(re.findall(r"(?m)^export declare (?:const|class|function) (\w+)", types))
+    yield from (f"signatures: machine.js and agc.d.ts don't both have {it}" for it in exported ^ named)
+    for name, number in re.findall(r"(?m)^  (?:readonly )?([A-Z_]+): (\d+)[,;]$", module + types):
+        if constants.get(name) != int(number):
+            yield f"signatures: {name} is {constants.get(name)} in agc.h and {number} in libagc/js"
+    has = {name: set(re.findall(r"(?m)^  (?:readonly )?([A-Z_]+): \d+[,;]$", it)) for name, it in [("js", module), ("d.ts", types)]}
+    wanted = {it.name for it in [*agc.Code, *agc.Kind]}
+    yield from (f"signatures: {name} has the constants {it ^ wanted} or lacks them" for name, it in has.items() if it != wanted)
 
 
 def names_of_python(calls):
     """What the methods of an image, and the functions beside it, name their numbers, by the calls of the same name."""
     found = {}
-    for name in calls:
+    for name in set(calls) - {"agc_begin"}:
         call = getattr(agc.Image, name[len("agc_") :], None) or getattr(agc, name[len("agc_") :], None)
         if call:
             found[name] = [it for it in inspect.signature(call).parameters if it != "self"]
@@ -119,9 +190,15 @@ def compared_texts(header, module):
     python = {f"agc_code_text of {it.name}": agc.code_text(it) for it in agc.Code}
     python |= {f"agc_reply_text of {it.name}": agc.reply_text(it) for it in agc.Kind}
     python |= {"agc_code_text of _": agc.code_text(-1), "agc_reply_text of _": agc.reply_text(0)}
+    script = text_of(f"{HERE}/../js/machine.js").split("const REPLY_LINES")[0]
+    shown = {f"agc_code_text of {name}": said for name, said in re.findall(r'\[Code\.(\w+)\]: "(.*)",', script)}
+    shown |= {f"agc_reply_text of {name}": said for name, said in re.findall(r'\[Kind\.(\w+)\]: "(.*)",', script)}
+    others = re.findall(r'_TEXTS\[\w+\] \?\? "(.*)";', script)
+    shown |= {f"agc_{kind}_text of _": said for kind, said in zip(("code", "reply"), others)}
+    yield from compared("machine.js", wanted, shown)
     yield from compared("agc.rs", wanted, texts_of(module, r'(\w+) => "(.*)",'))
     yield from compared("agc.py", wanted, python)
-    if len(wanted) != 19:
+    if len(wanted) != 30:
         yield f"signatures: agc.h has {len(wanted)} texts"
 
 
@@ -133,26 +210,30 @@ def compared(name, wanted, found):
 
 def main():
     source = "".join(text_of(it) for it in glob.glob(f"{HERE}/../../crates/libagc/src/*.rt"))
+    source += "".join(text_of(it) for it in glob.glob(f"{HERE}/../../crates/agc_image/src/*.rt"))
     calls, structs = of_rust(source, r'no_mangle\)\]\npub extern "C" ')
     header, module = text_of(f"{HERE}/../include/agc.h"), text_of(f"{HERE}/../rust/agc.rs")
     faults = []
-    # agc_begin stands before the block of declarations
-    rust = of_rust(module[module.index('extern "C"') :], r"pub (?:safe )?")[0], of_rust(module, "")[1]
-    for name, found in [("agc.h", of_c(header)), ("agc.rs", rust)]:
+    # calls with slices stand before the blocks of declarations, which have pointers and lengths
+    declared, (wrapped, shapes) = of_rust(module[module.index("pub mod raw") :], r"pub (?:safe )?")[0], of_rust(module, r"\npub ")
+    wrapped.pop("agc_begin", None)
+    for name, found in [("agc.h", of_c(header)), ("agc.rs", (declared, shapes))]:
         faults += compared(name, calls, found[0])
         faults += compared(name, structs, found[1])
-    faults += compared("agc.py", types_without_arrays(calls), of_python()[0])
+    faults += compared("agc.rs", {name: calls.get(name) for name in wrapped}, wrapped)
+    faults += compared("agc.py", dict(pointed_types(calls)), of_python()[0])
     faults += compared_names(calls)
     faults += compared("agc.py", structs, of_python()[1])
     faults += compared_texts(header, module)
     constants = {name: int(n, 8 if n[0] == "0" else 10) for name, n in re.findall(r"AGC_(\w+) = (\d+)", header)}
-    for name, number in re.findall(r"pub const (\w+): u32 = (\d+);", module):
-        if constants.get(name) != int(number):
+    faults += compared_javascript(calls, constants)
+    for name, number in re.findall(r"pub const (\w+): (?:u32|usize) = (\d+);", module):
+        if name != "PHASE_PLACE" and constants.get(name) != int(number):
             faults.append(f"signatures: {name} is {constants.get(name)} in agc.h and {number} in agc.rs")
     for it in [*agc.Code, *agc.Kind]:
         if constants.get(it.name) != it.value:
             faults.append(f"signatures: {it.name} is {constants.get(it.name)} in agc.h and {it.value} in agc.py")
-    if len(calls) < 30:
+    if len(calls) < 40:
         faults.append(f"signatures: the crate has {len(calls)} exports")
     print(*faults, sep="\n", end="\n" if faults else "")
     return 1 if faults else 0

@@ -13,6 +13,8 @@ LEFT_OUT = [f":!{it}" for it in ("crates/*/src", "crates/*/specs", "crates/*/pro
 COMMANDS = "crates/agc_watch/src/commands.rt"
 WATCHED = {"trace": "trace", "picture": "svg", "page": "html"}
 BUILT = ["crates/agc/out/agc", "crates/agc_watch/out/agc_watch", "crates/libagc/out/liblibagc.a"]
+MODULE = "libagc/js/agc.wasm"
+VERDICT = "logic=proved functions=1 target=wasm64-unknown-unknown sum=0123456789abcdef native=nat"
 HEADER = "libagc/include/agc.h"
 LOGIC = "0123456789abcdef"
 MAIN = b"int main(int count, char **words) { return count == 2 && puts(words[1]) < 0; }\n"
@@ -56,10 +58,11 @@ def build(room):
     printed(["cc", "-fPIC", "-c", "-x", "c", "-", "-o", "out.o"], room, input=mark + call)
     printed(["ar", "rcD", BUILT[2], "out.o"], room)
     os.remove(f"{room}/out.o")
-    for path in BUILT:
+    write(f"{room}/{MODULE}", "no module\n")
+    for path in [*BUILT, MODULE]:
         with open(f"{room}/{path}", "rb") as file:
             sums = printed(["cksum"], room, stdin=file), printed(["tools/sources"], room), f"no kit logic {LOGIC}"
-        write(f"{room}/{path}.sums", "\n".join(sums) + "\n")
+        write(f"{room}/{path}.sums", "\n".join([*sums, *[VERDICT] * (path == MODULE)]) + "\n")
 
 
 def write(path, text):
@@ -109,7 +112,8 @@ def release(hostile):
         run(hostile, room)
         hostile.expect("a second release has the same bytes", packed(room) == first)
         git(place, "clone", "-q", room, "clone")
-        for path in (*BUILT, *(f"{it}.sums" for it in BUILT)):
+        built = *BUILT, MODULE
+        for path in (*built, *(f"{it}.sums" for it in built)):
             os.makedirs(os.path.dirname(f"{place}/clone/{path}"), exist_ok=True)
             shutil.copy(f"{room}/{path}", f"{place}/clone/{path}")
         run(hostile, f"{place}/clone")
@@ -148,7 +152,8 @@ def unpacked(hostile, room, place):
     for what, end in WATCHED.items():
         hostile.expect(f"the {what} of an example", read(f"{top}/examples/bare.{end}") == f"{what}\n")
     said = read(f"{top}/PROVED-BY.txt")
-    wanted = (f"no kit logic {LOGIC}", git(room, "rev-parse", "HEAD"), "Gate:      not told")
+    wanted = (f"no kit logic {LOGIC}", git(room, "rev-parse", "HEAD"), "Gate:      not told", f"agc.wasm:  {VERDICT}\n")
+    hostile.expect("a release has the module", read(f"{top}/{MODULE}") == "no module\n")
     hostile.expect(f"PROVED-BY.txt: {said}", all(it in said for it in wanted))
 
 
@@ -183,6 +188,10 @@ def refusals(hostile, room):
     write(f"{room}/{BUILT[2]}.sums", sums.replace(LOGIC, "0" * 16))
     refuse(hostile, room, f"{BUILT[2]} was not proved by no kit logic {'0' * 16}: its logic is {LOGIC}")
     write(f"{room}/{BUILT[2]}.sums", sums)
+    sums = read(f"{room}/{MODULE}.sums")
+    write(f"{room}/{MODULE}.sums", sums.replace(VERDICT, ""))
+    refuse(hostile, room, f"nothing says that {MODULE} was proved")
+    write(f"{room}/{MODULE}.sums", sums)
     write(f"{room}/new", "")
     refuse(hostile, room, "the tree isn't as its commit has it: new")
     os.remove(f"{room}/new")

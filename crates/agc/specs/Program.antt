@@ -27,7 +27,7 @@ WritesOf mode.Script text old new outcome = (requests : List Request)
 WritesOf mode.Serial text old new outcome = (bench : Benched) × IsDocument text bench
     × WritesSession old new (bench_machine bench) (bench_requests bench) outcome
 WritesOf mode.Threads text old new outcome = (bench : Benched) × IsDocument text bench
-    × WritesRun (λ _ _ answer. answer ≡ true) bench old new outcome
+    × WritesRun (λ _ _ answer. answer ≡ true) (λ _ _ _. Unit {0}) bench old new outcome
 
 -- why this text is not run: it is no script, or no bench
 abbrev pub Refuses : Mode → List ℕ → Fault → Type 0

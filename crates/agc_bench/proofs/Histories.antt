@@ -23,8 +23,8 @@ use Rattle.agc_plan.proofs.Lists.{next_is, none_left}
 use Rattle.agc_document.specs.Benches.{Benched}
 use Rattle.agc_session.specs.Runs.{bench_machine, bench_plan}
 use Rattle.agc_desk.specs.Draining.{answers_to}
-use Rattle.agc_bench.specs.Sharing.{AreFresh, AsksOwn, AsksPulses, EachAsks, Finishes, HaveMade, HaveRun, first_calls}
-use Rattle.agc_bench.specs.Threads.{AskedOwn, Attends, IsRun, askers_of}
+use Rattle.agc_bench.specs.Sharing.{AreFresh, AsksOwn, AsksPulses, EachAsks, Finishes, HaveMade, HaveRun, IsToldRun, first_calls}
+use Rattle.agc_bench.specs.Threads.{AskedOwn, Attends, ToldOwn, askers_of}
 use Rattle.agc_bench.specs.Steps.{asker_at, thread_at}
 use Rattle.agc_bench.proofs.Askers.{all_numbered}
 
@@ -74,9 +74,9 @@ made calls first others is none fresh (suc i) d below =
     fresh i d (omega arith) ∙ (λ k. record { number = number k; heard = sym (none i) k; drains = 0 })
 
 -- each share stands at its number
-number_at : (calls : List Call) (may_answer : ℕ → ℕ → Bool → Type 0) (bench : Benched) (starts back : List Holder) → HaveMade calls starts → EachAsks may_answer (asker_at bench) starts back → length back ≡ length starts
+number_at : (calls : List Call) (may_answer : ℕ → ℕ → Bool → Type 0) (is_told : ℕ → ℕ → Said → Type 0) (bench : Benched) (starts back : List Holder) → HaveMade calls starts → EachAsks may_answer is_told (asker_at bench) starts back → length back ≡ length starts
     → (i : ℕ) (d : Holder) → i < length back → (get_or back i d).number ≡ i
-number_at calls may_answer bench starts back begun asked many i d below =
+number_at calls may_answer is_told bench starts back begun asked many i d below =
     (asked i d d below).with_it.number ∙ ap (λ h. h.number) (begun i d (omega (arith, many, below)))
 
 -- a call of no pulse is not served on a line
@@ -101,41 +101,49 @@ pulses_past plan (said ∷ more) rest applied begun pulses =
     })
 
 -- where a history begins with the script's calls, and each share's holder asked then what is its own, it is a run
-pub run_of : (may_answer : ℕ → ℕ → Bool → Type 0) (bench : Benched) (first : Machined) (history : List Call) (last : Machined) (starts back : List Holder) (settled : Settled) (begun : List ℕ)
+pub run_of : (may_answer : ℕ → ℕ → Bool → Type 0) (is_told : ℕ → ℕ → Said → Type 0) (bench : Benched) (first : Machined) (history : List Call) (last : Machined) (starts back : List Holder) (settled : Settled) (begun : List ℕ)
     → first ≡ bench_machine bench → IsHistory first back history last → ArePulses (bench_plan bench) history settled.applied begun
     → ((line : Line) → on line settled.owed ≡ 0 → on line begun ≡ 0)
     → take (length (first_calls (answers_to first bench.script))) history ≡ first_calls (answers_to first bench.script)
-    → HaveMade (first_calls (answers_to first bench.script)) starts → EachAsks may_answer (asker_at bench) starts back
-    → length back ≡ length starts → length starts ≡ length (askers_of bench) → IsRun may_answer bench last settled
-run_of may_answer bench first history last starts back settled begun_by is whole pulses none begins begun asked many for_each =
+    → HaveMade (first_calls (answers_to first bench.script)) starts → EachAsks may_answer is_told (asker_at bench) starts back
+    → length back ≡ length starts → length starts ≡ length (askers_of bench) → IsToldRun may_answer is_told bench last settled
+run_of may_answer is_told bench first history last starts back settled begun_by is whole pulses none begins begun asked many for_each =
     let begin : List Call = first_calls (answers_to first bench.script) in
     let rest : List Call = drop (length begin) history in
     let parts : history ≡ begin ++ rest = sym (take-append-drop (length begin) history) ∙ ap (λ l. l ++ rest) begins in
+    let asks : (i : ℕ) → i < length (askers_of bench) → AsksOwn may_answer is_told (asker_at bench i) (get_or starts i (new_holder i)) (get_or back i (new_holder i)) =
+    (λ i below. asked i (new_holder i) (new_holder i) (omega (arith, many, for_each, below))) in
+    let own : (i : ℕ) (below : i < length (askers_of bench)) → calls_by i rest ≡ (asks i below).calls = (λ i below.
+    let d : Holder = new_holder i in
+    let a : AsksOwn may_answer is_told (asker_at bench i) (get_or starts i d) (get_or back i d) = asks i below in
+    let start = begun i d (omega (arith, for_each, below)) in
+    let number : (get_or back i d).number ≡ i = number_at begin may_answer is_told bench starts back begun asked many i d (omega (arith, many, for_each, below)) in
+    let heard : calls_by i begin ++ calls_by i rest ≡ calls_by i begin ++ a.calls =
+    sym (calls_by_append i begin rest)
+    ∙ (ap (calls_by i) (sym parts)
+    ∙ (ap (λ n. calls_by n history) (sym number)
+    ∙ (whole.each i d (omega (arith, many, for_each, below))
+    ∙ (a.with_it.heard ∙ ap (λ h. h.heard ++ a.calls) start)))) in
+    append_cancel_left (calls_by i begin) _ _ heard) in
     record {
-      calls = rest;
-      leads = subst (λ m. Leads (after_all m bench.script) rest last) is (leads_past first bench.script rest last (subst (λ l. Leads first l last) parts whole.leads));
-      each = all_numbered (λ i asker. AskedOwn may_answer asker (calls_by i rest)) (askers_of bench) (Attends bench.attends) (λ i below.
-          let d : Holder = new_holder i in
-          let a : AsksOwn may_answer (asker_at bench i) (get_or starts i d) (get_or back i d) = asked i d d (omega (arith, many, for_each, below)) in
-          let start = begun i d (omega (arith, for_each, below)) in
-          let number : (get_or back i d).number ≡ i = number_at begin may_answer bench starts back begun asked many i d (omega (arith, many, for_each, below)) in
-          let heard : calls_by i begin ++ calls_by i rest ≡ calls_by i begin ++ a.calls =
-          sym (calls_by_append i begin rest)
-          ∙ (ap (calls_by i) (sym parts)
-          ∙ (ap (λ n. calls_by n history) (sym number)
-          ∙ (whole.each i d (omega (arith, many, for_each, below))
-          ∙ (a.with_it.heard ∙ ap (λ h. h.heard ++ a.calls) start)))) in
-          subst (λ l. AskedOwn may_answer (asker_at bench i) l) (sym (append_cancel_left (calls_by i begin) _ _ heard)) a.own);
-      no_other = λ k d below.
-          let among = All-drop (λ (call : Call). Contains (numbers_of back) call.by) (length begin) history whole.no_other k d below in
-          let far : among.0 < length back = omega (arith, among.1, length-map back (λ (h : Holder). h.number)) in
-          let d0 : Holder = new_holder 0 in
-          let place = get_or-map (λ (h : Holder). h.number) back among.0 d0 (get_or rest k d).by far in
-          let number = number_at begin may_answer bench starts back begun asked many among.0 d0 far in
-          omega (arith, far, among.2, place, number, many, for_each);
-      begun = begun_by;
-      pulses = pulses_past (bench_plan bench) (answers_to first bench.script) rest settled.applied begun_by (subst (λ l. ArePulses (bench_plan bench) l settled.applied begun_by) parts pulses);
-      none_begun = none;
+      run = record {
+        calls = rest;
+        leads = subst (λ m. Leads (after_all m bench.script) rest last) is (leads_past first bench.script rest last (subst (λ l. Leads first l last) parts whole.leads));
+        each = all_numbered (λ i asker. AskedOwn may_answer asker (calls_by i rest)) (askers_of bench) (Attends bench.attends)
+            (λ i below. subst (λ l. AskedOwn may_answer (asker_at bench i) l) (sym (own i below)) (asks i below).own);
+        no_other = λ k d below.
+            let among = All-drop (λ (call : Call). Contains (numbers_of back) call.by) (length begin) history whole.no_other k d below in
+            let far : among.0 < length back = omega (arith, among.1, length-map back (λ (h : Holder). h.number)) in
+            let d0 : Holder = new_holder 0 in
+            let place = get_or-map (λ (h : Holder). h.number) back among.0 d0 (get_or rest k d).by far in
+            let number = number_at begin may_answer is_told bench starts back begun asked many among.0 d0 far in
+            omega (arith, far, among.2, place, number, many, for_each);
+        begun = begun_by;
+        pulses = pulses_past (bench_plan bench) (answers_to first bench.script) rest settled.applied begun_by (subst (λ l. ArePulses (bench_plan bench) l settled.applied begun_by) parts pulses);
+        none_begun = none;
+      };
+      told = all_numbered (λ i asker. ToldOwn is_told asker (calls_by i rest)) (askers_of bench) (Attends bench.attends)
+          (λ i below. subst (λ l. ToldOwn is_told (asker_at bench i) l) (sym (own i below)) (asks i below).told);
     }
 
 -- a number is equal to itself, and to those that the test says
@@ -154,11 +162,11 @@ pub begins_with : (l history : List Call) → history ≡ l → take (length l) 
 begins_with l history is = ap (take (length l)) is ∙ take_own l
 
 -- the caller attended, and each thread asked what is its own
-pub each_all : (may_answer : ℕ → ℕ → Bool → Type 0) (bench : Benched) (first mid : Holder) (others back : List Holder) → AsksPulses 1 first mid
-    → EachAsks may_answer (thread_at bench) others back → EachAsks may_answer (asker_at bench) (first ∷ others) (mid ∷ back)
-each_all may_answer bench first mid others back attended asked zero s t below =
-    record { calls = attended.calls; own = attended.own; with_it = attended.with_it }
-each_all may_answer bench first mid others back attended asked (suc i) s t below = asked i s t (omega arith)
+pub each_all : (may_answer : ℕ → ℕ → Bool → Type 0) (is_told : ℕ → ℕ → Said → Type 0) (bench : Benched) (first mid : Holder) (others back : List Holder) → AsksPulses 1 first mid
+    → EachAsks may_answer is_told (thread_at bench) others back → EachAsks may_answer is_told (asker_at bench) (first ∷ others) (mid ∷ back)
+each_all may_answer is_told bench first mid others back attended asked zero s t below =
+    record { calls = attended.calls; own = attended.own; told = tt; with_it = attended.with_it }
+each_all may_answer is_told bench first mid others back attended asked (suc i) s t below = asked i s t (omega arith)
 
 -- a history that begins with these calls begins with them as it goes on
 pub begins_on : (l history more : List Call) → take (length l) history ≡ l → take (length l) (history ++ more) ≡ l
@@ -183,18 +191,18 @@ unfolding bench_machine
 none_before bench first told total is grown = sym (with_nothing told) ∙ (sym (ap (λ (m : Machined). add told m.totals) is) ∙ grown)
 
 -- when the threads have ended, and then the caller attended, it is a run
-pub run_finished : (may_answer : ℕ → ℕ → Bool → Type 0) (bench : Benched) (first : Machined) (latch : TableId) (calls : List Call) (caller : Holder) (shares : List Holder) (devices : List Posting) (last : Machined) (settled : Settled)
+pub run_finished : (may_answer : ℕ → ℕ → Bool → Type 0) (is_told : ℕ → ℕ → Said → Type 0) (bench : Benched) (first : Machined) (latch : TableId) (calls : List Call) (caller : Holder) (shares : List Holder) (devices : List Posting) (last : Machined) (settled : Settled)
     → first ≡ bench_machine bench
     → take (length (first_calls (answers_to first bench.script))) calls ≡ first_calls (answers_to first bench.script)
-    → HaveRun may_answer first bench latch caller shares devices → Finishes first calls caller shares last settled → IsRun may_answer bench last settled
-run_finished may_answer bench first latch calls caller shares devices last settled is begins ran ends =
+    → HaveRun may_answer is_told first bench latch caller shares devices → Finishes first calls caller shares last settled → IsToldRun may_answer is_told bench last settled
+run_finished may_answer is_told bench first latch calls caller shares devices last settled is begins ran ends =
     let answers : List Said = answers_to first bench.script in
     let starts : List Holder = caller ∷ ran.starts in
     let caller_is : caller ≡ with_heard (calls_by 0 (first_calls answers)) (new_holder 0) =
     ran.ready.caller_is ∙ ap (λ l. with_heard l (new_holder 0)) (sym (calls_by_first answers)) in
     let begun : HaveMade (first_calls answers) starts = made (first_calls answers) caller ran.starts caller_is (λ n. calls_by_others n answers) ran.ready.fresh in
-    let asked : EachAsks may_answer (asker_at bench) starts (ends.now ∷ shares) = each_all may_answer bench caller ends.now ran.starts shares ends.attended ran.asked.each in
-    run_of may_answer bench first (calls ++ ends.more) last starts (ends.now ∷ shares) settled ends.begun is ends.whole
+    let asked : EachAsks may_answer is_told (asker_at bench) starts (ends.now ∷ shares) = each_all may_answer is_told bench caller ends.now ran.starts shares ends.attended ran.asked.each in
+    run_of may_answer is_told bench first (calls ++ ends.more) last starts (ends.now ∷ shares) settled ends.begun is ends.whole
     (subst (λ p. ArePulses p (calls ++ ends.more) settled.applied ends.begun) (plan_is bench first is) ends.pulses)
     ends.none_begun
     (begins_on (first_calls answers) calls ends.more begins) begun asked (omega (arith, ran.asked.for_each)) (omega (arith, ran.ready.for_each))

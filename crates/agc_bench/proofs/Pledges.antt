@@ -1,4 +1,4 @@
-use Rattle.std.proofs.Common.{◌≡◌, ℕ, ◌+◌, ◌<◌, zero, suc, List, [], ◌∷◌, ◌++◌, length, map, get_or, arith, refl, sym, ◌∙◌}
+use Rattle.std.proofs.Common.{◌≡◌, ℕ, ◌+◌, ◌<◌, List, [], ◌∷◌, ◌++◌, length, map, get_or, arith, refl, sym, ◌∙◌}
 use Rattle.std.proofs.lemmas.List.{get_or_append_left, get_or-map}
 use Rattle.atomic_table.specs.Seated.{TableId}
 use Rattle.agc_plan.specs.declared.line.Line.{Line}
@@ -6,16 +6,6 @@ use Rattle.agc_latch.specs.Ends.{Posting}
 use Rattle.agc_desk.specs.History.{Holder}
 use Rattle.agc_document.specs.Benches.{Benched}
 use Rattle.agc_bench.specs.Sharing.{IsPledge, IsPosts, spent_device}
-
--- one element more
-pub each_push : {T : Type 0} (P : ℕ → T → Type 0) (xs : List T) (x : T)
-    → ((k : ℕ) (d : T) → k < length xs → P k (get_or xs k d)) → P (length xs) x
-    → (k : ℕ) (d : T) → k < length xs + 1 → P k (get_or (xs ++ x ∷ []) k d)
-each_push P [] x old here zero d lt = here
-each_push P [] x old here (suc k) d lt = absurd (omega arith)
-each_push P (y ∷ ys) x old here zero d lt = old zero d (omega arith)
-each_push P (y ∷ ys) x old here (suc k) d lt =
-    each_push (λ j. P (suc j)) ys x (λ j e l. old (suc j) e (omega arith)) here k d (omega arith)
 
 -- a pledge stays what it is as one more start is known
 pub pledge_kept : {G : Type 0} (bench : Benched) (starts : List Holder) (x : Holder) (gate : G) (k : ℕ) (start : Holder) (its_bench : Benched) (thread : ℕ) (its_gate : G)

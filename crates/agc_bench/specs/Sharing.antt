@@ -17,7 +17,8 @@ use Rattle.agc_desk.specs.Draining.{answers_to}
 use Rattle.agc_desk.specs.History.{Holder, IsHistory, calls_by}
 use Rattle.agc_desk.specs.History.{new_holder, own_call, with_heard}
 use Rattle.agc_document.specs.Benches.{Benched}
-use Rattle.agc_bench.specs.Threads.{Asker, Worker, Attends, AskedOwn, threads_of}
+use Rattle.agc_bench.specs.Threads.{Asker, Worker, Attends, AskedOwn, IsAllTold, IsRun}
+use Rattle.agc_bench.specs.Threads.{ToldOwn, threads_of}
 use Rattle.agc_bench.specs.Steps.{thread_at}
 
 -- the calls of the share of number 0, with these answers, of no line's pulse
@@ -45,11 +46,12 @@ pub record GoesOnWith (calls : List Call) (drains : ℕ) (old new : Holder) : Ty
   pub heard : new.heard ≡ old.heard ++ calls
   pub drains_are : new.drains ≡ old.drains + drains
 
--- with a share its holder did what is its own
-pub record AsksOwn (may_answer : ℕ → ℕ → Bool → Type 0) (asker : Asker)
-    (old new : Holder) : Type 0 where
+-- with a share its holder did what is its own, and the gate was told so
+pub record AsksOwn (may_answer : ℕ → ℕ → Bool → Type 0) (is_told : ℕ → ℕ → Said → Type 0)
+    (asker : Asker) (old new : Holder) : Type 0 where
   pub calls : List Call
   pub own : AskedOwn may_answer asker calls
+  pub told : ToldOwn is_told asker calls
   pub with_it : GoesOnWith calls (drains_of asker) old new
 
 -- with a share its holder drained so many times, and all its calls were pulses
@@ -59,16 +61,17 @@ pub record AsksPulses (times : ℕ) (old new : Holder) : Type 0 where
   pub with_it : GoesOnWith calls times old new
 
 -- with each share what is its own was asked; s and t stand in where a list has no such place
-abbrev pub EachAsks : (ℕ → ℕ → Bool → Type 0) → (ℕ → Asker) → List Holder → List Holder → Type 0
-EachAsks may_answer who old new =
+abbrev pub EachAsks : (ℕ → ℕ → Bool → Type 0) → (ℕ → ℕ → Said → Type 0) → (ℕ → Asker)
+    → List Holder → List Holder → Type 0
+EachAsks may_answer is_told who old new =
     (i : ℕ) (s t : Holder) → i < length new
-    → AsksOwn may_answer (who i) (slice_index_or old i s) (slice_index_or new i t)
+    → AsksOwn may_answer is_told (who i) (slice_index_or old i s) (slice_index_or new i t)
 
 -- each thread of a bench asked what is its own, with the share that it had
-pub record HaveAsked (may_answer : ℕ → ℕ → Bool → Type 0) (bench : Benched)
-    (old new : List Holder) : Type 0 where
+pub record HaveAsked (may_answer : ℕ → ℕ → Bool → Type 0) (is_told : ℕ → ℕ → Said → Type 0)
+    (bench : Benched) (old new : List Holder) : Type 0 where
   pub for_each : length new ≡ length old
-  pub each : EachAsks may_answer (thread_at bench) old new
+  pub each : EachAsks may_answer is_told (thread_at bench) old new
 
 -- what a device posts per line: all its pulses, on its own
 abbrev pub posts_of : Line × ℕ → List ℕ
@@ -113,13 +116,19 @@ pub record AreReady (first : Machined) (bench : Benched) (latch : TableId)
 
 -- what takes part in a run when its threads have ended: each asked what is its own with the share
 -- that it had, and each device posted its pulses
-pub record HaveRun (may_answer : ℕ → ℕ → Bool → Type 0) (first : Machined) (bench : Benched)
-    (latch : TableId) (caller : Holder) (shares : List Holder)
+pub record HaveRun (may_answer : ℕ → ℕ → Bool → Type 0) (is_told : ℕ → ℕ → Said → Type 0)
+    (first : Machined) (bench : Benched) (latch : TableId) (caller : Holder) (shares : List Holder)
     (devices : List Posting) : Type 0 where
   pub starts : List Holder
   pub ready : AreReady first bench latch caller starts (new_devices latch bench)
-  pub asked : HaveAsked may_answer bench starts shares
+  pub asked : HaveAsked may_answer is_told bench starts shares
   pub devices_are : devices ≡ spent_devices latch bench
+
+-- a run of which the gate was told each call of each worker
+pub record IsToldRun (may_answer : ℕ → ℕ → Bool → Type 0) (is_told : ℕ → ℕ → Said → Type 0)
+    (bench : Benched) (machine : Machined) (settled : Settled) : Type 0 where
+  pub run : IsRun may_answer bench machine settled
+  pub told : IsAllTold is_told bench run.calls
 
 -- calls come after those that were made before
 abbrev pub GoesOn : List Call → List Call → Type 0

@@ -10,10 +10,11 @@ use Rattle.agc_latch.specs.Lines.{on}
 use Rattle.agc_plan.specs.Pulses.{word_of}
 use Rattle.agc_machine.specs.Image.{HandsOut}
 use Rattle.agc_machine.specs.Machines.{Machined, after_all}
+use Rattle.agc_machine.specs.Said.{Said}
 use Rattle.agc_desk.specs.declared.ties.Call.{Call}
 use Rattle.agc_desk.specs.Desks.{ArePulses}
 use Rattle.agc_desk.specs.History.{Leads, calls_by}
-use Rattle.agc_desk.specs.Runs.{IsFront, requests_of}
+use Rattle.agc_desk.specs.Runs.{AreTold, IsFront, requests_of}
 use Rattle.agc_session.specs.declared.run_fault.RunFault.{RunFault}
 use Rattle.agc_session.specs.declared.run_fault.RunFault.TheVariants.{NoMemory, NoThread}
 use Rattle.agc_session.specs.declared.run_fault.RunFault.TheVariants.{Lost}
@@ -63,6 +64,17 @@ pub record IsRun (may_answer : ℕ → ℕ → Bool → Type 0) (bench : Benched
   pub pulses : ArePulses (bench_plan bench) calls settled.applied begun
   pub none_begun : (line : Line) → on line settled.owed ≡ 0 → on line begun ≡ 0
 
+-- what a gate was told of one who made these calls: of a worker each with its answer; of one who
+-- attends nothing
+abbrev pub ToldOwn : (ℕ → ℕ → Said → Type 0) → Asker → List Call → Type 0
+ToldOwn is_told (Worker worker requests) calls = AreTold (is_told worker) calls
+ToldOwn is_told (Attends times) calls = Unit {0}
+
+-- the gate was told each call of each worker, with its answer
+abbrev pub IsAllTold : (ℕ → ℕ → Said → Type 0) → Benched → List Call → Type 0
+IsAllTold is_told bench calls = All (λ asker. ToldOwn is_told asker.1 (calls_by asker.0 calls))
+    (enumerate_from 0 (askers_of bench))
+
 -- how many pulses of a line the devices of a bench have
 abbrev pub pulses_of : Line → Benched → ℕ
 pulses_of line bench =
@@ -74,12 +86,14 @@ pub record AreSettled (bench : Benched) (settled : Settled) : Type 0 where
   pub whole : (line : Line)
       → on line settled.posted ≡ on line settled.applied + on line settled.owed
 
--- the report of the machine that a run leaves, and the lines of what became of the pulses
-pub record IsRunReport (may_answer : ℕ → ℕ → Bool → Type 0) (bench : Benched) (text : List ℕ) : Type
-    0 where
+-- the report of the machine that a run leaves, each of whose calls the gate was told, and the lines
+-- of what became of the pulses
+pub record IsRunReport (may_answer : ℕ → ℕ → Bool → Type 0) (is_told : ℕ → ℕ → Said → Type 0)
+    (bench : Benched) (text : List ℕ) : Type 0 where
   pub machine : Machined
   pub settled : Settled
   pub run : IsRun may_answer bench machine settled
+  pub told : IsAllTold is_told bench run.calls
   pub words : List ℕ
   pub words_are : HandsOut machine words
   pub pulses : AreSettled bench settled
@@ -88,10 +102,10 @@ pub record IsRunReport (may_answer : ℕ → ℕ → Bool → Type 0) (bench : B
 
 -- what a run of threads wrote: the report and nothing else; a front of it where a write failed;
 -- nothing where there was no memory or no thread; Lost is never answered
-abbrev pub WritesRun : {T : Type 0} → (ℕ → ℕ → Bool → Type 0) → Benched
+abbrev pub WritesRun : {T : Type 0} → (ℕ → ℕ → Bool → Type 0) → (ℕ → ℕ → Said → Type 0) → Benched
     → Option (List ℕ) → Option (List ℕ) → Result T RunFault → Type 0
-WritesRun may_answer bench old new (Err NoMemory) = new ≡ old
-WritesRun may_answer bench old new (Err NoThread) = new ≡ old
-WritesRun may_answer bench old new (Err Lost) = ⊥
-WritesRun may_answer bench old new result =
-    (text : List ℕ) × IsRunReport may_answer bench text × Writes old new text result
+WritesRun may_answer is_told bench old new (Err NoMemory) = new ≡ old
+WritesRun may_answer is_told bench old new (Err NoThread) = new ≡ old
+WritesRun may_answer is_told bench old new (Err Lost) = ⊥
+WritesRun may_answer is_told bench old new result =
+    (text : List ℕ) × IsRunReport may_answer is_told bench text × Writes old new text result

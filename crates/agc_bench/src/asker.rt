@@ -66,6 +66,7 @@ pub(crate) fn ask_own<N: Sharing, G: Gate, W: Wait>(
 ) -> Share<N>
     requires { latch.now ≡ N.latch }
     ensures { AsksOwn (λ n call answer. G.may_answer gate.now n call answer)
+        (λ n call said. G.is_told gate.now n call said)
         (thread_at bench.now thread) share result }
 {
     match bench.workers().get(thread) {

@@ -16,4 +16,5 @@ pub use agc_text::{
     Output, ReadFault, ScriptFault, parse_action, parse_address, parse_line, parse_word, read_all,
     read_script, report, write_answer_to,
 };
+pub use agc_word::{Sets, Word};
 pub use threading::threads;

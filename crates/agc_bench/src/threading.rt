@@ -7,8 +7,8 @@ ghost use Rattle.agc_desk.specs.Opening.{names_of};
 ghost use Rattle.agc_session.specs.Runs.{bench_machine};
 ghost use Rattle.agc_bench.specs.Sharing.{AreReady, AsksOwn, HaveAsked, HaveRun, first_calls};
 ghost use Rattle.agc_bench.specs.Sharing.{spent_device, spent_devices};
-ghost use Rattle.agc_bench.specs.Sharing.{IsPledge, IsPosts, new_devices};
-ghost use Rattle.agc_bench.specs.Threads.{AreSettled, IsRun, WritesRun, askers_of};
+ghost use Rattle.agc_bench.specs.Sharing.{IsPledge, IsPosts, IsToldRun, new_devices};
+ghost use Rattle.agc_bench.specs.Threads.{AreSettled, WritesRun, askers_of};
 ghost use Rattle.agc_bench.specs.Steps.{IsEarly, WritesSettled, thread_at};
 
 use crate::asker::ask_own;
@@ -42,6 +42,7 @@ struct Pledge<'b, 'g, N: Names, G: Gate> {
 impl<'b, 'g, N: Names, G: Gate> Promise<Share<N>> for Pledge<'b, 'g, N, G> {
     ghost kept_by = { λ pledge told. AsksOwn
         (λ n call answer. G.may_answer pledge.gate.now n call answer)
+        (λ n call said. G.is_told pledge.gate.now n call said)
         (thread_at pledge.bench.now pledge.thread) pledge.start.value told };
 }
 
@@ -87,6 +88,7 @@ fn start_askers<'s, E, N: Sharing + Send + Sync, G: Gate + Sync, W: Wait + Sync>
         let own = move || -> Share<N>
             requires { latch.now ≡ N.latch }
             ensures { AsksOwn (λ n call answer. G.may_answer gate.entry.now n call answer)
+                (λ n call said. G.is_told gate.entry.now n call said)
                 (thread_at bench.entry.now thread) share result }
         { ask_own(rt, shared, latch, share, bench, thread, gate) };
         let asking = scope.spawn_with(pledge, own)?;
@@ -108,7 +110,8 @@ fn ask_at_once<N: Sharing + Send + Sync, G: Gate + Sync, W: Threads + Wait + Syn
 ) -> Result<Vec<Share<N>>, RunFault>
     requires latch { latch.now ≡ N.latch }
     ensures asked { IfOk result (λ v. HaveAsked
-        (λ n call answer. G.may_answer gate.now n call answer) bench.now shares.items v.items) }
+        (λ n call answer. G.may_answer gate.now n call answer)
+        (λ n call said. G.is_told gate.now n call said) bench.now shares.items v.items) }
     ensures early { IfErr result (λ fault. IsEarly fault) }
 {
     thread::scope(
@@ -118,6 +121,7 @@ fn ask_at_once<N: Sharing + Send + Sync, G: Gate + Sync, W: Threads + Wait + Syn
             requires latch { latch.now ≡ N.latch }
             ensures asked { IfOk result (λ v. HaveAsked
                 (λ n call answer. G.may_answer gate.entry.now n call answer)
+                (λ n call said. G.is_told gate.entry.now n call said)
                 bench.entry.now shares.items v.items) }
             ensures early { IfErr result (λ fault. IsEarly fault) }
         {
@@ -174,7 +178,8 @@ fn run_at_once<N: Sharing + Send + Sync, G: Gate + Sync, W: Threads + Wait + Syn
     requires latch { latch.now ≡ N.latch }
     requires devices { devices.items ≡ new_devices latch.now bench.now }
     ensures asked { IfOk result (λ r. HaveAsked
-        (λ n call answer. G.may_answer gate.now n call answer) bench.now shares.items r.0.items) }
+        (λ n call answer. G.may_answer gate.now n call answer)
+        (λ n call said. G.is_told gate.now n call said) bench.now shares.items r.0.items) }
     ensures devices { IfOk result (λ r. r.1.items ≡ spent_devices latch.now bench.now) }
     ensures early { IfErr result (λ fault. IsEarly fault) }
 {
@@ -186,7 +191,7 @@ fn run_at_once<N: Sharing + Send + Sync, G: Gate + Sync, W: Threads + Wait + Syn
             requires devices { devices.items ≡ new_devices latch.now bench.now }
             ensures asked { IfOk result (λ r. HaveAsked
                 (λ n call answer. G.may_answer gate.entry.now n call answer)
-                bench.entry.now shares.items r.0.items) }
+                (λ n c s. G.is_told gate.entry.now n c s) bench.entry.now shares.items r.0.items) }
             ensures devices { IfOk result
                 (λ r. r.1.items ≡ spent_devices latch.entry.now bench.entry.now) }
             ensures early { IfErr result (λ fault. IsEarly fault) }
@@ -214,8 +219,9 @@ fn run_locked<N: Sharing + Send + Sync, G: Gate + Sync, W: Threads + Wait + Sync
     requires ready { AreReady N.first bench.now latch.now parts.first parts.shares.items
         parts.devices.items }
     ensures run { IfOk result
-        (λ p. HaveRun (λ n call answer. G.may_answer gate.now n call answer) N.first
-        bench.now latch.now p.first p.shares.items p.devices.items) }
+        (λ p. HaveRun (λ n call answer. G.may_answer gate.now n call answer)
+        (λ n call said. G.is_told gate.now n call said) N.first bench.now latch.now p.first
+        p.shares.items p.devices.items) }
     ensures early { IfErr result (λ fault. IsEarly fault) }
 {
     let RunParts {
@@ -259,8 +265,8 @@ fn gathered<N: Sharing + Send + Sync, G: Gate + Sync, W: Threads + Wait + Sync>(
       given = length bench.now.devices;
       settled = zeros;
     } }
-    ensures run { IfOk result (λ r. IsRun (λ n call answer. G.may_answer gate.now n call answer)
-        bench.now r.0 r.2) }
+    ensures run { IfOk result (λ r. IsToldRun (λ n call answer. G.may_answer gate.now n call answer)
+        (λ n call said. G.is_told gate.now n call said) bench.now r.0 r.2) }
     ensures totals { IfOk result (λ r. r.1 ≡ r.0.totals) }
     ensures pulses { IfOk result (λ r. AreSettled bench.now r.2) }
     ensures early { IfErr result (λ fault. IsEarly fault) }
@@ -293,7 +299,8 @@ fn report_run<W: Write>(
 
 /// Runs a bench with threads: its machine is asked for the requests of the script, and then all
 /// workers and devices start at once, each in a thread of its own. A worker asks under a lock, and
-/// passes the gate before and after each call, under its number in the order of the bench from 0. A
+/// passes the gate before and after each call, under its number in the order of the bench from 0;
+/// the gate is told each call with its answer. A
 /// device posts its pulses on its line without the lock, and asks nothing; one more thread attends
 /// to the pulses as often as the bench says. When all have ended, the caller attends once more and
 /// settles, the shares are gathered, and the report is written: of the machine that some order of
@@ -313,7 +320,8 @@ pub fn threads<R: Threads + Wait + Sync, W: Write, G: Gate + Sync>(
     writer: &mut W,
     gate: &G,
 ) -> Result<(), RunFault>
-    ensures { WritesRun (λ n call answer. G.may_answer gate.now n call answer) bench.now
+    ensures { WritesRun (λ n call answer. G.may_answer gate.now n call answer)
+        (λ n call said. G.is_told gate.now n call said) bench.now
         (W.contents writer.old) (W.contents writer.new) result }
 {
     let machine = machine_of(alloc, bench)?;

@@ -1,6 +1,6 @@
 -- What callers ask, and what they are told.
-use Rattle.std.specs.Prelude.{◌≡◌, ℕ, ◌<◌, ◌≤◌, ◌⊎◌, Bool, true, false, List, [], ◌∷◌, length, map}
-use Rattle.std.specs.Prelude.{take, IsNone}
+use Rattle.std.specs.Prelude.{◌≡◌, ℕ, ◌+◌, ◌<◌, ◌≤◌, ◌⊎◌, Bool, true, false, List, [], ◌∷◌, length}
+use Rattle.std.specs.Prelude.{map, take, IsNone, slice_index_or}
 use Rattle.std.specs.List.{All}
 use Rattle.agc_plan.specs.declared.request.Request.{Request}
 use Rattle.agc_machine.specs.Machines.{Machined, IsLawful, said_of}
@@ -28,15 +28,21 @@ Asks first old asked said new =
 abbrev pub requests_of : List Call → List Request
 requests_of calls = map (λ call. call.answer.request) calls
 
--- the holder of a share asked just these requests, in order, of its own accord, and got an answer
--- to each
-pub record AsksAll (first : Machined) (old : Holder) (requests : List Request)
-    (new : Holder) : Type 0 where
+-- each of these calls was told with its answer, by its number from 0
+abbrev pub AreTold : (ℕ → Said → Type 0) → List Call → Type 0
+AreTold is_told calls =
+    (call : ℕ) (d : Call) → call < length calls → is_told call (slice_index_or calls call d).answer
+
+-- the holder of a share asked just these requests, in order, of its own accord, got an answer to
+-- each, and each was told
+pub record AsksAll (first : Machined) (is_told : ℕ → Said → Type 0) (old : Holder)
+    (requests : List Request) (new : Holder) : Type 0 where
   pub calls : List Call
   pub heard : new ≡ with_heard calls old
   pub asked : requests_of calls ≡ requests
   pub own : All (λ call. IsNone call.pulse) calls
   pub given : All (λ call. IsGiven first call.answer) calls
+  pub told : AreTold is_told calls
 
 -- these were asked of the requests: the first so many, before each of which the gate may answer
 -- true, and which are all or end before one at which it may answer false
@@ -47,10 +53,11 @@ pub record IsFront (may_answer : ℕ → Bool → Type 0) (requests asked : List
   pub passed : (call : ℕ) → call < count → may_answer call true
   pub whole : (count ≡ length requests) ⊎ may_answer count false
 
--- these requests, each answered as the relation says, lead in this order from the first state to
--- the last
-abbrev pub Reached : {State : Type 0} → (State → Request → Said → State → Type 0) → State
-    → List Request → State → Type 0
-Reached leads first [] last = first ≡ last
-Reached {State} leads first (asked ∷ more) last =
-    (next : State) × (((said : Said) × leads first asked said next) × Reached leads next more last)
+-- these requests, each answered as the relation says and told with its answer, by its number from
+-- this one on, lead in this order from the first state to the last
+abbrev pub Reached : {State : Type 0} → (State → Request → Said → State → Type 0)
+    → (ℕ → Said → Type 0) → ℕ → State → List Request → State → Type 0
+Reached leads is_told call first [] last = first ≡ last
+Reached {State} leads is_told call first (asked ∷ more) last =
+    (next : State) × (((said : Said) × leads first asked said next × is_told call said)
+    × Reached leads is_told (call + 1) next more last)

@@ -83,8 +83,9 @@ impl<N: Sharing> Console for Caller<'_, N> {
 }
 
 /// Asks the requests in order at the shared desk, all or up to a call at which the gate may stop,
-/// and hands back the share, whose holder asked just these. `worker` is the number that the gate is
-/// told. It may wait for the lock, and as its gate does. Source: profile.
+/// and hands back the share, whose holder asked just these; the gate is told each with its answer.
+/// `worker` is the number that the gate is told. It may wait for the lock, and as its gate does.
+/// Source: profile.
 pub fn work<N: Sharing, G: Gate, W: Wait>(
     rt: &W,
     shared: &Shared<N>,
@@ -95,7 +96,7 @@ pub fn work<N: Sharing, G: Gate, W: Wait>(
 ) -> Share<N>
     ensures { (asked : List Request)
         × IsFront (λ call answer. G.may_answer gate.now worker call answer) requests.now asked
-        × AsksAll N.first share asked result }
+        × AsksAll N.first (λ call said. G.is_told gate.now worker call said) share asked result }
 {
     let mut caller = Caller { shared, share };
     drive(rt, &mut caller, worker, requests, gate);

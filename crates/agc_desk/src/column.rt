@@ -7,12 +7,12 @@ use std::sync::ledger::{Blank, Book, Ledger};
 /// What one holder was told of one number, with its part of the number's ledger. Contracts see it
 /// as the amount.
 #[derive(Drop)]
-pub(crate) struct Told<L: Ledger> {
+pub(crate) struct ShareCount<L: Ledger> {
     amount: u64,
     mark: ledger::Share<L>,
 }
 
-impl<L: Ledger> Model for Told<L> {
+impl<L: Ledger> Model for ShareCount<L> {
     ghost use Rattle.std.specs.Prelude.{◌≡◌, ℕ};
 
     ghost Value = { ℕ };
@@ -22,7 +22,7 @@ impl<L: Ledger> Model for Told<L> {
     ghost invariant = { λ t. (t.mark.parts ≡ 1) × (t.mark.amount ≡ t.amount) };
 }
 
-impl<L: Ledger> Told<L> {
+impl<L: Ledger> ShareCount<L> {
     /// What its holder was told.
     pub(crate) fn get(&self) -> u64
         ensures { result ≡ self.now }
@@ -65,21 +65,21 @@ impl<L: Ledger> Column<L> {
     }
 
     /// A part for a holder that was told nothing.
-    pub(crate) fn part(&mut self) -> Told<L>
+    pub(crate) fn part(&mut self) -> ShareCount<L>
         requires left { 1 < self.old.left }
         ensures told { result ≡ 0 }
         ensures left { self.new.left + 1 ≡ self.old.left }
         ensures total { self.new.total ≡ self.old.total }
         ensures back { self.new.back ≡ self.old.back }
     {
-        Told {
+        ShareCount {
             amount: 0,
             mark: self.rest.split_off(1, 0),
         }
     }
 
     /// Books what a holder was told.
-    pub(crate) fn add(&mut self, told: &mut Told<L>, amount: u64)
+    pub(crate) fn add(&mut self, told: &mut ShareCount<L>, amount: u64)
         requires fits { self.old.total + amount < 2 ^ 64 }
         ensures told { told.new ≡ told.old + amount }
         ensures total { self.new.total ≡ self.old.total + amount }
@@ -92,12 +92,12 @@ impl<L: Ledger> Column<L> {
     }
 
     /// Takes a part back.
-    pub(crate) fn merge(&mut self, told: Told<L>)
+    pub(crate) fn merge(&mut self, told: ShareCount<L>)
         ensures back { self.new.back ≡ self.old.back + told }
         ensures total { self.new.total ≡ self.old.total }
         ensures left { self.new.left ≡ self.old.left + 1 }
     {
-        let Told { amount: _, mark } = told;
+        let ShareCount { amount: _, mark } = told;
         self.rest.merge(mark);
     }
 

@@ -26,6 +26,10 @@ pub trait Gate {
     /// profile.
     ghost may_answer: { Self → ℕ → ℕ → Bool → Type 0 };
 
+    /// What is known of a call once it was told with this answer, by worker, call and answer;
+    /// nothing, where an `impl` doesn't say. Source: profile.
+    ghost is_told: { Self → ℕ → ℕ → Said → Type 0 } = { λ _ _ _ _. Unit {0} };
+
     /// With what a worker goes on. It need not be a type that may be dropped, so that whoever has
     /// one hands it to `after`. Source: profile.
     type Pass;
@@ -43,7 +47,8 @@ pub trait Gate {
     /// The call of this pass was answered so: the pass may be for this worker, this call and the
     /// answer's request. Source: profile.
     fn after(&self, worker: usize, call: usize, pass: Self::Pass, answer: Answer)
-        requires { is_for pass worker call answer.request };
+        requires { is_for pass worker call answer.request }
+        ensures { is_told self.now worker call answer };
 }
 
 /// The gate that stops no call. Source: profile.
@@ -71,8 +76,8 @@ fn pass_of<G: Gate>(gate: &G, worker: usize, call: usize, request: &Request) -> 
 }
 
 /// Asks the requests in order, and answers how many it asked: all of them, or those before the
-/// first call with which the gate let it go on no more. The gate is told `worker` as the worker's
-/// number. It waits as its console and its gate do. Source: profile.
+/// first call with which the gate let it go on no more. The gate is told each call with its answer,
+/// and `worker` as the worker's number. It waits as its console and its gate do. Source: profile.
 pub fn drive<C: Console, G: Gate, W: Wait>(
     rt: &W,
     console: &mut C,
@@ -81,7 +86,8 @@ pub fn drive<C: Console, G: Gate, W: Wait>(
     gate: &G,
 ) -> usize
     ensures count { result ≤ length requests.now }
-    ensures reached { Reached C.leads console.old (take result requests.now) console.new }
+    ensures reached { Reached C.leads (λ call said. G.is_told gate.now worker call said) 0
+        console.old (take result requests.now) console.new }
     ensures passed { (call : ℕ) → call < result → G.may_answer gate.now worker call true }
     ensures whole { (result ≡ length requests.now) ⊎ G.may_answer gate.now worker result false }
 {

@@ -4,7 +4,7 @@ ghost use Rattle.agc_desk.specs.History.{calls_by, new_holder, with_drain, with_
 ghost use Rattle.agc_desk.specs.Knowing.{knower};
 
 use crate::names::Names;
-use crate::ties::{Pass, Ties, check, count, deal, gather, note, open_ties};
+use crate::ties::{TieSeat, Ties, check, count, deal, gather, note, open_ties};
 use agc_machine::{Answer, NoMemory};
 use agc_plan::Line;
 use std::alloc::Global;
@@ -15,7 +15,7 @@ use std::marker::{Model, PhantomData};
 #[derive(Drop)]
 pub struct Opened {
     ties: Ties,
-    keeper: Pass,
+    keeper: TieSeat,
 }
 
 impl Model for Opened {
@@ -44,7 +44,7 @@ impl Opened {
 #[derive(Drop)]
 pub(crate) struct History<N: Names> {
     ties: Ties,
-    keeper: Pass,
+    keeper: TieSeat,
     given: u64,
     of: PhantomData<N>,
 }
@@ -66,7 +66,7 @@ impl<N: Names> Model for History<N> {
 /// What the holder of a share asked and was answered, and its number. Contracts see it as these.
 #[derive(Drop)]
 pub(crate) struct Own<N: Names> {
-    pass: Pass,
+    pass: TieSeat,
     of: PhantomData<N>,
 }
 

@@ -3,7 +3,7 @@ ghost use Rattle.agc_machine.specs.Told.{add, nothing};
 ghost use Rattle.agc_desk.specs.Ledgers.{NoneFell};
 ghost use Rattle.agc_desk.specs.Opening.{names_of};
 
-use crate::column::{Column, Told};
+use crate::column::{Column, ShareCount};
 use crate::history::Opened;
 use crate::names::{A1201, A1202, A1203, Blanks, Names, Restarts, Served};
 use agc_machine::Totals;
@@ -12,11 +12,11 @@ use std::marker::Model;
 /// What one holder was told of each of the five numbers. Contracts see it as these.
 #[derive(Drop)]
 pub(crate) struct Amounts<N: Names> {
-    served: Told<Served<N>>,
-    a1201: Told<A1201<N>>,
-    a1202: Told<A1202<N>>,
-    a1203: Told<A1203<N>>,
-    restarts: Told<Restarts<N>>,
+    served: ShareCount<Served<N>>,
+    a1201: ShareCount<A1201<N>>,
+    a1202: ShareCount<A1202<N>>,
+    a1203: ShareCount<A1203<N>>,
+    restarts: ShareCount<Restarts<N>>,
 }
 
 impl<N: Names> Model for Amounts<N> {

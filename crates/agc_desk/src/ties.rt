@@ -72,7 +72,7 @@ impl TableRule<u64, View, ()> for Law {
 
 pub(crate) type Ties = Table<u64, View, (), Law, Global>;
 
-pub(crate) type Pass = Seat<u64, View>;
+pub(crate) type TieSeat = Seat<u64, View>;
 
 /// Gives out a number.
 struct Dealing;
@@ -153,7 +153,7 @@ impl Play<u64, View> for Checking {
 }
 
 /// A table for a history of no calls, and the desk's seat.
-pub(crate) fn open_ties(alloc: Global) -> Result<(Ties, Pass), NoMemory>
+pub(crate) fn open_ties(alloc: Global) -> Result<(Ties, TieSeat), NoMemory>
     ensures { Rattle.std.specs.Prelude.IfOk result
         (λ r. (0 < r.0.shared.table_id.words) × (r.1.table_id ≡ r.0.shared.table_id)
         × (r.1.me ≡ (knower [] 0 [], []))) }
@@ -162,7 +162,7 @@ pub(crate) fn open_ties(alloc: Global) -> Result<(Ties, Pass), NoMemory>
 }
 
 /// A new number's seat.
-pub(crate) fn deal(ties: &Ties, keeper: &mut Pass) -> Pass
+pub(crate) fn deal(ties: &Ties, keeper: &mut TieSeat) -> TieSeat
     requires table { (keeper.old.table_id ≡ ties.now.shared.table_id)
         × (0 < ties.now.shared.table_id.words) }
     requires keeps { keeper.old.me.0.keeps ≡ true }
@@ -181,11 +181,11 @@ pub(crate) fn deal(ties: &Ties, keeper: &mut Pass) -> Pass
 /// Adds a call under the pass's number to the history, and its answer to what the pass knows.
 fn noted<J: Noting>(
     ties: &Ties,
-    keeper: &mut Pass,
-    pass: Pass,
+    keeper: &mut TieSeat,
+    pass: TieSeat,
     answer: &Answer,
     pulse: Option<Line>,
-) -> Pass
+) -> TieSeat
     requires answer { answer.now ≡ J.answer }
     requires pulse { pulse ≡ J.pulse }
     requires table { (keeper.old.table_id ≡ ties.now.shared.table_id)
@@ -207,8 +207,8 @@ fn noted<J: Noting>(
 /// Adds a call under the pass's number to the history, and its answer to what the pass knows.
 pub(crate) fn note(
     ties: &Ties,
-    keeper: &mut Pass,
-    pass: &mut Pass,
+    keeper: &mut TieSeat,
+    pass: &mut TieSeat,
     answer: &Answer,
     pulse: Option<Line>,
 )
@@ -228,7 +228,7 @@ pub(crate) fn note(
 }
 
 /// Counts one drain more with the pass.
-pub(crate) fn count(ties: &Ties, pass: &mut Pass)
+pub(crate) fn count(ties: &Ties, pass: &mut TieSeat)
     requires { (pass.old.table_id ≡ ties.now.shared.table_id)
         × (0 < ties.now.shared.table_id.words) }
     ensures table { pass.new.table_id ≡ pass.old.table_id }
@@ -240,7 +240,7 @@ pub(crate) fn count(ties: &Ties, pass: &mut Pass)
 
 /// Gathers the pass's number: what the pass knows is what the history has of it, and no other pass
 /// has it.
-pub(crate) fn gather(ties: &Ties, keeper: &mut Pass, pass: Pass)
+pub(crate) fn gather(ties: &Ties, keeper: &mut TieSeat, pass: TieSeat)
     requires table { (keeper.old.table_id ≡ ties.now.shared.table_id)
         × (pass.table_id ≡ ties.now.shared.table_id) × (0 < ties.now.shared.table_id.words) }
     requires keeps { keeper.old.me.0.keeps ≡ true }
@@ -260,7 +260,7 @@ pub(crate) fn gather(ties: &Ties, keeper: &mut Pass, pass: Pass)
 }
 
 /// All calls of the history are of numbers that were given out.
-pub(crate) fn check(ties: &Ties, keeper: &mut Pass)
+pub(crate) fn check(ties: &Ties, keeper: &mut TieSeat)
     requires table { (keeper.old.table_id ≡ ties.now.shared.table_id)
         × (0 < ties.now.shared.table_id.words) }
     requires keeps { keeper.old.me.0.keeps ≡ true }

@@ -5,18 +5,18 @@ use Rattle.std.proofs.lemmas.Bool.{cases_eq}
 use Rattle.std.proofs.lemmas.Option.{same_Some}
 use Rattle.std.proofs.lemmas.Grind.{common_steps}
 use Rattle.agc_plan.specs.Jobs.{Job, is_owned}
-use Rattle.agc_exec.specs.Held.{Held}
+use Rattle.agc_exec.specs.HeldJob.{HeldJob}
 use Rattle.agc_exec.specs.Sets.{job_of, slots_of, Holds, IsLawful}
 use Rattle.agc_exec.proofs.Bests.{slot_found, slot_of}
 
-pub owned_in-false : (area : ℕ) (sets : List (Option Held)) → owned_in area sets ≡ false → IsUnowned sets area
+pub owned_in-false : (area : ℕ) (sets : List (Option HeldJob)) → owned_in area sets ≡ false → IsUnowned sets area
 owned_in-false area [] e j s at = absurd (cc)
 owned_in-false area (None ∷ sets) e zero s at = absurd (cc)
 owned_in-false area (None ∷ sets) e (suc j) s at = owned_in-false area sets e j s at
 owned_in-false area (Some r ∷ sets) e zero s at = let same : r ≡ s = same_Some r s at in grind (arith, common_steps)
 owned_in-false area (Some r ∷ sets) e (suc j) s at = let rest : owned_in area sets ≡ false = grind (arith, common_steps) in owned_in-false area sets rest j s at
 
-pub owned_in-true : (area : ℕ) (sets : List (Option Held)) → owned_in area sets ≡ true → (j : ℕ) × (s : Held) × Holds sets j s × (s.area ≡ area)
+pub owned_in-true : (area : ℕ) (sets : List (Option HeldJob)) → owned_in area sets ≡ true → (j : ℕ) × (s : HeldJob) × Holds sets j s × (s.area ≡ area)
 owned_in-true area [] e = absurd (cc)
 owned_in-true area (None ∷ sets) e = let (j, s, at, is) = owned_in-true area sets e in (suc j, s, at, is)
 owned_in-true area (Some r ∷ sets) e = elim (cases_eq r.area area) [
@@ -40,7 +40,7 @@ is_owned-true area (Some first ∷ slots) zero job at e = let same : first ≡ j
 is_owned-true area (Some first ∷ slots) (suc j) job at e = let rest : is_owned area slots ≡ true = is_owned-true area slots j job at e in grind (arith, common_steps)
 
 -- the slots and the sets agree on who owns what
-pub is_owned_slots : (area : ℕ) (sets : List (Option Held)) → IsLawful sets → is_owned area (slots_of sets) ≡ owned_in area sets
+pub is_owned_slots : (area : ℕ) (sets : List (Option HeldJob)) → IsLawful sets → is_owned area (slots_of sets) ≡ owned_in area sets
 is_owned_slots area sets lawful = go (owned_in area sets) refl where
   go : (b : Bool) → owned_in area sets ≡ b → is_owned area (slots_of sets) ≡ b
   go false e = is_owned-false area (slots_of sets) (λ j job at same. let (i, s, here, number, is) = slot_found sets j job at in owned_in-false area sets e i s here (ap (λ x. x.area) is ∙ same))

@@ -6,7 +6,7 @@ use Rattle.agc_plan.specs.Jobs.{Job, least_unused, with_job, best, establish_at,
 use Rattle.agc_plan.specs.Places.{place_of, with_new, placed_new}
 use Rattle.agc_plan.specs.declared.request.Entry.{Entry}
 use Rattle.agc_plan.specs.declared.reply.Reply.TheVariants.{Established}
-use Rattle.agc_exec.specs.Held.{Held}
+use Rattle.agc_exec.specs.HeldJob.{HeldJob}
 use Rattle.agc_exec.specs.Sets.{job_of, job_numbered, slots_of, number_in, running_in, entries_of, jobs_of, Holds, IsLawful, IsStanding}
 use Rattle.std.proofs.lemmas.Option.{same_Some}
 use Rattle.agc_exec.proofs.Slots.{None-job_numbered, get_or-slots_from, length-slots_from}
@@ -25,14 +25,14 @@ least_unused-fits from (Some job ∷ slots) n e =
     let z : n - from ≡ suc (n - (from + 1)) = omega arith in
     (omega arith, omega arith, rw z at)
 
-pub unused_number : (sets : List (Option Held)) (n : ℕ) → least_unused 1 (slots_of sets) ≡ Some n → (1 ≤ n) × (n ≤ length sets) × (job_numbered sets n ≡ None)
+pub unused_number : (sets : List (Option HeldJob)) (n : ℕ) → least_unused 1 (slots_of sets) ≡ Some n → (1 ≤ n) × (n ≤ length sets) × (job_numbered sets n ≡ None)
 unused_number sets n e =
     let (low, high, at) = least_unused-fits 1 (slots_of sets) n e in
     let len : length (slots_of sets) ≡ length sets = length-slots_from (length sets) 1 sets in
     let number : 1 + (n - 1) ≡ n = omega arith in
     (low, omega arith, ap (job_numbered sets) (sym number) ∙ sym (get_or-slots_from (length sets) 1 sets (n - 1) (omega arith)) ∙ at)
 
-pub Fits-new : (sets : List (Option Held)) (k : ℕ) (r : Held) → least_unused 1 (slots_of sets) ≡ Some r.number → (0 < r.area → IsUnowned sets r.area) → Fits sets k r
+pub Fits-new : (sets : List (Option HeldJob)) (k : ℕ) (r : HeldJob) → least_unused 1 (slots_of sets) ≡ Some r.number → (0 < r.area → IsUnowned sets r.area) → Fits sets k r
 Fits-new sets k r e own =
     let (low, high, unused) = unused_number sets r.number e in
     record {
@@ -42,32 +42,32 @@ Fits-new sets k r e own =
       own = λ j s ne at above. own above j s at;
     }
 
-pub written-lawful : (sets : List (Option Held)) (k : ℕ) (r : Held) → IsLawful sets → least_unused 1 (slots_of sets) ≡ Some r.number → (0 < r.area → IsUnowned sets r.area) → IsLawful (slice_set sets k (Some r))
+pub written-lawful : (sets : List (Option HeldJob)) (k : ℕ) (r : HeldJob) → IsLawful sets → least_unused 1 (slots_of sets) ≡ Some r.number → (0 < r.area → IsUnowned sets r.area) → IsLawful (slice_set sets k (Some r))
 written-lawful sets k r lawful e own = IsLawful-set sets k (Some r) lawful (λ s same. let is : r ≡ s = same_Some r s same in rw (← is) (Fits-new sets k r e own))
 
 -- the jobs and the places after the write
-pub written-slots : (sets : List (Option Held)) (k : ℕ) (r : Held) → k < length sets → IsFreeAt sets k → least_unused 1 (slots_of sets) ≡ Some r.number → slots_of (slice_set sets k (Some r)) ≡ with_job (slots_of sets) r.number (Some (job_of r))
+pub written-slots : (sets : List (Option HeldJob)) (k : ℕ) (r : HeldJob) → k < length sets → IsFreeAt sets k → least_unused 1 (slots_of sets) ≡ Some r.number → slots_of (slice_set sets k (Some r)) ≡ with_job (slots_of sets) r.number (Some (job_of r))
 written-slots sets k r lt free e =
     let (low, high, unused) = unused_number sets r.number e in
     slots_of-written sets k r lt free low unused
 
-pub written-entries : (sets : List (Option Held)) (k : ℕ) (r : Held) → k ≡ place_of 0 (entries_of sets) → entries_of (slice_set sets k (Some r)) ≡ with_new r.number (entries_of sets)
+pub written-entries : (sets : List (Option HeldJob)) (k : ℕ) (r : HeldJob) → k ≡ place_of 0 (entries_of sets) → entries_of (slice_set sets k (Some r)) ≡ with_new r.number (entries_of sets)
 written-entries sets k r e = map-set number_in sets k (Some r) ∙ ap (λ i. slice_set (entries_of sets) i r.number) e
 
 pub swap-none : (xs : List ℕ) → swap xs 0 0 ≡ xs
 swap-none [] = refl
 swap-none (x ∷ xs) = refl
 
-pub running_in-found : (sets : List (Option Held)) (n : ℕ) → running_in sets ≡ Some n → (s : Held) × Holds sets 0 s × (s.asleep ≡ false) × (s.number ≡ n)
+pub running_in-found : (sets : List (Option HeldJob)) (n : ℕ) → running_in sets ≡ Some n → (s : HeldJob) × Holds sets 0 s × (s.asleep ≡ false) × (s.number ≡ n)
 running_in-found [] n e = absurd (cc)
 running_in-found (None ∷ sets) n e = absurd (cc)
 running_in-found (Some s ∷ sets) n e = go s.asleep refl where
-  go : (b : Bool) → s.asleep ≡ b → (t : Held) × (Some s ≡ Some t) × (t.asleep ≡ false) × (t.number ≡ n)
+  go : (b : Bool) → s.asleep ≡ b → (t : HeldJob) × (Some s ≡ Some t) × (t.asleep ≡ false) × (t.number ≡ n)
   go true asleep = let no : None ≡ Some n = rw asleep at e in absurd (cc)
   go false awake = let is : Some s.number ≡ Some n = rw awake at e in (s, refl, awake, same_Some s.number n is)
 
 -- a new job comes to set k, the first free one
-pub record Arrives (sets : List (Option Held)) (k : ℕ) (r : Held) (job : Job) : Type 0 where
+pub record Arrives (sets : List (Option HeldJob)) (k : ℕ) (r : HeldJob) (job : Job) : Type 0 where
   pub standing : IsStanding sets
   pub within : k < length sets
   pub free : IsFreeAt sets k
@@ -77,16 +77,16 @@ pub record Arrives (sets : List (Option Held)) (k : ℕ) (r : Held) (job : Job) 
   pub own : 0 < r.area → IsUnowned sets r.area
   pub same : job_of r ≡ job
 
-pub Arrives-made : (sets : List (Option Held)) (k : ℕ) (r : Held) (number priority : ℕ) (entry : Entry) (area : ℕ) → IsStanding sets → (k < length sets) × IsFreeAt sets k → k ≡ place_of 0 (entries_of sets) → Some number ≡ least_unused 1 (slots_of sets) → area ≤ 5 → (0 < area → IsUnowned sets area) → r.number ≡ number → job_of r ≡ new_job priority entry area → Arrives sets k r (new_job priority entry area)
+pub Arrives-made : (sets : List (Option HeldJob)) (k : ℕ) (r : HeldJob) (number priority : ℕ) (entry : Entry) (area : ℕ) → IsStanding sets → (k < length sets) × IsFreeAt sets k → k ≡ place_of 0 (entries_of sets) → Some number ≡ least_unused 1 (slots_of sets) → area ≤ 5 → (0 < area → IsUnowned sets area) → r.number ≡ number → job_of r ≡ new_job priority entry area → Arrives sets k r (new_job priority entry area)
 Arrives-made sets k r number priority entry area standing free first e five own is same =
     let of_area : r.area ≡ area = ap (λ j. j.area) same in
     record { standing = standing; within = free.0; free = free.1; first = first; number = ap Some is ∙ e; five = rw of_area five; own = rw of_area own; same = same }
 
-pub arrived-lawful : (sets : List (Option Held)) (k : ℕ) (r : Held) (job : Job) → Arrives sets k r job → IsLawful (slice_set sets k (Some r))
+pub arrived-lawful : (sets : List (Option HeldJob)) (k : ℕ) (r : HeldJob) (job : Job) → Arrives sets k r job → IsLawful (slice_set sets k (Some r))
 arrived-lawful sets k r job a = written-lawful sets k r a.standing.lawful (sym a.number) a.own
 
 -- somebody runs: the new job stays where it came
-pub Gives-busy : (sets : List (Option Held)) (k n : ℕ) (r : Held) (job : Job) → Arrives sets k r job → running_in sets ≡ Some n → let new = slice_set sets k (Some r) in let number = least_unused 1 (slots_of sets) in Gives (establish_at number job (jobs_of sets)) (placed_new (Some r.number) (running_in new) (entries_of sets)) new (Established r.number)
+pub Gives-busy : (sets : List (Option HeldJob)) (k n : ℕ) (r : HeldJob) (job : Job) → Arrives sets k r job → running_in sets ≡ Some n → let new = slice_set sets k (Some r) in let number = least_unused 1 (slots_of sets) in Gives (establish_at number job (jobs_of sets)) (placed_new (Some r.number) (running_in new) (entries_of sets)) new (Established r.number)
 Gives-busy sets k n r job a runs =
     let (s, at, awake, number) = running_in-found sets n runs in
     let apart : 0 ≢ k = λ e. let none : slice_index_or sets 0 None ≡ None = ap (λ i. slice_index_or sets i None) e ∙ a.free in let no : None ≡ Some s = sym none ∙ at in absurd (cc) in
@@ -103,7 +103,7 @@ Gives-busy sets k n r job a runs =
     }
 
 -- nobody runs: the best comes to set 0
-pub Gives-idle : (sets new : List (Option Held)) (k : ℕ) (r : Held) (job : Job) → Arrives sets k r job → running_in sets ≡ None → BringsBest (slice_set sets k (Some r)) new → let number = least_unused 1 (slots_of sets) in Gives (establish_at number job (jobs_of sets)) (placed_new (Some r.number) (running_in new) (entries_of sets)) new (Established r.number)
+pub Gives-idle : (sets new : List (Option HeldJob)) (k : ℕ) (r : HeldJob) (job : Job) → Arrives sets k r job → running_in sets ≡ None → BringsBest (slice_set sets k (Some r)) new → let number = least_unused 1 (slots_of sets) in Gives (establish_at number job (jobs_of sets)) (placed_new (Some r.number) (running_in new) (entries_of sets)) new (Established r.number)
 Gives-idle sets new k r job a idle brings =
     let written : slots_of (slice_set sets k (Some r)) ≡ with_job (slots_of sets) r.number (Some (job_of r)) = written-slots sets k r a.within a.free (sym a.number) in
     let slots : slots_of new ≡ with_job (slots_of sets) r.number (Some (job_of r)) = brings.slots ∙ written in

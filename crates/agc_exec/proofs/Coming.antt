@@ -12,7 +12,7 @@ use Rattle.agc_plan.specs.declared.reply.Reply.{Reply}
 use Rattle.agc_plan.specs.declared.reply.Reply.TheVariants.{Established}
 use Rattle.agc_plan.specs.Jobs.{Jobs, Outcome, least_unused, establish_at, new_job, best, is_owned, established}
 use Rattle.agc_plan.specs.Places.{place_of, with_new, placed_new}
-use Rattle.agc_exec.specs.Held.{Held}
+use Rattle.agc_exec.specs.HeldJob.{HeldJob}
 use Rattle.agc_exec.specs.Blocks.{blocks_of}
 use Rattle.agc_exec.specs.Sets.{IsLawful, slots_of, entries_of, running_in, jobs_of}
 use Rattle.agc_exec.specs.Image.{held_of, sets_of, IsLawfulBlock, IsTidyBlock, Each, IsSet, UsesAgree, IsLawfulWords, jobs_in, entries_in, use_word}
@@ -24,7 +24,7 @@ use Rattle.agc_exec.proofs.Owners.{is_owned-new}
 use Rattle.std.proofs.lemmas.Bool.{cases_eq}
 
 -- who runs already stands in set 0
-pub fronted-stays : (sets : List (Option Held)) (blocks : List (List ℕ)) → IsLawful sets → fronted_blocks (running_in sets) (entries_of sets) blocks ≡ blocks
+pub fronted-stays : (sets : List (Option HeldJob)) (blocks : List (List ℕ)) → IsLawful sets → fronted_blocks (running_in sets) (entries_of sets) blocks ≡ blocks
 fronted-stays sets blocks lawful = go (running_in sets) refl where
   go : (o : Option ℕ) → running_in sets ≡ o → fronted_blocks o (entries_of sets) blocks ≡ blocks
   go None e = refl

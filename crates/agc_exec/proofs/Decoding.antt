@@ -8,7 +8,7 @@ use Rattle.std.proofs.lemmas.Option.{same_Some}
 use Rattle.std.proofs.lemmas.Grind.{common_steps}
 use Rattle.agc_plan.specs.declared.request.Entry.{Entry}
 use Rattle.agc_plan.specs.Places.{place_of, with_new}
-use Rattle.agc_exec.specs.Held.{Held}
+use Rattle.agc_exec.specs.HeldJob.{HeldJob}
 use Rattle.agc_exec.specs.Blocks.{block_in, blocks_of}
 use Rattle.agc_exec.specs.Sets.{Holds}
 use Rattle.agc_exec.specs.Image.{record_of, held_by, held_of, sets_of, urgency_word, priority_word, Each}
@@ -16,7 +16,7 @@ use Rattle.agc_exec.proofs.Reading.{length-blocks_of, get-blocks_of, get-block_i
 use Rattle.agc_exec.proofs.Swaps.{map-swap, Holds-within}
 
 -- a job with these words but for PRIORITY
-abbrev pub job_with : List ℕ → ℕ → ℕ → Bool → Held
+abbrev pub job_with : List ℕ → ℕ → ℕ → Bool → HeldJob
 job_with block priority area asleep = record {
   number = slice_index block 0;
   at = slice_index block 8;
@@ -56,7 +56,7 @@ held_of-made block priority area true low high five is =
     rw (is, living, asleep, back, p, a, area_of-address area)
 
 -- a job's other fields are those of its words
-pub held_of-fields : (block : List ℕ) (r : Held) → held_of block ≡ Some r → r ≡ job_with block r.priority r.area r.asleep
+pub held_of-fields : (block : List ℕ) (r : HeldJob) → held_of block ≡ Some r → r ≡ job_with block r.priority r.area r.asleep
 unfolding held_of
 held_of-fields block r e = go (slice_index block 11) e where
   go : (w : ℕ) → held_by block w ≡ Some r → r ≡ job_with block r.priority r.area r.asleep
@@ -94,7 +94,7 @@ length-sets_of words = length-map (blocks_of words) held_of
 pub length-sets : (words : List ℕ) → length (sets_of words) ≡ sets_in words
 length-sets words = length-sets_of words ∙ length-blocks_of words
 
-pub get-sets_of : (words : List ℕ) (k : ℕ) (d : Option Held) → k < length (blocks_of words) → get_or (sets_of words) k d ≡ held_of (slice_index_or (blocks_of words) k [])
+pub get-sets_of : (words : List ℕ) (k : ℕ) (d : Option HeldJob) → k < length (blocks_of words) → get_or (sets_of words) k d ≡ held_of (slice_index_or (blocks_of words) k [])
 unfolding sets_of
 get-sets_of words k d lt = get_or-map held_of (blocks_of words) k [] d lt
 
@@ -133,7 +133,7 @@ swap-same (b ∷ blocks) = refl
 pub IsSized-kept : (old new : List ℕ) → length new ≡ length old → IsSized old → IsSized new
 IsSized-kept old new e sized = elim sized [ inl seven ↦ inl (e ∙ seven) | inr eight ↦ inr (e ∙ eight) ]
 
-pub held_at : (words : List ℕ) (k : ℕ) (d : Option Held) → k < sets_in words → held_of (block_in words k) ≡ slice_index_or (sets_of words) k d
+pub held_at : (words : List ℕ) (k : ℕ) (d : Option HeldJob) → k < sets_in words → held_of (block_in words k) ≡ slice_index_or (sets_of words) k d
 held_at words k d lt =
     let len : length (blocks_of words) ≡ sets_in words = length-blocks_of words in
     ap held_of (sym (get-blocks_of words k [] lt)) ∙ sym (get-sets_of words k d (omega arith))
@@ -142,7 +142,7 @@ pub IsSet-lengths : (words : List ℕ) → IsSized words → (7 ≤ length (sets
 IsSet-lengths words sized = let len : length (sets_of words) ≡ sets_in words = length-sets words in (omega arith, omega arith)
 
 -- a job's number is the first of its set's words
-pub number_word : (words : List ℕ) (k : ℕ) (r : Held) → Holds (sets_of words) k r → slice_index words (set_place k) ≡ r.number
+pub number_word : (words : List ℕ) (k : ℕ) (r : HeldJob) → Holds (sets_of words) k r → slice_index words (set_place k) ≡ r.number
 number_word words k r at =
     let lt : k < sets_in words = let n : k < length (sets_of words) = Holds-within (sets_of words) k r at in let len : length (sets_of words) ≡ sets_in words = length-sets words in omega arith in
     let held : held_of (block_in words k) ≡ Some r = held_at words k None lt ∙ at in

@@ -9,7 +9,7 @@ use Rattle.agc_exec.specs.Stages.{AllFree}
 use Rattle.std.proofs.lemmas.Bool.{cases_eq, cases_lt}
 use Rattle.std.proofs.lemmas.List.{get_or-set_same, get_or-set_other, get_or_past, get_or-map, length-map, length-set, ext_get_or}
 use Rattle.agc_plan.specs.Jobs.{is_owned, no_jobs}
-use Rattle.agc_exec.specs.Held.{Held}
+use Rattle.agc_exec.specs.HeldJob.{HeldJob}
 use Rattle.agc_exec.specs.Blocks.{blocks_of}
 use Rattle.agc_exec.specs.Sets.{Holds, IsStanding, slots_of, entries_of, running_in, job_numbered}
 use Rattle.agc_exec.specs.Image.{minus_zero, sets_of, IsLawfulWords, jobs_in, entries_in}
@@ -19,8 +19,8 @@ use Rattle.agc_exec.proofs.Reading.{blocks_of-kept, get-blocks_of, length-block_
 use Rattle.agc_exec.proofs.Slots.{slots_from}
 
 -- no set holds a job
-abbrev pub Empty : List (Option Held) → Type 0
-Empty sets = (i : ℕ) (r : Held) → Holds sets i r → ⊥
+abbrev pub Empty : List (Option HeldJob) → Type 0
+Empty sets = (i : ℕ) (r : HeldJob) → Holds sets i r → ⊥
 
 Empty-free : (words : List ℕ) → AllFree words → Empty (sets_of words)
 Empty-free words free i r at = elim (cases_lt i (length (blocks_of words))) [
@@ -28,21 +28,21 @@ Empty-free words free i r at = elim (cases_lt i (length (blocks_of words))) [
   | inr past ↦ let len : length (sets_of words) ≡ length (blocks_of words) = length-sets_of words in let no : None ≡ Some r = sym (get_or_past (sets_of words) i None (omega arith)) ∙ at in cc
 ]
 
-empty-numbered : (sets : List (Option Held)) (n : ℕ) → Empty sets → job_numbered sets n ≡ None
+empty-numbered : (sets : List (Option HeldJob)) (n : ℕ) → Empty sets → job_numbered sets n ≡ None
 empty-numbered [] n e = refl
 empty-numbered (None ∷ sets) n e = empty-numbered sets n (λ i. e (suc i))
 empty-numbered (Some r ∷ sets) n e = absurd (e 0 r refl)
 
-empty-slots : (more from : ℕ) (sets : List (Option Held)) → Empty sets → slots_from more from sets ≡ replicate more None
+empty-slots : (more from : ℕ) (sets : List (Option HeldJob)) → Empty sets → slots_from more from sets ≡ replicate more None
 empty-slots zero from sets e = refl
 empty-slots (suc more) from sets e = rw (empty-numbered sets from e, empty-slots more (from + 1) sets e)
 
-empty-entries : (sets : List (Option Held)) → Empty sets → entries_of sets ≡ replicate (length sets) 0
+empty-entries : (sets : List (Option HeldJob)) → Empty sets → entries_of sets ≡ replicate (length sets) 0
 empty-entries [] e = refl
 empty-entries (None ∷ sets) e = rw (empty-entries sets (λ i. e (suc i)))
 empty-entries (Some r ∷ sets) e = absurd (e 0 r refl)
 
-empty-running : (sets : List (Option Held)) → Empty sets → running_in sets ≡ None
+empty-running : (sets : List (Option HeldJob)) → Empty sets → running_in sets ≡ None
 empty-running [] e = refl
 empty-running (None ∷ sets) e = refl
 empty-running (Some r ∷ sets) e = absurd (e 0 r refl)
@@ -51,7 +51,7 @@ unowned : (n area : ℕ) → is_owned area (replicate n None) ≡ false
 unowned zero area = refl
 unowned (suc n) area = unowned n area
 
-empty-standing : (sets : List (Option Held)) → Empty sets → IsStanding sets
+empty-standing : (sets : List (Option HeldJob)) → Empty sets → IsStanding sets
 empty-standing sets e = record {
   lawful = record {
     distinct = λ i j r s at_i at_j same. absurd (e i r at_i);

@@ -14,7 +14,7 @@ use Rattle.agc_plan.specs.declared.reply.Reply.{Reply}
 use Rattle.agc_plan.specs.declared.reply.Reply.TheVariants.{Left}
 use Rattle.agc_plan.specs.Jobs.{Job, Outcome, best, end_of_job, is_owned, with_job}
 use Rattle.agc_plan.specs.Places.{place_of, without, placed_end}
-use Rattle.agc_exec.specs.Held.{Held}
+use Rattle.agc_exec.specs.HeldJob.{HeldJob}
 use Rattle.agc_exec.specs.Blocks.{block_in, blocks_of}
 use Rattle.agc_exec.specs.Sets.{Holds, IsLawful, slots_of, entries_of, running_in, jobs_of, job_of, number_in}
 use Rattle.agc_exec.specs.Image.{held_of, sets_of, IsLawfulBlock, IsTidyBlock, Each, IsSet, UsesAgree, IsLawfulWords, use_word, jobs_in, entries_in}
@@ -27,7 +27,7 @@ use Rattle.agc_exec.proofs.Finishing.{Near, sets_of-same}
 use Rattle.agc_exec.proofs.Owners.{is_owned-other, area_in}
 
 -- the running job's set was freed
-pub record Freed (old mid : List ℕ) (job : Held) : Type 0 where
+pub record Freed (old mid : List ℕ) (job : HeldJob) : Type 0 where
   pub set : IsSet old
   pub here : Holds (sets_of old) 0 job
   pub awake : job.asleep ≡ false
@@ -38,7 +38,7 @@ pub record Freed (old mid : List ℕ) (job : Held) : Type 0 where
 pub front-is : (words : List ℕ) → IsSized words → block_in words 0 ≡ front_block (blocks_of words)
 front-is words sized = sym (get-blocks_of words 0 [] (omega arith))
 
-pub Freed-made : (old mid : List ℕ) (job : Held) (block : List ℕ) (w : ℕ) → IsSet old → (Holds (sets_of old) 0 job) × (job.asleep ≡ false) → block ≡ block_in old 0 → w ≡ 32767 → blocks_of mid ≡ slice_set (blocks_of old) 0 (slice_set block 11 w) → Freed old mid job
+pub Freed-made : (old mid : List ℕ) (job : HeldJob) (block : List ℕ) (w : ℕ) → IsSet old → (Holds (sets_of old) 0 job) × (job.asleep ≡ false) → block ≡ block_in old 0 → w ≡ 32767 → blocks_of mid ≡ slice_set (blocks_of old) 0 (slice_set block 11 w) → Freed old mid job
 Freed-made old mid job block w set runs is free written =
     let front : block ≡ front_block (blocks_of old) = is ∙ front-is old set.sized in
     let twelve : length (front_block (blocks_of old)) ≡ 12 = ap length (sym front) ∙ ap length is ∙ length-block_in old 0 in
@@ -53,22 +53,22 @@ Freed-made old mid job block w set runs is free written =
       free = none;
     }
 
-pub freed-lawful : (old mid : List ℕ) (job : Held) → Freed old mid job → IsLawful (sets_of mid)
+pub freed-lawful : (old mid : List ℕ) (job : HeldJob) → Freed old mid job → IsLawful (sets_of mid)
 freed-lawful old mid job f = rw f.sets (cleared-lawful (sets_of old) 0 f.set.standing.lawful)
 
-pub freed-gives : (old mid new : List ℕ) (job : Held) → Freed old mid job → BringsBest (sets_of mid) (sets_of new) → Gives (end_of_job (jobs_of (sets_of old))) (placed_end (running_in (sets_of old)) (running_in (sets_of new)) (entries_of (sets_of old))) (sets_of new) (Left (running_in (sets_of new)))
+pub freed-gives : (old mid new : List ℕ) (job : HeldJob) → Freed old mid job → BringsBest (sets_of mid) (sets_of new) → Gives (end_of_job (jobs_of (sets_of old))) (placed_end (running_in (sets_of old)) (running_in (sets_of new)) (entries_of (sets_of old))) (sets_of new) (Left (running_in (sets_of new)))
 freed-gives old mid new job f brings =
     let brings_set : BringsBest (slice_set (sets_of old) 0 None) (sets_of new) = rw (← f.sets) brings in
     Gives-end (sets_of old) (sets_of new) job f.set.standing f.here f.awake brings_set
 
-pub freed-words : (old mid new : List ℕ) (job : Held) → Freed old mid job → BringsBest (sets_of mid) (sets_of new) → blocks_of new ≡ fronted_blocks (best (slots_of (sets_of mid))) (entries_of (sets_of mid)) (blocks_of mid) → blocks_of new ≡ blocks_end (running_in (sets_of old)) (running_in (sets_of new)) (entries_of (sets_of old)) (blocks_of old)
+pub freed-words : (old mid new : List ℕ) (job : HeldJob) → Freed old mid job → BringsBest (sets_of mid) (sets_of new) → blocks_of new ≡ fronted_blocks (best (slots_of (sets_of mid))) (entries_of (sets_of mid)) (blocks_of mid) → blocks_of new ≡ blocks_end (running_in (sets_of old)) (running_in (sets_of new)) (entries_of (sets_of old)) (blocks_of old)
 freed-words old mid new job f brings words =
     let ran : running_in (sets_of old) ≡ Some job.number = running_in-awake (sets_of old) job f.here f.awake in
     let place : place_of job.number (entries_of (sets_of old)) ≡ 0 = place_of_number (sets_of old) 0 job f.set.standing.lawful f.here in
     let entries : entries_of (sets_of mid) ≡ without job.number (entries_of (sets_of old)) = ap entries_of f.sets ∙ rw place (map-set number_in (sets_of old) 0 None) in
     rw (ran, brings.running, ← entries, ← f.blocks) words
 
-pub Each-freed : (P : List ℕ → Type 0) (old new : List ℕ) (job : Held) (mid : List ℕ) → Freed old mid job → Each P (blocks_of old) → P (slice_set (front_block (blocks_of old)) 11 32767) → (running : Option ℕ) → Each P (blocks_end (running_in (sets_of old)) running (entries_of (sets_of old)) (blocks_of old))
+pub Each-freed : (P : List ℕ → Type 0) (old new : List ℕ) (job : HeldJob) (mid : List ℕ) → Freed old mid job → Each P (blocks_of old) → P (slice_set (front_block (blocks_of old)) 11 32767) → (running : Option ℕ) → Each P (blocks_end (running_in (sets_of old)) running (entries_of (sets_of old)) (blocks_of old))
 Each-freed P old new job mid f each here running =
     let ran : running_in (sets_of old) ≡ Some job.number = running_in-awake (sets_of old) job f.here f.awake in
     rw ran (Each-fronted P running (without job.number (entries_of (sets_of old))) _ (Each-set P (blocks_of old) 0 (slice_set (front_block (blocks_of old)) 11 32767) each here))
@@ -80,7 +80,7 @@ pub tidy-freed : (block : List ℕ) → held_of block ≡ None → IsTidyBlock b
 tidy-freed block e r is = absurd (cc)
 
 -- with the job of set 0 gone, its area is owned no more
-pub owners-end : (sets : List (Option Held)) (job : Held) (area : ℕ) → IsLawful sets → Holds sets 0 job → 1 ≤ area → is_owned area (with_job (slots_of sets) job.number None) ≡ cond (area == job.area) false (is_owned area (slots_of sets))
+pub owners-end : (sets : List (Option HeldJob)) (job : HeldJob) (area : ℕ) → IsLawful sets → Holds sets 0 job → 1 ≤ area → is_owned area (with_job (slots_of sets) job.number None) ≡ cond (area == job.area) false (is_owned area (slots_of sets))
 owners-end sets job area lawful here low = elim (cases_eq area job.area) [
   | inr ne ↦
       let slot : slice_index_or (slots_of sets) (job.number - 1) None ≡ Some (job_of job) = slot_of sets 0 job lawful here in
@@ -110,7 +110,7 @@ owners-end sets job area lawful here low = elim (cases_eq area job.area) [
           ne (omega arith)
     ]
 
-pub uses-end : (old mid new : List ℕ) (job : Held) → IsLawfulWords old → Holds (sets_of old) 0 job → slots_of (sets_of new) ≡ with_job (slots_of (sets_of old)) job.number None → Keeps OutsideSets old mid → ((a : ℕ) → 1 ≤ a → a ≤ 5 → slice_index new (use_place a) ≡ cond (a == job.area) (address_of job.area) (slice_index mid (use_place a))) → UsesAgree new (slots_of (sets_of new))
+pub uses-end : (old mid new : List ℕ) (job : HeldJob) → IsLawfulWords old → Holds (sets_of old) 0 job → slots_of (sets_of new) ≡ with_job (slots_of (sets_of old)) job.number None → Keeps OutsideSets old mid → ((a : ℕ) → 1 ≤ a → a ≤ 5 → slice_index new (use_place a) ≡ cond (a == job.area) (address_of job.area) (slice_index mid (use_place a))) → UsesAgree new (slots_of (sets_of new))
 uses-end old mid new job lawful here slots others written area low high =
     let owned : is_owned area (slots_of (sets_of new)) ≡ cond (area == job.area) false (is_owned area (slots_of (sets_of old))) = ap (is_owned area) slots ∙ owners-end (sets_of old) job area lawful.sets.standing.lawful here low in
     let before : slice_index mid (use_place area) ≡ use_word area (slots_of (sets_of old)) = others.words (use_place area) (omega arith, omega arith) ∙ lawful.uses area low high in
@@ -126,7 +126,7 @@ uses-end old mid new job lawful here slots others written area low high =
           rw kept (word ∙ before)
     ]
 
-pub Near-end : (old mid new : List ℕ) (job : Held) (reply : Reply) → IsLawfulWords old → (Holds (sets_of old) 0 job) × (job.asleep ≡ false) → Gives (end_of_job (jobs_in old)) (placed_end (running_in (sets_of old)) (running_in (sets_of mid)) (entries_in old)) (sets_of mid) reply → blocks_of mid ≡ blocks_end (running_in (sets_of old)) (running_in (sets_of mid)) (entries_in old) (blocks_of old) → Each IsLawfulBlock (blocks_of mid) → Keeps OutsideSets old mid → blocks_of new ≡ blocks_of mid → ((a : ℕ) → 1 ≤ a → a ≤ 5 → slice_index new (use_place a) ≡ cond (a == job.area) (address_of job.area) (slice_index mid (use_place a))) → Keeps OutsideCores mid new → Near (end_of_job (jobs_in old)) (placed_end (running_in (sets_of old)) (running_in (sets_of new)) (entries_in old)) (blocks_end (running_in (sets_of old)) (running_in (sets_of new)) (entries_in old) (blocks_of old)) old new reply
+pub Near-end : (old mid new : List ℕ) (job : HeldJob) (reply : Reply) → IsLawfulWords old → (Holds (sets_of old) 0 job) × (job.asleep ≡ false) → Gives (end_of_job (jobs_in old)) (placed_end (running_in (sets_of old)) (running_in (sets_of mid)) (entries_in old)) (sets_of mid) reply → blocks_of mid ≡ blocks_end (running_in (sets_of old)) (running_in (sets_of mid)) (entries_in old) (blocks_of old) → Each IsLawfulBlock (blocks_of mid) → Keeps OutsideSets old mid → blocks_of new ≡ blocks_of mid → ((a : ℕ) → 1 ≤ a → a ≤ 5 → slice_index new (use_place a) ≡ cond (a == job.area) (address_of job.area) (slice_index mid (use_place a))) → Keeps OutsideCores mid new → Near (end_of_job (jobs_in old)) (placed_end (running_in (sets_of old)) (running_in (sets_of new)) (entries_in old)) (blocks_end (running_in (sets_of old)) (running_in (sets_of new)) (entries_in old) (blocks_of old)) old new reply
 Near-end old mid new job reply lawful runs gives words coded others kept uses later =
     let same : sets_of new ≡ sets_of mid = sets_of-same mid new kept in
     let ran : running_in (sets_of old) ≡ Some job.number = running_in-awake (sets_of old) job runs.0 runs.1 in

@@ -10,7 +10,7 @@ use Rattle.std.proofs.lemmas.Option.{same_Some}
 use Rattle.agc_plan.specs.declared.request.Entry.{Entry}
 use Rattle.agc_plan.specs.declared.reply.Reply.{Reply}
 use Rattle.agc_plan.specs.Jobs.{Outcome}
-use Rattle.agc_exec.specs.Held.{Held}
+use Rattle.agc_exec.specs.HeldJob.{HeldJob}
 use Rattle.agc_exec.specs.Blocks.{blocks_of}
 use Rattle.agc_exec.specs.Sets.{Holds, IsLawful, slots_of, running_in}
 use Rattle.agc_exec.specs.Image.{held_of, sets_of, IsLawfulBlock, Each, IsTidy, UsesAgree, newjob_of, front_priority}
@@ -22,15 +22,15 @@ IsLawfulBlock-new number priority entry area low high five at_low at_high r e =
     let is : job_with (new_block number priority entry area) priority area false ≡ r = same_Some _ r (sym (held_of-new number priority entry area low high five) ∙ e) in
     rw (← is) (record { twelve = refl; word = refl; low = low; high = high; five = five; at_low = at_low; at_high = at_high })
 
-pub front_priority-is : (sets : List (Option Held)) (job : Held) → Holds sets 0 job → front_priority sets ≡ job.priority
+pub front_priority-is : (sets : List (Option HeldJob)) (job : HeldJob) → Holds sets 0 job → front_priority sets ≡ job.priority
 front_priority-is [] job e = absurd (cc)
 front_priority-is (None ∷ sets) job e = absurd (cc)
 front_priority-is (Some r ∷ sets) job e = ap (λ q. q.priority) (same_Some r job e)
 
-pub newjob_of-none : (sets : List (Option Held)) → IsLawful sets → BestBelow sets (length sets) None → newjob_of sets ≡ 32767
+pub newjob_of-none : (sets : List (Option HeldJob)) → IsLawful sets → BestBelow sets (length sets) None → newjob_of sets ≡ 32767
 newjob_of-none sets lawful none = rw (ready-none sets lawful none)
 
-pub newjob_of-best : (sets : List (Option Held)) (k : ℕ) (r job : Held) → IsLawful sets → IsBestBelow sets (length sets) k r → Holds sets 0 job → newjob_of sets ≡ cond (nat_lt job.priority r.priority) (12 * k) 0
+pub newjob_of-best : (sets : List (Option HeldJob)) (k : ℕ) (r job : HeldJob) → IsLawful sets → IsBestBelow sets (length sets) k r → Holds sets 0 job → newjob_of sets ≡ cond (nat_lt job.priority r.priority) (12 * k) 0
 newjob_of-best sets k r job lawful is front = rw (best_ready sets k r lawful is, place_of_number sets k r lawful is.here, front_priority-is sets job front)
 
 pub sets_of-same : (old new : List ℕ) → blocks_of new ≡ blocks_of old → sets_of new ≡ sets_of old

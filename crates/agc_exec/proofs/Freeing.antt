@@ -6,7 +6,7 @@ use Rattle.std.proofs.lemmas.Grind.{common_steps}
 use Rattle.agc_word.specs.Layout.{IsSized, sets_in}
 use Rattle.agc_plan.specs.Jobs.{least_unused}
 use Rattle.agc_plan.specs.Places.{place_of}
-use Rattle.agc_exec.specs.Held.{Held}
+use Rattle.agc_exec.specs.HeldJob.{HeldJob}
 use Rattle.agc_exec.specs.Image.{sets_of}
 use Rattle.agc_exec.specs.Sets.{number_in, slots_of, entries_of, IsLawful}
 use Rattle.agc_exec.specs.Stages.{IsFirstFree, IsFreeAt}
@@ -14,11 +14,11 @@ use Rattle.agc_exec.proofs.Decoding.{IsSet-lengths, length-sets}
 use Rattle.agc_exec.proofs.Full.{full-none, place_of_free}
 use Rattle.agc_exec.proofs.Ranks.{free_entry, held_entry}
 
-pub IsFirstFree-none : (sets : List (Option Held)) → IsFirstFree sets 0 8
+pub IsFirstFree-none : (sets : List (Option HeldJob)) → IsFirstFree sets 0 8
 IsFirstFree-none sets = record { before = λ j lt below. absurd (omega arith); here = λ lt. absurd (omega arith) }
 
 -- one more set
-pub IsFirstFree-more : (sets : List (Option Held)) (n free number : ℕ) → n < 8 → number ≡ number_in (slice_index_or sets n None) → IsFirstFree sets n free → IsFirstFree sets (n + 1) (cond ((number == 0) && nat_lt n free) n free)
+pub IsFirstFree-more : (sets : List (Option HeldJob)) (n free number : ℕ) → n < 8 → number ≡ number_in (slice_index_or sets n None) → IsFirstFree sets n free → IsFirstFree sets (n + 1) (cond ((number == 0) && nat_lt n free) n free)
 IsFirstFree-more sets n free number lt is f = elim (cases_eq number 0) [
   | inr ne ↦
       let no : (number == 0) ≡ false = grind (arith, common_steps) in

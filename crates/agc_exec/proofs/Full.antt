@@ -7,14 +7,14 @@ use Rattle.std.proofs.lemmas.Map.Steps.{length-le_from_distinct_below}
 use Rattle.std.proofs.lemmas.Map.Keys.{IsDistinct-from_apart}
 use Rattle.std.proofs.lemmas.Grind.{common_steps}
 use Rattle.agc_plan.specs.Jobs.{Job, least_unused}
-use Rattle.agc_exec.specs.Held.{Held}
+use Rattle.agc_exec.specs.HeldJob.{HeldJob}
 use Rattle.agc_exec.specs.Sets.{job_numbered, slots_of, number_in, entries_of, Holds, IsLawful}
 use Rattle.agc_plan.specs.Places.{place_of}
 use Rattle.agc_exec.proofs.Entries.{place_of-at}
 use Rattle.agc_exec.proofs.Slots.{None-job_numbered, get_or-slots_from, length-slots_from}
 use Rattle.agc_exec.proofs.Searches.{least_unused-none}
 
-any_bound : (sets : List (Option Held)) (b q : ℕ) → ((i : ℕ) (r : Held) → Holds sets i r → r.number ≤ b) → list_any (eqb q) (entries_of sets) ≡ true → q ≤ b
+any_bound : (sets : List (Option HeldJob)) (b q : ℕ) → ((i : ℕ) (r : HeldJob) → Holds sets i r → r.number ≤ b) → list_any (eqb q) (entries_of sets) ≡ true → q ≤ b
 any_bound [] b q h e = absurd (cc)
 any_bound (None ∷ sets) b q h e = elim (cases_eq q 0) [
   | inl z ↦ omega arith
@@ -26,17 +26,17 @@ any_bound (Some r ∷ sets) b q h e = elim (cases_eq q r.number) [
 ]
 
 -- every set holds a job
-abbrev pub AllHeld : List (Option Held) → Type 0
+abbrev pub AllHeld : List (Option HeldJob) → Type 0
 AllHeld sets = (i : ℕ) → i < length sets → slice_index_or sets i None ≢ None
 
-held : (sets : List (Option Held)) (i : ℕ) (v : Option Held) → slice_index_or sets i None ≡ v → v ≢ None → (r : Held) × Holds sets i r
+held : (sets : List (Option HeldJob)) (i : ℕ) (v : Option HeldJob) → slice_index_or sets i None ≡ v → v ≢ None → (r : HeldJob) × Holds sets i r
 held sets i None e h = absurd (h refl)
 held sets i (Some r) e h = (r, e)
 
-entry_of : (sets : List (Option Held)) (i d : ℕ) (r : Held) → i < length sets → Holds sets i r → get_or (entries_of sets) i d ≡ r.number
+entry_of : (sets : List (Option HeldJob)) (i d : ℕ) (r : HeldJob) → i < length sets → Holds sets i r → get_or (entries_of sets) i d ≡ r.number
 entry_of sets i d r lt at = get_or-map number_in sets i None d lt ∙ ap number_in at
 
-pub full-used : (sets : List (Option Held)) (n : ℕ) → IsLawful sets → AllHeld sets → 1 ≤ n → n ≤ length sets → job_numbered sets n ≡ None → ⊥
+pub full-used : (sets : List (Option HeldJob)) (n : ℕ) → IsLawful sets → AllHeld sets → 1 ≤ n → n ≤ length sets → job_numbered sets n ≡ None → ⊥
 full-used sets n lawful all low high unused =
     let len : length (entries_of sets) ≡ length sets = length-map sets number_in in
     let distinct : IsDistinct eqb (0 ∷ n ∷ entries_of sets) = IsDistinct-from_apart eqb (0 ∷ n ∷ entries_of sets) apart in
@@ -85,7 +85,7 @@ full-used sets n lawful all low high unused =
     ]
 
 -- with no free set, no number is unused
-pub full-none : (sets : List (Option Held)) → IsLawful sets → AllHeld sets → least_unused 1 (slots_of sets) ≡ None
+pub full-none : (sets : List (Option HeldJob)) → IsLawful sets → AllHeld sets → least_unused 1 (slots_of sets) ≡ None
 full-none sets lawful all = least_unused-none 1 (slots_of sets) (λ j lt.
     let len : length (slots_of sets) ≡ length sets = length-slots_from (length sets) 1 sets in
     used j (omega arith) (job_numbered sets (1 + j)) refl)
@@ -95,7 +95,7 @@ full-none sets lawful all = least_unused-none 1 (slots_of sets) (λ j lt.
     used j lt (Some job) e = rw (get_or-slots_from (length sets) 1 sets j lt, e)
 
 -- the first free set is the first entry 0
-pub place_of_free : (sets : List (Option Held)) (k : ℕ) → IsLawful sets → k < length sets → slice_index_or sets k None ≡ None → ((j : ℕ) → j < k → slice_index_or sets j None ≢ None) → k ≡ place_of 0 (entries_of sets)
+pub place_of_free : (sets : List (Option HeldJob)) (k : ℕ) → IsLawful sets → k < length sets → slice_index_or sets k None ≡ None → ((j : ℕ) → j < k → slice_index_or sets j None ≢ None) → k ≡ place_of 0 (entries_of sets)
 place_of_free sets k lawful lt free before = sym (place_of-at sets 0 k lt (ap number_in free) (λ j below e. taken j below e)) where
   taken : (j : ℕ) → j < k → number_in (slice_index_or sets j None) ≡ 0 → ⊥
   taken j below e =

@@ -5,7 +5,7 @@ use Rattle.std.proofs.lemmas.Option.{same_Some}
 use Rattle.std.proofs.lemmas.Grind.{common_steps}
 use Rattle.agc_word.specs.Layout.{IsSized, sets_in, set_place, area_of}
 use Rattle.agc_word.specs.Words.{complement}
-use Rattle.agc_exec.specs.Held.{Held}
+use Rattle.agc_exec.specs.HeldJob.{HeldJob}
 use Rattle.agc_exec.specs.Blocks.{block_in, blocks_of}
 use Rattle.agc_exec.specs.Image.{minus_zero, sign, record_of, held_by, sets_of, IsCoded, IsSet}
 use Rattle.agc_exec.specs.Sets.{number_in, Holds, IsFronted, running_in}
@@ -31,7 +31,7 @@ area_held-word block w ne = elim (cases_lt w 16384) [
 ]
 
 -- what a job's words are
-pub record IsJob (sets : ℕ) (block : List ℕ) (r : Held) : Type 0 where
+pub record IsJob (sets : ℕ) (block : List ℕ) (r : HeldJob) : Type 0 where
   pub coded : IsCoded block r
   pub low : 1 ≤ r.number
   pub high : r.number ≤ sets
@@ -59,7 +59,7 @@ asleep_job words k ge s =
     }
 
 -- a set whose words are sound is free, or its words are a job's
-pub sound_job : (words : List ℕ) (k : ℕ) → k < sets_in words → IsSoundAt words k → (r : Held) → Holds (sets_of words) k r → IsJob (sets_in words) (block_in words k) r
+pub sound_job : (words : List ℕ) (k : ℕ) → k < sets_in words → IsSoundAt words k → (r : HeldJob) → Holds (sets_of words) k r → IsJob (sets_in words) (block_in words k) r
 sound_job words k lt sound r here =
     let held : held_by (block_in words k) (slice_index words (set_place k + 11)) ≡ Some r = sym (at_words words k lt) ∙ here in
     elim (cases_eq (slice_index words (set_place k + 11)) 32767) [
@@ -75,7 +75,7 @@ sound_job words k lt sound r here =
     ]
 
 -- and the other way round
-job_sound : (words : List ℕ) (k : ℕ) → k < sets_in words → ((r : Held) → Holds (sets_of words) k r → IsJob (sets_in words) (block_in words k) r) → IsSoundAt words k
+job_sound : (words : List ℕ) (k : ℕ) → k < sets_in words → ((r : HeldJob) → Holds (sets_of words) k r → IsJob (sets_in words) (block_in words k) r) → IsSoundAt words k
 job_sound words k lt jobs ne =
     let number : slice_index (block_in words k) 0 ≡ slice_index words (set_place k + 0) = get-block_in words k 0 0 (omega arith) in
     let at : slice_index (block_in words k) 8 ≡ slice_index words (set_place k + 8) = get-block_in words k 8 0 (omega arith) in
@@ -123,12 +123,12 @@ set_apart words set k lt j lt_j = record {
   areas = λ positive same. areas (slice_index_or (sets_of words) j None) (slice_index_or (sets_of words) k None) refl refl positive same;
 }
   where
-    numbers : (o p : Option Held) → slice_index_or (sets_of words) j None ≡ o → slice_index_or (sets_of words) k None ≡ p → 0 < number_in o → number_in o ≡ number_in p → ⊥
+    numbers : (o p : Option HeldJob) → slice_index_or (sets_of words) j None ≡ o → slice_index_or (sets_of words) k None ≡ p → 0 < number_in o → number_in o ≡ number_in p → ⊥
     numbers None p at_j at_k positive same = omega arith
     numbers (Some r) None at_j at_k positive same = omega arith
     numbers (Some r) (Some s) at_j at_k positive same = let is : j ≡ k = set.standing.lawful.distinct j k r s at_j at_k same in omega arith
 
-    areas : (o p : Option Held) → slice_index_or (sets_of words) j None ≡ o → slice_index_or (sets_of words) k None ≡ p → 0 < area_held o → area_held o ≡ area_held p → ⊥
+    areas : (o p : Option HeldJob) → slice_index_or (sets_of words) j None ≡ o → slice_index_or (sets_of words) k None ≡ p → 0 < area_held o → area_held o ≡ area_held p → ⊥
     areas None p at_j at_k positive same = omega arith
     areas (Some r) None at_j at_k positive same = omega arith
     areas (Some r) (Some s) at_j at_k positive same = let is : j ≡ k = set.standing.lawful.areas j k r s at_j at_k positive same in omega arith
@@ -145,7 +145,7 @@ set_awake words all set idle k lt = elim (cases_lt (slice_index words (set_place
 ]
 
 -- sets in which nobody is awake, or the job in set 0 is
-pub fronted_runs : (sets : List (Option Held)) → FrontRuns sets → IsFronted sets
+pub fronted_runs : (sets : List (Option HeldJob)) → FrontRuns sets → IsFronted sets
 fronted_runs sets runs i r at awake = runs
 
 pub fronted_nobody : (words : List ℕ) → IsSized words → NobodyAwake words → IsFronted (sets_of words)
@@ -177,37 +177,37 @@ lawful_sets words all sound apart fronted =
       };
     }
   where
-    within : (i : ℕ) (r : Held) → Holds (sets_of words) i r → i < sets_in words
+    within : (i : ℕ) (r : HeldJob) → Holds (sets_of words) i r → i < sets_in words
     within i r at = let lt : i < length (sets_of words) = Holds-within (sets_of words) i r at in let len : length (sets_of words) ≡ sets_in words = length-sets words in omega arith
 
-    job : (i : ℕ) (r : Held) → Holds (sets_of words) i r → IsJob (sets_in words) (block_in words i) r
+    job : (i : ℕ) (r : HeldJob) → Holds (sets_of words) i r → IsJob (sets_in words) (block_in words i) r
     job i r at = let lt : i < sets_in words = within i r at in sound_job words i (omega arith) (sound i lt) r at
 
-    number : (i j : ℕ) (r s : Held) → Holds (sets_of words) i r → Holds (sets_of words) j s → r.number ≡ s.number → i < j → ⊥
+    number : (i j : ℕ) (r s : HeldJob) → Holds (sets_of words) i r → Holds (sets_of words) j s → r.number ≡ s.number → i < j → ⊥
     number i j r s at_i at_j same lt =
         let low : 1 ≤ r.number = (job i r at_i).low in
         let x : number_in (slice_index_or (sets_of words) i None) ≡ r.number = ap number_in at_i in
         (apart j (let at : j < sets_in words = within j s at_j in let len : length (sets_of words) ≡ sets_in words = length-sets words in omega arith) i lt).numbers (omega arith) (x ∙ same ∙ sym (ap number_in at_j))
 
-    distinct : (i j : ℕ) (r s : Held) → Holds (sets_of words) i r → Holds (sets_of words) j s → r.number ≡ s.number → i ≡ j
+    distinct : (i j : ℕ) (r s : HeldJob) → Holds (sets_of words) i r → Holds (sets_of words) j s → r.number ≡ s.number → i ≡ j
     distinct i j r s at_i at_j same = elim (cases_lt i j) [
       | inl lt ↦ absurd (number i j r s at_i at_j same lt)
       | inr ge ↦ elim (cases_lt j i) [ inl lt ↦ absurd (number j i s r at_j at_i (sym same) lt) | inr le ↦ omega arith ]
     ]
 
-    area : (i j : ℕ) (r s : Held) → Holds (sets_of words) i r → Holds (sets_of words) j s → 0 < r.area → r.area ≡ s.area → i < j → ⊥
+    area : (i j : ℕ) (r s : HeldJob) → Holds (sets_of words) i r → Holds (sets_of words) j s → 0 < r.area → r.area ≡ s.area → i < j → ⊥
     area i j r s at_i at_j positive same lt =
         let x : area_held (slice_index_or (sets_of words) i None) ≡ r.area = ap area_held at_i in
         (apart j (let at : j < sets_in words = within j s at_j in let len : length (sets_of words) ≡ sets_in words = length-sets words in omega arith) i lt).areas (omega arith) (x ∙ same ∙ sym (ap area_held at_j))
 
-    areas : (i j : ℕ) (r s : Held) → Holds (sets_of words) i r → Holds (sets_of words) j s → 0 < r.area → r.area ≡ s.area → i ≡ j
+    areas : (i j : ℕ) (r s : HeldJob) → Holds (sets_of words) i r → Holds (sets_of words) j s → 0 < r.area → r.area ≡ s.area → i ≡ j
     areas i j r s at_i at_j positive same = elim (cases_lt i j) [
       | inl lt ↦ absurd (area i j r s at_i at_j positive same lt)
       | inr ge ↦ elim (cases_lt j i) [ inl lt ↦ absurd (area j i s r at_j at_i (let p : 0 < s.area = omega arith in p) (sym same) lt) | inr le ↦ omega arith ]
     ]
 
 -- whether a set's job owns an area
-pub owned_at : (area : ℕ) (sets : List (Option Held)) (k : ℕ) → 1 ≤ area → area_held (slice_index_or sets k None) ≡ area → owned_in area sets ≡ true
+pub owned_at : (area : ℕ) (sets : List (Option HeldJob)) (k : ℕ) → 1 ≤ area → area_held (slice_index_or sets k None) ≡ area → owned_in area sets ≡ true
 owned_at area [] k low is = absurd (omega arith)
 owned_at area (None ∷ sets) zero low is = absurd (omega arith)
 owned_at area (Some r ∷ sets) zero low is = let yes_own : (r.area == area) ≡ true = grind (arith, common_steps) in rw yes_own
@@ -217,7 +217,7 @@ owned_at area (Some r ∷ sets) (suc k) low is = elim (cases_eq r.area area) [
   | inr ne ↦ let no_own : (r.area == area) ≡ false = grind (arith, common_steps) in rw no_own (owned_at area sets k low is)
 ]
 
-pub owned_nowhere : (area : ℕ) (sets : List (Option Held)) → ((k : ℕ) → k < length sets → area_held (slice_index_or sets k None) ≢ area) → owned_in area sets ≡ false
+pub owned_nowhere : (area : ℕ) (sets : List (Option HeldJob)) → ((k : ℕ) → k < length sets → area_held (slice_index_or sets k None) ≢ area) → owned_in area sets ≡ false
 owned_nowhere area [] h = refl
 owned_nowhere area (None ∷ sets) h = owned_nowhere area sets (λ k lt. h (suc k) (omega arith))
 owned_nowhere area (Some r ∷ sets) h =

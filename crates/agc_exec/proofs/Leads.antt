@@ -3,7 +3,7 @@ use Rattle.std.proofs.Common.{◌≡◌, ◌⊎◌, ℕ, ◌+◌, ◌*◌, ◌/�
 use Rattle.std.proofs.lemmas.Bool.{cases_eq, cases_lt}
 use Rattle.std.proofs.lemmas.Option.{same_Some}
 use Rattle.agc_word.specs.Layout.{sets_in, set_place}
-use Rattle.agc_exec.specs.Held.{Held}
+use Rattle.agc_exec.specs.HeldJob.{HeldJob}
 use Rattle.agc_exec.specs.Blocks.{block_in}
 use Rattle.agc_exec.specs.Image.{sign, priority_unit, record_of, sets_of, IsSet, newjob_of}
 use Rattle.agc_exec.specs.Sets.{Holds}
@@ -15,14 +15,14 @@ use Rattle.agc_exec.proofs.Reading.{get-block_in}
 use Rattle.agc_exec.proofs.Swaps.{Holds-within}
 use Rattle.std.proofs.lemmas.Grind.{common_steps}
 
-pub Yields-trans : (a b c : Held) → Yields a b → Yields b c → Yields a c
+pub Yields-trans : (a b c : HeldJob) → Yields a b → Yields b c → Yields a c
 Yields-trans a b c x y = elim x [
   | inl lt ↦ elim y [ inl lt2 ↦ inl (omega arith) | inr both2 ↦ inl (omega arith) ]
   | inr both ↦ elim y [ inl lt2 ↦ inl (omega arith) | inr both2 ↦ inr (omega arith, omega arith) ]
 ]
 
 -- what the words of a set with an awake job say of it
-pub awake_words : (words : List ℕ) (k : ℕ) (s : Held) → k < sets_in words → Holds (sets_of words) k s → s.asleep ≡ false → (slice_index words (set_place k + 11) < sign) × (s.priority ≡ slice_index words (set_place k + 11) / priority_unit) × (s.number ≡ slice_index words (set_place k + 0))
+pub awake_words : (words : List ℕ) (k : ℕ) (s : HeldJob) → k < sets_in words → Holds (sets_of words) k s → s.asleep ≡ false → (slice_index words (set_place k + 11) < sign) × (s.priority ≡ slice_index words (set_place k + 11) / priority_unit) × (s.number ≡ slice_index words (set_place k + 0))
 awake_words words k s lt at awake = elim (cases_lt (slice_index words (set_place k + 11)) 16384) [
   | inl low ↦
       let same : record_of (block_in words k) (slice_index words (set_place k + 11)) false ≡ s = same_Some _ s (sym (held_by-awake (block_in words k) (slice_index words (set_place k + 11)) low) ∙ sym (at_words words k lt) ∙ at) in
@@ -34,7 +34,7 @@ awake_words words k s lt at awake = elim (cases_lt (slice_index words (set_place
 pub awake_at : (words : List ℕ) (k : ℕ) → k < sets_in words → slice_index words (set_place k + 11) < sign → Holds (sets_of words) k (record_of (block_in words k) (slice_index words (set_place k + 11)) false)
 awake_at words k lt low = at_words words k lt ∙ held_by-awake (block_in words k) (slice_index words (set_place k + 11)) low
 
-pub rank-none : (sets : List (Option Held)) → IsBestRank sets 0 0
+pub rank-none : (sets : List (Option HeldJob)) → IsBestRank sets 0 0
 rank-none sets = record { nobody = λ z j s lt at. absurd (omega arith); found = λ lt. absurd (omega arith) }
 
 bool_cases : (b : Bool) → (b ≡ true) ⊎ (b ≡ false)
@@ -42,7 +42,7 @@ bool_cases true = inl refl
 bool_cases false = inr refl
 
 -- one more set, whose job, if it is awake, yields to the best so far
-pub rank-stays : (sets : List (Option Held)) (n rank : ℕ) → IsBestRank sets n rank → ((s : Held) → Holds sets n s → s.asleep ≡ false → 0 < rank) → ((b s : Held) → Holds sets (rank % 8) b → b.asleep ≡ false → rank / 8 ≡ b.priority + 1 → Holds sets n s → s.asleep ≡ false → Yields s b) → IsBestRank sets (n + 1) rank
+pub rank-stays : (sets : List (Option HeldJob)) (n rank : ℕ) → IsBestRank sets n rank → ((s : HeldJob) → Holds sets n s → s.asleep ≡ false → 0 < rank) → ((b s : HeldJob) → Holds sets (rank % 8) b → b.asleep ≡ false → rank / 8 ≡ b.priority + 1 → Holds sets n s → s.asleep ≡ false → Yields s b) → IsBestRank sets (n + 1) rank
 rank-stays sets n rank is some yields = record {
   nobody = λ z j s lt at. elim (cases_eq j n) [
     | inl same ↦ elim (bool_cases s.asleep) [ inl asleep ↦ asleep | inr awake ↦ absurd (let positive : 0 < rank = some s (ap (λ i. slice_index_or sets i None) (sym same) ∙ at) awake in omega arith) ]
@@ -64,7 +64,7 @@ rank-stays sets n rank is some yields = record {
 }
 
 -- one more set, to whose awake job the best so far yields
-pub rank-takes : (sets : List (Option Held)) (n rank : ℕ) (r : Held) → IsBestRank sets n rank → Holds sets n r → r.asleep ≡ false → n < 8 → ((b : Held) → 0 < rank → Holds sets (rank % 8) b → b.asleep ≡ false → rank / 8 ≡ b.priority + 1 → Yields b r) → IsBestRank sets (n + 1) (8 * (r.priority + 1) + n)
+pub rank-takes : (sets : List (Option HeldJob)) (n rank : ℕ) (r : HeldJob) → IsBestRank sets n rank → Holds sets n r → r.asleep ≡ false → n < 8 → ((b : HeldJob) → 0 < rank → Holds sets (rank % 8) b → b.asleep ≡ false → rank / 8 ≡ b.priority + 1 → Yields b r) → IsBestRank sets (n + 1) (8 * (r.priority + 1) + n)
 rank-takes sets n rank r is here awake lt yields =
     let place : (8 * (r.priority + 1) + n) % 8 ≡ n = omega arith in
     let priority : (8 * (r.priority + 1) + n) / 8 ≡ r.priority + 1 = omega arith in
@@ -73,7 +73,7 @@ rank-takes sets n rank r is here awake lt yields =
       found = λ positive. (r, rw place (record { here = here; awake = awake; first = first }), priority);
     }
   where
-    first : (j : ℕ) (s : Held) → j < n + 1 → Holds sets j s → s.asleep ≡ false → Yields s r
+    first : (j : ℕ) (s : HeldJob) → j < n + 1 → Holds sets j s → s.asleep ≡ false → Yields s r
     first j s lt_j at awake_s = elim (cases_eq j n) [
       | inl same ↦
           let is_r : s ≡ r = same_Some s r (sym at ∙ ap (λ i. slice_index_or sets i None) same ∙ here) in
@@ -87,7 +87,7 @@ rank-takes sets n rank r is here awake lt yields =
     ]
 
 -- the best job's priority, and that of the job in set 0, by the rank and by its PRIORITY word
-ranked : (words : List ℕ) (best : ℕ) → IsSet words → IsBestRank (sets_of words) (length (sets_of words)) best → 0 < best → (job r : Held) × (newjob_of (sets_of words) ≡ cond (nat_lt job.priority r.priority) (12 * (best % 8)) 0) × (job.priority ≡ slice_index words (set_place 0 + 11) / priority_unit) × (best / 8 ≡ r.priority + 1)
+ranked : (words : List ℕ) (best : ℕ) → IsSet words → IsBestRank (sets_of words) (length (sets_of words)) best → 0 < best → (job r : HeldJob) × (newjob_of (sets_of words) ≡ cond (nat_lt job.priority r.priority) (12 * (best % 8)) 0) × (job.priority ≡ slice_index words (set_place 0 + 11) / priority_unit) × (best / 8 ≡ r.priority + 1)
 ranked words best set is positive =
     let len : length (sets_of words) ≡ sets_in words = length-sets words in
     let (r, first, priority) = is.found positive in
@@ -130,7 +130,7 @@ pub rank-ahead : (words : List ℕ) (most k : ℕ) → Looks words most k → mo
 rank-ahead words most k l more = rank-takes (sets_of words) k most (record_of (block_in words k) (slice_index words (set_place k + 11)) false) l.before (awake_at words k l.sized l.low) refl l.few (λ b positive here awake_b priority. inl (omega arith))
 
 -- where both are as urgent, the best so far stands in one of the sets
-pub tied_place : (words : List ℕ) (most k : ℕ) → Looks words most k → most / 8 ≡ slice_index words (set_place k + 11) / priority_unit + 1 → (b : Held) × Holds (sets_of words) (most % 8) b × (b.asleep ≡ false) × (most % 8 < sets_in words)
+pub tied_place : (words : List ℕ) (most k : ℕ) → Looks words most k → most / 8 ≡ slice_index words (set_place k + 11) / priority_unit + 1 → (b : HeldJob) × Holds (sets_of words) (most % 8) b × (b.asleep ≡ false) × (most % 8 < sets_in words)
 tied_place words most k l tie =
     let (b, best, priority) = l.before.found (omega arith) in
     let len : length (sets_of words) ≡ sets_in words = length-sets words in

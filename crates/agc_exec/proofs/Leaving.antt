@@ -6,16 +6,16 @@ use Rattle.std.proofs.lemmas.Option.{same_Some}
 use Rattle.agc_plan.specs.Jobs.{job_in, with_job, best, end_of_job, sleep, sleeping_at}
 use Rattle.agc_plan.specs.Places.{place_of, fronted, without, placed_end}
 use Rattle.agc_plan.specs.declared.reply.Reply.TheVariants.{Left}
-use Rattle.agc_exec.specs.Held.{Held}
+use Rattle.agc_exec.specs.HeldJob.{HeldJob}
 use Rattle.agc_exec.specs.Sets.{job_of, slots_of, number_in, running_in, entries_of, jobs_of, Holds, IsLawful, IsStanding}
 use Rattle.agc_exec.proofs.Swaps.{Fits, IsLawful-set, slots_of-cleared, slots_of-changed}
 use Rattle.agc_exec.proofs.Bests.{slot_of, place_of_number, running_in-awake}
 
-pub cleared-lawful : (sets : List (Option Held)) (k : ℕ) → IsLawful sets → IsLawful (slice_set sets k None)
+pub cleared-lawful : (sets : List (Option HeldJob)) (k : ℕ) → IsLawful sets → IsLawful (slice_set sets k None)
 cleared-lawful sets k lawful = IsLawful-set sets k None lawful (λ r no. absurd (cc))
 
 -- a job may stay where it is, with its number and its area
-pub Fits-same : (sets : List (Option Held)) (k : ℕ) (r new : Held) → IsLawful sets → Holds sets k r → new.number ≡ r.number → new.area ≡ r.area → Fits sets k new
+pub Fits-same : (sets : List (Option HeldJob)) (k : ℕ) (r new : HeldJob) → IsLawful sets → Holds sets k r → new.number ≡ r.number → new.area ≡ r.area → Fits sets k new
 Fits-same sets k r new lawful at number area = record {
   low = rw number (lawful.low k r at);
   high = rw number (lawful.high k r at);
@@ -23,15 +23,15 @@ Fits-same sets k r new lawful at number area = record {
   own = λ j s ne at_j above same. ne (lawful.areas j k s r at_j at (rw same above) (same ∙ area));
 }
 
-pub changed-lawful : (sets : List (Option Held)) (k : ℕ) (r new : Held) → IsLawful sets → Holds sets k r → new.number ≡ r.number → new.area ≡ r.area → IsLawful (slice_set sets k (Some new))
+pub changed-lawful : (sets : List (Option HeldJob)) (k : ℕ) (r new : HeldJob) → IsLawful sets → Holds sets k r → new.number ≡ r.number → new.area ≡ r.area → IsLawful (slice_set sets k (Some new))
 changed-lawful sets k r new lawful at number area = IsLawful-set sets k (Some new) lawful (λ s same. let is : new ≡ s = same_Some new s same in rw (← is) (Fits-same sets k r new lawful at number area))
 
-pub changed-entries : (sets : List (Option Held)) (k : ℕ) (r new : Held) → Holds sets k r → new.number ≡ r.number → entries_of (slice_set sets k (Some new)) ≡ entries_of sets
+pub changed-entries : (sets : List (Option HeldJob)) (k : ℕ) (r new : HeldJob) → Holds sets k r → new.number ≡ r.number → entries_of (slice_set sets k (Some new)) ≡ entries_of sets
 changed-entries sets k r new at number =
     map-set number_in sets k (Some new) ∙ ap (slice_set (entries_of sets) k) (number ∙ sym (ap number_in at)) ∙ sym (map-set number_in sets k (slice_index_or sets k None)) ∙ ap (map number_in) (set-get_or sets k None)
 
 -- the running job was removed, and the best came
-pub Gives-end : (sets new : List (Option Held)) (r : Held) → IsStanding sets → Holds sets 0 r → r.asleep ≡ false → BringsBest (slice_set sets 0 None) new → Gives (end_of_job (jobs_of sets)) (placed_end (running_in sets) (running_in new) (entries_of sets)) new (Left (running_in new))
+pub Gives-end : (sets new : List (Option HeldJob)) (r : HeldJob) → IsStanding sets → Holds sets 0 r → r.asleep ≡ false → BringsBest (slice_set sets 0 None) new → Gives (end_of_job (jobs_of sets)) (placed_end (running_in sets) (running_in new) (entries_of sets)) new (Left (running_in new))
 Gives-end sets new r standing at awake brings =
     let lawful : IsLawful sets = standing.lawful in
     let cleared : slots_of (slice_set sets 0 None) ≡ with_job (slots_of sets) r.number None = slots_of-cleared sets 0 r lawful at in
@@ -47,7 +47,7 @@ Gives-end sets new r standing at awake brings =
     }
 
 -- the running job fell asleep, and the best came
-pub Gives-sleep : (sets new : List (Option Held)) (r slept : Held) (at : ℕ) → IsStanding sets → Holds sets 0 r → r.asleep ≡ false → slept.number ≡ r.number → job_of slept ≡ sleeping_at at (job_of r) → BringsBest (slice_set sets 0 (Some slept)) new → Gives (sleep at (jobs_of sets)) (fronted (running_in new) (entries_of sets)) new (Left (running_in new))
+pub Gives-sleep : (sets new : List (Option HeldJob)) (r slept : HeldJob) (at : ℕ) → IsStanding sets → Holds sets 0 r → r.asleep ≡ false → slept.number ≡ r.number → job_of slept ≡ sleeping_at at (job_of r) → BringsBest (slice_set sets 0 (Some slept)) new → Gives (sleep at (jobs_of sets)) (fronted (running_in new) (entries_of sets)) new (Left (running_in new))
 Gives-sleep sets new r slept at standing here awake number job brings =
     let lawful : IsLawful sets = standing.lawful in
     let changed : slots_of (slice_set sets 0 (Some slept)) ≡ with_job (slots_of sets) r.number (Some (sleeping_at at (job_of r))) = slots_of-changed sets 0 r slept lawful here number ∙ ap (λ j. with_job (slots_of sets) r.number (Some j)) job in

@@ -3,7 +3,7 @@ use Rattle.std.proofs.Common.{◌≡◌, ◌≢◌, ℕ, ◌+◌, ◌%◌, ◌<�
 use Rattle.std.proofs.lemmas.Bool.{cases_eq, cases_lt}
 use Rattle.std.proofs.lemmas.List.{get_or-set_same, get_or-set_other, get_or-replicate, get_or_past, length-set}
 use Rattle.agc_word.specs.Layout.{sets_in, set_place, area_of}
-use Rattle.agc_exec.specs.Held.{Held}
+use Rattle.agc_exec.specs.HeldJob.{HeldJob}
 use Rattle.agc_exec.specs.Blocks.{block_in}
 use Rattle.agc_exec.specs.Image.{minus_zero, sets_of}
 use Rattle.agc_exec.specs.Sets.{number_in}
@@ -123,10 +123,10 @@ area_unmarked words k numbers areas j apart =
     differs_unmarked (area_at (sets_of words)) k areas j.owned (λ other before. (apart other before).areas)
 
 -- an area that is marked is owned, and one that isn't isn't
-pub marked_owned : (sets : List (Option Held)) (n area : ℕ) (areas : List Bool) → 1 ≤ area → AreMarked (area_at sets) n areas → slice_index_or areas area false ≡ true → owned_in area sets ≡ true
+pub marked_owned : (sets : List (Option HeldJob)) (n area : ℕ) (areas : List Bool) → 1 ≤ area → AreMarked (area_at sets) n areas → slice_index_or areas area false ≡ true → owned_in area sets ≡ true
 marked_owned sets n area areas low m on = let (j, lt, at) = m.only area (omega arith) on in owned_at area sets j low at
 
-pub unmarked_unowned : (sets : List (Option Held)) (n area : ℕ) (areas : List Bool) → 1 ≤ area → n ≡ length sets → AreMarked (area_at sets) n areas → slice_index_or areas area false ≡ false → owned_in area sets ≡ false
+pub unmarked_unowned : (sets : List (Option HeldJob)) (n area : ℕ) (areas : List Bool) → 1 ≤ area → n ≡ length sets → AreMarked (area_at sets) n areas → slice_index_or areas area false ≡ false → owned_in area sets ≡ false
 unmarked_unowned sets n area areas low all m off = owned_nowhere area sets (λ k lt is.
     let on : slice_index_or areas (area_at sets k) false ≡ true = m.marked k (omega arith) (let same : area_at sets k ≡ area = is in omega arith) in
     let no : true ≡ false = sym on ∙ ap (λ x. slice_index_or areas x false) is ∙ off in

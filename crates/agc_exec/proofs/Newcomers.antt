@@ -7,7 +7,7 @@ use Rattle.std.proofs.lemmas.Grind.{common_steps}
 use Rattle.agc_word.specs.Layout as layout
 use Rattle.agc_word.specs.Layout.{sets_in, set_place}
 use Rattle.agc_plan.specs.Jobs.{best}
-use Rattle.agc_exec.specs.Held.{Held}
+use Rattle.agc_exec.specs.HeldJob.{HeldJob}
 use Rattle.agc_exec.specs.Sets.{Holds, IsLawful, IsStanding, slots_of, running_in}
 use Rattle.agc_exec.specs.Image.{sets_of, IsLawfulWords, newjob_of}
 use Rattle.agc_exec.specs.Stages.{Yields, BestBelow, IsBestAt, BringsBest, FrontRuns, StaysBut, NamesBut, IsNewcomer, IsLed}
@@ -19,9 +19,9 @@ use Rattle.agc_exec.proofs.Named.{best_exists}
 use Rattle.agc_exec.proofs.Swaps.{Holds-within}
 
 -- NEWJOB is 0 where no awake job is more urgent than the one that runs
-pub newjob-most : (sets : List (Option Held)) (job : Held) → IsLawful sets → Holds sets 0 job → job.asleep ≡ false → ((j : ℕ) (s : Held) → Holds sets j s → s.asleep ≡ false → s.priority ≤ job.priority) → newjob_of sets ≡ 0
+pub newjob-most : (sets : List (Option HeldJob)) (job : HeldJob) → IsLawful sets → Holds sets 0 job → job.asleep ≡ false → ((j : ℕ) (s : HeldJob) → Holds sets j s → s.asleep ≡ false → s.priority ≤ job.priority) → newjob_of sets ≡ 0
 newjob-most sets job lawful front runs most = let (o, h) = best_exists sets (length sets) in go o h where
-  go : (o : Option (ℕ × Held)) → BestBelow sets (length sets) o → newjob_of sets ≡ 0
+  go : (o : Option (ℕ × HeldJob)) → BestBelow sets (length sets) o → newjob_of sets ≡ 0
   go None h = absurd (let no : true ≡ false = sym (h 0 job (Holds-within sets 0 job front) front) ∙ runs in cc)
   go (Some b) h =
       let le : b.1.priority ≤ job.priority = most b.0 b.1 h.here h.awake in
@@ -29,19 +29,19 @@ newjob-most sets job lawful front runs most = let (o, h) = best_exists sets (len
       newjob_of-best sets b.0 b.1 job lawful h front ∙ rw no
 
 -- it names the best job's set where that is more urgent
-pub newjob-names : (sets : List (Option Held)) (k : ℕ) (first job : Held) → IsLawful sets → Holds sets 0 job → Holds sets k first → first.asleep ≡ false → job.priority < first.priority → ((j : ℕ) (s : Held) → Holds sets j s → s.asleep ≡ false → Yields s first) → newjob_of sets ≡ 12 * k
+pub newjob-names : (sets : List (Option HeldJob)) (k : ℕ) (first job : HeldJob) → IsLawful sets → Holds sets 0 job → Holds sets k first → first.asleep ≡ false → job.priority < first.priority → ((j : ℕ) (s : HeldJob) → Holds sets j s → s.asleep ≡ false → Yields s first) → newjob_of sets ≡ 12 * k
 newjob-names sets k first job lawful front here awake urgent yields =
     let yes : nat_lt job.priority first.priority ≡ true = grind (arith, common_steps) in
     newjob_of-best sets k first job lawful (record { here = here; awake = awake; first = λ j s lt at a. yields j s at a }) front ∙ rw yes
 
-itself : (sets : List (Option Held)) (j k : ℕ) (s r : Held) → j ≡ k → Holds sets j s → Holds sets k r → s ≡ r
+itself : (sets : List (Option HeldJob)) (j k : ℕ) (s r : HeldJob) → j ≡ k → Holds sets j s → Holds sets k r → s ≡ r
 itself sets j k s r same at here = same_Some s r (sym at ∙ ap (λ i. slice_index_or sets i None) same ∙ here)
 
-Yields-itself : (s r : Held) → s ≡ r → Yields s r
+Yields-itself : (s r : HeldJob) → s ≡ r → Yields s r
 Yields-itself s r e = inr (ap (λ q. q.priority) e, let x : r.number ≡ s.number = ap (λ q. q.number) (sym e) in omega arith)
 
 -- the job that became awake goes before all others
-comes_first : (words : List ℕ) (k : ℕ) → (c : IsNewcomer words k) → IsLawful (sets_of words) → c.job.priority < c.comer.priority → ((j : ℕ) (s : Held) → j ≢ k → Holds (sets_of words) j s → s.asleep ≡ false → Yields s c.comer) → newjob_of (sets_of words) ≡ 12 * k
+comes_first : (words : List ℕ) (k : ℕ) → (c : IsNewcomer words k) → IsLawful (sets_of words) → c.job.priority < c.comer.priority → ((j : ℕ) (s : HeldJob) → j ≢ k → Holds (sets_of words) j s → s.asleep ≡ false → Yields s c.comer) → newjob_of (sets_of words) ≡ 12 * k
 comes_first words k c lawful urgent yields = newjob-names (sets_of words) k c.comer c.job lawful c.front c.here c.awake urgent (λ j s at a. elim (cases_eq j k) [
   | inl same ↦ Yields-itself s c.comer (itself (sets_of words) j k s c.comer same at c.here)
   | inr ne ↦ yields j s ne at a
@@ -63,7 +63,7 @@ nobody_first words k c lawful n le = newjob-most (sets_of words) c.job lawful c.
 
 -- which set NEWJOB names, and that it is one of the sets
 pub record Names (words : List ℕ) (k : ℕ) : Type 0 where
-  pub named : Held
+  pub named : HeldJob
   pub here : Holds (sets_of words) (slice_index words layout.newjob / 12) named
   pub awake : named.asleep ≡ false
 
@@ -131,7 +131,7 @@ with-higher words k c lawful n same some le = elim c.named [
 ]
 
 -- a job became awake while another runs
-pub newcomer : (old new : List ℕ) (k : ℕ) (comer : Held) → IsLawfulWords old → FrontRuns (sets_of old) → ((s : Held) → Holds (sets_of old) k s → s.asleep ≡ true) → k < length (sets_of old) → comer.asleep ≡ false → sets_of new ≡ slice_set (sets_of old) k (Some comer) → slice_index new layout.newjob ≡ slice_index old layout.newjob → IsNewcomer new k
+pub newcomer : (old new : List ℕ) (k : ℕ) (comer : HeldJob) → IsLawfulWords old → FrontRuns (sets_of old) → ((s : HeldJob) → Holds (sets_of old) k s → s.asleep ≡ true) → k < length (sets_of old) → comer.asleep ≡ false → sets_of new ≡ slice_set (sets_of old) k (Some comer) → slice_index new layout.newjob ≡ slice_index old layout.newjob → IsNewcomer new k
 newcomer old new k comer lawful runs slept lt awake sets kept =
     let (job, here, awake_job) = runs in
     let apart : 0 ≢ k = λ e. let no : true ≡ false = sym (slept job (ap (λ i. slice_index_or (sets_of old) i None) (sym e) ∙ here)) ∙ awake_job in cc in
@@ -146,13 +146,13 @@ newcomer old new k comer lawful runs slept lt awake sets kept =
       named = let (o, h) = best_exists (sets_of old) (length (sets_of old)) in go job here awake_job o h;
     }
   where
-    before : (j : ℕ) (s : Held) → j ≢ k → Holds (sets_of new) j s → Holds (sets_of old) j s
+    before : (j : ℕ) (s : HeldJob) → j ≢ k → Holds (sets_of new) j s → Holds (sets_of old) j s
     before j s ne at = sym (ap (λ l. slice_index_or l j None) sets ∙ get_or-set_other (sets_of old) k j (Some comer) None ne) ∙ at
 
-    after : (j : ℕ) (s : Held) → j ≢ k → Holds (sets_of old) j s → Holds (sets_of new) j s
+    after : (j : ℕ) (s : HeldJob) → j ≢ k → Holds (sets_of old) j s → Holds (sets_of new) j s
     after j s ne at = ap (λ l. slice_index_or l j None) sets ∙ get_or-set_other (sets_of old) k j (Some comer) None ne ∙ at
 
-    go : (job : Held) → Holds (sets_of old) 0 job → job.asleep ≡ false → (o : Option (ℕ × Held)) → BestBelow (sets_of old) (length (sets_of old)) o → StaysBut (sets_of new) k job (slice_index new layout.newjob) ⊎ NamesBut (sets_of new) k job (slice_index new layout.newjob)
+    go : (job : HeldJob) → Holds (sets_of old) 0 job → job.asleep ≡ false → (o : Option (ℕ × HeldJob)) → BestBelow (sets_of old) (length (sets_of old)) o → StaysBut (sets_of new) k job (slice_index new layout.newjob) ⊎ NamesBut (sets_of new) k job (slice_index new layout.newjob)
     go job here awake_job None h = absurd (let no : true ≡ false = sym (h 0 job (Holds-within (sets_of old) 0 job here) here) ∙ awake_job in cc)
     go job here awake_job (Some b) h = elim (cases_lt job.priority b.1.priority) [
       | inl lt ↦
@@ -178,7 +178,7 @@ newcomer old new k comer lawful runs slept lt awake sets kept =
     ]
 
 -- where nobody ran, a job that becomes awake is the best
-pub only_awake : (sets : List (Option Held)) (k : ℕ) (comer : Held) → IsStanding sets → running_in sets ≡ None → k < length sets → comer.asleep ≡ false → IsBestAt (slice_set sets k (Some comer)) k
+pub only_awake : (sets : List (Option HeldJob)) (k : ℕ) (comer : HeldJob) → IsStanding sets → running_in sets ≡ None → k < length sets → comer.asleep ≡ false → IsBestAt (slice_set sets k (Some comer)) k
 only_awake sets k comer standing idle lt awake = (
   comer,
   record {
@@ -195,7 +195,7 @@ only_awake sets k comer standing idle lt awake = (
 )
 
 -- then it runs
-pub led : (old new : List (Option Held)) (k : ℕ) → IsLawful old → IsBestAt old k → BringsBest old new → IsLed new
+pub led : (old new : List (Option HeldJob)) (k : ℕ) → IsLawful old → IsBestAt old k → BringsBest old new → IsLed new
 led old new k lawful most brings =
     let (r, is) = most in
     let runs : running_in new ≡ Some r.number = brings.running ∙ best-is old k r lawful is in
@@ -203,9 +203,9 @@ led old new k lawful most brings =
     record { runs = (job, here, awake); first = brings.running ∙ ap best (sym brings.slots) }
 
 -- where the best job runs, NEWJOB is 0
-pub newjob-led : (sets : List (Option Held)) → IsLawful sets → FrontRuns sets → running_in sets ≡ best (slots_of sets) → newjob_of sets ≡ 0
+pub newjob-led : (sets : List (Option HeldJob)) → IsLawful sets → FrontRuns sets → running_in sets ≡ best (slots_of sets) → newjob_of sets ≡ 0
 newjob-led sets lawful runs first = let (o, h) = best_exists sets (length sets) in go o h where
-  go : (o : Option (ℕ × Held)) → BestBelow sets (length sets) o → newjob_of sets ≡ 0
+  go : (o : Option (ℕ × HeldJob)) → BestBelow sets (length sets) o → newjob_of sets ≡ 0
   go None h = let (job, here, awake) = runs in absurd (let no : true ≡ false = sym (h 0 job (Holds-within sets 0 job here) here) ∙ awake in cc)
   go (Some b) h =
       let (job, here, awake) = runs in
@@ -217,8 +217,8 @@ newjob-led sets lawful runs first = let (o, h) = best_exists sets (length sets) 
       elim (h.first j s (Holds-within sets j s at) at a) [ inl lt ↦ omega arith | inr both ↦ omega arith ])
 
 -- and where nobody is awake, 77777
-pub newjob-rests : (sets : List (Option Held)) → IsLawful sets → running_in sets ≡ None → running_in sets ≡ best (slots_of sets) → newjob_of sets ≡ 32767
+pub newjob-rests : (sets : List (Option HeldJob)) → IsLawful sets → running_in sets ≡ None → running_in sets ≡ best (slots_of sets) → newjob_of sets ≡ 32767
 newjob-rests sets lawful idle first = let (o, h) = best_exists sets (length sets) in go o h where
-  go : (o : Option (ℕ × Held)) → BestBelow sets (length sets) o → newjob_of sets ≡ 32767
+  go : (o : Option (ℕ × HeldJob)) → BestBelow sets (length sets) o → newjob_of sets ≡ 32767
   go None h = newjob_of-none sets lawful h
   go (Some b) h = absurd (let no : None ≡ Some b.1.number = sym idle ∙ first ∙ best-is sets b.0 b.1 lawful h in cc)

@@ -7,7 +7,7 @@ use Rattle.std.proofs.lemmas.Grind.{common_steps}
 use Rattle.agc_word.specs.Layout.{sets_in, set_place, area_of}
 use Rattle.agc_word.specs.Words.{complement}
 use Rattle.agc_plan.specs.Jobs.{Job, is_sleeper}
-use Rattle.agc_exec.specs.Held.{Held}
+use Rattle.agc_exec.specs.HeldJob.{HeldJob}
 use Rattle.agc_exec.specs.Blocks.{block_in}
 use Rattle.agc_exec.specs.Image.{minus_zero, sign, priority_unit, record_of, held_by, held_of, sets_of}
 use Rattle.agc_exec.specs.Sets.{job_of, job_numbered, number_in, Holds, IsLawful}
@@ -45,7 +45,7 @@ number_in-held block w ne = elim (cases_lt w 16384) [
 ]
 
 -- a job with this PRIORITY word sleeps
-pub held_asleep : (block : List ℕ) (w : ℕ) (r : Held) → sign ≤ w → held_by block w ≡ Some r → r.asleep ≡ true
+pub held_asleep : (block : List ℕ) (w : ℕ) (r : HeldJob) → sign ≤ w → held_by block w ≡ Some r → r.asleep ≡ true
 held_asleep block w r ge e = elim (cases_eq w 32767) [
   | inl free ↦ absurd (let no : None ≡ Some r = sym (held_by-free block w free) ∙ e in cc)
   | inr ne ↦ ap (λ h. h.asleep) (same_Some r _ (sym e ∙ held_by-asleep block w ge ne))
@@ -62,7 +62,7 @@ lives_number words k lawful lt ne =
     let high : r.number ≤ length (sets_of words) = lawful.high k r at in
     (omega arith, omega arith)
   where
-    lives : (r : Held) × Holds (sets_of words) k r
+    lives : (r : HeldJob) × Holds (sets_of words) k r
     lives = elim (cases_lt (slice_index words (set_place k + 11)) 16384) [
       | inl awake ↦ (record_of (block_in words k) (slice_index words (set_place k + 11)) false, at_words words k lt ∙ held_by-awake (block_in words k) (slice_index words (set_place k + 11)) awake)
       | inr asleep ↦ (record_of (block_in words k) (complement (slice_index words (set_place k + 11))) true, at_words words k lt ∙ held_by-asleep (block_in words k) (slice_index words (set_place k + 11)) asleep ne)
@@ -89,11 +89,11 @@ bool_cases : (b : Bool) → (b ≡ true) ⊎ (b ≡ false)
 bool_cases true = inl refl
 bool_cases false = inr refl
 
-sleeper_rank-is : (at k : ℕ) (o : Option Held) (r : Held) → o ≡ Some r → is_sleeper at (job_of r) ≡ true → sleeper_rank at k o ≡ 8 * (9 - r.number) + k
+sleeper_rank-is : (at k : ℕ) (o : Option HeldJob) (r : HeldJob) → o ≡ Some r → is_sleeper at (job_of r) ≡ true → sleeper_rank at k o ≡ 8 * (9 - r.number) + k
 sleeper_rank-is at k o r e a = rw (e, a)
 
 -- with greatest rank 0 nobody sleeps there
-pub first_nobody : (sets : List (Option Held)) (at first : ℕ) → IsLawful sets → length sets ≤ 8 → IsSleeperRank sets at (length sets) first → first ≡ 0 → FirstBelow sets at (length sets) None
+pub first_nobody : (sets : List (Option HeldJob)) (at first : ℕ) → IsLawful sets → length sets ≤ 8 → IsSleeperRank sets at (length sets) first → first ≡ 0 → FirstBelow sets at (length sets) None
 first_nobody sets at first lawful few is zero_is j s lt here = elim (bool_cases (is_sleeper at (job_of s))) [
   | inl sleeps ↦
       let high : s.number ≤ length sets = lawful.high j s here in
@@ -104,12 +104,12 @@ first_nobody sets at first lawful few is zero_is j s lt here = elim (bool_cases 
 ]
 
 -- the set of the least-numbered sleeper, by its rank
-pub first_found : (sets : List (Option Held)) (at first : ℕ) → IsLawful sets → length sets ≤ 8 → IsSleeperRank sets at (length sets) first → 0 < first → (r : Held) × IsFirstBelow sets at (length sets) (first % 8) r
+pub first_found : (sets : List (Option HeldJob)) (at first : ℕ) → IsLawful sets → length sets ≤ 8 → IsSleeperRank sets at (length sets) first → 0 < first → (r : HeldJob) × IsFirstBelow sets at (length sets) (first % 8) r
 first_found sets at first lawful few is positive = elim is.found [
   | inl z ↦ absurd (omega arith)
   | inr (j, lt, found) ↦ go j lt (slice_index_or sets j None) refl found
 ] where
-  by : (j : ℕ) (r : Held) → j < length sets → Holds sets j r → first ≡ sleeper_rank at j (Some r) → (b : Bool) → is_sleeper at (job_of r) ≡ b → (r : Held) × IsFirstBelow sets at (length sets) (first % 8) r
+  by : (j : ℕ) (r : HeldJob) → j < length sets → Holds sets j r → first ≡ sleeper_rank at j (Some r) → (b : Bool) → is_sleeper at (job_of r) ≡ b → (r : HeldJob) × IsFirstBelow sets at (length sets) (first % 8) r
   by j r lt here found false sleeps = let none : first ≡ 0 = rw sleeps at found in absurd (omega arith)
   by j r lt here found true sleeps =
       let is_rank : first ≡ 8 * (9 - r.number) + j = rw sleeps at found in
@@ -127,7 +127,7 @@ first_found sets at first lawful few is positive = elim is.found [
         }),
       )
 
-  go : (j : ℕ) → j < length sets → (o : Option Held) → slice_index_or sets j None ≡ o → first ≡ sleeper_rank at j o → (r : Held) × IsFirstBelow sets at (length sets) (first % 8) r
+  go : (j : ℕ) → j < length sets → (o : Option HeldJob) → slice_index_or sets j None ≡ o → first ≡ sleeper_rank at j o → (r : HeldJob) × IsFirstBelow sets at (length sets) (first % 8) r
   go j lt None e found = absurd (omega arith)
   go j lt (Some r) e found = by j r lt e found (is_sleeper at (job_of r)) refl
 
@@ -162,25 +162,25 @@ sleeper_rank-none words at k lt (inl awake) = ap (sleeper_rank at k) (at_words w
 sleeper_rank-none words at k lt (inr free) = ap (sleeper_rank at k) (at_words words k lt ∙ held_by-free (block_in words k) (slice_index words (set_place k + 11)) free)
 
 -- a set with entry 0 is free
-pub free_entry : (sets : List (Option Held)) (k : ℕ) → IsLawful sets → number_in (slice_index_or sets k None) ≡ 0 → slice_index_or sets k None ≡ None
+pub free_entry : (sets : List (Option HeldJob)) (k : ℕ) → IsLawful sets → number_in (slice_index_or sets k None) ≡ 0 → slice_index_or sets k None ≡ None
 free_entry sets k lawful zero_is = go (slice_index_or sets k None) refl zero_is where
-  go : (o : Option Held) → slice_index_or sets k None ≡ o → number_in o ≡ 0 → o ≡ None
+  go : (o : Option HeldJob) → slice_index_or sets k None ≡ o → number_in o ≡ 0 → o ≡ None
   go None e z = refl
   go (Some r) e z = let low : 1 ≤ r.number = lawful.low k r e in absurd (omega arith)
 
 -- and one with another entry isn't
-pub held_entry : (sets : List (Option Held)) (k : ℕ) → number_in (slice_index_or sets k None) ≢ 0 → slice_index_or sets k None ≢ None
+pub held_entry : (sets : List (Option HeldJob)) (k : ℕ) → number_in (slice_index_or sets k None) ≢ 0 → slice_index_or sets k None ≢ None
 held_entry sets k ne e = ne (ap number_in e)
 
 -- the number of an entry is in range
-pub entry_range : (sets : List (Option Held)) (k : ℕ) → IsLawful sets → number_in (slice_index_or sets k None) ≤ length sets
+pub entry_range : (sets : List (Option HeldJob)) (k : ℕ) → IsLawful sets → number_in (slice_index_or sets k None) ≤ length sets
 entry_range sets k lawful = go (slice_index_or sets k None) refl where
-  go : (o : Option Held) → slice_index_or sets k None ≡ o → number_in o ≤ length sets
+  go : (o : Option HeldJob) → slice_index_or sets k None ≡ o → number_in o ≤ length sets
   go None e = omega arith
   go (Some r) e = lawful.high k r e
 
 -- one more number is marked
-pub IsMarked-more : (sets : List (Option Held)) (n number : ℕ) (used : List Bool) → number ≡ number_in (slice_index_or sets n None) → number < 9 → IsMarked sets n used → IsMarked sets (n + 1) (slice_set used number true)
+pub IsMarked-more : (sets : List (Option HeldJob)) (n number : ℕ) (used : List Bool) → number ≡ number_in (slice_index_or sets n None) → number < 9 → IsMarked sets n used → IsMarked sets (n + 1) (slice_set used number true)
 IsMarked-more sets n number used is lt m = record {
   nine = length-set used number true ∙ m.nine;
   marked = λ j lt_j. elim (cases_eq (number_in (slice_index_or sets j None)) number) [
@@ -198,7 +198,7 @@ IsMarked-more sets n number used is lt m = record {
   ];
 }
 
-pub IsMarked-none : (sets : List (Option Held)) → IsMarked sets 0 (replicate 9 false)
+pub IsMarked-none : (sets : List (Option HeldJob)) → IsMarked sets 0 (replicate 9 false)
 IsMarked-none sets = record {
   nine = refl;
   marked = λ j lt. absurd (omega arith);
@@ -206,17 +206,17 @@ IsMarked-none sets = record {
 }
 
 -- a number that is marked is a job's, and one that isn't is nobody's
-pub marked_used : (sets : List (Option Held)) (used : List Bool) (number : ℕ) → 1 ≤ number → number < 9 → IsMarked sets (length sets) used → slice_index_or used number false ≡ true → is_some (job_numbered sets number) ≡ true
+pub marked_used : (sets : List (Option HeldJob)) (used : List Bool) (number : ℕ) → 1 ≤ number → number < 9 → IsMarked sets (length sets) used → slice_index_or used number false ≡ true → is_some (job_numbered sets number) ≡ true
 marked_used sets used number low lt m yes_used =
     let (j, lt_j, at) = m.only number lt yes_used in
     go j at (slice_index_or sets j None) refl (job_numbered sets number) refl
   where
-    go : (j : ℕ) → number_in (slice_index_or sets j None) ≡ number → (o : Option Held) → slice_index_or sets j None ≡ o → (found : Option Job) → job_numbered sets number ≡ found → is_some found ≡ true
+    go : (j : ℕ) → number_in (slice_index_or sets j None) ≡ number → (o : Option HeldJob) → slice_index_or sets j None ≡ o → (found : Option Job) → job_numbered sets number ≡ found → is_some found ≡ true
     go j at None e found f = absurd (let z : number_in (slice_index_or sets j None) ≡ 0 = ap number_in e in omega arith)
     go j at (Some r) e None f = absurd (None-job_numbered sets number f j r e (sym (ap number_in e) ∙ at))
     go j at (Some r) e (Some job) f = refl
 
-pub unmarked_unused : (sets : List (Option Held)) (used : List Bool) (number : ℕ) → IsMarked sets (length sets) used → slice_index_or used number false ≡ false → job_numbered sets number ≡ None
+pub unmarked_unused : (sets : List (Option HeldJob)) (used : List Bool) (number : ℕ) → IsMarked sets (length sets) used → slice_index_or used number false ≡ false → job_numbered sets number ≡ None
 unmarked_unused sets used number m no_used = job_numbered-none sets number (λ i r at same.
     let marked : slice_index_or used (number_in (slice_index_or sets i None)) false ≡ true = m.marked i (Holds-within sets i r at) in
     let is : number_in (slice_index_or sets i None) ≡ number = ap number_in at ∙ same in
@@ -224,7 +224,7 @@ unmarked_unused sets used number m no_used = job_numbered-none sets number (λ i
     cc)
 
 -- the area of an awake job in set 0, by its PRIORITY word
-pub front_area_word : (words : List ℕ) (job : Held) → 0 < sets_in words → Holds (sets_of words) 0 job → job.asleep ≡ false → area_of (slice_index words (set_place 0 + 11) % priority_unit) ≡ job.area
+pub front_area_word : (words : List ℕ) (job : HeldJob) → 0 < sets_in words → Holds (sets_of words) 0 job → job.asleep ≡ false → area_of (slice_index words (set_place 0 + 11) % priority_unit) ≡ job.area
 front_area_word words job lt here awake = elim (cases_lt (slice_index words (set_place 0 + 11)) 16384) [
   | inl low ↦ ap (λ h. h.area) (same_Some _ job (sym (held_by-awake (block_in words 0) (slice_index words (set_place 0 + 11)) low) ∙ sym (at_words words 0 lt) ∙ here))
   | inr high ↦ absurd (let sleeps : job.asleep ≡ true = held_asleep (block_in words 0) (slice_index words (set_place 0 + 11)) job high (sym (at_words words 0 lt) ∙ here) in let no : true ≡ false = sym sleeps ∙ awake in cc)

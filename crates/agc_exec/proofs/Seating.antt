@@ -6,7 +6,7 @@ use Rattle.agc_word.specs.Layout.{sets_in, set_place, area_of}
 use Rattle.agc_word.specs.Words.{complement}
 use Rattle.agc_plan.specs.Jobs.{job_in}
 use Rattle.agc_exec.specs.Blocks.{block_in}
-use Rattle.agc_exec.specs.Held.{Held}
+use Rattle.agc_exec.specs.HeldJob.{HeldJob}
 use Rattle.agc_exec.specs.Image.{sets_of, held_by, minus_zero, sign}
 use Rattle.agc_exec.specs.Seats.{seen, seats_in}
 use Rattle.agc_exec.specs.Sets.{Holds, IsLawful, job_of, job_numbered, slots_of}
@@ -25,10 +25,10 @@ unfolding seats_in
 seat_at words k lt =
     let within : k < length (sets_of words) = rw (length-sets words) lt in
     slice_get-map (option_map seen) (sets_of words) k
-    ∙ ap (option_map (option_map seen)) (slice_get-get_or (sets_of words) k None within ∙ ap (λ (h : Option Held). Some h) (at_words words k lt))
+    ∙ ap (option_map (option_map seen)) (slice_get-get_or (sets_of words) k None within ∙ ap (λ (h : Option HeldJob). Some h) (at_words words k lt))
 
 pub seat_free : (words : List ℕ) (k : ℕ) → k < sets_in words → slice_index words (set_place k + 11) ≡ minus_zero → slice_get (seats_in words) k ≡ Some None
-seat_free words k lt free = seat_at words k lt ∙ ap (λ (h : Option Held). Some (option_map seen h)) (held_by-free (block_in words k) _ free)
+seat_free words k lt free = seat_at words k lt ∙ ap (λ (h : Option HeldJob). Some (option_map seen h)) (held_by-free (block_in words k) _ free)
 
 -- a job in core set k, by its words, its priority word without its sign, and whether it sleeps
 pub record IsRead (words : List ℕ) (k urgency : ℕ) (asleep : Bool) (s : Seat) : Type 0 where
@@ -51,16 +51,16 @@ read_is words k urgency asleep s is =
 
 pub seat_awake : (words : List ℕ) (k : ℕ) (s : Seat) → k < sets_in words → slice_index words (set_place k + 11) < sign → IsRead words k (slice_index words (set_place k + 11)) false s → slice_get (seats_in words) k ≡ Some (Some s)
 seat_awake words k s lt low is =
-    seat_at words k lt ∙ ap (λ (h : Option Held). Some (option_map seen h)) (held_by-awake (block_in words k) _ low)
+    seat_at words k lt ∙ ap (λ (h : Option HeldJob). Some (option_map seen h)) (held_by-awake (block_in words k) _ low)
     ∙ ap (λ (x : Seat). Some (Some x)) (read_is words k (slice_index words (set_place k + 11)) false s is)
 
 pub seat_asleep : (words : List ℕ) (k : ℕ) (s : Seat) → k < sets_in words → sign ≤ slice_index words (set_place k + 11) → slice_index words (set_place k + 11) ≢ minus_zero → IsRead words k (complement (slice_index words (set_place k + 11))) true s → slice_get (seats_in words) k ≡ Some (Some s)
 seat_asleep words k s lt high some is =
-    seat_at words k lt ∙ ap (λ (h : Option Held). Some (option_map seen h)) (held_by-asleep (block_in words k) _ high some)
+    seat_at words k lt ∙ ap (λ (h : Option HeldJob). Some (option_map seen h)) (held_by-asleep (block_in words k) _ high some)
     ∙ ap (λ (x : Seat). Some (Some x)) (read_is words k (complement (slice_index words (set_place k + 11))) true s is)
 
 -- the job of a core set, found by its number
-pub numbered : (sets : List (Option Held)) (i : ℕ) (r : Held) → IsLawful sets → Holds sets i r → job_in (slots_of sets) r.number ≡ Some (job_of r)
+pub numbered : (sets : List (Option HeldJob)) (i : ℕ) (r : HeldJob) → IsLawful sets → Holds sets i r → job_in (slots_of sets) r.number ≡ Some (job_of r)
 numbered sets i r lawful at =
     let low : 1 ≤ r.number = lawful.low i r at in
     let high : r.number ≤ length sets = lawful.high i r at in

@@ -6,11 +6,11 @@ use Rattle.std.proofs.lemmas.List.{get_or-set_same, get_or-set_other, length-set
 use Rattle.std.proofs.lemmas.List.Edits.{swap_is, length-swap}
 use Rattle.std.proofs.lemmas.Grind.{common_steps}
 use Rattle.agc_plan.specs.Jobs.{Job, with_job}
-use Rattle.agc_exec.specs.Held.{Held}
+use Rattle.agc_exec.specs.HeldJob.{HeldJob}
 use Rattle.agc_exec.specs.Sets.{job_of, job_numbered, slots_of, number_in, Holds, IsLawful}
 use Rattle.agc_exec.proofs.Slots.{job_numbered-none, job_numbered-at, job_numbered-other, job_numbered-found, None-job_numbered, slots_from-set, slots_from-same}
 
-pub Holds-within : (sets : List (Option Held)) (i : ℕ) (r : Held) → Holds sets i r → i < length sets
+pub Holds-within : (sets : List (Option HeldJob)) (i : ℕ) (r : HeldJob) → Holds sets i r → i < length sets
 Holds-within sets i r at = elim (cases_lt i (length sets)) [
   | inl lt ↦ lt
   | inr past ↦ let none : slice_index_or sets i None ≡ None = get_or_past sets i None past in absurd (cc)
@@ -23,22 +23,22 @@ moved k i = cond (i == 0) k (cond (i == k) 0 i)
 pub moved-moved : (k i : ℕ) → moved k (moved k i) ≡ i
 moved-moved k i = grind (arith, common_steps)
 
-pub get_or-swap : (sets : List (Option Held)) (k i : ℕ) → k < length sets → slice_index_or (swap sets 0 k) i None ≡ slice_index_or sets (moved k i) None
+pub get_or-swap : (sets : List (Option HeldJob)) (k i : ℕ) → k < length sets → slice_index_or (swap sets 0 k) i None ≡ slice_index_or sets (moved k i) None
 get_or-swap sets k i lt =
     let is : slice_set (slice_set sets 0 (slice_index_or sets k None)) k (slice_index_or sets 0 None) ≡ swap sets 0 k = swap_is sets 0 k None (omega arith) lt in
     rw (← is) (grind (arith, common_steps))
 
-pub Holds-swap : (sets : List (Option Held)) (k i : ℕ) (r : Held) → k < length sets → Holds (swap sets 0 k) i r → Holds sets (moved k i) r
+pub Holds-swap : (sets : List (Option HeldJob)) (k i : ℕ) (r : HeldJob) → k < length sets → Holds (swap sets 0 k) i r → Holds sets (moved k i) r
 Holds-swap sets k i r lt at = sym (get_or-swap sets k i lt) ∙ at
 
-pub swap-Holds : (sets : List (Option Held)) (k i : ℕ) (r : Held) → k < length sets → Holds sets i r → Holds (swap sets 0 k) (moved k i) r
+pub swap-Holds : (sets : List (Option HeldJob)) (k i : ℕ) (r : HeldJob) → k < length sets → Holds sets i r → Holds (swap sets 0 k) (moved k i) r
 swap-Holds sets k i r lt at = get_or-swap sets k (moved k i) lt ∙ ap (λ x. slice_index_or sets x None) (moved-moved k i) ∙ at
 
 moved_apart : (k i j : ℕ) → moved k i ≡ moved k j → i ≡ j
 moved_apart k i j e = sym (moved-moved k i) ∙ ap (moved k) e ∙ moved-moved k j
 
 -- an exchange keeps the list lawful
-pub IsLawful-swap : (sets : List (Option Held)) (k : ℕ) → k < length sets → IsLawful sets → IsLawful (swap sets 0 k)
+pub IsLawful-swap : (sets : List (Option HeldJob)) (k : ℕ) → k < length sets → IsLawful sets → IsLawful (swap sets 0 k)
 IsLawful-swap sets k lt lawful = record {
   distinct = λ i j r s at_i at_j same. moved_apart k i j (lawful.distinct (moved k i) (moved k j) r s (Holds-swap sets k i r lt at_i) (Holds-swap sets k j s lt at_j) same);
   low = λ i r at. lawful.low (moved k i) r (Holds-swap sets k i r lt at);
@@ -47,7 +47,7 @@ IsLawful-swap sets k lt lawful = record {
 }
 
 -- the same jobs stand in both lists
-pub job_numbered-swap : (sets : List (Option Held)) (k n : ℕ) → k < length sets → IsLawful sets → job_numbered (swap sets 0 k) n ≡ job_numbered sets n
+pub job_numbered-swap : (sets : List (Option HeldJob)) (k n : ℕ) → k < length sets → IsLawful sets → job_numbered (swap sets 0 k) n ≡ job_numbered sets n
 job_numbered-swap sets k n lt lawful = go (job_numbered sets n) refl where
   go : (o : Option Job) → job_numbered sets n ≡ o → job_numbered (swap sets 0 k) n ≡ o
   go None e = job_numbered-none (swap sets 0 k) n (λ i r at. None-job_numbered sets n e (moved k i) r (Holds-swap sets k i r lt at))
@@ -56,7 +56,7 @@ job_numbered-swap sets k n lt lawful = go (job_numbered sets n) refl where
       job_numbered-at (swap sets 0 k) (moved k i) r n is (λ j s at_j number. moved_apart k j (moved k i) (lawful.distinct (moved k j) i s r (Holds-swap sets k j s lt at_j) at (number ∙ sym is) ∙ sym (moved-moved k i))) (swap-Holds sets k i r lt at)
       ∙ ap Some same
 
-pub slots_of-swap : (sets : List (Option Held)) (k : ℕ) → k < length sets → IsLawful sets → slots_of (swap sets 0 k) ≡ slots_of sets
+pub slots_of-swap : (sets : List (Option HeldJob)) (k : ℕ) → k < length sets → IsLawful sets → slots_of (swap sets 0 k) ≡ slots_of sets
 slots_of-swap sets k lt lawful =
     let len : length (swap sets 0 k) ≡ length sets = length-swap sets 0 k in
     rw len (slots_from-same (length sets) 1 sets (swap sets 0 k) (λ n low. job_numbered-swap sets k n lt lawful))
@@ -74,7 +74,7 @@ map-swap f xs k d lt =
     ∙ swap_is (map f xs) 0 k (f d) zero_lt' lt'
 
 -- a job came to free set k
-pub slots_of-written : (sets : List (Option Held)) (k : ℕ) (r : Held) → k < length sets → IsFreeAt sets k → 1 ≤ r.number → job_numbered sets r.number ≡ None → slots_of (slice_set sets k (Some r)) ≡ with_job (slots_of sets) r.number (Some (job_of r))
+pub slots_of-written : (sets : List (Option HeldJob)) (k : ℕ) (r : HeldJob) → k < length sets → IsFreeAt sets k → 1 ≤ r.number → job_numbered sets r.number ≡ None → slots_of (slice_set sets k (Some r)) ≡ with_job (slots_of sets) r.number (Some (job_of r))
 slots_of-written sets k r lt free low unused =
     let len : length (slice_set sets k (Some r)) ≡ length sets = length-set sets k (Some r) in
     let here : job_numbered (slice_set sets k (Some r)) r.number ≡ Some (job_of r) = job_numbered-at (slice_set sets k (Some r)) k r r.number refl (written_apart sets k r unused) (get_or-set_same sets k (Some r) None lt) in
@@ -84,21 +84,21 @@ slots_of-written sets k r lt free low unused =
     free_number_ne : (n : ℕ) → 1 ≤ n → number_in (slice_index_or sets k None) ≢ n
     free_number_ne n low_n e = let z : number_in (slice_index_or sets k None) ≡ 0 = ap number_in free in omega arith
 
-    written_apart : (sets : List (Option Held)) (k : ℕ) (r : Held) → job_numbered sets r.number ≡ None → (j : ℕ) (s : Held) → Holds (slice_set sets k (Some r)) j s → s.number ≡ r.number → j ≡ k
+    written_apart : (sets : List (Option HeldJob)) (k : ℕ) (r : HeldJob) → job_numbered sets r.number ≡ None → (j : ℕ) (s : HeldJob) → Holds (slice_set sets k (Some r)) j s → s.number ≡ r.number → j ≡ k
     written_apart sets k r unused j s at same = elim (cases_eq j k) [
       | inl e ↦ e
       | inr ne ↦ absurd (None-job_numbered sets r.number unused j s (sym (get_or-set_other sets k j (Some r) None ne) ∙ at) same)
     ]
 
 -- a job of this number may come to set k
-pub record Fits (sets : List (Option Held)) (k : ℕ) (r : Held) : Type 0 where
+pub record Fits (sets : List (Option HeldJob)) (k : ℕ) (r : HeldJob) : Type 0 where
   pub low : 1 ≤ r.number
   pub high : r.number ≤ length sets
-  pub apart : (j : ℕ) (s : Held) → j ≢ k → Holds sets j s → s.number ≢ r.number
-  pub own : (j : ℕ) (s : Held) → j ≢ k → Holds sets j s → 0 < r.area → s.area ≢ r.area
+  pub apart : (j : ℕ) (s : HeldJob) → j ≢ k → Holds sets j s → s.number ≢ r.number
+  pub own : (j : ℕ) (s : HeldJob) → j ≢ k → Holds sets j s → 0 < r.area → s.area ≢ r.area
 
 -- what a set holds after a write to set k
-pub Holds-set : (sets : List (Option Held)) (k : ℕ) (v : Option Held) (j : ℕ) (s : Held) → Holds (slice_set sets k v) j s → ((j ≡ k) × (v ≡ Some s)) ⊎ ((j ≢ k) × Holds sets j s)
+pub Holds-set : (sets : List (Option HeldJob)) (k : ℕ) (v : Option HeldJob) (j : ℕ) (s : HeldJob) → Holds (slice_set sets k v) j s → ((j ≡ k) × (v ≡ Some s)) ⊎ ((j ≢ k) × Holds sets j s)
 Holds-set sets k v j s at = elim (cases_eq j k) [
   | inr ne ↦ inr (ne, sym (get_or-set_other sets k j v None ne) ∙ at)
   | inl e ↦
@@ -106,7 +106,7 @@ Holds-set sets k v j s at = elim (cases_eq j k) [
       inl (e, sym (get_or-set_same sets k v None lt) ∙ ap (λ x. slice_index_or (slice_set sets k v) x None) (sym e) ∙ at)
 ]
 
-pub IsLawful-set : (sets : List (Option Held)) (k : ℕ) (v : Option Held) → IsLawful sets → ((r : Held) → v ≡ Some r → Fits sets k r) → IsLawful (slice_set sets k v)
+pub IsLawful-set : (sets : List (Option HeldJob)) (k : ℕ) (v : Option HeldJob) → IsLawful sets → ((r : HeldJob) → v ≡ Some r → Fits sets k r) → IsLawful (slice_set sets k v)
 IsLawful-set sets k v lawful fits =
     record {
       distinct = λ i j r s at_i at_j same. elim (Holds-set sets k v i r at_i) [
@@ -122,14 +122,14 @@ IsLawful-set sets k v lawful fits =
     }
 
 -- the job of set k was removed
-pub slots_of-cleared : (sets : List (Option Held)) (k : ℕ) (r : Held) → IsLawful sets → Holds sets k r → slots_of (slice_set sets k None) ≡ with_job (slots_of sets) r.number None
+pub slots_of-cleared : (sets : List (Option HeldJob)) (k : ℕ) (r : HeldJob) → IsLawful sets → Holds sets k r → slots_of (slice_set sets k None) ≡ with_job (slots_of sets) r.number None
 slots_of-cleared sets k r lawful at =
     let len : length (slice_set sets k None) ≡ length sets = length-set sets k None in
     let here : job_numbered (slice_set sets k None) r.number ≡ None = job_numbered-none (slice_set sets k None) r.number (λ j s at_j same. elim (Holds-set sets k None j s at_j) [ inl there ↦ absurd (let no : None ≡ Some s = there.1 in cc) | inr there ↦ there.0 (lawful.distinct j k s r there.1 at same) ]) in
     rw len (slots_from-set (length sets) 1 sets (slice_set sets k None) r.number None (lawful.low k r at) (λ n low ne. job_numbered-other sets k None n (λ e. ne (sym e ∙ ap number_in at)) (λ e. let z : 0 ≡ n = e in omega arith)) here)
 
 -- the job of set k became another of its number
-pub slots_of-changed : (sets : List (Option Held)) (k : ℕ) (r new : Held) → IsLawful sets → Holds sets k r → new.number ≡ r.number → slots_of (slice_set sets k (Some new)) ≡ with_job (slots_of sets) r.number (Some (job_of new))
+pub slots_of-changed : (sets : List (Option HeldJob)) (k : ℕ) (r new : HeldJob) → IsLawful sets → Holds sets k r → new.number ≡ r.number → slots_of (slice_set sets k (Some new)) ≡ with_job (slots_of sets) r.number (Some (job_of new))
 slots_of-changed sets k r new lawful at number =
     let len : length (slice_set sets k (Some new)) ≡ length sets = length-set sets k (Some new) in
     let here : job_numbered (slice_set sets k (Some new)) r.number ≡ Some (job_of new) = job_numbered-at (slice_set sets k (Some new)) k new r.number number (λ j s at_j same. elim (Holds-set sets k (Some new) j s at_j) [ inl there ↦ there.0 | inr there ↦ lawful.distinct j k s r there.1 at same ]) (get_or-set_same sets k (Some new) None (Holds-within sets k r at)) in

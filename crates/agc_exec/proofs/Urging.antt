@@ -9,7 +9,7 @@ use Rattle.agc_plan.specs.declared.reply.Reply.{Reply}
 use Rattle.agc_plan.specs.Jobs.{prio, change, with_priority}
 use Rattle.agc_plan.proofs.Running.{with_running, prio_is}
 use Rattle.agc_plan.specs.Places.{fronted}
-use Rattle.agc_exec.specs.Held.{Held}
+use Rattle.agc_exec.specs.HeldJob.{HeldJob}
 use Rattle.agc_exec.specs.Blocks.{block_in, blocks_of}
 use Rattle.agc_exec.specs.Sets.{Holds, entries_of, running_in, jobs_of}
 use Rattle.agc_exec.specs.Image.{sets_of, IsLawfulBlock, IsTidyBlock, IsSet, IsLawfulWords, urgency_word, jobs_in, entries_in}
@@ -36,10 +36,10 @@ pub urgent-same : (words : List ℕ) (k q : ℕ) → (slice_index (urgent_block 
 unfolding block_in
 urgent-same words k q = (refl, refl)
 
-abbrev pub urged : ℕ → Held → Held
+abbrev pub urged : ℕ → HeldJob → HeldJob
 urged q job = record job { priority = q }
 
-pub Turned-urged : (old mid : List ℕ) (job : Held) (q : ℕ) → IsSet old → Holds (sets_of old) 0 job → job.asleep ≡ false → 1 ≤ q → q ≤ 31 → blocks_of mid ≡ slice_set (blocks_of old) 0 (urgent_block q (block_in old 0)) → Turned old mid 0 job (urged q job) (urgent_block q (block_in old 0))
+pub Turned-urged : (old mid : List ℕ) (job : HeldJob) (q : ℕ) → IsSet old → Holds (sets_of old) 0 job → job.asleep ≡ false → 1 ≤ q → q ≤ 31 → blocks_of mid ≡ slice_set (blocks_of old) 0 (urgent_block q (block_in old 0)) → Turned old mid 0 job (urged q job) (urgent_block q (block_in old 0))
 Turned-urged old mid job q set here awake low high blocks =
     let (held, coded) = block_held old 0 job set here in
     let fields : job ≡ job_with (block_in old 0) job.priority job.area false = held_of-fields (block_in old 0) job held ∙ ap (job_with (block_in old 0) job.priority job.area) awake in
@@ -52,7 +52,7 @@ Turned-urged old mid job q set here awake low high blocks =
     (record { twelve = urgent-twelve old 0 q; word = rw awake word; low = low; high = high; five = coded.five; at_low = coded.at_low; at_high = coded.at_high })
     refl blocks
 
-pub urged-set : (old mid : List ℕ) (job : Held) (q : ℕ) → Turned old mid 0 job (urged q job) (urgent_block q (block_in old 0)) → job.asleep ≡ false → Keeps OutsideSets old mid → IsSet mid
+pub urged-set : (old mid : List ℕ) (job : HeldJob) (q : ℕ) → Turned old mid 0 job (urged q job) (urgent_block q (block_in old 0)) → job.asleep ≡ false → Keeps OutsideSets old mid → IsSet mid
 urged-set old mid job q t awake others = record {
   sized = IsSized-kept old mid others.same_length t.set.sized;
   coded = rw t.blocks (Each-set IsLawfulBlock (blocks_of old) 0 (urgent_block q (block_in old 0)) t.set.coded t.coded);
@@ -60,7 +60,7 @@ urged-set old mid job q t awake others = record {
 }
 
 -- the priority was written, NEWJOB brought up to date, and the job changed
-pub urged-lawful : (old mid words : List ℕ) (job : Held) (q : ℕ) → IsLawfulWords old → job.asleep ≡ false → Turned old mid 0 job (urged q job) (urgent_block q (block_in old 0)) → Keeps OutsideSets old mid → Renewed mid words → IsLawfulWords words
+pub urged-lawful : (old mid words : List ℕ) (job : HeldJob) (q : ℕ) → IsLawfulWords old → job.asleep ≡ false → Turned old mid 0 job (urged q job) (urgent_block q (block_in old 0)) → Keeps OutsideSets old mid → Renewed mid words → IsLawfulWords words
 urged-lawful old mid words job q lawful awake t others renewed =
     let same : sets_of words ≡ sets_of mid = sets_of-same mid words renewed.words in
     let set : IsSet mid = urged-set old mid job q t awake others in
@@ -70,7 +70,7 @@ urged-lawful old mid words job q lawful awake t others renewed =
       newjob = rw same renewed.newjob;
     }
 
-pub Does-prio : (old mid words new : List ℕ) (job : Held) (q : ℕ) (reply : Reply) → IsLawfulWords old → (Holds (sets_of old) 0 job) × (job.asleep ≡ false) → Turned old mid 0 job (urged q job) (urgent_block q (block_in old 0)) → Keeps OutsideSets old mid → Renewed mid words → Does (change (jobs_in words)) (fronted (running_in (sets_of new)) (entries_in words)) (fronted_blocks (running_in (sets_of new)) (entries_in words) (blocks_of words)) words new reply → Does (prio q (jobs_in old)) (fronted (running_in (sets_of new)) (entries_in old)) (blocks_changed (running_in (sets_of old)) (urgent_block q (front_block (blocks_of old))) (running_in (sets_of new)) (entries_in old) (blocks_of old)) old new reply
+pub Does-prio : (old mid words new : List ℕ) (job : HeldJob) (q : ℕ) (reply : Reply) → IsLawfulWords old → (Holds (sets_of old) 0 job) × (job.asleep ≡ false) → Turned old mid 0 job (urged q job) (urgent_block q (block_in old 0)) → Keeps OutsideSets old mid → Renewed mid words → Does (change (jobs_in words)) (fronted (running_in (sets_of new)) (entries_in words)) (fronted_blocks (running_in (sets_of new)) (entries_in words) (blocks_of words)) words new reply → Does (prio q (jobs_in old)) (fronted (running_in (sets_of new)) (entries_in old)) (blocks_changed (running_in (sets_of old)) (urgent_block q (front_block (blocks_of old))) (running_in (sets_of new)) (entries_in old) (blocks_of old)) old new reply
 Does-prio old mid words new job q reply lawful runs t others renewed does =
     let same : sets_of words ≡ sets_of mid = sets_of-same mid words renewed.words in
     let jobs : jobs_in words ≡ with_running (with_priority q) (jobs_in old) = ap jobs_of (same ∙ t.sets) ∙ jobs_of-changed (sets_of old) job (urged q job) (with_priority q) lawful.sets.standing runs.0 runs.1 refl refl runs.1 in

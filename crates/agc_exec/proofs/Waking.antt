@@ -7,7 +7,7 @@ use Rattle.std.proofs.lemmas.Grind.{common_steps}
 use Rattle.agc_plan.specs.Jobs.{Job, job_in, with_job, best, is_sleeper, sleeper_from, woken, rouse}
 use Rattle.agc_plan.specs.Places.{place_of, fronted}
 use Rattle.agc_plan.specs.declared.reply.Reply.TheVariants.{Roused, NoSleeper}
-use Rattle.agc_exec.specs.Held.{Held}
+use Rattle.agc_exec.specs.HeldJob.{HeldJob}
 use Rattle.agc_exec.specs.Sets.{job_of, slots_of, running_in, entries_of, jobs_of, Holds, IsLawful, IsStanding}
 use Rattle.agc_exec.proofs.Swaps.{Holds-within, slots_of-changed}
 use Rattle.agc_exec.proofs.Bests.{slot_found, slot_of, place_of_number, running_in-awake}
@@ -15,7 +15,7 @@ use Rattle.agc_exec.proofs.Arriving.{swap-none, running_in-found}
 use Rattle.agc_exec.proofs.Leaving.{changed-lawful, changed-entries}
 use Rattle.agc_exec.proofs.Searches.{sleeper_from-is, sleeper_from-none}
 
-pub sleeper-is : (sets : List (Option Held)) (at k : ℕ) (r : Held) → IsLawful sets → IsFirstBelow sets at (length sets) k r → sleeper_from 1 at (slots_of sets) ≡ Some r.number
+pub sleeper-is : (sets : List (Option HeldJob)) (at k : ℕ) (r : HeldJob) → IsLawful sets → IsFirstBelow sets at (length sets) k r → sleeper_from 1 at (slots_of sets) ≡ Some r.number
 sleeper-is sets at k r lawful is =
     let low : 1 ≤ r.number = lawful.low k r is.here in
     let number : 1 + (r.number - 1) ≡ r.number = omega arith in
@@ -26,39 +26,39 @@ sleeper-is sets at k r lawful is =
         let (i, s, here, number, same) = slot_found sets j other e in
         go s i here number same (is_sleeper at other) refl
       where
-        go : (s : Held) (i : ℕ) → Holds sets i s → s.number ≡ j + 1 → job_of s ≡ other → (b : Bool) → is_sleeper at other ≡ b → is_sleeper at other ≡ false
+        go : (s : HeldJob) (i : ℕ) → Holds sets i s → s.number ≡ j + 1 → job_of s ≡ other → (b : Bool) → is_sleeper at other ≡ b → is_sleeper at other ≡ false
         go s i here number same false e = e
         go s i here number same true e = let le : r.number ≤ s.number = is.first i s (Holds-within sets i s here) here (ap (is_sleeper at) same ∙ e) in absurd (omega arith)
 
-pub Gives-no_sleeper : (sets : List (Option Held)) (at : ℕ) → IsStanding sets → FirstBelow sets at (length sets) None → Gives (rouse at (jobs_of sets)) (fronted (running_in sets) (entries_of sets)) sets NoSleeper
+pub Gives-no_sleeper : (sets : List (Option HeldJob)) (at : ℕ) → IsStanding sets → FirstBelow sets at (length sets) None → Gives (rouse at (jobs_of sets)) (fronted (running_in sets) (entries_of sets)) sets NoSleeper
 Gives-no_sleeper sets at standing asleep =
     let none : sleeper_from 1 at (slots_of sets) ≡ None = sleeper_from-none 1 at (slots_of sets) (λ j other e. let (i, s, here, number, same) = slot_found sets j other e in sym (ap (is_sleeper at) same) ∙ asleep i s (Holds-within sets i s here) here) in
     record { standing = standing; outcome_is = rw none; entries_is = sym (fronted-same sets standing) }
   where
-    go : (sets : List (Option Held)) → IsStanding sets → (o : Option ℕ) → running_in sets ≡ o → fronted o (entries_of sets) ≡ entries_of sets
+    go : (sets : List (Option HeldJob)) → IsStanding sets → (o : Option ℕ) → running_in sets ≡ o → fronted o (entries_of sets) ≡ entries_of sets
     go sets standing None e = refl
     go sets standing (Some n) e =
         let (s, here, awake, number) = running_in-found sets n e in
         let place : place_of n (entries_of sets) ≡ 0 = ap (λ m. place_of m (entries_of sets)) (sym number) ∙ place_of_number sets 0 s standing.lawful here in
         rw place (swap-none (entries_of sets))
 
-    fronted-same : (sets : List (Option Held)) → IsStanding sets → fronted (running_in sets) (entries_of sets) ≡ entries_of sets
+    fronted-same : (sets : List (Option HeldJob)) → IsStanding sets → fronted (running_in sets) (entries_of sets) ≡ entries_of sets
     fronted-same sets standing = go sets standing (running_in sets) refl
 
 -- a job that wakes at its set
-pub record Wakes (sets : List (Option Held)) (at k : ℕ) (r changed : Held) : Type 0 where
+pub record Wakes (sets : List (Option HeldJob)) (at k : ℕ) (r changed : HeldJob) : Type 0 where
   pub standing : IsStanding sets
   pub is : IsFirstBelow sets at (length sets) k r
   pub number : changed.number ≡ r.number
   pub job : job_of changed ≡ woken (job_of r)
 
-pub woken-lawful : (sets : List (Option Held)) (at k : ℕ) (r changed : Held) → Wakes sets at k r changed → IsLawful (slice_set sets k (Some changed))
+pub woken-lawful : (sets : List (Option HeldJob)) (at k : ℕ) (r changed : HeldJob) → Wakes sets at k r changed → IsLawful (slice_set sets k (Some changed))
 woken-lawful sets at k r changed w = changed-lawful sets k r changed w.standing.lawful w.is.here w.number (ap (λ j. j.area) w.job)
 
-woken-slots : (sets : List (Option Held)) (at k : ℕ) (r changed : Held) → Wakes sets at k r changed → slots_of (slice_set sets k (Some changed)) ≡ with_job (slots_of sets) r.number (Some (woken (job_of r)))
+woken-slots : (sets : List (Option HeldJob)) (at k : ℕ) (r changed : HeldJob) → Wakes sets at k r changed → slots_of (slice_set sets k (Some changed)) ≡ with_job (slots_of sets) r.number (Some (woken (job_of r)))
 woken-slots sets at k r changed w = slots_of-changed sets k r changed w.standing.lawful w.is.here w.number ∙ ap (λ j. with_job (slots_of sets) r.number (Some j)) w.job
 
-pub Gives-rouse-idle : (sets new : List (Option Held)) (at k : ℕ) (r changed : Held) → Wakes sets at k r changed → running_in sets ≡ None → BringsBest (slice_set sets k (Some changed)) new → Gives (rouse at (jobs_of sets)) (fronted (running_in new) (entries_of sets)) new (Roused r.number)
+pub Gives-rouse-idle : (sets new : List (Option HeldJob)) (at k : ℕ) (r changed : HeldJob) → Wakes sets at k r changed → running_in sets ≡ None → BringsBest (slice_set sets k (Some changed)) new → Gives (rouse at (jobs_of sets)) (fronted (running_in new) (entries_of sets)) new (Roused r.number)
 Gives-rouse-idle sets new at k r changed w idle brings =
     let slot : job_in (slots_of sets) r.number ≡ Some (job_of r) = slot_of sets k r w.standing.lawful w.is.here in
     let sleeper : sleeper_from 1 at (slots_of sets) ≡ Some r.number = sleeper-is sets at k r w.standing.lawful w.is in
@@ -70,7 +70,7 @@ Gives-rouse-idle sets new at k r changed w idle brings =
       entries_is = brings.entries ∙ rw (← brings.running, changed-entries sets k r changed w.is.here w.number);
     }
 
-pub Gives-rouse-busy : (sets : List (Option Held)) (at k n : ℕ) (r changed : Held) → Wakes sets at k r changed → running_in sets ≡ Some n → let new = slice_set sets k (Some changed) in Gives (rouse at (jobs_of sets)) (fronted (running_in new) (entries_of sets)) new (Roused r.number)
+pub Gives-rouse-busy : (sets : List (Option HeldJob)) (at k n : ℕ) (r changed : HeldJob) → Wakes sets at k r changed → running_in sets ≡ Some n → let new = slice_set sets k (Some changed) in Gives (rouse at (jobs_of sets)) (fronted (running_in new) (entries_of sets)) new (Roused r.number)
 Gives-rouse-busy sets at k n r changed w runs =
     let (s, here, awake, number) = running_in-found sets n runs in
     let slot : job_in (slots_of sets) r.number ≡ Some (job_of r) = slot_of sets k r w.standing.lawful w.is.here in

@@ -10,7 +10,7 @@ use Rattle.agc_plan.specs.declared.reply.Reply.{Reply}
 use Rattle.agc_plan.specs.declared.reply.Reply.TheVariants.{Roused, NoSleeper}
 use Rattle.agc_plan.specs.Jobs.{Outcome, best, rouse, woken, sleeper_from, job_in, with_job}
 use Rattle.agc_plan.specs.Places.{fronted}
-use Rattle.agc_exec.specs.Held.{Held}
+use Rattle.agc_exec.specs.HeldJob.{HeldJob}
 use Rattle.agc_exec.specs.Blocks.{block_in, blocks_of}
 use Rattle.agc_exec.specs.Sets.{Holds, slots_of, entries_of, running_in, jobs_of, job_of}
 use Rattle.agc_exec.specs.Image.{sets_of, IsLawfulBlock, IsTidyBlock, Each, IsSet, IsLawfulWords, urgency_word, jobs_in, entries_in}
@@ -36,10 +36,10 @@ woken-twelve : (words : List ℕ) (k : ℕ) → length (woken_block (block_in wo
 unfolding block_in
 woken-twelve words k = refl
 
-abbrev pub awake : Held → Held
+abbrev pub awake : HeldJob → HeldJob
 awake job = record job { asleep = false }
 
-pub Turned-woken : (old mid : List ℕ) (k at : ℕ) (job : Held) → IsSet old → IsFirstBelow (sets_of old) at (length (sets_of old)) k job → blocks_of mid ≡ slice_set (blocks_of old) k (woken_block (block_in old k)) → Turned old mid k job (awake job) (woken_block (block_in old k))
+pub Turned-woken : (old mid : List ℕ) (k at : ℕ) (job : HeldJob) → IsSet old → IsFirstBelow (sets_of old) at (length (sets_of old)) k job → blocks_of mid ≡ slice_set (blocks_of old) k (woken_block (block_in old k)) → Turned old mid k job (awake job) (woken_block (block_in old k))
 Turned-woken old mid k at job set is blocks =
     let (held, coded) = block_held old k job set is.here in
     let sleeps : job.asleep ≡ true = grind (arith, common_steps, is.sleeps) in
@@ -54,27 +54,27 @@ Turned-woken old mid k at job set is blocks =
     (record { twelve = woken-twelve old k; word = word; low = coded.low; high = coded.high; five = coded.five; at_low = coded.at_low; at_high = coded.at_high })
     refl blocks
 
-wakes : (old : List ℕ) (k at : ℕ) (job : Held) → IsSet old → IsFirstBelow (sets_of old) at (length (sets_of old)) k job → Wakes (sets_of old) at k job (awake job)
+wakes : (old : List ℕ) (k at : ℕ) (job : HeldJob) → IsSet old → IsFirstBelow (sets_of old) at (length (sets_of old)) k job → Wakes (sets_of old) at k job (awake job)
 wakes old k at job set is = record { standing = set.standing; is = is; number = refl; job = refl }
 
-pub woken-idle : (old mid new : List ℕ) (k at : ℕ) (job : Held) → Turned old mid k job (awake job) (woken_block (block_in old k)) → IsFirstBelow (sets_of old) at (length (sets_of old)) k job → running_in (sets_of old) ≡ None → BringsBest (sets_of mid) (sets_of new) → Gives (rouse at (jobs_of (sets_of old))) (fronted (running_in (sets_of new)) (entries_of (sets_of old))) (sets_of new) (Roused job.number)
+pub woken-idle : (old mid new : List ℕ) (k at : ℕ) (job : HeldJob) → Turned old mid k job (awake job) (woken_block (block_in old k)) → IsFirstBelow (sets_of old) at (length (sets_of old)) k job → running_in (sets_of old) ≡ None → BringsBest (sets_of mid) (sets_of new) → Gives (rouse at (jobs_of (sets_of old))) (fronted (running_in (sets_of new)) (entries_of (sets_of old))) (sets_of new) (Roused job.number)
 woken-idle old mid new k at job t is idle brings =
     let brings_set : BringsBest (slice_set (sets_of old) k (Some (awake job))) (sets_of new) = rw (← t.sets) brings in
     Gives-rouse-idle (sets_of old) (sets_of new) at k job (awake job) (wakes old k at job t.set is) idle brings_set
 
-pub woken-busy : (old mid : List ℕ) (k at n : ℕ) (job : Held) → Turned old mid k job (awake job) (woken_block (block_in old k)) → IsFirstBelow (sets_of old) at (length (sets_of old)) k job → running_in (sets_of old) ≡ Some n → Gives (rouse at (jobs_of (sets_of old))) (fronted (running_in (sets_of mid)) (entries_of (sets_of old))) (sets_of mid) (Roused job.number)
+pub woken-busy : (old mid : List ℕ) (k at n : ℕ) (job : HeldJob) → Turned old mid k job (awake job) (woken_block (block_in old k)) → IsFirstBelow (sets_of old) at (length (sets_of old)) k job → running_in (sets_of old) ≡ Some n → Gives (rouse at (jobs_of (sets_of old))) (fronted (running_in (sets_of mid)) (entries_of (sets_of old))) (sets_of mid) (Roused job.number)
 woken-busy old mid k at n job t is busy = rw t.sets (Gives-rouse-busy (sets_of old) at k n job (awake job) (wakes old k at job t.set is) busy)
 
-pub roused-is : (old : List ℕ) (k : ℕ) (job : Held) (running : Option ℕ) → IsSet old → Holds (sets_of old) k job → blocks_roused (Some job.number) running (entries_of (sets_of old)) (blocks_of old) ≡ fronted_blocks running (entries_of (sets_of old)) (slice_set (blocks_of old) k (woken_block (block_in old k)))
+pub roused-is : (old : List ℕ) (k : ℕ) (job : HeldJob) (running : Option ℕ) → IsSet old → Holds (sets_of old) k job → blocks_roused (Some job.number) running (entries_of (sets_of old)) (blocks_of old) ≡ fronted_blocks running (entries_of (sets_of old)) (slice_set (blocks_of old) k (woken_block (block_in old k)))
 roused-is old k job running set here =
     let within : k < length (sets_of old) = Holds-within (sets_of old) k job here in
     let len : length (sets_of old) ≡ sets_in old = length-sets old in
     rw (place_of_number (sets_of old) k job set.standing.lawful here, get-blocks_of old k [] (omega arith))
 
-pub woken-words-idle : (old mid new : List ℕ) (k : ℕ) (job : Held) → Turned old mid k job (awake job) (woken_block (block_in old k)) → BringsBest (sets_of mid) (sets_of new) → blocks_of new ≡ fronted_blocks (best (slots_of (sets_of mid))) (entries_of (sets_of mid)) (blocks_of mid) → blocks_of new ≡ blocks_roused (Some job.number) (running_in (sets_of new)) (entries_of (sets_of old)) (blocks_of old)
+pub woken-words-idle : (old mid new : List ℕ) (k : ℕ) (job : HeldJob) → Turned old mid k job (awake job) (woken_block (block_in old k)) → BringsBest (sets_of mid) (sets_of new) → blocks_of new ≡ fronted_blocks (best (slots_of (sets_of mid))) (entries_of (sets_of mid)) (blocks_of mid) → blocks_of new ≡ blocks_roused (Some job.number) (running_in (sets_of new)) (entries_of (sets_of old)) (blocks_of old)
 woken-words-idle old mid new k job t brings words = turned-words old mid new k job (awake job) (woken_block (block_in old k)) t brings words ∙ sym (roused-is old k job (running_in (sets_of new)) t.set t.here)
 
-pub woken-words-busy : (old mid : List ℕ) (k : ℕ) (job : Held) → Turned old mid k job (awake job) (woken_block (block_in old k)) → blocks_of mid ≡ blocks_roused (Some job.number) (running_in (sets_of mid)) (entries_of (sets_of old)) (blocks_of old)
+pub woken-words-busy : (old mid : List ℕ) (k : ℕ) (job : HeldJob) → Turned old mid k job (awake job) (woken_block (block_in old k)) → blocks_of mid ≡ blocks_roused (Some job.number) (running_in (sets_of mid)) (entries_of (sets_of old)) (blocks_of old)
 woken-words-busy old mid k job t =
     let stays : fronted_blocks (running_in (sets_of mid)) (entries_of (sets_of mid)) (blocks_of mid) ≡ blocks_of mid = fronted-stays (sets_of mid) (blocks_of mid) (turned-lawful old mid k job (awake job) (woken_block (block_in old k)) t) in
     let entries : entries_of (sets_of mid) ≡ entries_of (sets_of old) = turned-entries old mid k job (awake job) (woken_block (block_in old k)) t in
@@ -84,7 +84,7 @@ woken-same : (words : List ℕ) (k : ℕ) → (slice_index (woken_block (block_i
 unfolding block_in
 woken-same words k = (refl, refl)
 
-pub Near-wake : (old mid : List ℕ) (k at : ℕ) (job : Held) (reply : Reply) → IsLawfulWords old → IsFirstBelow (sets_of old) at (length (sets_of old)) k job → Gives (rouse at (jobs_in old)) (fronted (running_in (sets_of mid)) (entries_in old)) (sets_of mid) reply → blocks_of mid ≡ blocks_roused (roused reply) (running_in (sets_of mid)) (entries_in old) (blocks_of old) → Each IsLawfulBlock (blocks_of mid) → Keeps OutsideSets old mid → Near (rouse at (jobs_in old)) (fronted (running_in (sets_of mid)) (entries_in old)) (blocks_roused (roused reply) (running_in (sets_of mid)) (entries_in old) (blocks_of old)) old mid reply
+pub Near-wake : (old mid : List ℕ) (k at : ℕ) (job : HeldJob) (reply : Reply) → IsLawfulWords old → IsFirstBelow (sets_of old) at (length (sets_of old)) k job → Gives (rouse at (jobs_in old)) (fronted (running_in (sets_of mid)) (entries_in old)) (sets_of mid) reply → blocks_of mid ≡ blocks_roused (roused reply) (running_in (sets_of mid)) (entries_in old) (blocks_of old) → Each IsLawfulBlock (blocks_of mid) → Keeps OutsideSets old mid → Near (rouse at (jobs_in old)) (fronted (running_in (sets_of mid)) (entries_in old)) (blocks_roused (roused reply) (running_in (sets_of mid)) (entries_in old) (blocks_of old)) old mid reply
 Near-wake old mid k at job reply lawful is gives words coded others =
     let slot : job_in (slots_of (sets_of old)) job.number ≡ Some (job_of job) = slot_of (sets_of old) k job lawful.sets.standing.lawful is.here in
     let sleeper : sleeper_from 1 at (slots_of (sets_of old)) ≡ Some job.number = sleeper-is (sets_of old) at k job lawful.sets.standing.lawful is in
@@ -112,7 +112,7 @@ pub record Awoke (old new : List ℕ) (at number : ℕ) : Type 0 where
   pub gives : Gives (rouse at (jobs_of (sets_of old))) (fronted (running_in (sets_of new)) (entries_of (sets_of old))) (sets_of new) (Roused number)
   pub words : blocks_of new ≡ blocks_roused (Some number) (running_in (sets_of new)) (entries_of (sets_of old)) (blocks_of old)
 
-pub awoke : (old mid new : List ℕ) (k at : ℕ) (job : Held) (ran : Bool) → Turned old mid k job (awake job) (woken_block (block_in old k)) → IsFirstBelow (sets_of old) at (length (sets_of old)) k job → Tells ran old → TookOver ran mid new → Awoke old new at job.number
+pub awoke : (old mid new : List ℕ) (k at : ℕ) (job : HeldJob) (ran : Bool) → Turned old mid k job (awake job) (woken_block (block_in old k)) → IsFirstBelow (sets_of old) at (length (sets_of old)) k job → Tells ran old → TookOver ran mid new → Awoke old new at job.number
 awoke old mid new k at job false t is tells over = record {
   gives = woken-idle old mid new k at job t is (tells.idle refl) (over.idle refl);
   words = woken-words-idle old mid new k job t (over.idle refl) (over.idle_blocks refl);

@@ -7,7 +7,7 @@ use Rattle.agc_word.specs.Layout.{IsSized, use_place, set_size, address_of, area
 use Rattle.agc_word.specs.Words.{complement}
 use Rattle.agc_plan.specs.Jobs.{Jobs, Job, Ready, best_from, is_owned}
 use Rattle.agc_plan.specs.Places.{place_of}
-use Rattle.agc_exec.specs.Held.{Held}
+use Rattle.agc_exec.specs.HeldJob.{HeldJob}
 use Rattle.agc_exec.specs.Blocks.{blocks_of}
 use Rattle.agc_exec.specs.Sets.{slots_of, entries_of, jobs_of, running_in, IsStanding}
 
@@ -24,7 +24,7 @@ abbrev pub priority_unit : ℕ
 priority_unit = 0o1000
 
 -- the job of a set, of which the PRIORITY word, with its sign taken off, is this
-abbrev pub record_of : List ℕ → ℕ → Bool → Held
+abbrev pub record_of : List ℕ → ℕ → Bool → HeldJob
 record_of block priority asleep = record {
   number = slice_index block 0;
   at = slice_index block 8;
@@ -38,18 +38,18 @@ record_of block priority asleep = record {
 
 -- a set with this PRIORITY word: free where it is minus zero, awake where it is positive, else
 -- asleep
-abbrev pub held_by : List ℕ → ℕ → Option Held
+abbrev pub held_by : List ℕ → ℕ → Option HeldJob
 held_by block priority =
     if priority == minus_zero then None
     else if nat_lt priority sign then Some (record_of block priority false)
     else Some (record_of block (complement priority) true)
 
 -- what the twelve words of a set hold
-unfoldable pub held_of : List ℕ → Option Held
+unfoldable pub held_of : List ℕ → Option HeldJob
 held_of block = held_by block (slice_index block 11)
 
 -- what the sets hold
-unfoldable pub sets_of : List ℕ → List (Option Held)
+unfoldable pub sets_of : List ℕ → List (Option HeldJob)
 sets_of words = map held_of (blocks_of words)
 
 -- priority in bits 14 to 10, the area's address in bits 9 to 1
@@ -62,7 +62,7 @@ priority_word priority area asleep =
     if asleep then complement (urgency_word priority area) else urgency_word priority area
 
 -- these twelve words are those of this job
-pub record IsCoded (block : List ℕ) (r : Held) : Type 0 where
+pub record IsCoded (block : List ℕ) (r : HeldJob) : Type 0 where
   pub twelve : length block ≡ 12
   pub word : slice_index block 11 ≡ priority_word r.priority r.area r.asleep
   pub low : 1 ≤ r.priority
@@ -73,12 +73,12 @@ pub record IsCoded (block : List ℕ) (r : Held) : Type 0 where
 
 -- twelve words of a free set, or of a job
 abbrev pub IsLawfulBlock : List ℕ → Type 0
-IsLawfulBlock block = (r : Held) → held_of block ≡ Some r → IsCoded block r
+IsLawfulBlock block = (r : HeldJob) → held_of block ≡ Some r → IsCoded block r
 
 -- MODE and PUSHLOC of a job are 00000
 abbrev pub IsTidyBlock : List ℕ → Type 0
 IsTidyBlock block =
-    (r : Held) → held_of block ≡ Some r → (slice_index block 7 ≡ 0) × (slice_index block 10 ≡ 0)
+    (r : HeldJob) → held_of block ≡ Some r → (slice_index block 7 ≡ 0) × (slice_index block 10 ≡ 0)
 
 -- each of the blocks is so
 abbrev pub Each : (List ℕ → Type 0) → List (List ℕ) → Type 0
@@ -104,21 +104,21 @@ UsesAgree words slots =
     (area : ℕ) → 1 ≤ area → area ≤ 5 → slice_index words (use_place area) ≡ use_word area slots
 
 -- the priority of the job in set 0
-abbrev pub front_priority : List (Option Held) → ℕ
+abbrev pub front_priority : List (Option HeldJob) → ℕ
 front_priority [] = 0
 front_priority (None ∷ sets) = 0
 front_priority (Some r ∷ sets) = r.priority
 
 -- NEWJOB with this best job: its set's name, where it is strictly more urgent than the job in set
 -- 0, else 00000
-abbrev pub newjob_for : Option Ready → List (Option Held) → ℕ
+abbrev pub newjob_for : Option Ready → List (Option HeldJob) → ℕ
 newjob_for None sets = minus_zero
 newjob_for (Some first) sets =
     if nat_lt (front_priority sets) first.priority
     then set_size * place_of first.number (entries_of sets) else 0
 
 -- NEWJOB: 77777 where no job is awake
-abbrev pub newjob_of : List (Option Held) → ℕ
+abbrev pub newjob_of : List (Option HeldJob) → ℕ
 newjob_of sets = newjob_for (best_from 1 (slots_of sets)) sets
 
 -- lawful words of the Executive

@@ -1,5 +1,5 @@
 pub mod Frames
-pub mod Held
+pub mod HeldJob
 pub mod Sets
 pub mod Blocks
 pub mod Image

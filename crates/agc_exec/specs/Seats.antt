@@ -1,12 +1,12 @@
 -- Who holds which core set, as it is shown, and whom NEWJOB names.
 use Rattle.std.specs.Prelude.{ℕ, nat_lt, if◌then◌else◌, List, map, Option, Some, None, option_map}
 use Rattle.agc_plan.specs.Jobs.{Job, Jobs, Ready, best_from, job_in}
-use Rattle.agc_exec.specs.Held.{Held}
+use Rattle.agc_exec.specs.HeldJob.{HeldJob}
 use Rattle.agc_exec.specs.Image.{sets_of}
 use Rattle.agc_exec.specs.declared.seats.Seat.{Seat}
 
 -- a core set's job, without its bank and its work words
-abbrev pub seen : Held → Seat
+abbrev pub seen : HeldJob → Seat
 seen r = record {
   number = r.number;
   at = r.at;

@@ -12,7 +12,7 @@ use Rattle.agc_plan.specs.declared.reply.Alarm.TheVariants.{A1202}
 use Rattle.agc_plan.specs.declared.reply.Reply.TheVariants.{Alarmed, Established}
 use Rattle.agc_plan.specs.declared.reply.Reply.{Reply}
 use Rattle.agc_plan.specs.Places.{fronted, placed_new}
-use Rattle.agc_exec.specs.Held.{Held}
+use Rattle.agc_exec.specs.HeldJob.{HeldJob}
 use Rattle.agc_exec.specs.Blocks.{blocks_of}
 use Rattle.agc_exec.specs.Image.{minus_zero, sign, held_of, sets_of, jobs_in, entries_in, runner_in}
 use Rattle.agc_exec.specs.Calls.{fronted_blocks, blocks_new, Does}
@@ -20,27 +20,27 @@ use Rattle.agc_exec.specs.Sets.{job_of, number_in, Holds, slots_of, entries_of, 
 use Rattle.agc_exec.specs.Sets.{IsLawful, IsFronted, IsStanding}
 
 -- core set k is free
-abbrev pub IsFreeAt : List (Option Held) → ℕ → Type 0
+abbrev pub IsFreeAt : List (Option HeldJob) → ℕ → Type 0
 IsFreeAt sets k = slice_index_or sets k None ≡ None
 
 -- s isn't to run before r
-abbrev pub Yields : Held → Held → Type 0
+abbrev pub Yields : HeldJob → HeldJob → Type 0
 Yields s r = (s.priority < r.priority) ⊎ ((s.priority ≡ r.priority) × (r.number ≤ s.number))
 
 -- set k holds an awake job to which each awake job below set n yields
-pub record IsBestBelow (sets : List (Option Held)) (n k : ℕ) (r : Held) : Type 0 where
+pub record IsBestBelow (sets : List (Option HeldJob)) (n k : ℕ) (r : HeldJob) : Type 0 where
   pub here : Holds sets k r
   pub awake : r.asleep ≡ false
-  pub first : (j : ℕ) (s : Held) → j < n → Holds sets j s → s.asleep ≡ false → Yields s r
+  pub first : (j : ℕ) (s : HeldJob) → j < n → Holds sets j s → s.asleep ≡ false → Yields s r
 
 -- of the first sets, up to n: nobody is awake, or set k holds an awake job to which each awake job
 -- yields
-abbrev pub BestBelow : List (Option Held) → ℕ → Option (ℕ × Held) → Type 0
-BestBelow sets n None = (j : ℕ) (s : Held) → j < n → Holds sets j s → s.asleep ≡ true
+abbrev pub BestBelow : List (Option HeldJob) → ℕ → Option (ℕ × HeldJob) → Type 0
+BestBelow sets n None = (j : ℕ) (s : HeldJob) → j < n → Holds sets j s → s.asleep ≡ true
 BestBelow sets n (Some best) = IsBestBelow sets n best.0 best.1
 
 -- the best job came to set 0, by an exchange
-pub record BringsBest (old new : List (Option Held)) : Type 0 where
+pub record BringsBest (old new : List (Option HeldJob)) : Type 0 where
   pub lawful : IsLawful new
   pub in_front : IsFronted new
   pub same_length : length new ≡ length old
@@ -49,24 +49,24 @@ pub record BringsBest (old new : List (Option Held)) : Type 0 where
   pub entries : entries_of new ≡ fronted (best (slots_of old)) (entries_of old)
 
 -- the new sets stand for this outcome, with the jobs in these places
-pub record Gives (outcome : Outcome) (entries : List ℕ) (new : List (Option Held))
+pub record Gives (outcome : Outcome) (entries : List ℕ) (new : List (Option HeldJob))
     (reply : Reply) : Type 0 where
   pub standing : IsStanding new
   pub outcome_is : ◌≡◌ {A = Outcome} (record { jobs = jobs_of new; reply = reply }) outcome
   pub entries_is : entries_of new ≡ entries
 
 -- nobody owns this area
-abbrev pub IsUnowned : List (Option Held) → ℕ → Type 0
-IsUnowned sets area = (j : ℕ) (s : Held) → Holds sets j s → s.area ≢ area
+abbrev pub IsUnowned : List (Option HeldJob) → ℕ → Type 0
+IsUnowned sets area = (j : ℕ) (s : HeldJob) → Holds sets j s → s.area ≢ area
 
 -- whether a set's job owns this area
-abbrev pub owned_in : ℕ → List (Option Held) → Bool
+abbrev pub owned_in : ℕ → List (Option HeldJob) → Bool
 owned_in area [] = false
 owned_in area (None ∷ sets) = owned_in area sets
 owned_in area (Some r ∷ sets) = if r.area == area then true else owned_in area sets
 
 -- the job in set 0, of this number, gave way to the best where that is strictly more urgent
-pub record GivesWay (number : ℕ) (old new : List (Option Held)) (now : ℕ) : Type 0 where
+pub record GivesWay (number : ℕ) (old new : List (Option HeldJob)) (now : ℕ) : Type 0 where
   pub standing : IsStanding new
   pub slots : slots_of new ≡ slots_of old
   pub now_is : now ≡ outrun_by (best_from 1 (slots_of old)) (job_in (slots_of old) number) number
@@ -74,17 +74,17 @@ pub record GivesWay (number : ℕ) (old new : List (Option Held)) (now : ℕ) : 
   pub entries : entries_of new ≡ fronted (Some now) (entries_of old)
 
 -- set k holds a sleeper of this address, the least-numbered below set n
-pub record IsFirstBelow (sets : List (Option Held)) (at n k : ℕ) (r : Held) : Type 0 where
+pub record IsFirstBelow (sets : List (Option HeldJob)) (at n k : ℕ) (r : HeldJob) : Type 0 where
   pub here : Holds sets k r
   pub sleeps : is_sleeper at (job_of r) ≡ true
-  pub first : (j : ℕ) (s : Held) → j < n → Holds sets j s → is_sleeper at (job_of s) ≡ true
+  pub first : (j : ℕ) (s : HeldJob) → j < n → Holds sets j s → is_sleeper at (job_of s) ≡ true
       → r.number ≤ s.number
 
 -- of the sets below set n: nobody sleeps at this address, or set k holds the least-numbered sleeper
 -- there
-abbrev pub FirstBelow : List (Option Held) → ℕ → ℕ → Option (ℕ × Held) → Type 0
+abbrev pub FirstBelow : List (Option HeldJob) → ℕ → ℕ → Option (ℕ × HeldJob) → Type 0
 FirstBelow sets at n None =
-    (j : ℕ) (s : Held) → j < n → Holds sets j s → is_sleeper at (job_of s) ≡ false
+    (j : ℕ) (s : HeldJob) → j < n → Holds sets j s → is_sleeper at (job_of s) ≡ false
 FirstBelow sets at n (Some found) = IsFirstBelow sets at n found.0 found.1
 
 -- the same areas are owned
@@ -92,8 +92,8 @@ abbrev pub SameOwners : List (Option Job) → List (Option Job) → Type 0
 SameOwners old new = (area : ℕ) → 1 ≤ area → is_owned area new ≡ is_owned area old
 
 -- set k holds the best job, which is more urgent than this one
-pub record Waits (sets : List (Option Held)) (job : Held) (k : ℕ) : Type 0 where
-  pub first : Held
+pub record Waits (sets : List (Option HeldJob)) (job : HeldJob) (k : ℕ) : Type 0 where
+  pub first : HeldJob
   pub best : IsBestBelow sets (length sets) k first
   pub urgent : job.priority < first.priority
 
@@ -103,16 +103,16 @@ AllFree words =
     (k : ℕ) → k < length (blocks_of words) → held_of (slice_index_or (blocks_of words) k []) ≡ None
 
 -- set k holds a job
-abbrev pub IsHeldAt : List (Option Held) → ℕ → Type 0
-IsHeldAt sets k = (r : Held) × Holds sets k r
+abbrev pub IsHeldAt : List (Option HeldJob) → ℕ → Type 0
+IsHeldAt sets k = (r : HeldJob) × Holds sets k r
 
 -- the job in set 0 runs
-abbrev pub FrontRuns : List (Option Held) → Type 0
-FrontRuns sets = (r : Held) × Holds sets 0 r × (r.asleep ≡ false)
+abbrev pub FrontRuns : List (Option HeldJob) → Type 0
+FrontRuns sets = (r : HeldJob) × Holds sets 0 r × (r.asleep ≡ false)
 
 -- the rank of set k among the sleepers of an address: 0 unless it holds one; else by the lower
 -- number
-abbrev pub sleeper_rank : ℕ → ℕ → Option Held → ℕ
+abbrev pub sleeper_rank : ℕ → ℕ → Option HeldJob → ℕ
 sleeper_rank at k None = 0
 sleeper_rank at k (Some r) = if is_sleeper at (job_of r) then (8 * (9 - r.number) + k) else 0
 
@@ -123,16 +123,17 @@ pub record IsMost (f : ℕ → ℕ) (n most : ℕ) : Type 0 where
 
 -- the rank of the best job of the first n sets: 0 where nobody is awake, else 8 times (its priority
 -- + 1), plus its set
-pub record IsBestRank (sets : List (Option Held)) (n rank : ℕ) : Type 0 where
+pub record IsBestRank (sets : List (Option HeldJob)) (n rank : ℕ) : Type 0 where
   pub nobody : rank ≡ 0 → BestBelow sets n None
-  pub found : 0 < rank → (r : Held) × IsBestBelow sets n (rank % 8) r × (rank / 8 ≡ r.priority + 1)
+  pub found : 0 < rank → (r : HeldJob) × IsBestBelow sets n (rank % 8) r
+      × (rank / 8 ≡ r.priority + 1)
 
 -- the greatest rank among the sleepers of an address
-abbrev pub IsSleeperRank : List (Option Held) → ℕ → ℕ → ℕ → Type 0
+abbrev pub IsSleeperRank : List (Option HeldJob) → ℕ → ℕ → ℕ → Type 0
 IsSleeperRank sets at n first = IsMost (λ k. sleeper_rank at k (slice_index_or sets k None)) n first
 
 -- of the first n sets, these numbers are in use: one that no set has isn't marked
-pub record IsMarked (sets : List (Option Held)) (n : ℕ) (used : List Bool) : Type 0 where
+pub record IsMarked (sets : List (Option HeldJob)) (n : ℕ) (used : List Bool) : Type 0 where
   pub nine : length used ≡ 9
   pub marked : (j : ℕ) → j < n → slice_index_or used (number_in (slice_index_or sets j None)) false
       ≡ true
@@ -140,22 +141,24 @@ pub record IsMarked (sets : List (Option Held)) (n : ℕ) (used : List Bool) : T
       → (j : ℕ) × (j < n) × (number_in (slice_index_or sets j None) ≡ number)
 
 -- of the first n sets this is the first free one; none is, where it is 8
-pub record IsFirstFree (sets : List (Option Held)) (n free : ℕ) : Type 0 where
+pub record IsFirstFree (sets : List (Option HeldJob)) (n free : ℕ) : Type 0 where
   pub before : (j : ℕ) → j < n → j < free → number_in (slice_index_or sets j None) ≢ 0
   pub here : free < 8 → (free < n) × (number_in (slice_index_or sets free None) ≡ 0)
 
 -- set k holds the least-numbered sleeper of this address
-abbrev pub IsFirstAt : List (Option Held) → ℕ → ℕ → Type 0
-IsFirstAt sets at k = (r : Held) × IsFirstBelow sets at (length sets) k r
+abbrev pub IsFirstAt : List (Option HeldJob) → ℕ → ℕ → Type 0
+IsFirstAt sets at k = (r : HeldJob) × IsFirstBelow sets at (length sets) k r
 
 -- the job in set 0 is to run on
-abbrev pub Stays : List (Option Held) → Type 0
+abbrev pub Stays : List (Option HeldJob) → Type 0
 Stays sets =
-    (job : Held) → Holds sets 0 job → job.asleep ≡ false → GivesWay job.number sets sets job.number
+    (job : HeldJob) → Holds sets 0 job → job.asleep ≡ false
+    → GivesWay job.number sets sets job.number
 
 -- the job in set 0 is to give way to that of set k
-abbrev pub GivesWayTo : List (Option Held) → ℕ → Type 0
-GivesWayTo sets k = (job : Held) → Holds sets 0 job → job.asleep ≡ false → Waits sets job k
+abbrev pub GivesWayTo : List (Option HeldJob) → ℕ → Type 0
+GivesWayTo sets k =
+    (job : HeldJob) → Holds sets 0 job → job.asleep ≡ false → Waits sets job k
 
 -- where nobody ran, the best job came to set 0; else nothing changed
 pub record TookOver (ran : Bool) (old new : List ℕ) : Type 0 where
@@ -196,7 +199,7 @@ abbrev pub AreSoundSets : List ℕ → Type 0
 AreSoundSets words = (k : ℕ) → k < sets_in words → IsSoundAt words k
 
 -- the area of a set's job, 0 for none
-abbrev pub area_held : Option Held → ℕ
+abbrev pub area_held : Option HeldJob → ℕ
 area_held None = 0
 area_held (Some r) = r.area
 
@@ -205,26 +208,26 @@ abbrev pub Differs : ℕ → ℕ → Type 0
 Differs x y = 0 < x → x ≢ y
 
 -- two sets share no number and no area
-pub record AreApart (sets : List (Option Held)) (j k : ℕ) : Type 0 where
+pub record AreApart (sets : List (Option HeldJob)) (j k : ℕ) : Type 0 where
   pub numbers : Differs (number_in (slice_index_or sets j None))
       (number_in (slice_index_or sets k None))
   pub areas : Differs (area_held (slice_index_or sets j None))
       (area_held (slice_index_or sets k None))
 
 -- set k shares none with those before it
-abbrev pub IsApart : List (Option Held) → ℕ → Type 0
+abbrev pub IsApart : List (Option HeldJob) → ℕ → Type 0
 IsApart sets k = (j : ℕ) → j < k → AreApart sets j k
 
 -- no two sets share any
-abbrev pub AllApart : List (Option Held) → Type 0
+abbrev pub AllApart : List (Option HeldJob) → Type 0
 AllApart sets = (k : ℕ) → k < length sets → IsApart sets k
 
 -- the number of the job in set k, 0 for none
-abbrev pub number_at : List (Option Held) → ℕ → ℕ
+abbrev pub number_at : List (Option HeldJob) → ℕ → ℕ
 number_at sets k = number_in (slice_index_or sets k None)
 
 -- the area of the job in set k, 0 for none
-abbrev pub area_at : List (Option Held) → ℕ → ℕ
+abbrev pub area_at : List (Option HeldJob) → ℕ → ℕ
 area_at sets k = area_held (slice_index_or sets k None)
 
 -- of n numbers those but 0 are marked, and nothing else is but perhaps 0
@@ -247,33 +250,35 @@ abbrev pub NobodyAwake : List ℕ → Type 0
 NobodyAwake words = (k : ℕ) → k < sets_in words → sign ≤ slice_index words (set_place k + 11)
 
 -- set k holds the best job
-abbrev pub IsBestAt : List (Option Held) → ℕ → Type 0
-IsBestAt sets k = (r : Held) × IsBestBelow sets (length sets) k r
+abbrev pub IsBestAt : List (Option HeldJob) → ℕ → Type 0
+IsBestAt sets k = (r : HeldJob) × IsBestBelow sets (length sets) k r
 
 -- but for the job of set k, no awake job is more urgent than this one, in set 0, and NEWJOB is 0
-pub record StaysBut (sets : List (Option Held)) (k : ℕ) (job : Held) (newjob : ℕ) : Type 0 where
+pub record StaysBut (sets : List (Option HeldJob)) (k : ℕ) (job : HeldJob) (newjob : ℕ)
+    : Type 0 where
   pub none : newjob ≡ 0
-  pub most : (j : ℕ) (s : Held) → j ≢ k → Holds sets j s → s.asleep ≡ false
+  pub most : (j : ℕ) (s : HeldJob) → j ≢ k → Holds sets j s → s.asleep ≡ false
       → s.priority ≤ job.priority
 
 -- but for the job of set k, set i holds the best job, which is more urgent than this one, in set 0,
 -- and NEWJOB names it
-pub record NamesBut (sets : List (Option Held)) (k : ℕ) (job : Held) (newjob : ℕ) : Type 0 where
+pub record NamesBut (sets : List (Option HeldJob)) (k : ℕ) (job : HeldJob) (newjob : ℕ)
+    : Type 0 where
   pub place : ℕ
   pub name : newjob ≡ 12 * place
   pub behind : 1 ≤ place
-  pub first : Held
+  pub first : HeldJob
   pub here : Holds sets place first
   pub awake : first.asleep ≡ false
   pub urgent : job.priority < first.priority
-  pub yields : (j : ℕ) (s : Held) → j ≢ k → Holds sets j s → s.asleep ≡ false → Yields s first
+  pub yields : (j : ℕ) (s : HeldJob) → j ≢ k → Holds sets j s → s.asleep ≡ false → Yields s first
 
 -- a job runs; that of set k became awake, and NEWJOB doesn't know of it yet
 pub record IsNewcomer (words : List ℕ) (k : ℕ) : Type 0 where
-  pub job : Held
+  pub job : HeldJob
   pub front : Holds (sets_of words) 0 job
   pub runs : job.asleep ≡ false
-  pub comer : Held
+  pub comer : HeldJob
   pub here : Holds (sets_of words) k comer
   pub awake : comer.asleep ≡ false
   pub behind : 0 < k
@@ -281,7 +286,7 @@ pub record IsNewcomer (words : List ℕ) (k : ℕ) : Type 0 where
       ⊎ NamesBut (sets_of words) k job (slice_index words layout.newjob)
 
 -- the best job runs
-pub record IsLed (sets : List (Option Held)) : Type 0 where
+pub record IsLed (sets : List (Option HeldJob)) : Type 0 where
   pub runs : FrontRuns sets
   pub first : running_in sets ≡ best (slots_of sets)
 

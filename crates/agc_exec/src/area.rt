@@ -5,7 +5,7 @@ ghost use Rattle.agc_word.specs.Layout.{address_of, area_of, IsSized, OutsideCor
 ghost use Rattle.agc_word.specs.Layout.{Keeps};
 ghost use Rattle.agc_plan.specs.Jobs.{least_unowned};
 ghost use Rattle.agc_exec.specs.Blocks.{blocks_of};
-ghost use Rattle.agc_exec.specs.Held.{Held};
+ghost use Rattle.agc_exec.specs.HeldJob.{HeldJob};
 ghost use Rattle.agc_exec.specs.Image.{sets_of, IsSet, IsLawfulWords};
 ghost use Rattle.agc_exec.specs.Sets.{slots_of, Holds};
 ghost use Rattle.agc_exec.specs.Stages.{FrontRuns, IsUnowned};
@@ -48,7 +48,7 @@ pub fn take_area(e: &mut Erasable, area: u16)
 pub fn front_area(e: &Erasable) -> u16
     requires set { IsSet e.now }
     requires runs { FrontRuns (sets_of e.now) }
-    ensures area { (job : Held) → Holds (sets_of e.now) 0 job → result ≡ job.area }
+    ensures area { (job : HeldJob) → Holds (sets_of e.now) 0 job → result ≡ job.area }
     ensures five { result ≤ 5 }
 {
     area_of(word_of(e, 0, PRIORITY) % PRIORITY_UNIT)

@@ -2,7 +2,7 @@
 use Rattle.std.proofs.Common.{◌≡◌, ℕ, zero, suc, ◌+◌, ◌≤◌, ◌==◌, true, cond, List, [], ◌∷◌, ◌++◌, Option, Some, None, length, refl, ap, sym, ◌∙◌, arith}
 use Rattle.std.proofs.lemmas.List.{length-append, map-append}
 use Rattle.agc_plan.specs.Jobs.{Job, is_owned}
-use Rattle.agc_exec.specs.Held.{Held}
+use Rattle.agc_exec.specs.HeldJob.{HeldJob}
 use Rattle.agc_exec.specs.Image.{newjob_of}
 use Rattle.agc_exec.specs.Sets.{job_of, job_numbered, slots_of, number_in, entries_of, running_in, jobs_of, Holds, IsLawful, IsStanding}
 use Rattle.agc_exec.specs.Stages.{IsBestBelow, BestBelow}
@@ -13,33 +13,33 @@ use Rattle.agc_exec.proofs.Swaps.{Holds-within}
 use Rattle.agc_machine.specs.Migration.{roomier}
 
 -- the same jobs stand in the same sets
-pub held_before : (sets : List (Option Held)) (k : ℕ) (r : Held) → Holds (sets ++ None ∷ []) k r → Holds sets k r
+pub held_before : (sets : List (Option HeldJob)) (k : ℕ) (r : HeldJob) → Holds (sets ++ None ∷ []) k r → Holds sets k r
 held_before [] zero r at = absurd (cc)
 held_before [] (suc k) r at = absurd (cc)
 held_before (s ∷ sets) zero r at = at
 held_before (s ∷ sets) (suc k) r at = held_before sets k r at
 
-pub held_still : (sets : List (Option Held)) (k : ℕ) (r : Held) → Holds sets k r → Holds (sets ++ None ∷ []) k r
+pub held_still : (sets : List (Option HeldJob)) (k : ℕ) (r : HeldJob) → Holds sets k r → Holds (sets ++ None ∷ []) k r
 held_still [] k r at = absurd (cc)
 held_still (s ∷ sets) zero r at = at
 held_still (s ∷ sets) (suc k) r at = held_still sets k r at
 
-length-roomier : (sets : List (Option Held)) → length (sets ++ None ∷ []) ≡ suc (length sets)
+length-roomier : (sets : List (Option HeldJob)) → length (sets ++ None ∷ []) ≡ suc (length sets)
 length-roomier sets = let long : length (sets ++ None ∷ []) ≡ length sets + 1 = length-append sets (None ∷ []) in omega arith
 
-job_numbered-roomier : (sets : List (Option Held)) (n : ℕ) → job_numbered (sets ++ None ∷ []) n ≡ job_numbered sets n
+job_numbered-roomier : (sets : List (Option HeldJob)) (n : ℕ) → job_numbered (sets ++ None ∷ []) n ≡ job_numbered sets n
 job_numbered-roomier [] n = refl
 job_numbered-roomier (None ∷ sets) n = job_numbered-roomier sets n
 job_numbered-roomier (Some r ∷ sets) n = ap (cond (r.number == n) (Some (job_of r))) (job_numbered-roomier sets n)
 
 -- one number more
-slots_from-more : (more from : ℕ) (sets : List (Option Held)) → slots_from (suc more) from sets ≡ slots_from more from sets ++ job_numbered sets (from + more) ∷ []
+slots_from-more : (more from : ℕ) (sets : List (Option HeldJob)) → slots_from (suc more) from sets ≡ slots_from more from sets ++ job_numbered sets (from + more) ∷ []
 slots_from-more zero from sets = let z : from + 0 ≡ from = omega arith in rw z refl
 slots_from-more (suc more) from sets =
     let z : from + suc more ≡ from + 1 + more = omega arith in
     rw z (ap (λ (slots : List (Option Job)). job_numbered sets from ∷ slots) (slots_from-more more (from + 1) sets))
 
-pub slots_of-roomier : (sets : List (Option Held)) → IsLawful sets → slots_of (sets ++ None ∷ []) ≡ slots_of sets ++ None ∷ []
+pub slots_of-roomier : (sets : List (Option HeldJob)) → IsLawful sets → slots_of (sets ++ None ∷ []) ≡ slots_of sets ++ None ∷ []
 slots_of-roomier sets lawful =
     slots_from-same (length (sets ++ None ∷ [])) 1 sets (sets ++ None ∷ []) (λ n le. job_numbered-roomier sets n)
     ∙ ap (λ (n : ℕ). slots_from n 1 sets) (length-roomier sets)
@@ -51,17 +51,17 @@ is_owned-roomier area [] = refl
 is_owned-roomier area (None ∷ slots) = is_owned-roomier area slots
 is_owned-roomier area (Some job ∷ slots) = ap (cond (job.area == area) true) (is_owned-roomier area slots)
 
-running_in-roomier : (sets : List (Option Held)) → running_in (sets ++ None ∷ []) ≡ running_in sets
+running_in-roomier : (sets : List (Option HeldJob)) → running_in (sets ++ None ∷ []) ≡ running_in sets
 running_in-roomier [] = refl
 running_in-roomier (set ∷ sets) = refl
 
-pub jobs_of-roomier : (sets : List (Option Held)) → IsLawful sets → jobs_of (sets ++ None ∷ []) ≡ roomier (jobs_of sets)
+pub jobs_of-roomier : (sets : List (Option HeldJob)) → IsLawful sets → jobs_of (sets ++ None ∷ []) ≡ roomier (jobs_of sets)
 jobs_of-roomier sets lawful = rw (slots_of-roomier sets lawful, running_in-roomier sets) refl
 
-pub entries_of-roomier : (sets : List (Option Held)) → entries_of (sets ++ None ∷ []) ≡ entries_of sets ++ 0 ∷ []
+pub entries_of-roomier : (sets : List (Option HeldJob)) → entries_of (sets ++ None ∷ []) ≡ entries_of sets ++ 0 ∷ []
 entries_of-roomier sets = map-append number_in sets (None ∷ [])
 
-pub IsLawful-roomier : (sets : List (Option Held)) → IsLawful sets → IsLawful (sets ++ None ∷ [])
+pub IsLawful-roomier : (sets : List (Option HeldJob)) → IsLawful sets → IsLawful (sets ++ None ∷ [])
 IsLawful-roomier sets lawful = record {
   distinct = λ i j r s at_i at_j same. lawful.distinct i j r s (held_before sets i r at_i) (held_before sets j s at_j) same;
   low = λ i r at. lawful.low i r (held_before sets i r at);
@@ -72,7 +72,7 @@ IsLawful-roomier sets lawful = record {
   areas = λ i j r s at_i at_j positive same. lawful.areas i j r s (held_before sets i r at_i) (held_before sets j s at_j) positive same;
 }
 
-pub IsStanding-roomier : (sets : List (Option Held)) → IsStanding sets → IsStanding (sets ++ None ∷ [])
+pub IsStanding-roomier : (sets : List (Option HeldJob)) → IsStanding sets → IsStanding (sets ++ None ∷ [])
 IsStanding-roomier sets standing = record {
   lawful = IsLawful-roomier sets standing.lawful;
   in_front = λ i r at awake.
@@ -81,19 +81,19 @@ IsStanding-roomier sets standing = record {
 }
 
 -- the best job stays the best
-best_still : (sets : List (Option Held)) (k : ℕ) (r : Held) → IsBestBelow sets (length sets) k r → IsBestBelow (sets ++ None ∷ []) (length (sets ++ None ∷ [])) k r
+best_still : (sets : List (Option HeldJob)) (k : ℕ) (r : HeldJob) → IsBestBelow sets (length sets) k r → IsBestBelow (sets ++ None ∷ []) (length (sets ++ None ∷ [])) k r
 best_still sets k r best = record {
   here = held_still sets k r best.here;
   awake = best.awake;
   first = λ j s lt at awake. best.first j s (Holds-within sets j s (held_before sets j s at)) (held_before sets j s at) awake;
 }
 
-pub newjob_of-roomier : (sets : List (Option Held)) → IsStanding sets → newjob_of (sets ++ None ∷ []) ≡ newjob_of sets
+pub newjob_of-roomier : (sets : List (Option HeldJob)) → IsStanding sets → newjob_of (sets ++ None ∷ []) ≡ newjob_of sets
 newjob_of-roomier sets standing =
     let (o, best) = best_exists sets (length sets) in
     go o best
   where
-    go : (o : Option (ℕ × Held)) → BestBelow sets (length sets) o → newjob_of (sets ++ None ∷ []) ≡ newjob_of sets
+    go : (o : Option (ℕ × HeldJob)) → BestBelow sets (length sets) o → newjob_of (sets ++ None ∷ []) ≡ newjob_of sets
     go None asleep =
         newjob_of-none (sets ++ None ∷ []) (IsLawful-roomier sets standing.lawful) (λ j s lt at. asleep j s (Holds-within sets j s (held_before sets j s at)) (held_before sets j s at))
         ∙ sym (newjob_of-none sets standing.lawful asleep)

@@ -183,7 +183,7 @@ image_of m words lawful sets ready stands = record {
 }
 
 -- what is kept after a request that is served
-kept_served : (m : Machined) (asked : Request) (words : List ℕ) (reply : Reply) (room : ℕ) → IsLawful m → room ≡ m.limit → refusal_of m asked ≡ None → sets_in words ≡ m.plan.sets → IsReady words → Steps words reply (stepped m asked) (places_after m.plan asked (plain_of m) (places_of m)) → IsKept (served (stepped m asked) asked m) words room
+pub kept_served : (m : Machined) (asked : Request) (words : List ℕ) (reply : Reply) (room : ℕ) → IsLawful m → room ≡ m.limit → refusal_of m asked ≡ None → sets_in words ≡ m.plan.sets → IsReady words → Steps words reply (stepped m asked) (places_after m.plan asked (plain_of m) (places_of m)) → IsKept (served (stepped m asked) asked m) words room
 kept_served m asked words reply room lawful reserved e sets ready steps =
     let based : IsLawfulBase (stepped m asked).plain.base = subst IsLawfulBase (sym steps.state.base_is) (IsLawfulBase-read words ready.sound.phases) in
     let both = kept_by (begins (stepped m asked).reply) m asked (stepped m asked) lawful (served_if m asked e).unspent based

@@ -9,6 +9,7 @@ mod moment;
 mod step;
 mod tick;
 mod totals;
+mod whole;
 mod words;
 
 pub use agc_plan::NoMemory;
@@ -18,4 +19,5 @@ pub use machine::{Machine, recover_into, starts_over};
 pub use migration::migrate;
 pub use moment::Moment;
 pub use totals::Totals;
+pub use whole::step_words;
 pub use words::{act_words, finish_words};

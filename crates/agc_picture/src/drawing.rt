@@ -1,169 +1,115 @@
 // The columns of requests.
-ghost use Rattle.std.specs.Prelude.{◌≡◌, ◌++◌, false, true};
-ghost use Rattle.agc_word.specs.Layout.{IsSized, sets_in};
-ghost use Rattle.agc_exec.specs.Image.{IsLawfulWords};
-ghost use Rattle.agc_text.specs.Writing.{Writes};
-ghost use Rattle.agc_machine.specs.Machines.{refusal_of};
-ghost use Rattle.agc_trace.specs.Reading.{begins_unless, scene_in, seats_in};
-ghost use Rattle.agc_trace.specs.Traces.{one_more, told_alarm};
-ghost use Rattle.agc_picture.specs.Lanes.{changes_text};
-ghost use Rattle.agc_picture.specs.Marks.{axis_text, mark_text, era_text};
-ghost use Rattle.agc_picture.specs.Pictures.{drawn, drawn_from, drawn_text, scene_now};
-ghost use Rattle.agc_picture.specs.Pieces.{column_of};
+ghost use Rattle.std.specs.Prelude.{◌≡◌};
+ghost use Rattle.agc_scene.specs.Events.{watched, watching_from};
 
-use crate::axis::add_axis;
-use crate::changes::add_changes;
-use crate::columns::{Column, column_at};
-use crate::marks::add_mark;
-use agc_machine::{Machine, Moment, Refusal};
+use crate::blocks::column_at;
+use crate::frame::{put_head, width_of};
+use crate::lanes::{Part, below, put_part};
+use crate::marks::{put_axis, put_mark};
+use agc_machine::Machine;
 use agc_plan::{Alarm, Request};
-use agc_session::Asks;
-use agc_text::{Output, put};
-use agc_trace::{
-    Origins, alarm_of, begins, begun_by, next_origins, next_time, one_more, origins_at, shown,
-    time_at,
-};
-use agc_word::Erasable;
-use arrayvec::ArrayString;
+use agc_scene::{Event, Scene, Watched};
+use agc_session::Follows;
+use agc_text::Output;
+use std::io;
 use std::io::Write;
 use std::marker::Model;
 
-/// A run that is drawn: the machine, how many requests were asked, how many ticks were served since
-/// the era began, by which request each job came, and how wide columns are.
+/// A run that is drawn: the machine that is watched, what was drawn last, and how many requests
+/// there are. Contracts see the machine.
 #[derive(Drop)]
 pub(crate) struct Drawing {
-    machine: Machine,
-    asked: u64,
-    time: u64,
-    origins: Origins,
-    width: u64,
+    watched: Watched,
+    drawn: Scene,
+    count: u64,
 }
 
 impl Model for Drawing {
-    ghost use Rattle.agc_picture.specs.Pictures.{Drawn};
+    ghost use Rattle.agc_scene.specs.Events.{Watching};
 
-    ghost Value = { Drawn };
+    ghost Value = { Watching };
 
-    ghost view = { λ d. record {
-      run = record { machine = d.machine; asked = d.asked; time = d.time; origins = d.origins };
-      width = d.width;
-    } };
+    ghost view = { λ d. d.watched };
 }
 
-/// Nothing was asked of this machine.
-pub(crate) fn drawing_of(machine: Machine, width: u64) -> Drawing
-    ensures { result ≡ drawn_from width machine }
-{
-    let origins = begun_by(0, &machine);
-    Drawing {
-        machine,
-        asked: 0,
-        time: 0,
-        origins,
-        width,
+/// The alarm that an event tells.
+fn alarm_of(event: &Event) -> Option<Alarm> {
+    match event.answer {
+        Ok(reply) => reply.alarm(),
+        Err(_refusal) => None,
     }
 }
 
-/// A request's column, by the words before it and after it.
-fn column_text(column: Column, time: u64, before: &Erasable, after: &Erasable) -> ArrayString<8192>
-    requires sized_before { IsSized before.now }
-    requires lawful_before { IsLawfulWords before.now }
-    requires sized { IsSized after.now }
-    requires lawful { IsLawfulWords after.now }
-    requires sets { sets_in before.now ≡ sets_in after.now }
-    ensures { result.bytes ≡ axis_text column time
-        ++ changes_text false column (scene_in before.now) (scene_in after.now) }
-{
-    let mut svg = ArrayString::new();
-    add_axis(&mut svg, column, time);
-    add_changes(&mut svg, false, column, before, after);
-    svg
-}
-
-/// The mark of an era that begins with request n, and what changes with it.
-fn era_text(
-    alarm: Option<Alarm>,
-    number: u64,
-    next: Column,
-    before: &Erasable,
-    after: &Erasable,
-) -> ArrayString<8192>
-    requires sized_before { IsSized before.now }
-    requires lawful_before { IsLawfulWords before.now }
-    requires sized { IsSized after.now }
-    requires lawful { IsLawfulWords after.now }
-    requires sets { sets_in before.now ≡ sets_in after.now }
-    ensures { result.bytes
-        ≡ era_text true alarm number next (scene_in before.now) (scene_in after.now) }
-{
-    let mut svg = ArrayString::new();
-    add_mark(&mut svg, alarm, number, next.x, after.sets().count());
-    add_changes(&mut svg, false, next, before, after);
-    svg
-}
-
-/// Writes the mark of an era that begins with a request, and what changes with it, if one does.
-fn put_era<W: Write>(
-    machine: &Machine,
-    next: Column,
-    number: u64,
-    refusal: Option<Refusal>,
-    moment: &Moment,
-    writer: &mut W,
-) -> Result<(), Output>
-    requires sized { IsSized moment.now.words }
-    requires lawful { IsLawfulWords moment.now.words }
-    requires sets { sets_in moment.now.words ≡ machine.now.plan.sets }
-    ensures { Writes (W.contents writer.old) (W.contents writer.new)
-        (era_text (begins_unless refusal moment.now.reply) (told_alarm refusal moment.now.reply)
-        number next (scene_in moment.now.words) (scene_now machine.now)) result }
-{
-    if begins(refusal, moment) {
-        let after = machine.moment(&Request::Restart);
-        let alarm = alarm_of(refusal, moment);
-        let text = era_text(alarm, number, next, moment.words(), after.words());
-        put(writer, text.as_bytes())
-    } else {
-        Ok(())
+/// Writes the column of an event, after what was drawn last: in it what has changed. Where an era
+/// begins, its mark stands at the end of the column, and in the next what began.
+fn put_event<W: Write>(writer: &mut W, drawn: &Scene, width: u64, event: &Event) -> io::Result<()> {
+    let column = column_at(width, event.number);
+    put_axis(writer, column, event.time)?;
+    put_part(writer, column, drawn, Part::Changed, &event.scene)?;
+    match &event.era {
+        None => Ok(()),
+        Some(era) => {
+            let next = column_at(width, event.number.saturating_add(1));
+            let end = below(era).saturating_add(170);
+            put_mark(writer, alarm_of(event), event.number, next.x, end)?;
+            put_part(writer, next, &event.scene, Part::Begun, era)
+        }
     }
 }
 
-/// Asks for one request, and writes its column.
-fn draw_request<W: Write>(
-    drawing: &mut Drawing,
-    request: &Request,
-    writer: &mut W,
-) -> Result<(), Output>
-    ensures after { drawing.new ≡ drawn drawing.old request.now }
-    ensures writes { Writes (W.contents writer.old) (W.contents writer.new)
-        (drawn_text drawing.old request.now) result }
-{
-    let before = drawing.machine.moment(&Request::Restart);
-    let refusal = drawing.machine.refusal(request);
-    let moment = shown(&drawing.machine, request, refusal);
-    let number = one_more(drawing.asked);
-    let time = time_at(refusal, request, drawing.time);
-    let column = column_at(drawing.width, number);
-    let text = column_text(column, time, before.words(), moment.words());
-    let next = column_at(drawing.width, one_more(number));
-    drawing.time = next_time(refusal, &moment, time);
-    drawing.asked = number;
-    let origins = origins_at(number, &drawing.origins, &moment);
-    let _ = drawing.machine.apply(*request);
-    drawing.origins = next_origins(number, refusal, &moment, &origins, &drawing.machine);
-    put(writer, text.as_bytes())?;
-    put_era(&drawing.machine, next, number, refusal, &moment, writer)
+/// What is drawn after an event.
+fn drawn_after(event: Event) -> Scene {
+    match event.era {
+        None => event.scene,
+        Some(era) => era,
+    }
 }
 
-impl Asks for Drawing {
-    ghost use Rattle.agc_picture.specs.Pictures.{drawn, drawn_text};
+impl Drawing {
+    /// Nothing was asked of this machine, and so many requests will be.
+    pub(crate) fn new(machine: Machine, count: u64) -> Drawing
+        ensures { result ≡ watching_from machine }
+    {
+        let watched = Watched::new(machine);
+        let drawn = watched.scene();
+        Drawing {
+            watched,
+            drawn,
+            count,
+        }
+    }
 
-    ghost next = { λ drawing request. drawn drawing request };
+    /// Writes the head, and column 0, of the scene with which the machine begins.
+    pub(crate) fn begin<W: Write>(&self, writer: &mut W) -> io::Result<()> {
+        let width = width_of(self.count);
+        let right = column_at(width, self.count.saturating_add(2));
+        let first = column_at(width, 0);
+        let scene = &self.drawn;
+        put_head(
+            writer,
+            scene.seats().len(),
+            below(scene),
+            self.count,
+            right.x,
+        )?;
+        put_axis(writer, first, 0)?;
+        put_part(writer, first, scene, Part::All, scene)
+    }
+}
 
-    ghost text = { λ drawing request. drawn_text drawing request };
+impl Follows for Drawing {
+    ghost use Rattle.agc_scene.specs.Events.{watched};
+
+    ghost next = { λ drawing request. watched drawing request };
 
     /// Asks for one request, and writes its column.
-    fn ask<W: Write>(&mut self, request: &Request, writer: &mut W) -> Result<(), Output> {
-        draw_request(self, request, writer)
+    fn follow<W: Write>(&mut self, request: &Request, writer: &mut W) -> Result<(), Output> {
+        let event = self.watched.ask(request);
+        let put = put_event(writer, &self.drawn, width_of(self.count), &event);
+        self.drawn = drawn_after(event);
+        match put {
+            Ok(()) => Ok(()),
+            Err(_failed) => Err(Output),
+        }
     }
 }

@@ -2,19 +2,12 @@
 //! Source: profile.
 #![tactic(auto)]
 
-mod areas;
-mod axis;
-mod changes;
-mod columns;
+mod blocks;
 mod counting;
 mod drawing;
 mod frame;
-mod looks;
+mod lanes;
 mod marks;
-mod pieces;
-mod runner;
-mod sets;
-mod tasks;
 mod whole;
 
 pub use whole::picture;

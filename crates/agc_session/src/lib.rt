@@ -3,10 +3,12 @@
 
 mod asking;
 mod asks;
+mod following;
 mod run;
 mod run_fault;
 
 pub use asking::{ask_all, ask_bench, asks_nothing};
 pub use asks::Asks;
+pub use following::{Follows, follow_all, follow_bench};
 pub use run::{machine_of, machine_on, run_script, script_machine, serial};
 pub use run_fault::RunFault;

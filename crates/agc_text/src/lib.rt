@@ -20,6 +20,7 @@ pub use line::{parse_action, parse_line};
 pub use numbers::{parse_address, parse_word};
 pub use numerals::{add_number, add_octal_digit, add_priority, add_word};
 pub use pulses::report_pulses;
+pub use replies::put_reply;
 pub use reporting::report;
 pub use script::read_script;
 pub use session::write_answer_to;

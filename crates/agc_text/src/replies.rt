@@ -211,12 +211,12 @@ fn reply_line(reply: &Reply) -> Option<&'static str>
     }
 }
 
-/// Writes the line of a reply, of a tick with what fired.
+/// Writes the line of a reply, of a tick with what fired. Source: profile.
 ///
 /// # Errors
 ///
 /// Where a write fails.
-pub(crate) fn put_reply<W: Write>(writer: &mut W, reply: Reply, fired: &Fired) -> Result<(), Output>
+pub fn put_reply<W: Write>(writer: &mut W, reply: Reply, fired: &Fired) -> Result<(), Output>
     ensures { Writes (W.contents writer.old) (W.contents writer.new)
         (reply_text fired.now reply ++ 10 ∷ []) result }
 {

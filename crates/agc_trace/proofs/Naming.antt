@@ -6,7 +6,7 @@ use Rattle.std.proofs.lemmas.Option.{same_Some, slice_get-map, slice_get-get_or}
 use Rattle.agc_word.specs.Layout.{sets_in}
 use Rattle.agc_word.specs.Layout as layout
 use Rattle.agc_plan.specs.Jobs.{Job, Ready, job_in}
-use Rattle.agc_exec.specs.Held.{Held}
+use Rattle.agc_exec.specs.HeldJob.{HeldJob}
 use Rattle.agc_exec.specs.Image.{sets_of, jobs_in, runner_in, IsLawfulWords, newjob_of}
 use Rattle.agc_exec.specs.Sets.{Holds, IsStanding, awake_in, jobs_of, running_in, slots_of}
 use Rattle.agc_exec.specs.Stages.{BestBelow}
@@ -21,32 +21,32 @@ use Rattle.agc_trace.specs.Scenes.{named_before, named_by, named_of}
 use Rattle.agc_trace.proofs.Scenes.{numbered}
 
 -- where somebody runs, the job in set 0 does
-front_runs : (sets : List (Option Held)) (n : ℕ) → running_in sets ≡ Some n → (r : Held) × Holds sets 0 r × (r.asleep ≡ false)
+front_runs : (sets : List (Option HeldJob)) (n : ℕ) → running_in sets ≡ Some n → (r : HeldJob) × Holds sets 0 r × (r.asleep ≡ false)
 front_runs [] n e = absurd (cc)
 front_runs (None ∷ sets) n e = absurd (cc)
 front_runs (Some r ∷ sets) n e = go r.asleep refl where
-  go : (a : Bool) → r.asleep ≡ a → (s : Held) × Holds (Some r ∷ sets) 0 s × (s.asleep ≡ false)
+  go : (a : Bool) → r.asleep ≡ a → (s : HeldJob) × Holds (Some r ∷ sets) 0 s × (s.asleep ≡ false)
   go true q = absurd (let no : None ≡ Some n = ap (λ (b : Bool). cond b None (Some r.number)) (sym q) ∙ e in cc)
   go false q = (r, refl, q)
 
-running_front : (sets : List (Option Held)) (job : Held) → Holds sets 0 job → job.asleep ≡ false → running_in sets ≡ Some job.number
+running_front : (sets : List (Option HeldJob)) (job : HeldJob) → Holds sets 0 job → job.asleep ≡ false → running_in sets ≡ Some job.number
 running_front [] job here awake = absurd (cc)
 running_front (None ∷ sets) job here awake = absurd (cc)
 running_front (Some r ∷ sets) job here awake = ap awake_in here ∙ ap (λ (b : Bool). cond b None (Some job.number)) awake
 
 -- NEWJOB names nobody, or the job of a set behind set 0
-abbrev Says : List (Option Held) → Type 0
+abbrev Says : List (Option HeldJob) → Type 0
 Says sets =
     ((newjob_of sets ≡ 0) × (named_of (jobs_of sets) ≡ None))
-    ⊎ ((k : ℕ) × (r : Held) × (newjob_of sets ≡ 12 * k) × (1 ≤ k) × Holds sets k r × (named_of (jobs_of sets) ≡ Some r.number))
+    ⊎ ((k : ℕ) × (r : HeldJob) × (newjob_of sets ≡ 12 * k) × (1 ≤ k) × Holds sets k r × (named_of (jobs_of sets) ≡ Some r.number))
 
-says : (sets : List (Option Held)) (job : Held) → IsStanding sets → Holds sets 0 job → job.asleep ≡ false → Says sets
+says : (sets : List (Option HeldJob)) (job : HeldJob) → IsStanding sets → Holds sets 0 job → job.asleep ≡ false → Says sets
 unfolding named_of
 says sets job standing here awake =
     let (o, h) = best_exists sets (length sets) in
     go o h
   where
-    go : (o : Option (ℕ × Held)) → BestBelow sets (length sets) o → Says sets
+    go : (o : Option (ℕ × HeldJob)) → BestBelow sets (length sets) o → Says sets
     go None h = absurd (let no : true ≡ false = sym (h 0 job (Holds-within sets 0 job here) here) ∙ awake in cc)
     go (Some b) h =
         let is : newjob_of sets ≡ cond (nat_lt job.priority b.1.priority) (12 * b.0) 0 = newjob_of-best sets b.0 b.1 job standing.lawful h here in
@@ -68,11 +68,11 @@ pub named_none : (words : List ℕ) → runner_in words ≡ None → named_of (j
 unfolding named_of
 named_none words none = ap (λ (n : Option ℕ). named_by n (slots_of (sets_of words))) none
 
-seat_holds : (words : List ℕ) (k : ℕ) (r : Held) → Holds (sets_of words) k r → slice_get (seats_in words) k ≡ Some (Some (seen r))
+seat_holds : (words : List ℕ) (k : ℕ) (r : HeldJob) → Holds (sets_of words) k r → slice_get (seats_in words) k ≡ Some (Some (seen r))
 unfolding seats_in
 seat_holds words k r at =
     slice_get-map (option_map seen) (sets_of words) k
-    ∙ ap (option_map (option_map seen)) (slice_get-get_or (sets_of words) k None (Holds-within (sets_of words) k r at) ∙ ap (λ (h : Option Held). Some h) at)
+    ∙ ap (option_map (option_map seen)) (slice_get-get_or (sets_of words) k None (Holds-within (sets_of words) k r at) ∙ ap (λ (h : Option HeldJob). Some h) at)
 
 -- the set that the word names is one of the sets
 pub named_range : (words : List ℕ) (n : ℕ) → IsLawfulWords words → runner_in words ≡ Some n → slice_index words layout.newjob / 12 < sets_in words

@@ -5,7 +5,7 @@ use Rattle.std.specs.List.{fold}
 use Rattle.agc_plan.specs.Jobs.{Job, Jobs, job_in}
 use Rattle.agc_plan.specs.Tasks.{Pending, Agenda, Waiting, InOrder, StandsFor, timed}
 use Rattle.agc_plan.specs.Steps.{Plain}
-use Rattle.agc_exec.specs.Held.{Held}
+use Rattle.agc_exec.specs.HeldJob.{HeldJob}
 use Rattle.agc_exec.specs.Image.{sets_of, jobs_in, entries_in, IsLawfulWords}
 use Rattle.agc_exec.specs.Sets.{Holds, IsLawful, job_of, jobs_of, job_numbered, number_in, slots_of}
 use Rattle.agc_exec.proofs.Slots.{job_numbered-at, get_or-slots_from}
@@ -17,7 +17,7 @@ use Rattle.agc_trace.specs.Reading.{seen, seats_in, scene_in}
 use Rattle.agc_trace.specs.Scenes.{Scene, named_of, seated, seat_of, put_in, by_due, time_left, waits_in, scene_of}
 
 -- the job of a core set, found by its number
-pub numbered : (sets : List (Option Held)) (i : ℕ) (r : Held) → IsLawful sets → Holds sets i r → job_in (slots_of sets) r.number ≡ Some (job_of r)
+pub numbered : (sets : List (Option HeldJob)) (i : ℕ) (r : HeldJob) → IsLawful sets → Holds sets i r → job_in (slots_of sets) r.number ≡ Some (job_of r)
 numbered sets i r lawful at =
     let low : 1 ≤ r.number = lawful.low i r at in
     let high : r.number ≤ length sets = lawful.high i r at in
@@ -30,10 +30,10 @@ by_number jobs number job low is =
     let some : (number == 0) ≡ false = grind (arith, common_steps) in
     rw (some, is) refl
 
-seat_is : (sets : List (Option Held)) (i : ℕ) (r : Held) → IsLawful sets → Holds sets i r → seat_of (jobs_of sets) r.number ≡ Some (seen r)
+seat_is : (sets : List (Option HeldJob)) (i : ℕ) (r : HeldJob) → IsLawful sets → Holds sets i r → seat_of (jobs_of sets) r.number ≡ Some (seen r)
 seat_is sets i r lawful at = by_number (jobs_of sets) r.number (job_of r) (lawful.low i r at) (numbered sets i r lawful at)
 
-seats_are : (jobs : Jobs) (sets : List (Option Held)) → ((i : ℕ) (r : Held) → Holds sets i r → seat_of jobs r.number ≡ Some (seen r)) → map (seat_of jobs) (map number_in sets) ≡ map (option_map seen) sets
+seats_are : (jobs : Jobs) (sets : List (Option HeldJob)) → ((i : ℕ) (r : HeldJob) → Holds sets i r → seat_of jobs r.number ≡ Some (seen r)) → map (seat_of jobs) (map number_in sets) ≡ map (option_map seen) sets
 seats_are jobs [] each = refl
 seats_are jobs (None ∷ sets) each = ap (λ (l : List (Option Seated)). None ∷ l) (seats_are jobs sets (λ i r at. each (suc i) r at))
 seats_are jobs (Some r ∷ sets) each =

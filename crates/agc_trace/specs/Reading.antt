@@ -4,7 +4,7 @@ use Rattle.agc_word.specs.Layout.{IsSized, sets_in}
 use Rattle.agc_plan.specs.declared.request.Request.{Request}
 use Rattle.agc_plan.specs.declared.reply.Reply.{Reply}
 use Rattle.agc_plan.specs.Steps.{raised_in, acted, begins}
-use Rattle.agc_exec.specs.Held.{Held}
+use Rattle.agc_exec.specs.HeldJob.{HeldJob}
 use Rattle.agc_exec.specs.Image.{sets_of, jobs_in, runner_in, IsLawfulWords}
 use Rattle.agc_wait.specs.Table.{waits_of}
 use Rattle.agc_phase.specs.Image.{base_of}
@@ -17,7 +17,7 @@ use Rattle.agc_trace.specs.Scenes.{Scene, named_of}
 use Rattle.agc_trace.specs.Traces.{scene_unless}
 
 -- a core set's job, as a trace shows it
-abbrev pub seen : Held → Seated
+abbrev pub seen : HeldJob → Seated
 seen r = record {
   number = r.number;
   at = r.at;

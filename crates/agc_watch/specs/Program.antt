@@ -80,7 +80,7 @@ TracesText false = TracesBench
 
 -- its bench is drawn, or made a page
 abbrev pub DrawsText : List ℕ → Option (List ℕ) → Option (List ℕ) → Result Unit Fault → Type 0
-DrawsText = ComesOf WritesPicture
+DrawsText = ComesOf (λ old new bench outcome. WritesPicture old new outcome)
 
 abbrev pub PagesText : List ℕ → Option (List ℕ) → Option (List ℕ) → Result Unit Fault → Type 0
 PagesText = ComesOf WritesPage

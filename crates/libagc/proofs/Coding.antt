@@ -1,5 +1,5 @@
 -- The code of a step, from what it lacks.
-use Rattle.std.proofs.Common.{◌≡◌, ◌↔◌, ℕ, ◌≤◌, Bool, true, false, if◌then◌else◌, List, Option, Some, None, refl, ap, sym, subst, ◌∙◌, arith}
+use Rattle.std.proofs.Common.{◌≡◌, ℕ, ◌≤◌, Bool, true, false, if◌then◌else◌, List, Option, Some, None, refl, ap, sym, subst, ◌∙◌, arith}
 use Rattle.std.proofs.lemmas.Grind.{common_steps}
 use Rattle.std.specs.Option.{is_some}
 use Rattle.agc_plan.specs.declared.request.Request.{Request}
@@ -47,10 +47,6 @@ timed_untidy words answer test off none = record {
 pub first_now : (a b : ℕ) → 1 ≤ a → a ≡ first_of a b
 first_now a b some = grind (arith, common_steps)
 
--- none came first
-pub none_first : (a b : ℕ) → 0 ≡ first_of a b → (a ≡ 0) × (b ≡ 0)
-none_first a b none = grind (arith, common_steps)
-
 pub asked_lacks : (asked : AgcRequest) → request_told asked ≡ None → asked_code asked ≡ code_of (asked_fault asked)
 asked_lacks asked is = ap (λ (o : Option Request). if is_some o then 0 else code_of (asked_fault asked)) is
 
@@ -64,25 +60,6 @@ no_image_then found this code sets array other is told coded = record {
   image_is = subst (λ (n : ℕ). Coded n sets array (Unit {0}) (Unit {0}) (Unit {0})) (ap code_for is) coded;
   first = told ∙ first_now (code_of this) other (one_or_more this);
 }
-
--- it has one, and so what else it lacks tells the code
-pub image_then : (code sets : ℕ) (array : List ℕ) (other : ℕ) → IsImage sets array → code ≡ other → ImageThen code sets array other
-image_then code sets array other image told = record {
-  image = 0;
-  image_is = coded_served sets array _ _ _ image tt tt tt;
-  first = told;
-}
-
--- a code that isn't 0 is that of both
-pub first_told : (found : Option Fault) (this : Fault) (a b : ℕ) → found ≡ Some this → code_for found ≡ a → code_of this ≡ first_of a b
-first_told found this a b is told =
-    let here : code_of this ≡ a = sym (ap code_for is) ∙ told in
-    subst (λ (n : ℕ). code_of this ≡ first_of n b) here (first_now (code_of this) b (one_or_more this))
-
-pub then_told : (found : Option Fault) (a b : ℕ) → found ≡ None → code_for found ≡ a → b ≡ first_of a b
-then_told found a b is told =
-    let here : 0 ≡ a = sym (ap code_for is) ∙ told in
-    subst (λ (n : ℕ). b ≡ first_of n b) here refl
 
 -- no image for a step
 pub step_no_image : (found : Option Fault) (this : Fault) (code sets : ℕ) (array : List ℕ) (asked : AgcRequest) (plan : ℕ) → found ≡ Some this → code ≡ code_of this → Coded (code_for found) sets array (Unit {0}) (Unit {0}) (Unit {0}) → StepCoded code sets array asked plan
@@ -125,9 +102,3 @@ step_lacks code sets array words asked request rows entries image is opened lack
     first = subst (λ (n : ℕ). code ≡ first_of n (first_of lacks.time (code_for (lacking rows entries)))) (sym (asked_is asked request is)) lacks.first;
   };
 }
-
--- it lacks nothing else
-pub ready_by : (found : Option Fault) (words : List ℕ) (rows : List AgcRow) (entries : List AgcPhaseEntry) → found ≡ None → Lacks (code_for found) words rows entries → IsReady words
-ready_by found words rows entries none lacks =
-    let zero : 0 ≡ first_of lacks.time (code_for (lacking rows entries)) = sym (ap code_for none) ∙ lacks.first in
-    lacks.timed.ready.0 (none_first lacks.time (code_for (lacking rows entries)) zero).0

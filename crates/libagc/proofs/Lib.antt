@@ -5,3 +5,4 @@ pub mod Tidy
 pub mod Stepping
 pub mod Coding
 pub mod Rising
+pub mod Spelling

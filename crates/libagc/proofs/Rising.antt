@@ -1,6 +1,5 @@
 -- An era that began in an image, which was written back.
 use Rattle.std.proofs.Common.{◌≡◌, ◌↔◌, IsTrue, ℕ, Bool, List, [], length, ap, sym, subst, ◌∙◌}
-use Rattle.std.proofs.lemmas.List.{length-replicate}
 use Rattle.agc_word.specs.Layout.{sets_in}
 use Rattle.agc_word.specs.Profiles.{count_of, size_of}
 use Rattle.agc_word.specs.declared.sets.Sets.{Sets}
@@ -10,7 +9,7 @@ use Rattle.agc_plan.specs.Seats.{era_places}
 use Rattle.agc_plan.specs.Steps.{begun}
 use Rattle.agc_phase.specs.Image.{ArePairs, Becomes, base_of}
 use Rattle.agc_image.specs.declared.lent.AgcPhaseEntry.{AgcPhaseEntry}
-use Rattle.agc_image.specs.Images.{IsSets, IsOpened, IsWritten, Changed, IsImage, size_with, image_of, behind}
+use Rattle.agc_image.specs.Images.{IsSets, IsOpened, IsWritten, Changed, size_with, image_of, behind}
 use Rattle.agc_image.specs.Written.{written_told}
 use Rattle.agc_image.proofs.Frames.{changed, sets_of_size}
 use Rattle.agc_machine.specs.Machines.{power_base}

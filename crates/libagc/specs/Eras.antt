@@ -1,5 +1,5 @@
 -- The beginning of an era by a caller's entries, and power coming back.
-use Rattle.std.specs.Prelude.{◌≡◌, ◌↔◌, IsTrue, ℕ, ◌==◌, ◌||◌, Bool, if◌then◌else◌, List, []}
+use Rattle.std.specs.Prelude.{◌≡◌, ◌↔◌, IsTrue, ℕ, ◌==◌, Bool, if◌then◌else◌, List, []}
 use Rattle.std.specs.Prelude.{length}
 use Rattle.std.specs.Option.{is_some, option_map_or}
 use Rattle.agc_plan.specs.Base.{Base, with_code}

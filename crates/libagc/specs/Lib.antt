@@ -5,3 +5,4 @@ pub mod Arithmetic
 pub mod Beginnings
 pub mod Stepping
 pub mod Eras
+pub mod Spelled

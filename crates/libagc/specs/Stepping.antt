@@ -1,6 +1,6 @@
 -- What a whole step does to a caller's words, and what it answers.
-use Rattle.std.specs.Prelude.{◌≡◌, ◌↔◌, ℕ, ◌==◌, nat_lt, Bool, true, false, if◌then◌else◌, List}
-use Rattle.std.specs.Prelude.{Option, Some, None, length, slice_get}
+use Rattle.std.specs.Prelude.{◌≡◌, ◌↔◌, ℕ, ◌==◌, nat_lt, true, false, if◌then◌else◌, List}
+use Rattle.std.specs.Prelude.{Some, None, length, slice_get}
 use Rattle.std.specs.Option.{is_some}
 use Rattle.agc_plan.specs.declared.reply.Reply.{Reply}
 use Rattle.agc_plan.specs.declared.reply.Reply.TheVariants as reply

@@ -6,15 +6,18 @@ mod clearing;
 mod eras;
 mod images;
 mod jobs;
+mod lines;
 mod phases;
 mod plans;
 mod ready;
 mod reply;
 mod steps;
 mod tasks;
+mod texts;
 mod words;
 
 pub use phases::AgcPhases;
 pub use reply::{AgcNumber, AgcReply, AgcTask, AgcTruth};
 pub use steps::{AgcFired, AgcStep};
+pub use texts::AgcTotals;
 pub use words::{AgcSum, AgcValue};

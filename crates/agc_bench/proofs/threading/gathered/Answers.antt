@@ -31,7 +31,7 @@ finish-requires-clause-devices g c =
 
 pub returns-clause-run : goal.returns-clause-run
 returns-clause-run g c =
-    run_finished (λ n call answer. g.G.Gate.may_answer c.args.gate.now n call answer) c.args.bench.now g.N.Names.first c.args.latch c.in_ok-held.field-0.held.desk.history c.in_ok-held.field-0.first c.in_ok-held.field-0.shares.items c.in_ok-held.field-0.devices.items
+    run_finished (λ n call answer. g.G.Gate.may_answer c.args.gate.now n call answer) (λ n call said. g.G.Gate.is_told c.args.gate.now n call said) c.args.bench.now g.N.Names.first c.args.latch c.in_ok-held.field-0.held.desk.history c.in_ok-held.field-0.first c.in_ok-held.field-0.shares.items c.in_ok-held.field-0.devices.items
     c.in_ok-machine.machine c.in_ok-machine.settled c.requires.bench
     (subst (λ l. take (length l) c.in_ok-held.field-0.held.desk.history ≡ l) c.requires.begun c.in_ok-held.field-0.held.begun)
     c.in_ok-held.ensures.run c.in_ok-machine.ensures.run

@@ -2,7 +2,8 @@ use Rattle.std.proofs.Common.{◌≡◌, ◌+◌, ◌∷◌, [], ◌++◌, List,
 use Rattle.std.proofs.Math.Seq.{get_or-append_seam}
 use Rattle.agc_desk.specs.History.{Holder}
 use Rattle.agc_bench.specs.Sharing.{IsPledge}
-use Rattle.agc_bench.proofs.Pledges.{each_push, pledge_kept}
+use Rattle.agc_desk.proofs.Runs.{each_push}
+use Rattle.agc_bench.proofs.Pledges.{pledge_kept}
 use Rattle.agc_bench.proofs.threading.start_askers.Goals as goal
 
 pub loop-share-preserved : goal.loop-share-preserved

@@ -4,7 +4,8 @@ use Rattle.std.proofs.lemmas.List.{get_or_default, length-map, length_push}
 use Rattle.agc_plan.specs.declared.line.Line.TheVariants.{Timer}
 use Rattle.agc_latch.specs.Ends.{Posting, new_device}
 use Rattle.agc_bench.specs.Sharing.{IsPosts, new_devices}
-use Rattle.agc_bench.proofs.Pledges.{each_push, nothing_left}
+use Rattle.agc_desk.proofs.Runs.{each_push}
+use Rattle.agc_bench.proofs.Pledges.{nothing_left}
 use Rattle.agc_bench.proofs.threading.start_posters.Goals as goal
 
 pub loop-device-preserved : goal.loop-device-preserved

@@ -1,9 +1,8 @@
-use Rattle.std.proofs.Common.{◌≡◌, ◌≤◌, ◌∙◌, ℕ, List, Some, None, length, take, map, ap, sym, arith}
-use Rattle.std.proofs.lemmas.List.{length-map, length-take-le}
+use Rattle.std.proofs.Common.{◌≡◌, ◌∙◌, Some, None}
 use Rattle.agc_plan.specs.declared.request.Action.{Action}
 use Rattle.agc_plan.specs.Ranges.{IsAction}
 use Rattle.agc_text.specs.Lines.{action_line_of}
-use Rattle.agc_document.proofs.Beside.{refused_here, beside_here, all_beside}
+use Rattle.agc_document.proofs.Beside.{refused_here}
 use Rattle.agc_document.proofs.values.actions_of.Goals as goal
 
 none_is_not_some : (a : Action) → None ≡ Some a → ⊥

@@ -1,7 +1,6 @@
-use Rattle.std.proofs.Common.{◌≡◌, ◌≢◌, ◌∙◌, ℕ, List, Option, Some, None, IfNone, map, ap, sym}
+use Rattle.std.proofs.Common.{◌≢◌, ◌∙◌, List, Option, Some, None, IfNone, ap}
 use Rattle.agc_plan.specs.declared.request.Task.{Task}
 use Rattle.agc_plan.specs.declared.request.Action.{Action}
-use Rattle.agc_text.specs.Lines.{action_line_of}
 use Rattle.agc_document.specs.Texts.{RowTexts}
 use Rattle.agc_document.specs.Benches.{row_texts, IsRow}
 use Rattle.agc_document.proofs.values.row_of.Goals as goal

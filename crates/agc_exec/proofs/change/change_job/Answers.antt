@@ -7,7 +7,7 @@ use Rattle.agc_plan.specs.Jobs.{change}
 use Rattle.agc_plan.specs.Places.{fronted}
 use Rattle.agc_plan.specs.declared.reply.Reply.TheVariants.{Runs}
 use Rattle.agc_exec.specs.Blocks.{blocks_of}
-use Rattle.agc_exec.specs.Held.{Held}
+use Rattle.agc_exec.specs.HeldJob.{HeldJob}
 use Rattle.agc_exec.specs.Sets.{Holds}
 use Rattle.agc_exec.specs.Image.{sets_of, jobs_in, entries_in}
 use Rattle.agc_exec.specs.Stages.{Waits}
@@ -28,7 +28,7 @@ pub returns-then-k-eq0 : goal.returns-then-k-eq0
 returns-then-k-eq0 c =
     let (job, here, awake) = c.somebody_runs.ensures.runs (search rules) in
     let at : Holds (sets_of c.args.e.now) c.named_set-k.result job = rw c.if-k-eq0.true here in
-    let number : c.number_in_set-number.result ≡ job.number = same_Some _ _ (c.number_in_set-number.ensures ∙ ap (option_map (λ (r : Held). r.number)) at) in
+    let number : c.number_in_set-number.result ≡ job.number = same_Some _ _ (c.number_in_set-number.ensures ∙ ap (option_map (λ (r : HeldJob). r.number)) at) in
     rw number (Does-stays c.args.e.now job c.requires here awake (c.named_set-k.ensures.stays c.if-k-eq0.true job here awake))
 
 pub returns : goal.returns

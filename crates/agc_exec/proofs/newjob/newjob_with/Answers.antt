@@ -2,7 +2,7 @@ use Rattle.std.proofs.Common.{◌≡◌, ◌+◌, ◌<◌, ◌≤◌, ◌/◌, �
 use Rattle.agc_word.specs.Layout as layout
 use Rattle.agc_word.specs.Layout.{sets_in, set_place}
 use Rattle.agc_exec.specs.Image.{priority_unit, sets_of}
-use Rattle.agc_exec.specs.Held.{Held}
+use Rattle.agc_exec.specs.HeldJob.{HeldJob}
 use Rattle.agc_exec.specs.Stages.{IsNewcomer}
 use Rattle.agc_exec.proofs.Decoding.{length-sets}
 use Rattle.agc_exec.proofs.Leads.{awake_words}
@@ -11,7 +11,7 @@ use Rattle.agc_exec.proofs.Swaps.{Holds-within}
 use Rattle.agc_exec.proofs.newjob.newjob_with.Goals as goal
 
 -- the words of both jobs, and what they say
-record Compares (words : List ℕ) (k w : ℕ) (n : Names words k) (comer : Held) : Type 0 where
+record Compares (words : List ℕ) (k w : ℕ) (n : Names words k) (comer : HeldJob) : Type 0 where
   pub named : w ≡ slice_index words layout.newjob
   pub priority_named : n.named.priority ≡ slice_index words (set_place (w / 12) + 11) / priority_unit
   pub number_named : n.named.number ≡ slice_index words (set_place (w / 12) + 0)
@@ -35,19 +35,19 @@ compares words k w c n lt is =
     }
 
 -- what the words' order says of the jobs'
-behind : (words : List ℕ) (k w : ℕ) (n : Names words k) (comer : Held) → Compares words k w n comer → (u v : ℕ) → u ≡ slice_index words (set_place k + 11) → v ≡ slice_index words (set_place (w / 12) + 11) → u / 512 < v / 512 → comer.priority < n.named.priority
+behind : (words : List ℕ) (k w : ℕ) (n : Names words k) (comer : HeldJob) → Compares words k w n comer → (u v : ℕ) → u ≡ slice_index words (set_place k + 11) → v ≡ slice_index words (set_place (w / 12) + 11) → u / 512 < v / 512 → comer.priority < n.named.priority
 behind words k w n comer x u v a b lt = rw (x.priority, x.priority_named, ← a, ← b) lt
 
-ahead : (words : List ℕ) (k w : ℕ) (n : Names words k) (comer : Held) → Compares words k w n comer → (u v : ℕ) → u ≡ slice_index words (set_place k + 11) → v ≡ slice_index words (set_place (w / 12) + 11) → v / 512 < u / 512 → n.named.priority < comer.priority
+ahead : (words : List ℕ) (k w : ℕ) (n : Names words k) (comer : HeldJob) → Compares words k w n comer → (u v : ℕ) → u ≡ slice_index words (set_place k + 11) → v ≡ slice_index words (set_place (w / 12) + 11) → v / 512 < u / 512 → n.named.priority < comer.priority
 ahead words k w n comer x u v a b lt = rw (x.priority, x.priority_named, ← a, ← b) lt
 
-same : (words : List ℕ) (k w : ℕ) (n : Names words k) (comer : Held) → Compares words k w n comer → (u v : ℕ) → u ≡ slice_index words (set_place k + 11) → v ≡ slice_index words (set_place (w / 12) + 11) → v / 512 ≡ u / 512 → n.named.priority ≡ comer.priority
+same : (words : List ℕ) (k w : ℕ) (n : Names words k) (comer : HeldJob) → Compares words k w n comer → (u v : ℕ) → u ≡ slice_index words (set_place k + 11) → v ≡ slice_index words (set_place (w / 12) + 11) → v / 512 ≡ u / 512 → n.named.priority ≡ comer.priority
 same words k w n comer x u v a b e = rw (x.priority, x.priority_named, ← a, ← b) e
 
-lower : (words : List ℕ) (k w : ℕ) (n : Names words k) (comer : Held) → Compares words k w n comer → (u v : ℕ) → u ≡ slice_index words (set_place k + 0) → v ≡ slice_index words (set_place (w / 12) + 0) → v < u → n.named.number < comer.number
+lower : (words : List ℕ) (k w : ℕ) (n : Names words k) (comer : HeldJob) → Compares words k w n comer → (u v : ℕ) → u ≡ slice_index words (set_place k + 0) → v ≡ slice_index words (set_place (w / 12) + 0) → v < u → n.named.number < comer.number
 lower words k w n comer x u v a b lt = rw (x.number, x.number_named, ← a, ← b) lt
 
-higher : (words : List ℕ) (k w : ℕ) (n : Names words k) (comer : Held) → Compares words k w n comer → (u v : ℕ) → u ≡ slice_index words (set_place k + 0) → v ≡ slice_index words (set_place (w / 12) + 0) → u ≤ v → comer.number ≤ n.named.number
+higher : (words : List ℕ) (k w : ℕ) (n : Names words k) (comer : HeldJob) → Compares words k w n comer → (u v : ℕ) → u ≡ slice_index words (set_place k + 0) → v ≡ slice_index words (set_place (w / 12) + 0) → u ≤ v → comer.number ≤ n.named.number
 higher words k w n comer x u v a b le = rw (x.number, x.number_named, ← a, ← b) le
 
 pub word_of-other-requires-clause-set : goal.word_of-other-requires-clause-set

@@ -1,5 +1,5 @@
 use Rattle.std.proofs.Common.{ap, sym, ◌∙◌, option_map, rules}
-use Rattle.agc_exec.specs.Held.{Held}
+use Rattle.agc_exec.specs.HeldJob.{HeldJob}
 use Rattle.agc_exec.specs.Image.{sets_of}
 use Rattle.agc_exec.proofs.Bests.{running_in-awake}
 use Rattle.agc_exec.proofs.search.runner.Goals as goal
@@ -10,4 +10,4 @@ number_in_set-requires-clause-held c = let (r, at, awake) = c.somebody_runs.ensu
 pub returns-then-somebody_runs : goal.returns-then-somebody_runs
 returns-then-somebody_runs c =
     let (r, at, awake) = c.somebody_runs.ensures.runs (search rules) in
-    c.number_in_set.ensures ∙ ap (option_map (λ (r : Held). r.number)) at ∙ sym (running_in-awake (sets_of c.args.e.now) r at awake)
+    c.number_in_set.ensures ∙ ap (option_map (λ (r : HeldJob). r.number)) at ∙ sym (running_in-awake (sets_of c.args.e.now) r at awake)

@@ -5,7 +5,7 @@ use Rattle.agc_word.specs.Words.{complement}
 use Rattle.agc_word.proofs.Keeping.{kept_twice}
 use Rattle.agc_exec.specs.Calls.{woken_block}
 use Rattle.agc_exec.specs.Blocks.{blocks_of, block_in}
-use Rattle.agc_exec.specs.Held.{Held}
+use Rattle.agc_exec.specs.HeldJob.{HeldJob}
 use Rattle.agc_exec.specs.Image.{sets_of}
 use Rattle.agc_exec.specs.Sets.{Holds, job_of, running_in}
 use Rattle.agc_plan.specs.Jobs.{is_sleeper}
@@ -18,7 +18,7 @@ use Rattle.agc_exec.proofs.Turning.{Turned, turned-lawful, turned-coded}
 use Rattle.agc_exec.proofs.Woken.{Turned-woken, Awoke, awoke, awake, roused-is}
 use Rattle.agc_exec.proofs.wake.wake_set.Goals as goal
 
-sleeps_there : (at : ℕ) (job : Held) → is_sleeper at (job_of job) ≡ true → job.asleep ≡ true
+sleeps_there : (at : ℕ) (job : HeldJob) → is_sleeper at (job_of job) ≡ true → job.asleep ≡ true
 sleeps_there at job e = grind (arith, common_steps)
 
 pub number_in_set-number-requires-clause-held : goal.number_in_set-number-requires-clause-held
@@ -37,11 +37,11 @@ take_over-requires-clause-best c idle =
 pub returns : goal.returns
 returns c =
     let turned : Turned c.args.e.now c.set_word.new.e c.args.k c.requires.is.0 (awake c.requires.is.0) (woken_block (block_in c.args.e.now c.args.k)) = (Turned-woken c.args.e.now c.set_word.new.e c.args.k c.args.at c.requires.is.0 c.requires.lawful.sets c.requires.is.1 (c.set_word.ensures.blocks ∙ ap (λ w. slice_set (blocks_of c.args.e.now) c.args.k (slice_set (block_in c.args.e.now c.args.k) 11 w)) (c.neg.ensures.turned ∙ ap complement (c.of_bits-priority.ensures ∙ c.word_of.ensures.value ∙ sym (get-block_in c.args.e.now c.args.k 11 0 (omega arith)))))) in
-    let number : c.number_in_set-number.result ≡ c.requires.is.0.number = same_Some _ _ (c.number_in_set-number.ensures ∙ ap (option_map (λ (r : Held). r.number)) c.requires.is.1.here) in
+    let number : c.number_in_set-number.result ≡ c.requires.is.0.number = same_Some _ _ (c.number_in_set-number.ensures ∙ ap (option_map (λ (r : HeldJob). r.number)) c.requires.is.1.here) in
     let done : Awoke c.args.e.now c.take_over.new.e c.args.at c.requires.is.0.number = awoke c.args.e.now c.set_word.new.e c.take_over.new.e c.args.k c.args.at c.requires.is.0 c.args.ran turned c.requires.is.1 (record { runs = c.requires.runs; idle = c.requires.idle }) (record { idle = c.take_over.ensures.idle; idle_blocks = c.take_over.ensures.idle_blocks; busy = c.take_over.ensures.busy }) in
     let within : c.args.k < length (sets_of c.args.e.now) = Holds-within (sets_of c.args.e.now) c.args.k c.requires.is.0 c.requires.is.1.here in
     let sleeps : c.requires.is.0.asleep ≡ true = sleeps_there c.args.at c.requires.is.0 c.requires.is.1.sleeps in
-    let slept : (s : Held) → Holds (sets_of c.args.e.now) c.args.k s → s.asleep ≡ true = λ s at. ap (λ h. h.asleep) (same_Some s c.requires.is.0 (sym at ∙ c.requires.is.1.here)) ∙ sleeps in
+    let slept : (s : HeldJob) → Holds (sets_of c.args.e.now) c.args.k s → s.asleep ≡ true = λ s at. ap (λ h. h.asleep) (same_Some s c.requires.is.0 (sym at ∙ c.requires.is.1.here)) ∙ sleeps in
     rw number (record {
       gives = done.gives;
       words = done.words;

@@ -1,7 +1,4 @@
-use Rattle.std.proofs.Common.{ap, sym, refl, ◌∙◌}
-use Rattle.agc_image.specs.Codes.{code_of, code_for}
-use Rattle.agc_image.specs.Images.{IsImage}
-use Rattle.libagc.proofs.Coding.{no_image_then, image_then, first_told, then_told}
+use Rattle.libagc.proofs.Coding.{no_image_then}
 use Rattle.libagc.proofs.eras.agc_begin.Goals as goal
 
 pub returns-in-Some-clause-code : goal.returns-in-Some-clause-code

@@ -12,8 +12,8 @@ use Rattle.agc_machine.proofs.machine.Machine.serve.Goals as goal
 pub step-reply-requires-clause-ready : goal.step-reply-requires-clause-ready
 step-reply-requires-clause-ready c = ready_of _ c.self.inside.erasable c.self.invariant.image
 
-pub store-requires : goal.store-requires
-store-requires c =
+pub note_served-requires : goal.note_served-requires
+note_served-requires c =
     let e = subst (λ (m : Machined). refusal_of m c.args.request.now ≡ None) (sym c.self.view_is) c.requires.served in
     record {
       lawful = c.step-reply.ensures.steps.ready.sound.phases;
@@ -26,8 +26,8 @@ pub invariant_of-self : goal.invariant_of-self
 invariant_of-self c =
     let e = subst (λ (m : Machined). refusal_of m c.args.request.now ≡ None) (sym c.self.view_is) c.requires.served in
     let same : sets_in c.step-reply.new.e ≡ sets_in c.self.inside.erasable = same_sets c.self.inside.erasable c.step-reply.new.e c.step-reply.ensures.steps.same_length in
-    subst (λ (n : ℕ). IsKept (record { plan = planned_with c.self.inside.plan n; limit = c.self.inside.limit; allowance = c.self.inside.allowance; base = c.store.new.base; log = c.store.new.log.items; totals = c.store.new.totals }) c.step-reply.new.e (vec_capacity c.store.new.log)) (sym same)
-    (kept_stored _ c.args.request.now c.step-reply.new.e c.step-reply.result _ (begins c.step-reply.result) c.store.new.base c.store.new.log.items c.store.new.totals c.self.invariant.image.machine (c.store.ensures.room ∙ c.self.invariant.reserved) e same c.step-reply.ensures.steps.ready (c.step-reply.ensures.steps.steps _ _ (stands_of _ c.self.inside.erasable c.self.invariant.image)) refl c.store.ensures.base c.store.ensures.log c.store.ensures.totals).0
+    subst (λ (n : ℕ). IsKept (record { plan = planned_with c.self.inside.plan n; limit = c.self.inside.limit; allowance = c.self.inside.allowance; base = c.note_served.new.base; log = c.note_served.new.log.items; totals = c.note_served.new.totals }) c.step-reply.new.e (vec_capacity c.note_served.new.log)) (sym same)
+    (kept_stored _ c.args.request.now c.step-reply.new.e c.step-reply.result _ (begins c.step-reply.result) c.note_served.new.base c.note_served.new.log.items c.note_served.new.totals c.self.invariant.image.machine (c.note_served.ensures.room ∙ c.self.invariant.reserved) e same c.step-reply.ensures.steps.ready (c.step-reply.ensures.steps.steps _ _ (stands_of _ c.self.inside.erasable c.self.invariant.image)) refl c.note_served.ensures.base c.note_served.ensures.log c.note_served.ensures.totals).0
 
 pub returns-clause-reply : goal.returns-clause-reply
 returns-clause-reply c =
@@ -41,6 +41,6 @@ pub returns-clause-after : goal.returns-clause-after
 returns-clause-after c =
     let e = subst (λ (m : Machined). refusal_of m c.args.request.now ≡ None) (sym c.self.view_is) c.requires.served in
     let same : sets_in c.step-reply.new.e ≡ sets_in c.self.inside.erasable = same_sets c.self.inside.erasable c.step-reply.new.e c.step-reply.ensures.steps.same_length in
-    view_with c.self.inside.plan c.self.inside.limit c.self.inside.allowance c.store.new.base c.store.new.log.items c.store.new.totals same
-    ∙ (kept_stored _ c.args.request.now c.step-reply.new.e c.step-reply.result _ (begins c.step-reply.result) c.store.new.base c.store.new.log.items c.store.new.totals c.self.invariant.image.machine (c.store.ensures.room ∙ c.self.invariant.reserved) e same c.step-reply.ensures.steps.ready (c.step-reply.ensures.steps.steps _ _ (stands_of _ c.self.inside.erasable c.self.invariant.image)) refl c.store.ensures.base c.store.ensures.log c.store.ensures.totals).1
+    view_with c.self.inside.plan c.self.inside.limit c.self.inside.allowance c.note_served.new.base c.note_served.new.log.items c.note_served.new.totals same
+    ∙ (kept_stored _ c.args.request.now c.step-reply.new.e c.step-reply.result _ (begins c.step-reply.result) c.note_served.new.base c.note_served.new.log.items c.note_served.new.totals c.self.invariant.image.machine (c.note_served.ensures.room ∙ c.self.invariant.reserved) e same c.step-reply.ensures.steps.ready (c.step-reply.ensures.steps.steps _ _ (stands_of _ c.self.inside.erasable c.self.invariant.image)) refl c.note_served.ensures.base c.note_served.ensures.log c.note_served.ensures.totals).1
     ∙ ap (λ (m : Machined). served (stepped m c.args.request.now) c.args.request.now m) c.self.view_is

@@ -1,0 +1,72 @@
+// The blocks of lanes.
+use std::io::Write;
+use std::{fmt, io};
+
+/// A column of a picture: the request's number, and where it begins, in points from the left.
+#[derive(Clone, Copy)]
+pub(crate) struct Column {
+    pub(crate) number: u64,
+    pub(crate) x: u64,
+}
+
+/// The column of a request, where columns are so wide.
+pub(crate) fn column_at(width: u64, number: u64) -> Column {
+    Column {
+        number,
+        x: width.saturating_mul(number).saturating_add(110),
+    }
+}
+
+/// How a block looks: free, a job by its number, awake or asleep, the mark of who runs, or tasks.
+#[derive(Clone, Copy)]
+pub(crate) enum Look {
+    Free,
+    Awake(u16),
+    Asleep(u16),
+    Runs,
+    Tasks,
+}
+
+impl fmt::Display for Look {
+    /// The class of the look.
+    fn fmt<W: fmt::Write>(&self, f: &mut fmt::Formatter<W>) -> fmt::Result {
+        match *self {
+            Look::Free => write!(f, "f"),
+            Look::Awake(number) => write!(f, "j{number}"),
+            Look::Asleep(number) => write!(f, "s{number}"),
+            Look::Runs => write!(f, "r"),
+            Look::Tasks => write!(f, "t"),
+        }
+    }
+}
+
+/// Begins a block, up to its title.
+pub(crate) fn put_open<W: Write>(writer: &mut W, look: Look) -> io::Result<()> {
+    write!(writer, "<g class=\"{look}\"><title>")
+}
+
+/// Ends a title with the request's number, and writes the block's ground, from the column to the
+/// right edge.
+pub(crate) fn put_ground<W: Write>(
+    writer: &mut W,
+    column: Column,
+    y: u64,
+    height: u64,
+) -> io::Result<()> {
+    let Column { number, x } = column;
+    write!(
+        writer,
+        ", from request {number}</title><rect x=\"{x}\" y=\"{y}\""
+    )?;
+    write!(writer, " width=\"100%\" height=\"{height}\"/>")
+}
+
+/// Writes a number at the left of a block.
+pub(crate) fn put_label<W: Write>(writer: &mut W, x: u64, y: u64, number: u64) -> io::Result<()> {
+    write!(writer, "<text x=\"{x}\" y=\"{y}\" dx=\"1\">{number}</text>")
+}
+
+/// Ends a block.
+pub(crate) fn put_close<W: Write>(writer: &mut W) -> io::Result<()> {
+    write!(writer, "</g>\n")
+}

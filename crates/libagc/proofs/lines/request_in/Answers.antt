@@ -1,0 +1,8 @@
+use Rattle.std.proofs.Common.{◌≡◌, sym, subst, ℕ, List}
+use Rattle.std.specs.Str.{IsUtf8}
+use Rattle.libagc.proofs.Spelling.{line_is_text}
+use Rattle.libagc.proofs.lines.request_in.Goals as goal
+
+-- what is no text spells nothing
+pub returns-in-Err-clause-only : goal.returns-in-Err-clause-only
+returns-in-Err-clause-only c = λ r h e. absurd (c.in-Err.ensures.cases.0 (subst (λ z. IsUtf8 z) (sym e) (line_is_text r h)))

@@ -1,0 +1,52 @@
+-- How a caller's numbers are read from lines.
+use Rattle.std.specs.Prelude.{◌≡◌, ℕ, List}
+use Rattle.agc_plan.specs.declared.request.Request.{Request}
+use Rattle.agc_plan.specs.declared.request.Request.TheVariants as request
+use Rattle.agc_plan.specs.declared.request.Action.{Action}
+use Rattle.agc_plan.specs.declared.request.Action.TheVariants as action
+use Rattle.agc_plan.specs.Ranges.{IsRequest, IsAction}
+use Rattle.agc_image.specs.declared.asked.AgcRequest.{AgcRequest}
+use Rattle.agc_text.specs.Lines.{line_of, action_line_of}
+
+-- a kind and its numbers
+abbrev pub asked : ℕ → ℕ → ℕ → ℕ → AgcRequest
+asked kind first second third =
+    record { kind = kind; first = first; second = second; third = third }
+
+-- the numbers of a request, in the order of its line; 0 for those that its kind doesn't have
+abbrev pub numbers_of : Request → AgcRequest
+numbers_of (request.Novac priority entry) = asked 1 priority entry.at entry.bank
+numbers_of (request.Findvac priority entry) = asked 2 priority entry.at entry.bank
+numbers_of request.EndOfJob = asked 3 0 0 0
+numbers_of (request.Sleep at) = asked 4 at 0 0
+numbers_of (request.Rouse at) = asked 5 at 0 0
+numbers_of (request.Prio priority) = asked 6 priority 0 0
+numbers_of request.Change = asked 7 0 0 0
+numbers_of (request.Store place word) = asked 8 place word 0
+numbers_of (request.List delay task) = asked 9 delay task.at task.bank
+numbers_of request.Tick = asked 10 0 0 0
+numbers_of (request.SetPhase group phase) = asked 11 group phase 0
+numbers_of request.Restart = asked 12 0 0 0
+numbers_of request.Fresh = asked 13 0 0 0
+
+-- the numbers of an action: of kind 0, or those of the request that asks for the same
+abbrev pub action_numbers : Action → AgcRequest
+action_numbers action.Nothing = asked 0 0 0 0
+action_numbers (action.Novac priority entry) = numbers_of (request.Novac priority entry)
+action_numbers (action.Findvac priority entry) = numbers_of (request.Findvac priority entry)
+action_numbers (action.Rouse at) = numbers_of (request.Rouse at)
+action_numbers (action.List delay task) = numbers_of (request.List delay task)
+
+-- the text is the line of a request, and these are its numbers
+pub record ReadsRequest (text : List ℕ) (numbers : AgcRequest) : Type 0 where
+  pub request : Request
+  pub in_range : IsRequest request
+  pub line : text ≡ line_of request
+  pub numbers_are : numbers ≡ numbers_of request
+
+-- the text is the line of an action, and these are its numbers
+pub record ReadsAction (text : List ℕ) (numbers : AgcRequest) : Type 0 where
+  pub action : Action
+  pub in_range : IsAction action
+  pub line : text ≡ action_line_of action
+  pub numbers_are : numbers ≡ action_numbers action

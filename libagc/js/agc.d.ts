@@ -1,0 +1,259 @@
+/** The job tables of the Apollo Guidance Computer, Block II, over the proved library libagc. */
+
+export declare const WORDS: 144;
+export declare const PHASE_WORDS: 12;
+
+/** What a call lacked: the first that applies. */
+export declare const Code: {
+  readonly OK: 0;
+  readonly NO_SUCH_SETS: 1;
+  readonly NOT_WORDS: 2;
+  readonly UNLAWFUL: 3;
+  readonly OUT_OF_RANGE: 4;
+  readonly NOT_A_WORD: 5;
+  readonly NOT_NOW: 6;
+  readonly UNTIDY: 8;
+  readonly PLAN_RANGE: 9;
+  readonly TASK_TWICE: 10;
+  readonly PHASE_TWICE: 11;
+  readonly TOO_MANY_AREAS: 12;
+  readonly NOT_SPELLED: 13;
+  readonly NO_ROOM: 14;
+};
+
+/** The kinds of replies. */
+export declare const Kind: {
+  readonly ESTABLISHED: 1;
+  readonly LEFT: 2;
+  readonly IDLE: 3;
+  readonly ROUSED: 4;
+  readonly NO_SLEEPER: 5;
+  readonly NO_JOB: 6;
+  readonly RUNS: 7;
+  readonly STORED: 8;
+  readonly LISTED: 9;
+  readonly ALARMED: 10;
+  readonly PHASED: 11;
+  readonly TICKED: 12;
+  readonly TICK_ALARMED: 13;
+  readonly RESTARTED: 14;
+};
+
+/** What a code says, whatever the number. */
+export declare function codeText(code: number): string;
+
+/** What a kind of reply says, whatever the number. */
+export declare function replyText(kind: number): string;
+
+/** A call that was not served. */
+export declare class Lacking extends Error {
+  constructor(code: number, sentence?: string);
+  readonly code: number;
+}
+
+/** What is done when a task fires: one to four actions, as `list 2 02000 00005`. */
+export interface PlanTask {
+  at: string | number;
+  bank: string | number;
+  action: string | readonly string[];
+}
+
+/** What begins again while a restart group, 1 to 6, is in a phase, 1 to 127. */
+export interface PlanPhase {
+  group: number;
+  phase: number;
+  job?: string;
+  task?: string;
+}
+
+/** A plan, as a bench has it. */
+export interface Plan {
+  task?: readonly PlanTask[];
+  phase?: readonly PlanPhase[];
+}
+
+/** A task of the Waitlist. */
+export interface Task {
+  at: number;
+  bank: number;
+}
+
+/** What a machine replies to a request. */
+export declare class Step {
+  /** The kind, of `Kind`. */
+  readonly kind: number;
+  /** The job's number, or the alarm, as 0o1201; else 0. */
+  readonly number: number;
+  /** The tasks that fired, in order. */
+  readonly fired: readonly Task[];
+  /** Which action, 1 to 4, of the last of them raised the alarm; 0 where none did. */
+  readonly action: number;
+  /** The alarm after which an era began; 0 where there was none. */
+  readonly alarm: number;
+  /** Whether an era began with it. */
+  readonly beginsEra: boolean;
+  /** The line that `agc` writes. */
+  readonly text: string;
+  toString(): string;
+}
+
+/** A job in a core set; `area` is the number of its VAC area, 1 to 5, or 0. */
+export interface Job {
+  number: number;
+  priority: number;
+  at: number;
+  bank: number;
+  asleep: boolean;
+  area: number;
+  work: number[];
+}
+
+/** A task that waits, and the centiseconds that are left to it. */
+export interface Waiting {
+  at: number;
+  bank: number;
+  left: number;
+}
+
+/** What words say. Numbers of jobs are 0 for nobody. */
+export interface Scene {
+  running: number;
+  /** Whom a change of job would bring. */
+  next: number;
+  sets: (Job | null)[];
+  /** Who owns each VAC area. */
+  areas: number[];
+  tasks: Waiting[];
+  phases: number[];
+  codes: number[];
+}
+
+/** How many requests were served, how many alarms 1201, 1202 and 1203 came, how many eras began. */
+export interface Totals {
+  served: number;
+  alarms: number[];
+  restarts: number;
+}
+
+/** A machine: its words, and the plan by which it goes on after an alarm. */
+export declare class Machine {
+  constructor(given?: {
+    sets?: number;
+    plan?: Plan;
+    /** The twelve phase words that were found as power came back. */
+    power?: readonly (number | string)[];
+    /** The words of an earlier machine, with as many core sets as these have. */
+    words?: ArrayLike<number>;
+  });
+  /** Asks one request: a line, as `"findvac 30 02100 00005"`. */
+  ask(line: string): Step;
+  /** Asks one request: its name and numbers, as `"findvac", 0o30, 0o2100, 5`. */
+  ask(name: string, ...numbers: number[]): Step;
+  readonly sets: number;
+  /** The words as they are now: 132 with seven core sets, 144 with eight. */
+  readonly words: Uint16Array;
+  /** The words as they were when the last request was answered: at an alarm, before the restart. */
+  readonly moment: Uint16Array;
+  readonly totals: Totals;
+  /** What the words say. */
+  scene(): Scene;
+  /** The report that `agc` writes. */
+  report(): string;
+  /** A machine of its own with the same words, plan and totals. */
+  copy(): Machine;
+}
+
+/** What words say that a machine has left, or had at a moment. */
+export declare function sceneOf(words: ArrayLike<number>): Scene;
+
+/** Takes the module agc.wasm, as bytes or compiled. Importing `agc` has done it. */
+export declare function start(source: BufferSource | WebAssembly.Module): Promise<void>;
+
+/**
+ * What agc.wasm exports, for those who instantiate it themselves: the calls as agc.h has them.
+ * Pointers are places in `memory` from `__heap_base` on, of which a caller makes as much as it wants
+ * by `memory.grow`. What is returned as a struct in C is written to `answer`.
+ */
+export interface Library {
+  memory: WebAssembly.Memory;
+  __heap_base: WebAssembly.Global;
+  agc_plan_check(rows: bigint, row_count: bigint, entries: bigint, entry_count: bigint): number;
+  agc_step(
+    answer: bigint, words: bigint, sets: number, rows: bigint, row_count: bigint, entries: bigint,
+    entry_count: bigint, request: bigint, fired: bigint, moment: bigint,
+  ): void;
+  agc_step_trusted(
+    answer: bigint, words: bigint, sets: number, rows: bigint, row_count: bigint, entries: bigint,
+    entry_count: bigint, request: bigint, fired: bigint, moment: bigint,
+  ): void;
+  agc_begin(
+    words: bigint, sets: number, alarm: number, entries: bigint, entry_count: bigint,
+  ): number;
+  agc_begin_trusted(
+    words: bigint, sets: number, alarm: number, entries: bigint, entry_count: bigint,
+  ): number;
+  agc_power_up(
+    answer: bigint, words: bigint, sets: number, entries: bigint, entry_count: bigint,
+    phase_words: bigint,
+  ): void;
+  agc_power_up_trusted(
+    answer: bigint, words: bigint, sets: number, entries: bigint, entry_count: bigint,
+    phase_words: bigint,
+  ): void;
+  agc_read_request(text: bigint, length: bigint, request: bigint): number;
+  agc_read_action(text: bigint, length: bigint, action: bigint): number;
+  agc_write_reply(answer: bigint, step: bigint, fired: bigint, text: bigint, room: bigint): void;
+  agc_write_report(
+    answer: bigint, words: bigint, sets: number, totals: bigint, text: bigint, room: bigint,
+  ): void;
+  agc_clear(words: bigint, sets: number): number;
+  agc_check(answer: bigint, words: bigint, sets: number): void;
+  agc_restart(words: bigint, sets: number): number;
+  agc_migrate(words: bigint): number;
+  agc_novac(
+    answer: bigint, words: bigint, sets: number, priority: number, at: number, bank: number,
+  ): void;
+  agc_novac_trusted(
+    answer: bigint, words: bigint, sets: number, priority: number, at: number, bank: number,
+  ): void;
+  agc_findvac(
+    answer: bigint, words: bigint, sets: number, priority: number, at: number, bank: number,
+  ): void;
+  agc_findvac_trusted(
+    answer: bigint, words: bigint, sets: number, priority: number, at: number, bank: number,
+  ): void;
+  agc_end_of_job(answer: bigint, words: bigint, sets: number): void;
+  agc_end_of_job_trusted(answer: bigint, words: bigint, sets: number): void;
+  agc_job_sleep(answer: bigint, words: bigint, sets: number, at: number): void;
+  agc_job_sleep_trusted(answer: bigint, words: bigint, sets: number, at: number): void;
+  agc_job_wake(answer: bigint, words: bigint, sets: number, at: number): void;
+  agc_job_wake_trusted(answer: bigint, words: bigint, sets: number, at: number): void;
+  agc_prio_change(answer: bigint, words: bigint, sets: number, priority: number): void;
+  agc_prio_change_trusted(answer: bigint, words: bigint, sets: number, priority: number): void;
+  agc_change_job(answer: bigint, words: bigint, sets: number): void;
+  agc_change_job_trusted(answer: bigint, words: bigint, sets: number): void;
+  agc_store(answer: bigint, words: bigint, sets: number, place: number, word: number): void;
+  agc_store_trusted(answer: bigint, words: bigint, sets: number, place: number, word: number): void;
+  agc_running(answer: bigint, words: bigint, sets: number): void;
+  agc_running_trusted(answer: bigint, words: bigint, sets: number): void;
+  agc_list(
+    answer: bigint, words: bigint, sets: number, delay: number, at: number, bank: number,
+  ): void;
+  agc_list_trusted(
+    answer: bigint, words: bigint, sets: number, delay: number, at: number, bank: number,
+  ): void;
+  agc_count_time3(answer: bigint, words: bigint, sets: number): void;
+  agc_count_time3_trusted(answer: bigint, words: bigint, sets: number): void;
+  agc_due(answer: bigint, words: bigint, sets: number): void;
+  agc_due_trusted(answer: bigint, words: bigint, sets: number): void;
+  agc_dispatch(answer: bigint, words: bigint, sets: number): void;
+  agc_dispatch_trusted(answer: bigint, words: bigint, sets: number): void;
+  agc_set_phase(words: bigint, sets: number, group: number, phase: number): number;
+  agc_set_phase_trusted(words: bigint, sets: number, group: number, phase: number): number;
+  agc_record_alarm(words: bigint, sets: number, alarm: number): number;
+  agc_record_alarm_trusted(words: bigint, sets: number, alarm: number): number;
+  agc_recover(answer: bigint, words: bigint): void;
+  agc_add(answer: bigint, a: number, b: number): void;
+  agc_negative(answer: bigint, word: number): void;
+  agc_value(answer: bigint, word: number): void;
+}

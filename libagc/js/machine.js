@@ -1,0 +1,692 @@
+/**
+ * The machine of the Apollo Guidance Computer's job tables, Block II, over the proved library
+ * libagc as WebAssembly.
+ *
+ * `agc.js` hands all this on with its module loaded. Whoever has the module's bytes elsewhere, as a
+ * page that carries them within itself, imports this file and awaits `start(bytes)` first.
+ *
+ * What a call lacks is thrown as `Lacking`, with a code and a sentence; the machine is then as it
+ * was. What isn't of the right type is a `TypeError`. agc.h and docs/EMBEDDING.md say what each
+ * call means.
+ *
+ * @typedef {{ at: string | number, bank: string | number, action: string | string[] }} PlanTask
+ * @typedef {{ group: number, phase: number, job?: string, task?: string }} PlanPhase
+ * @typedef {{ task?: PlanTask[], phase?: PlanPhase[] }} Plan
+ * @typedef {{ at: number, bank: number }} Task
+ * @typedef {{ number: number, priority: number, at: number, bank: number, asleep: boolean,
+ *   area: number, work: number[] }} Job
+ * @typedef {{ at: number, bank: number, left: number }} Waiting
+ * @typedef {{ running: number, next: number, sets: (Job | null)[], areas: number[],
+ *   tasks: Waiting[], phases: number[], codes: number[] }} Scene
+ * @typedef {{ served: number, alarms: number[], restarts: number }} Totals
+ */
+
+/** How many numbers an array of words has, and how many phase words there are. */
+export const WORDS = 144;
+export const PHASE_WORDS = 12;
+
+/** What a call lacked: the first that applies. */
+export const Code = Object.freeze({
+  OK: 0,
+  NO_SUCH_SETS: 1,
+  NOT_WORDS: 2,
+  UNLAWFUL: 3,
+  OUT_OF_RANGE: 4,
+  NOT_A_WORD: 5,
+  NOT_NOW: 6,
+  UNTIDY: 8,
+  PLAN_RANGE: 9,
+  TASK_TWICE: 10,
+  PHASE_TWICE: 11,
+  TOO_MANY_AREAS: 12,
+  NOT_SPELLED: 13,
+  NO_ROOM: 14,
+});
+
+/** The kinds of replies. */
+export const Kind = Object.freeze({
+  ESTABLISHED: 1,
+  LEFT: 2,
+  IDLE: 3,
+  ROUSED: 4,
+  NO_SLEEPER: 5,
+  NO_JOB: 6,
+  RUNS: 7,
+  STORED: 8,
+  LISTED: 9,
+  ALARMED: 10,
+  PHASED: 11,
+  TICKED: 12,
+  TICK_ALARMED: 13,
+  RESTARTED: 14,
+});
+
+/** @type {Record<number, string>} */
+const CODE_TEXTS = {
+  [Code.OK]: "the call was served",
+  [Code.NO_SUCH_SETS]: "the number of core sets is neither 7 nor 8",
+  [Code.NOT_WORDS]: "a number of the image is above 077777",
+  [Code.UNLAWFUL]: "the image isn't lawful, or the phase words don't agree",
+  [Code.OUT_OF_RANGE]: "a number of the call is out of its range",
+  [Code.NOT_A_WORD]: "a word of the call is above 077777",
+  [Code.NOT_NOW]: "a task is due, or none is where one has to be",
+  [Code.UNTIDY]: "the image is lawful, and no step leaves it so",
+  [Code.PLAN_RANGE]: "a number of the plan is out of its range",
+  [Code.TASK_TWICE]: "a task has two rows of the plan",
+  [Code.PHASE_TWICE]: "a group's phase has two entries of the plan",
+  [Code.TOO_MANY_AREAS]: "each of six groups wants a VAC area, and there are five",
+  [Code.NOT_SPELLED]: "the line spells no request",
+  [Code.NO_ROOM]: "the text doesn't fit into the room that is lent",
+};
+
+/** @type {Record<number, string>} */
+const REPLY_TEXTS = {
+  [Kind.ESTABLISHED]: "a job was established",
+  [Kind.LEFT]: "the running job ended or sleeps, and another runs",
+  [Kind.IDLE]: "the running job ended or sleeps, and nobody runs",
+  [Kind.ROUSED]: "a sleeper was awakened",
+  [Kind.NO_SLEEPER]: "no job sleeps at that address",
+  [Kind.NO_JOB]: "nobody runs, so there is no job to act on",
+  [Kind.RUNS]: "a job runs",
+  [Kind.STORED]: "a work word was set",
+  [Kind.LISTED]: "a task was listed",
+  [Kind.ALARMED]: "a table is full, and nothing changed",
+  [Kind.PHASED]: "a phase was set",
+  [Kind.TICKED]: "a tick passed",
+  [Kind.TICK_ALARMED]: "an action raised an alarm in a tick, and an era began",
+  [Kind.RESTARTED]: "an era began by a restart or a fresh start",
+};
+
+/**
+ * What a code says, whatever the number.
+ * @param {number} code
+ */
+export function codeText(code) {
+  return CODE_TEXTS[code] ?? "no call answers this code";
+}
+
+/**
+ * What a kind of reply says, whatever the number.
+ * @param {number} kind
+ */
+export function replyText(kind) {
+  return REPLY_TEXTS[kind] ?? "no reply is of this kind";
+}
+
+/** A call that was not served. `code` says what it lacked, `message` the same as a sentence. */
+export class Lacking extends Error {
+  /**
+   * @param {number} code
+   * @param {string} [sentence]
+   */
+  constructor(code, sentence) {
+    super(sentence || codeText(code));
+    this.name = "Lacking";
+    this.code = code;
+  }
+}
+
+// The module, and what lies where in its memory behind its own: the words of the machine that was
+// asked last, the words as they were at its last request, a call's numbers and answer, and that
+// machine's plan.
+const SIZE = { words: 288, moment: 288, answer: 24, fired: 72, request: 16, phases: 24 };
+const ROW = 72;
+const ENTRY = 36;
+const PAGE = 65536;
+
+/** @type {any} */
+let calls = null;
+/** @type {Record<string, number>} */
+const at = {};
+/** @type {Record<string, bigint>} */
+const to = {};
+/** @type {Uint16Array} */
+let halves;
+/** @type {Uint32Array} */
+let numbers;
+/** @type {any} */
+let asked = null;
+
+/**
+ * Makes the memory as long as this. A module with a 64-bit memory counts pages by a BigInt.
+ * @param {number} end
+ */
+function reach(end) {
+  const lacking = Math.ceil((end - calls.memory.buffer.byteLength) / PAGE);
+  if (lacking > 0) {
+    try {
+      calls.memory.grow(lacking);
+    } catch {
+      calls.memory.grow(BigInt(lacking));
+    }
+  }
+  if (halves === undefined || halves.buffer !== calls.memory.buffer) {
+    halves = new Uint16Array(calls.memory.buffer);
+    numbers = new Uint32Array(calls.memory.buffer);
+  }
+}
+
+/**
+ * Takes the module agc.wasm, as bytes or compiled. `agc.js` has done it.
+ * @param {BufferSource | WebAssembly.Module} source
+ */
+export async function start(source) {
+  const made = await WebAssembly.instantiate(/** @type {any} */ (source), {});
+  leave();
+  calls = ("instance" in made ? /** @type {any} */ (made).instance : made).exports;
+  let place = (Number(calls.__heap_base.value ?? calls.__heap_base) + 7) & ~7;
+  for (const [name, size] of Object.entries(SIZE)) {
+    at[name] = place;
+    to[name] = BigInt(place);
+    place += (size + 7) & ~7;
+  }
+  [at.plan, to.plan] = [place, BigInt(place)];
+  reach(place);
+}
+
+/**
+ * A number as the library takes it: one that has more than 32 bits is out of every range.
+ * @param {number} number
+ */
+function whole(number) {
+  if (!Number.isInteger(number)) {
+    throw new TypeError(`a number has to be an integer, and this is ${String(number)}`);
+  }
+  return number >= 0 && number <= 0xffffffff ? number : 0xffffffff;
+}
+
+/**
+ * A word or an address: a number, or its five octal digits.
+ * @param {number | string} given
+ */
+function octal(given) {
+  if (typeof given === "number") return whole(given);
+  if (typeof given !== "string") {
+    throw new TypeError(`a word has to be a number or octal digits, and this is ${String(given)}`);
+  }
+  return /^[0-7]{5}$/.test(given) ? parseInt(given, 8) : 0xffffffff;
+}
+
+// How the words of a line are written, by their letters in docs/FORMATS.md: digits, and their base.
+// The library looks at the ranges.
+/** @type {Record<string, [RegExp, number]>} */
+const FORMS = {
+  P: [/^[0-7]{2}$/, 8],
+  A: [/^[0-7]{5}$/, 8],
+  W: [/^[0-7]{5}$/, 8],
+  K: [/^[0-9]$/, 10],
+  G: [/^[0-9]$/, 10],
+  D: [/^[1-9][0-9]*$/, 10],
+  N: [/^(?:0|[1-9][0-9]*)$/, 10],
+};
+
+// Each request's name, with the words of its line. The kinds are 1 to 13 in this order.
+const LINES = {
+  ...{ novac: "PAW", findvac: "PAW", end: "", sleep: "A", rouse: "A", prio: "P", change: "" },
+  ...{ store: "KW", list: "DAW", tick: "", phase: "GN", restart: "", fresh: "" },
+};
+const KINDS = new Map(
+  Object.entries(LINES).map(([name, words], k) => [name, { kind: k + 1, words }]),
+);
+const ACTIONS = ["novac", "findvac", "rouse", "list"];
+
+/**
+ * Throws the code of a call that was not served.
+ * @param {number} code
+ */
+function served(code) {
+  if (code !== Code.OK) throw new Lacking(code);
+}
+
+/**
+ * Throws that a line isn't of some kinds.
+ * @param {string} line
+ * @param {string} kinds
+ * @returns {never}
+ */
+function notSpelled(line, kinds) {
+  throw new Lacking(Code.NOT_SPELLED, `${JSON.stringify(line)} is no ${kinds}`);
+}
+
+/**
+ * The kind and numbers that a line spells: of a script's, or of an action's that names these.
+ * @param {string} line
+ * @param {string[]} [names]
+ */
+function read(line, names) {
+  if (typeof line !== "string") {
+    throw new TypeError(`a line has to be a string, and this is ${String(line)}`);
+  }
+  const kinds = names ? names.join(" or ") : "request";
+  const [name, ...texts] = line.split(" ");
+  const form = names && !names.includes(name) ? undefined : KINDS.get(name);
+  if (form === undefined || texts.length !== form.words.length) return notSpelled(line, kinds);
+  const found = [form.kind, 0, 0, 0];
+  texts.forEach((text, k) => {
+    const [digits, base] = FORMS[form.words[k]];
+    if (!digits.test(text)) notSpelled(line, kinds);
+    found[k + 1] = whole(parseInt(text, base));
+  });
+  return found;
+}
+
+/**
+ * The numbers of a plan's row.
+ * @param {PlanTask} it
+ */
+function rowOf(it) {
+  const row = new Uint32Array(ROW / 4);
+  const actions = Array.isArray(it.action) ? it.action : [it.action];
+  if (actions.length < 1 || actions.length > 4) {
+    throw new Lacking(Code.PLAN_RANGE, `a task has 1 to 4 actions, and this ${actions.length}`);
+  }
+  row.set([octal(it.at), octal(it.bank)]);
+  actions.forEach((line, k) => {
+    if (line !== "nothing") row.set(read(line, ACTIONS), 2 + 4 * k);
+  });
+  return row;
+}
+
+/**
+ * The numbers of a plan's entry.
+ * @param {PlanPhase} it
+ */
+function entryOf(it) {
+  const entry = new Uint32Array(ENTRY / 4);
+  entry.set([whole(it.group), whole(it.phase)]);
+  if (it.job !== undefined) entry.set(read(it.job, ["novac", "findvac"]), 2);
+  if (it.task !== undefined) entry.set(read(it.task, ["list"]).slice(1), 6);
+  return entry;
+}
+
+/** What a plan's rows and entries are in the module's memory, one behind the other. */
+class Lent {
+  /** @param {Plan} plan */
+  constructor(plan) {
+    const rows = (plan.task ?? []).map(rowOf);
+    const entries = (plan.phase ?? []).map(entryOf);
+    this.numbers = new Uint32Array((rows.length * ROW + entries.length * ENTRY) / 4);
+    rows.forEach((it, k) => this.numbers.set(it, (k * ROW) / 4));
+    entries.forEach((it, k) => this.numbers.set(it, (rows.length * ROW + k * ENTRY) / 4));
+    this.rows = to.plan;
+    this.rowCount = BigInt(rows.length);
+    this.entries = to.plan + BigInt(rows.length * ROW);
+    this.entryCount = BigInt(entries.length);
+    this.lend();
+    served(calls.agc_plan_check(this.rows, this.rowCount, this.entries, this.entryCount));
+  }
+
+  /** Writes the plan to its place. */
+  lend() {
+    reach(at.plan + this.numbers.byteLength);
+    numbers.set(this.numbers, at.plan / 4);
+  }
+}
+
+/** @type {Record<number, string>} */
+const REPLY_LINES = {
+  [Kind.ESTABLISHED]: "job",
+  [Kind.LEFT]: "left",
+  [Kind.IDLE]: "left idle",
+  [Kind.ROUSED]: "roused",
+  [Kind.NO_SLEEPER]: "no sleeper",
+  [Kind.NO_JOB]: "no job",
+  [Kind.RUNS]: "runs",
+  [Kind.STORED]: "stored",
+  [Kind.LISTED]: "listed",
+  [Kind.ALARMED]: "",
+  [Kind.PHASED]: "phased",
+  [Kind.TICKED]: "tick",
+  [Kind.TICK_ALARMED]: "tick",
+  [Kind.RESTARTED]: "restarted",
+};
+
+/**
+ * A word in five octal digits.
+ * @param {number} word
+ */
+function spelled(word) {
+  return word.toString(8).padStart(5, "0");
+}
+
+/** What a machine replies to a request. */
+export class Step {
+  /**
+   * @param {number} kind
+   * @param {number} number
+   * @param {Task[]} fired
+   * @param {number} action
+   */
+  constructor(kind, number, fired, action) {
+    /** The kind: `Kind` has them. */
+    this.kind = kind;
+    /** The job's number, or the alarm, as 0o1201; else 0. */
+    this.number = number;
+    /** The tasks that fired, in order. */
+    this.fired = fired;
+    /** Which action, 1 to 4, of the last of them raised the alarm; 0 where none did. */
+    this.action = action;
+  }
+
+  /** The alarm, 0o1201, 0o1202 or 0o1203, after which an era began; 0 where there was none. */
+  get alarm() {
+    return this.kind === Kind.ALARMED || this.kind === Kind.TICK_ALARMED ? this.number : 0;
+  }
+
+  /** Whether an era began with it. */
+  get beginsEra() {
+    return this.alarm !== 0 || this.kind === Kind.RESTARTED;
+  }
+
+  /** The line that `agc` writes. */
+  get text() {
+    const said = REPLY_LINES[this.kind];
+    const fired = this.fired.map((it) => ` ${spelled(it.at)}/${spelled(it.bank)}`).join("");
+    if (this.alarm !== 0) return `${said}${fired} alarm ${this.number.toString(8)}`.trim();
+    return this.number === 0 ? said + fired : `${said} ${this.number}`;
+  }
+
+  toString() {
+    return this.text;
+  }
+}
+
+/** Saves what stands in the module's memory of the machine that was asked last. */
+let leave = () => {};
+
+/**
+ * A machine: its words, and the plan by which it goes on after an alarm.
+ *
+ * `plan` has `task` and `phase` as a bench has them, and both may be missing. `power` are the
+ * twelve phase words that were found as power came back. `words` are those of an earlier machine,
+ * with as many core sets as these have.
+ */
+export class Machine {
+  #sets = 7;
+  /** @type {Lent} */
+  #plan;
+  #words = new Uint16Array(WORDS);
+  #moment = new Uint16Array(WORDS);
+  /** @type {Totals} */
+  #totals = { served: 0, alarms: [0, 0, 0], restarts: 0 };
+
+  static {
+    leave = () => {
+      if (asked !== null) asked.#leave();
+      asked = null;
+    };
+  }
+
+  /**
+   * @param {{ sets?: number, plan?: Plan, power?: (number | string)[],
+   *   words?: ArrayLike<number> }} given
+   */
+  constructor(given = {}) {
+    const { sets, plan = {}, power, words } = given;
+    if (calls === null) throw new TypeError("the module isn't there yet: await start(bytes)");
+    leave();
+    this.#sets = whole(sets ?? (words?.length === WORDS ? 8 : 7));
+    this.#plan = new Lent(plan);
+    if (words !== undefined) {
+      this.#take(words);
+    } else if (power === undefined) {
+      served(calls.agc_clear(to.words, this.#sets));
+    } else {
+      this.#powerUp(power);
+    }
+    halves.copyWithin(at.moment / 2, at.words / 2, at.words / 2 + WORDS);
+    asked = this;
+  }
+
+  /**
+   * Begins with words from elsewhere: whether a step may be asked on them is tried on a copy.
+   * @param {ArrayLike<number>} words
+   */
+  #take(words) {
+    const found = this.#numbers(Array.from(words, whole), this.#size);
+    if (found.some((it) => it > 0xffff)) throw new Lacking(Code.NOT_WORDS);
+    halves.set(found, at.words / 2);
+    this.#spell("change", []);
+    this.#step(calls.agc_step);
+    served(numbers[at.answer / 4]);
+    halves.set(found, at.words / 2);
+  }
+
+  /** @param {(number | string)[]} power */
+  #powerUp(power) {
+    const found = this.#numbers(Array.from(power, octal), PHASE_WORDS);
+    halves.set(found.map((it) => Math.min(it, 0xffff)), at.phases / 2);
+    const plan = this.#plan;
+    calls.agc_power_up(to.answer, to.words, this.#sets, plan.entries, plan.entryCount, to.phases);
+    served(numbers[at.answer / 4]);
+  }
+
+  /**
+   * So many numbers.
+   * @param {number[]} found
+   * @param {number} size
+   */
+  #numbers(found, size) {
+    if (found.length === size) return found;
+    const counts = `there have to be ${size} words, and these are ${found.length}`;
+    throw new Lacking(Code.NOT_WORDS, counts);
+  }
+
+  get #size() {
+    return 48 + 12 * this.#sets;
+  }
+
+  #leave() {
+    this.#words.set(halves.subarray(at.words / 2, at.words / 2 + WORDS));
+    this.#moment.set(halves.subarray(at.moment / 2, at.moment / 2 + WORDS));
+  }
+
+  /** Puts the words, the moment and the plan into the module's memory. */
+  #enter() {
+    leave();
+    this.#plan.lend();
+    halves.set(this.#words, at.words / 2);
+    halves.set(this.#moment, at.moment / 2);
+    asked = this;
+  }
+
+  /**
+   * Writes a request by its name and numbers, or by its line, to its place.
+   * @param {string} request
+   * @param {number[]} given
+   */
+  #spell(request, given) {
+    const form = KINDS.get(request);
+    if (form !== undefined && form.words.length === given.length) {
+      const place = at.request / 4;
+      numbers[place] = form.kind;
+      for (let k = 0; k < given.length; k++) numbers[place + 1 + k] = whole(given[k]);
+    } else if (given.length === 0) {
+      numbers.set(read(request), at.request / 4);
+    } else {
+      notSpelled(request, `request of ${given.length} numbers`);
+    }
+  }
+
+  /**
+   * One of the two calls of a step.
+   * @param {Function} call
+   */
+  #step(call) {
+    const { answer, words, request, fired, moment } = to;
+    const { rows, rowCount, entries, entryCount } = this.#plan;
+    call(answer, words, this.#sets, rows, rowCount, entries, entryCount, request, fired, moment);
+  }
+
+  /**
+   * Asks one request: a line as `"findvac 30 02100 00005"`, or its name and numbers, as
+   * `"findvac", 0o30, 0o2100, 5`. After an alarm, a restart or a fresh start an era has begun.
+   * @param {string} request
+   * @param {...number} given
+   * @returns {Step}
+   */
+  ask(request, ...given) {
+    if (asked !== this) this.#enter();
+    this.#spell(request, given);
+    this.#step(calls.agc_step_trusted);
+    const place = at.answer / 4;
+    if (numbers[place] !== Code.OK) throw new Lacking(numbers[place]);
+    const fired = [];
+    for (let k = 0; k < numbers[place + 3]; k++) {
+      fired.push({ at: numbers[at.fired / 4 + 2 * k], bank: numbers[at.fired / 4 + 2 * k + 1] });
+    }
+    const reply = new Step(numbers[place + 1], numbers[place + 2], fired, numbers[place + 4]);
+    this.#count(reply);
+    return reply;
+  }
+
+  /** @param {Step} reply */
+  #count(reply) {
+    this.#totals.served++;
+    if (reply.beginsEra) this.#totals.restarts++;
+    if (reply.alarm !== 0) this.#totals.alarms[reply.alarm - 0o1201]++;
+  }
+
+  /** How many core sets there are: 7 or 8. */
+  get sets() {
+    return this.#sets;
+  }
+
+  /** The words as they are now: 132 with seven core sets, 144 with eight. */
+  get words() {
+    return asked === this
+      ? halves.slice(at.words / 2, at.words / 2 + this.#size)
+      : this.#words.slice(0, this.#size);
+  }
+
+  /** The words as they were when the last request was answered: at an alarm, before the restart. */
+  get moment() {
+    return asked === this
+      ? halves.slice(at.moment / 2, at.moment / 2 + this.#size)
+      : this.#moment.slice(0, this.#size);
+  }
+
+  /** How many requests were served, alarms 1201, 1202 and 1203 came, and eras began. */
+  get totals() {
+    return { ...this.#totals, alarms: [...this.#totals.alarms] };
+  }
+
+  /** What the words say, as `sceneOf` has it. */
+  scene() {
+    return sceneOf(this.words);
+  }
+
+  /** The report that `agc` writes. */
+  report() {
+    const words = Array.from(this.words, spelled);
+    const sets = blocksOf(words).map((it, k) => {
+      return `SET ${k} ${it[11] === "77777" ? "FREE" : it.join(" ")}`;
+    });
+    const tables = Object.entries(TABLES).map(([name, [begin, end]]) => {
+      return `${name} ${words.slice(begin, end).join(" ")}`;
+    });
+    const { served: count, alarms, restarts } = this.#totals;
+    const counts = [`SERVED ${count}`, `ALARMS ${alarms.join(" ")}`, `RESTARTS ${restarts}`];
+    const first = this.#sets === 8 ? ["SETS 8"] : [];
+    return [...first, ...sets, ...tables, ...counts].map((it) => `${it}\n`).join("");
+  }
+
+  /** A machine of its own with the same words, plan and totals. */
+  copy() {
+    const made = new Machine({ sets: this.#sets });
+    leave();
+    made.#plan = this.#plan;
+    made.#words.set(this.#words);
+    made.#moment.set(this.#moment);
+    made.#totals = this.totals;
+    return made;
+  }
+}
+
+const AREAS = [0o300, 0o354, 0o430, 0o504, 0o560];
+const FREE = 0o77777;
+
+// The tables behind the core sets, in the order of the report: where each begins and ends.
+/** @type {Record<string, [number, number]>} */
+const TABLES = {
+  VAC: [84, 89],
+  NEWJOB: [89, 90],
+  TIME3: [90, 91],
+  LST1: [91, 99],
+  LST2: [99, 117],
+  PHASE: [117, 129],
+  FAILREG: [129, 132],
+};
+
+/**
+ * The twelve words of each core set: the eighth stands behind the tables.
+ * @template T
+ * @param {T[]} words
+ */
+function blocksOf(words) {
+  const blocks = [0, 1, 2, 3, 4, 5, 6, ...(words.length === WORDS ? [11] : [])];
+  return blocks.map((it) => words.slice(12 * it, 12 * it + 12));
+}
+
+/**
+ * The value of a word in ones' complement.
+ * @param {number} word
+ */
+function value(word) {
+  return word <= 0o37777 ? word : word - FREE;
+}
+
+/**
+ * The job of a core set, or null.
+ * @param {number[]} set
+ */
+function jobOf(set) {
+  if (set[11] === FREE) return null;
+  const asleep = set[11] > 0o37777;
+  const packed = asleep ? FREE - set[11] : set[11];
+  return {
+    number: set[0],
+    priority: packed >> 9,
+    at: set[8],
+    bank: set[9],
+    asleep,
+    area: AREAS.indexOf(packed & 0o777) + 1,
+    work: Array.from(set.slice(1, 7)),
+  };
+}
+
+/**
+ * The tasks that wait, in the order in which they come due.
+ * @param {number[]} words
+ */
+function tasksOf(words) {
+  const found = [];
+  let left = words[90] === 0 ? 0 : 16384 - words[90];
+  for (let k = 0; k < 9 && words[99 + 2 * k] !== 0; k++) {
+    if (k > 0) left += 1 - value(words[90 + k]);
+    found.push({ at: words[99 + 2 * k], bank: words[100 + 2 * k], left });
+  }
+  return found;
+}
+
+/**
+ * What words say that a machine has left, or had at a moment: who runs and whom a change of job
+ * would bring (job numbers, 0 for nobody), the core sets with their jobs, who owns each VAC area,
+ * the tasks that wait with the centiseconds left to each, the six phases, and the three codes.
+ * @param {ArrayLike<number>} words
+ * @returns {Scene}
+ */
+export function sceneOf(words) {
+  const all = Array.from(words);
+  const sets = blocksOf(all).map(jobOf);
+  const next = all[89] === FREE ? 0 : all[89] / 12;
+  return {
+    running: sets[0] !== null && !sets[0].asleep ? sets[0].number : 0,
+    next: next === 0 ? 0 : sets[next]?.number ?? 0,
+    sets,
+    areas: AREAS.map((_, k) => sets.find((it) => it?.area === k + 1)?.number ?? 0),
+    tasks: tasksOf(all),
+    phases: [1, 2, 3, 4, 5, 6].map((group) => all[116 + 2 * group]),
+    codes: all.slice(129, 132),
+  };
+}

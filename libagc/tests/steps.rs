@@ -1,0 +1,194 @@
+//! Reads script lines, as `agc script` does, asks a `Machine` for each, and writes its reply lines and its report. Each
+//! request is asked as its line, and by its numbers of a copy, which has to reply and leave the same.
+//! Other lines are those that eras.py writes: the plan, where the next bench begins, and what of the tables is to be told.
+//!
+//!     steps SETS
+
+#[path = "../rust/agc.rs"]
+mod agc;
+
+use agc::*;
+use std::fmt::Write;
+use std::io::Read;
+
+struct Run {
+    sets: u32,
+    tasks: Vec<(u32, u32, Vec<String>)>,
+    phases: Vec<[String; 4]>,
+    power: Option<PhaseWords>,
+    made: Option<Machine>,
+}
+
+fn number(text: &str, radix: u32) -> u32 {
+    u32::from_str_radix(text, radix).unwrap()
+}
+
+/// A reply's line by its numbers alone.
+fn spelled(step: &Step) -> String {
+    let n = step.number();
+    let fired: String = step.fired().iter().map(|it| format!(" {:05o}/{:05o}", it.at, it.bank)).collect();
+    match step.kind() {
+        ESTABLISHED => format!("job {n}"),
+        LEFT => format!("left {n}"),
+        IDLE => "left idle".to_string(),
+        ROUSED => format!("roused {n}"),
+        NO_SLEEPER => "no sleeper".to_string(),
+        NO_JOB => "no job".to_string(),
+        RUNS => format!("runs {n}"),
+        STORED => "stored".to_string(),
+        LISTED => "listed".to_string(),
+        ALARMED => format!("alarm {n:o}"),
+        PHASED => "phased".to_string(),
+        TICKED => format!("tick{fired}"),
+        TICK_ALARMED => format!("tick{fired} alarm {n:o}"),
+        RESTARTED => "restarted".to_string(),
+        _ => panic!("kind {}", step.kind()),
+    }
+}
+
+/// A scene as arrays alone.
+fn told(scene: &Scene) -> String {
+    let job = |it: &Option<Job>| match it {
+        None => "null".to_string(),
+        Some(Job { number, priority, at, bank, asleep, area, work }) => {
+            format!("[{number},{priority},{at},{bank},{asleep},{area},{work:?}]")
+        }
+    };
+    let sets: Vec<String> = scene.sets.iter().map(job).collect();
+    let tasks: Vec<[u16; 3]> = scene.tasks.iter().map(|it| [it.at, it.bank, it.left]).collect();
+    let Scene { running, next, areas, phases, codes, .. } = scene;
+    let sets = sets.join(",");
+    format!("[{running},{next},[{sets}],{areas:?},{tasks:?},{phases:?},{codes:?}]").replace(' ', "")
+}
+
+impl Run {
+    fn new(sets: u32) -> Run {
+        Run { sets, tasks: vec![], phases: vec![], power: None, made: None }
+    }
+
+    fn plan(&self) -> Result<Plan, Lacking> {
+        let mut plan = Plan::new();
+        for (at, bank, lines) in &self.tasks {
+            let lines: Vec<&str> = lines.iter().map(String::as_str).collect();
+            plan = plan.task(*at, *bank, &lines)?;
+        }
+        for [group, phase, job, task] in &self.phases {
+            plan = plan.phase(number(group, 10), number(phase, 10), job, task)?;
+        }
+        Ok(plan)
+    }
+
+    fn machine(&mut self) -> &mut Machine {
+        if self.made.is_none() {
+            let plan = self.plan().unwrap();
+            let made = match &self.power {
+                Some(found) => Machine::power_up(self.sets, plan, found),
+                None => Machine::new(self.sets, plan),
+            };
+            self.made = Some(made.unwrap());
+        }
+        self.made.as_mut().unwrap()
+    }
+
+    fn ask(&mut self, line: &str) -> String {
+        let machine = self.machine();
+        let mut other = machine.clone();
+        let step = machine.ask(line).unwrap();
+        let request = AgcRequest::try_from(line).unwrap();
+        assert_eq!(other.ask(request).unwrap(), step);
+        assert_eq!((other.words(), other.moment()), (machine.words(), machine.moment()));
+        assert_eq!((other.totals(), step.to_string()), (machine.totals(), spelled(&step)));
+        assert_eq!(step.action() > 0, step.kind() == TICK_ALARMED);
+        step.to_string()
+    }
+
+    fn entry(&mut self, texts: &[&str]) {
+        let [group, phase, kind, priority, at, bank, delay, task_at, task_bank] = texts[..] else { panic!("{texts:?}") };
+        let job = match kind {
+            "0" => String::new(),
+            kind => format!("{} {priority} {at} {bank}", ["novac", "findvac"][number(kind, 10) as usize - 1]),
+        };
+        let task = if delay == "0" { String::new() } else { format!("list {delay} {task_at} {task_bank}") };
+        self.phases.push([group.to_string(), phase.to_string(), job, task]);
+    }
+
+    fn row(&mut self, at: u32, bank: u32, line: String) {
+        match self.tasks.iter_mut().find(|it| (it.0, it.1) == (at, bank)) {
+            Some(task) => task.2.push(line),
+            None => self.tasks.push((at, bank, vec![line])),
+        }
+    }
+
+    fn take(&mut self, line: &str, out: &mut String) {
+        let parts: Vec<&str> = line.split(' ').collect();
+        match parts[..] {
+            ["next", sets] => {
+                out.push_str(&self.machine().report());
+                *self = Run::new(number(sets, 10));
+            }
+            ["row", at, bank, ..] => self.row(number(at, 8), number(bank, 8), parts[3..].join(" ")),
+            ["entry", ..] => self.entry(&parts[1..]),
+            ["power", ..] => self.power = Some(std::array::from_fn(|k| number(parts[k + 1], 8) as u16)),
+            ["scene"] => writeln!(out, "scene {}", told(&self.machine().scene())).unwrap(),
+            ["moment"] => writeln!(out, "moment {}", told(&scene_of(self.machine().moment()))).unwrap(),
+            _ => writeln!(out, "{}", self.ask(line)).unwrap(),
+        }
+    }
+}
+
+fn lacks<T>(made: Result<T, Lacking>, code: u32) {
+    let lacking = made.err().unwrap();
+    assert!(lacking.code == code && lacking.to_string().len() > 8, "{lacking:?}, and not {code}");
+}
+
+/// Each code, as a `Lacking`; and then nothing has changed.
+fn refuses() {
+    let area = "findvac 01 00001 00000";
+    let mut machine = Machine::new(8, Plan::new().phase(4, 5, "findvac 25 06000 00007", "").unwrap()).unwrap();
+    machine.ask("novac 20 02000 00005").unwrap();
+    let (words, totals) = (machine.words().to_vec(), machine.totals());
+    let mut untidy = words.clone();
+    untidy[7] = 1;
+    let request = |kind, first, second, third| AgcRequest { kind, first, second, third };
+    lacks(Machine::new(9, Plan::new()), NO_SUCH_SETS);
+    lacks(Machine::from_words(&[0; 131], Plan::new()), NOT_WORDS);
+    lacks(Machine::from_words(&[32768; 132], Plan::new()), NOT_WORDS);
+    lacks(Machine::power_up(7, Plan::new(), &[32768; 12]), NOT_WORDS);
+    lacks(Machine::from_words(&[0; 132], Plan::new()), UNLAWFUL);
+    lacks(Machine::from_words(&untidy, Plan::new()), UNTIDY);
+    lacks(machine.ask(request(NOVAC, 32, 1, 1)), OUT_OF_RANGE);
+    lacks(machine.ask(request(NOTHING, 0, 0, 0)), OUT_OF_RANGE);
+    lacks(machine.ask(request(14, 0, 0, 0)), OUT_OF_RANGE);
+    lacks(machine.ask(request(FINDVAC, 1, 1, 32768)), NOT_A_WORD);
+    for line in ["novac 20 2000 00005", "tick ", "", "tick\0", "nothing"] {
+        lacks(machine.ask(line), NOT_SPELLED);
+    }
+    lacks(Plan::new().task(1, 1, &["tick"]), NOT_SPELLED);
+    lacks(Plan::new().phase(1, 1, "rouse 02000", ""), NOT_SPELLED);
+    lacks(Plan::new().phase(1, 1, "", area), NOT_SPELLED);
+    lacks(Plan::new().task(1, 1, &["nothing"; 5]), PLAN_RANGE);
+    lacks(Machine::new(7, Plan::new().task(16384, 1, &["nothing"]).unwrap()), PLAN_RANGE);
+    lacks(Machine::new(7, Plan::new().phase(1, 128, area, "").unwrap()), PLAN_RANGE);
+    let twice = Plan::new().task(1, 1, &["nothing"]).unwrap().task(1, 1, &[area]).unwrap();
+    lacks(Machine::new(7, twice), TASK_TWICE);
+    let twice = Plan::new().phase(1, 1, area, "").unwrap().phase(1, 1, "", "").unwrap();
+    lacks(Machine::new(7, twice), PHASE_TWICE);
+    let wants = (1..=6).fold(Plan::new(), |plan, group| plan.phase(group, 1, area, "").unwrap());
+    lacks(Machine::new(7, wants), TOO_MANY_AREAS);
+    assert_eq!((machine.words(), machine.totals()), (&words[..], totals));
+    let mut again = Machine::from_words(&words, Plan::new()).unwrap();
+    assert_eq!(again.words(), words);
+    assert_eq!(again.ask("change"), machine.ask("change"));
+}
+
+fn main() {
+    refuses();
+    let mut run = Run::new(number(&std::env::args().nth(1).unwrap(), 10));
+    let (mut lines, mut out) = (String::new(), String::new());
+    std::io::stdin().read_to_string(&mut lines).unwrap();
+    for line in lines.lines() {
+        run.take(line, &mut out);
+    }
+    out.push_str(&run.machine().report());
+    print!("{out}");
+}
