@@ -90,29 +90,29 @@ fn add_form(told: &mut String, form: Form, text: &str) -> Result<(), AllocError>
     }
 }
 
+/// Says which numbers are meant, from one to another.
+fn add_range(told: &mut String, low: u64, high: u64) -> Result<(), AllocError> {
+    let between = match high.saturating_sub(low) {
+        1 => " or ",
+        _ => " to ",
+    };
+    add_decimal(told, low)?;
+    add(told, &[between])?;
+    add_decimal(told, high)
+}
+
 /// Says what the value of a key has to be.
 fn add_expected(told: &mut String, key: Key) -> Result<(), AllocError> {
     let row = key.row();
     match row.kind {
         Valued::Integer(low, high) => {
             add(told, &["expected an integer, "])?;
-            add_decimal(told, low)?;
-            add(
-                told,
-                &[if high.saturating_sub(low) == 1 {
-                    " or "
-                } else {
-                    " to "
-                }],
-            )?;
-            add_decimal(told, high)
+            add_range(told, low, high)
         }
         Valued::Text(_form) => add(told, &["expected a string"]),
         Valued::OneOrMore(_form, low, high) => {
             add(told, &["expected a string, or an array of "])?;
-            add_decimal(told, low)?;
-            add(told, &[" to "])?;
-            add_decimal(told, high)?;
+            add_range(told, low, high)?;
             add(told, &[" strings"])
         }
         Valued::Texts(_form, 0, _most) => add(told, &["expected an array of strings"]),

@@ -30,6 +30,14 @@ fn add_task(told: &mut String, task: Task) -> Result<(), AllocError> {
     add_octal(told, task.bank.bits())
 }
 
+/// Says that no entry begins again in a group at a phase.
+fn add_entry(told: &mut String, group: u64, phase: u64) -> Result<(), AllocError> {
+    add(told, &["group "])?;
+    add_decimal(told, group)?;
+    add(told, &[" has no entry for phase "])?;
+    add_decimal(told, phase)
+}
+
 /// Says which request is the first that is refused, and why, with a number in it.
 fn add_first(
     told: &mut String,
@@ -65,22 +73,12 @@ fn add_warning(told: &mut String, warning: Warning) -> Result<(), AllocError> {
         }
         Warning::NeverListed => add(told, &["nothing else lists this task, so it never fires"]),
         Warning::NoEntry(group, phase) => {
-            add(told, &["group "])?;
-            add_decimal(told, group.get() as u64)?;
-            add(told, &[" has no entry for phase "])?;
-            add_decimal(told, phase.get() as u64)?;
+            add_entry(told, group.get() as u64, phase.get() as u64)?;
             add(told, &[", so nothing begins again in it"])
         }
         Warning::NoRequest(line) => {
-            let name = line_name(line);
-            add(
-                told,
-                &[
-                    "a pulse asks for nothing, since the action of ",
-                    name,
-                    " is nothing",
-                ],
-            )
+            add(told, &["a pulse asks for nothing, since the action of "])?;
+            add(told, &[line_name(line), " is nothing"])
         }
         Warning::LogFull(first, limit) => {
             add_first(told, first, "log full (limit ", limit.get() as u64, ")")
