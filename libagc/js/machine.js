@@ -127,9 +127,12 @@ export class Lacking extends Error {
 }
 
 // The module, and what lies where in its memory behind its own: the words of the machine that was
-// asked last, the words as they were at its last request, a call's numbers and answer, and that
-// machine's plan.
-const SIZE = { words: 288, moment: 288, answer: 24, fired: 72, request: 16, phases: 24 };
+// asked last, the words as they were at its last request, a call's numbers and answer, a text, and
+// that machine's plan.
+const SIZE = {
+  ...{ words: 288, moment: 288, answer: 24, fired: 72, request: 16, totals: 40, phases: 24 },
+  text: 2048,
+};
 const ROW = 72;
 const ENTRY = 36;
 const PAGE = 65536;
@@ -140,12 +143,16 @@ let calls = null;
 const at = {};
 /** @type {Record<string, bigint>} */
 const to = {};
+/** @type {Uint8Array} */
+let bytes;
 /** @type {Uint16Array} */
 let halves;
 /** @type {Uint32Array} */
 let numbers;
 /** @type {any} */
 let asked = null;
+
+const decoder = new TextDecoder();
 
 /**
  * Makes the memory as long as this. A module with a 64-bit memory counts pages by a BigInt.
@@ -160,7 +167,8 @@ function reach(end) {
       calls.memory.grow(BigInt(lacking));
     }
   }
-  if (halves === undefined || halves.buffer !== calls.memory.buffer) {
+  if (bytes === undefined || bytes.buffer !== calls.memory.buffer) {
+    bytes = new Uint8Array(calls.memory.buffer);
     halves = new Uint16Array(calls.memory.buffer);
     numbers = new Uint32Array(calls.memory.buffer);
   }
@@ -207,28 +215,38 @@ function octal(given) {
   return /^[0-7]{5}$/.test(given) ? parseInt(given, 8) : 0xffffffff;
 }
 
-// How the words of a line are written, by their letters in docs/FORMATS.md: digits, and their base.
-// The library looks at the ranges.
-/** @type {Record<string, [RegExp, number]>} */
-const FORMS = {
-  P: [/^[0-7]{2}$/, 8],
-  A: [/^[0-7]{5}$/, 8],
-  W: [/^[0-7]{5}$/, 8],
-  K: [/^[0-9]$/, 10],
-  G: [/^[0-9]$/, 10],
-  D: [/^[1-9][0-9]*$/, 10],
-  N: [/^(?:0|[1-9][0-9]*)$/, 10],
-};
+/**
+ * Writes a line into the module's memory: of one that is too long a part, and for what isn't ASCII
+ * a byte that isn't. Neither spells anything.
+ * @param {string} line
+ */
+function put(line) {
+  const length = Math.min(line.length, SIZE.text);
+  for (let k = 0; k < length; k++) bytes[at.text + k] = Math.min(line.charCodeAt(k), 0x80);
+  return BigInt(length);
+}
 
-// Each request's name, with the words of its line. The kinds are 1 to 13 in this order.
-const LINES = {
-  ...{ novac: "PAW", findvac: "PAW", end: "", sleep: "A", rouse: "A", prio: "P", change: "" },
-  ...{ store: "KW", list: "DAW", tick: "", phase: "GN", restart: "", fresh: "" },
+// Each request's name, and how many numbers it has. The kinds are 1 to 13 in this order.
+const COUNTS = {
+  ...{ novac: 3, findvac: 3, end: 0, sleep: 1, rouse: 1, prio: 1, change: 0, store: 2, list: 3 },
+  ...{ tick: 0, phase: 2, restart: 0, fresh: 0 },
 };
 const KINDS = new Map(
-  Object.entries(LINES).map(([name, words], k) => [name, { kind: k + 1, words }]),
+  Object.entries(COUNTS).map(([name, count], k) => [name, { kind: k + 1, count }]),
 );
-const ACTIONS = ["novac", "findvac", "rouse", "list"];
+
+// The kinds of an action, of an entry's job and of its task.
+const ACTIONS = [0, 1, 2, 5, 9];
+const STARTS = [1, 2];
+const LISTS = [9];
+
+/**
+ * The text of so many bytes that a call has written.
+ * @param {number} length
+ */
+function got(length) {
+  return decoder.decode(bytes.subarray(at.text, at.text + length));
+}
 
 /**
  * Throws the code of a call that was not served.
@@ -242,31 +260,34 @@ function served(code) {
  * Throws that a line isn't of some kinds.
  * @param {string} line
  * @param {string} kinds
- * @returns {never}
  */
 function notSpelled(line, kinds) {
   throw new Lacking(Code.NOT_SPELLED, `${JSON.stringify(line)} is no ${kinds}`);
 }
 
 /**
- * The kind and numbers that a line spells: of a script's, or of an action's that names these.
+ * Reads a line into the place for a request, by the call that reads such lines.
+ * @param {Function} call
  * @param {string} line
- * @param {string[]} [names]
+ * @param {string} kinds
  */
-function read(line, names) {
+function read(call, line, kinds) {
   if (typeof line !== "string") {
     throw new TypeError(`a line has to be a string, and this is ${String(line)}`);
   }
-  const kinds = names ? names.join(" or ") : "request";
-  const [name, ...texts] = line.split(" ");
-  const form = names && !names.includes(name) ? undefined : KINDS.get(name);
-  if (form === undefined || texts.length !== form.words.length) return notSpelled(line, kinds);
-  const found = [form.kind, 0, 0, 0];
-  texts.forEach((text, k) => {
-    const [digits, base] = FORMS[form.words[k]];
-    if (!digits.test(text)) notSpelled(line, kinds);
-    found[k + 1] = whole(parseInt(text, base));
-  });
+  if (call(to.text, put(line), to.request) !== Code.OK) notSpelled(line, kinds);
+}
+
+/**
+ * The kind and the numbers of an action, which has to be of one of these kinds.
+ * @param {string} line
+ * @param {string} names
+ * @param {number[]} kinds
+ */
+function action(line, names, kinds) {
+  read(calls.agc_read_action, line, names);
+  const found = numbers.slice(at.request / 4, at.request / 4 + 4);
+  if (!kinds.includes(found[0])) notSpelled(line, names);
   return found;
 }
 
@@ -281,9 +302,7 @@ function rowOf(it) {
     throw new Lacking(Code.PLAN_RANGE, `a task has 1 to 4 actions, and this ${actions.length}`);
   }
   row.set([octal(it.at), octal(it.bank)]);
-  actions.forEach((line, k) => {
-    if (line !== "nothing") row.set(read(line, ACTIONS), 2 + 4 * k);
-  });
+  actions.forEach((line, k) => row.set(action(line, "action", ACTIONS), 2 + 4 * k));
   return row;
 }
 
@@ -294,8 +313,8 @@ function rowOf(it) {
 function entryOf(it) {
   const entry = new Uint32Array(ENTRY / 4);
   entry.set([whole(it.group), whole(it.phase)]);
-  if (it.job !== undefined) entry.set(read(it.job, ["novac", "findvac"]), 2);
-  if (it.task !== undefined) entry.set(read(it.task, ["list"]).slice(1), 6);
+  if (it.job !== undefined) entry.set(action(it.job, "novac or findvac", STARTS), 2);
+  if (it.task !== undefined) entry.set(action(it.task, "list", LISTS).subarray(1), 6);
   return entry;
 }
 
@@ -321,32 +340,6 @@ class Lent {
     reach(at.plan + this.numbers.byteLength);
     numbers.set(this.numbers, at.plan / 4);
   }
-}
-
-/** @type {Record<number, string>} */
-const REPLY_LINES = {
-  [Kind.ESTABLISHED]: "job",
-  [Kind.LEFT]: "left",
-  [Kind.IDLE]: "left idle",
-  [Kind.ROUSED]: "roused",
-  [Kind.NO_SLEEPER]: "no sleeper",
-  [Kind.NO_JOB]: "no job",
-  [Kind.RUNS]: "runs",
-  [Kind.STORED]: "stored",
-  [Kind.LISTED]: "listed",
-  [Kind.ALARMED]: "",
-  [Kind.PHASED]: "phased",
-  [Kind.TICKED]: "tick",
-  [Kind.TICK_ALARMED]: "tick",
-  [Kind.RESTARTED]: "restarted",
-};
-
-/**
- * A word in five octal digits.
- * @param {number} word
- */
-function spelled(word) {
-  return word.toString(8).padStart(5, "0");
 }
 
 /** What a machine replies to a request. */
@@ -380,10 +373,12 @@ export class Step {
 
   /** The line that `agc` writes. */
   get text() {
-    const said = REPLY_LINES[this.kind];
-    const fired = this.fired.map((it) => ` ${spelled(it.at)}/${spelled(it.bank)}`).join("");
-    if (this.alarm !== 0) return `${said}${fired} alarm ${this.number.toString(8)}`.trim();
-    return this.number === 0 ? said + fired : `${said} ${this.number}`;
+    numbers.set([0, this.kind, this.number, this.fired.length, this.action], at.answer / 4);
+    this.fired.slice(0, 9).forEach((it, k) => numbers.set([it.at, it.bank], at.fired / 4 + 2 * k));
+    // (what is written tells of itself by the request's place, which is free)
+    calls.agc_write_reply(to.request, to.answer, to.fired, to.text, BigInt(SIZE.text));
+    served(numbers[at.request / 4]);
+    return got(numbers[at.request / 4 + 1] - 1);
   }
 
   toString() {
@@ -497,12 +492,12 @@ export class Machine {
    */
   #spell(request, given) {
     const form = KINDS.get(request);
-    if (form !== undefined && form.words.length === given.length) {
+    if (form !== undefined && form.count === given.length) {
       const place = at.request / 4;
       numbers[place] = form.kind;
       for (let k = 0; k < given.length; k++) numbers[place + 1 + k] = whole(given[k]);
     } else if (given.length === 0) {
-      numbers.set(read(request), at.request / 4);
+      read(calls.agc_read_request, request, "request");
     } else {
       notSpelled(request, `request of ${given.length} numbers`);
     }
@@ -578,17 +573,14 @@ export class Machine {
 
   /** The report that `agc` writes. */
   report() {
-    const words = Array.from(this.words, spelled);
-    const sets = blocksOf(words).map((it, k) => {
-      return `SET ${k} ${it[11] === "77777" ? "FREE" : it.join(" ")}`;
-    });
-    const tables = Object.entries(TABLES).map(([name, [begin, end]]) => {
-      return `${name} ${words.slice(begin, end).join(" ")}`;
-    });
+    if (asked !== this) this.#enter();
     const { served: count, alarms, restarts } = this.#totals;
-    const counts = [`SERVED ${count}`, `ALARMS ${alarms.join(" ")}`, `RESTARTS ${restarts}`];
-    const first = this.#sets === 8 ? ["SETS 8"] : [];
-    return [...first, ...sets, ...tables, ...counts].map((it) => `${it}\n`).join("");
+    [count, ...alarms, restarts].forEach((it, k) => {
+      numbers.set([it % 2 ** 32, Math.floor(it / 2 ** 32)], at.totals / 4 + 2 * k);
+    });
+    calls.agc_write_report(to.answer, to.words, this.#sets, to.totals, to.text, BigInt(SIZE.text));
+    served(numbers[at.answer / 4]);
+    return got(numbers[at.answer / 4 + 1]);
   }
 
   /** A machine of its own with the same words, plan and totals. */
@@ -605,28 +597,6 @@ export class Machine {
 
 const AREAS = [0o300, 0o354, 0o430, 0o504, 0o560];
 const FREE = 0o77777;
-
-// The tables behind the core sets, in the order of the report: where each begins and ends.
-/** @type {Record<string, [number, number]>} */
-const TABLES = {
-  VAC: [84, 89],
-  NEWJOB: [89, 90],
-  TIME3: [90, 91],
-  LST1: [91, 99],
-  LST2: [99, 117],
-  PHASE: [117, 129],
-  FAILREG: [129, 132],
-};
-
-/**
- * The twelve words of each core set: the eighth stands behind the tables.
- * @template T
- * @param {T[]} words
- */
-function blocksOf(words) {
-  const blocks = [0, 1, 2, 3, 4, 5, 6, ...(words.length === WORDS ? [11] : [])];
-  return blocks.map((it) => words.slice(12 * it, 12 * it + 12));
-}
 
 /**
  * The value of a word in ones' complement.
@@ -678,7 +648,8 @@ function tasksOf(words) {
  */
 export function sceneOf(words) {
   const all = Array.from(words);
-  const sets = blocksOf(all).map(jobOf);
+  const blocks = [0, 1, 2, 3, 4, 5, 6, ...(all.length === WORDS ? [11] : [])];
+  const sets = blocks.map((it) => jobOf(all.slice(12 * it, 12 * it + 12)));
   const next = all[89] === FREE ? 0 : all[89] / 12;
   return {
     running: sets[0] !== null && !sets[0].asleep ? sets[0].number : 0,

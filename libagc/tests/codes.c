@@ -18,7 +18,7 @@ static void check(bool held, const char *what, uint32_t sets, uint32_t wanted) {
 /* CALL answers a code, on `w` and `s`. First an image that isn't one; then the call's own numbers. */
 #define BROKEN(NAME, CODE_OF)                                                               \
     do {                                                                                    \
-        uint16_t w[AGC_WORDS], was[AGC_WORDS];                                              \
+        uint16_t w[AGC_WORDS] = {0}, was[AGC_WORDS];                                        \
         for (uint32_t s = 7; s <= 8; s++) {                                                 \
             agc_clear(w, s);                                                                \
             memcpy(was, w, sizeof w);                                                       \

@@ -128,6 +128,7 @@ export function refuses({ Code, Lacking, Machine }) {
     [Code.NOT_SPELLED, () => machine.ask("")],
     [Code.NOT_SPELLED, () => machine.ask("tick\0")],
     [Code.NOT_SPELLED, () => machine.ask(`tick${" ".repeat(9999)}`)],
+    [Code.NOT_SPELLED, () => machine.ask("\u0174ick")],
     [Code.NOT_SPELLED, () => machine.ask("tick", 1)],
     [Code.NOT_SPELLED, () => machine.ask("nothing")],
     [Code.NOT_SPELLED, () => machine.ask("toString")],

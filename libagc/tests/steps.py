@@ -111,6 +111,7 @@ def refuses():
         (Code.NOT_SPELLED, lambda: machine.ask("tick ")),
         (Code.NOT_SPELLED, lambda: machine.ask("")),
         (Code.NOT_SPELLED, lambda: machine.ask("tick\0")),
+        (Code.NOT_SPELLED, lambda: machine.ask("tick\ud800")),
         (Code.NOT_SPELLED, lambda: machine.ask("tick", 1)),
         (Code.NOT_SPELLED, lambda: machine.ask("nothing")),
         (Code.NOT_SPELLED, lambda: Machine(plan={"task": [{**row, "action": "tick"}]})),
