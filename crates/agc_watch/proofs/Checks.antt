@@ -16,7 +16,7 @@ script_if text [] h = h
 script_if text (f ∷ fs) h = (f.line, h)
 
 bench_if : (text : List ℕ) (bench : Option Benched) (fs : List BenchFound) → ChecksAs text bench fs → IsBenchIf (is_some bench) text
-bench_if text (Some b) fs h = (b, h.1)
+bench_if text (Some b) fs h = (b, (h.1, h.2))
 bench_if text None fs h = (h.0, h.1)
 
 -- what was put says how the check ends
