@@ -1,5 +1,5 @@
 -- What a check returns.
-use Rattle.std.proofs.Common.{◌≡◌, ℕ, List, [], ◌∷◌, Bool, Option, Some, None, is_some, Result, Ok, Err, sym, subst}
+use Rattle.std.proofs.Common.{ℕ, List, [], ◌∷◌, Bool, Option, Some, None, is_some, Result, Ok, Err, sym, subst}
 use Rattle.agc_program.specs.declared.fault.Fault.{Fault}
 use Rattle.agc_program.specs.declared.fault.Fault.TheVariants as fault
 use Rattle.agc_text.specs.Script.{lines_of}
