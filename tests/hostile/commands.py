@@ -264,13 +264,11 @@ def starter(hostile):
 
 
 def starter_of_watch(clone, ended_with):
-    """./agc_watch does so too, and says nothing before the texts that its program has."""
+    """./agc_watch does so too, and says nothing before what its program says, of wrong words too."""
     clone.expect("before it is built", (0, "tried\n", "takes a minute or two"), "trace", name="agc_watch")
     status, text, _ = clone.run([sys.executable, f"{clone.room}/tools/prove"], "agc_watch")
     clone.hostile.expect(f"tools/prove agc_watch: status {status}, {text}", status == 0)
-    explained = "docs/FORMATS.md says what trace, picture, page and check read and write"
-    for words in ("trace", "picture", "page", "check", "check --script", "--help", "-V", "help check", "trace --help"):
-        clone.expect("when it is built", (ended_with, f"ran {words}\n", ""), *words.split(), name="agc_watch")
-    for words in ("", "serial", "trace trace"):
-        wanted = (ended_with, f"ran {words}".strip() + "\n", explained)
+    for words in ("trace", "picture", "page", "check", "check --script", "--help", "-V", "help check", "trace --help", "",
+                  "serial", "trace trace", "trace bench.toml"):
+        wanted = (ended_with, f"ran {words}".strip() + "\n", "")
         clone.expect(f"asked for {words}", wanted, *words.split(), name="agc_watch")
