@@ -25,9 +25,10 @@ use Rattle.agc_text.specs.Numbers.{octal}
 use Rattle.agc_text.specs.Replies.{word_text, words_text, alarm_text, runner_text, fired_text, end_text, reply_text, refusal_text, answer_text}
 use Rattle.agc_text.specs.Report.{count_text}
 use Rattle.agc_trace.specs.declared.origins.Origin.{Origin}
-use Rattle.agc_trace.specs.declared.seats.Seated.{Seated}
+use Rattle.agc_exec.specs.declared.seats.Seat.{Seat}
 use Rattle.agc_trace.specs.Accounts.{full_text, which_text, doing_text, task_text as its_text, raised_text, cause_by, cause_text, at_text, area_text, who_text, where_text, job_text, jobs_text, holders_text, phases_text, again_text, account_text}
-use Rattle.agc_trace.specs.Lines.{column, running_text, is_named, job_priority_text, seat_text, owner_of, owner_text, owners_text, wait_text, waits_text, scene_text}
+use Rattle.agc_scene.specs.Scenes.{owner_of}
+use Rattle.agc_trace.specs.Lines.{column, running_text, is_named, job_priority_text, seat_text, owner_text, owners_text, wait_text, waits_text, scene_text}
 use Rattle.agc_trace.specs.Origins.{known, origin_text, since_text, since_word}
 use Rattle.agc_trace.specs.Openings.{power_reply, group_front, great_text, apart_text, pair_text, group_text, pairs_text, broken_text}
 use Rattle.agc_trace.specs.Scenes.{Scene}
@@ -164,10 +165,10 @@ pub running : (r : Option ℕ) → Plain (running_text r)
 running None = refl
 running (Some n) = decimals n
 
-job_priority : (s : Seated) → Plain (job_priority_text s)
+job_priority : (s : Seat) → Plain (job_priority_text s)
 job_priority s = both (decimal s.number) (codes "/" ++ octal 2 s.priority) (decimals s.number) (both (codes "/") (octal 2 s.priority) refl (octals 2 s.priority))
 
-pub seat : (named : Option ℕ) (s : Option Seated) → Plain (seat_text named s)
+pub seat : (named : Option ℕ) (s : Option Seat) → Plain (seat_text named s)
 seat named None = refl
 seat named (Some s) =
     choose s.asleep (codes " (" ++ (job_priority_text s ++ codes ")")) (if is_named named s.number then codes " >" ++ job_priority_text s else codes " " ++ job_priority_text s)
@@ -179,7 +180,7 @@ owner : (o : Option ℕ) → Plain (owner_text o)
 owner None = refl
 owner (Some n) = both (codes " ") (decimal n) refl (decimals n)
 
-pub owners : (seats : List (Option Seated)) → Plain (owners_text seats)
+pub owners : (seats : List (Option Seat)) → Plain (owners_text seats)
 owners seats = each (λ (area : ℕ). owner_text (owner_of area seats)) (λ (area : ℕ). owner (owner_of area seats)) (range_with_len 1 5)
 
 wait : (w : Waiting) → Plain (wait_text w)
@@ -242,7 +243,7 @@ cause : (rows : Rows) (t : Option Task) (number : ℕ) → Plain (cause_by rows 
 cause rows None number = refl
 cause rows (Some t) number = raised (actions_in rows t) number t
 
-who : (k : ℕ) (s : Seated) → Plain (who_text k s)
+who : (k : ℕ) (s : Seat) → Plain (who_text k s)
 who k s =
     both (codes "          set ") (decimal k ++ (codes ": job " ++ (decimal s.number ++ (codes ", priority " ++ octal 2 s.priority)))) refl
     (both (decimal k) (codes ": job " ++ (decimal s.number ++ (codes ", priority " ++ octal 2 s.priority))) (decimals k)
@@ -252,7 +253,7 @@ who k s =
 area : (n : ℕ) → Plain (area_text n)
 area n = choose (n == 0) [] (codes ", area " ++ decimal n) refl (both (codes ", area ") (decimal n) refl (decimals n))
 
-where_is : (s : Seated) → Plain (where_text s)
+where_is : (s : Seat) → Plain (where_text s)
 where_is s =
     both (at_text s.asleep) (octal 5 s.at ++ area_text s.area) (choose s.asleep (codes ", asleep at ") (codes ", at ") refl refl)
     (both (octal 5 s.at) (area_text s.area) (octals 5 s.at) (area s.area))
@@ -266,17 +267,17 @@ since : (o : Option Origin) → Plain (since_text o)
 since None = refl
 since (Some o) = origin o
 
-job : (os : List Origin) (k : ℕ) (s : Option Seated) → Plain (job_text os k s)
+job : (os : List Origin) (k : ℕ) (s : Option Seat) → Plain (job_text os k s)
 job os k None = refl
 job os k (Some s) =
     both (who_text k s) (where_text s ++ (since_text (known os s.number) ++ codes "\n")) (who k s)
     (both (where_text s) (since_text (known os s.number) ++ codes "\n") (where_is s) (both (since_text (known os s.number)) (codes "\n") (since (known os s.number)) refl))
 
-jobs : (os : List Origin) (k : ℕ) (seats : List (Option Seated)) → Plain (jobs_text os k seats)
+jobs : (os : List Origin) (k : ℕ) (seats : List (Option Seat)) → Plain (jobs_text os k seats)
 jobs os k [] = refl
 jobs os k (s ∷ seats) = both (job_text os k s) (jobs_text os (k + 1) seats) (job os k s) (jobs os (k + 1) seats)
 
-holders : (a : Alarm) (os : List Origin) (seats : List (Option Seated)) → Plain (holders_text a os seats)
+holders : (a : Alarm) (os : List Origin) (seats : List (Option Seat)) → Plain (holders_text a os seats)
 holders A1201 os seats = jobs os 0 seats
 holders A1202 os seats = jobs os 0 seats
 holders A1203 os seats = refl
@@ -288,7 +289,7 @@ again : (ns : List ℕ) (s : Scene) → Plain (again_text ns s)
 unfolding again_text
 again ns s = both (column 72 (phases_text ns)) (scene_text s ++ codes "\n") (columns 72 (phases_text ns) (phases ns)) (both (scene_text s) (codes "\n") (scenes s) refl)
 
-pub accounts : (rows : Rows) (tasks : List Task) (number : ℕ) (a : Alarm) (os : List Origin) (seats : List (Option Seated)) (ns : List ℕ) (s : Scene) → Plain (account_text rows tasks number a os seats ns s)
+pub accounts : (rows : Rows) (tasks : List Task) (number : ℕ) (a : Alarm) (os : List Origin) (seats : List (Option Seat)) (ns : List ℕ) (s : Scene) → Plain (account_text rows tasks number a os seats ns s)
 unfolding account_text
 accounts rows tasks number a os seats ns s =
     both (full_text a) (cause_text rows tasks number ++ (holders_text a os seats ++ again_text ns s)) (full a)

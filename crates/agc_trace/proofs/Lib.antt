@@ -1,5 +1,4 @@
 pub mod Scenes
-pub mod Naming
 pub mod Moments
 pub mod Words
 pub mod Pieces

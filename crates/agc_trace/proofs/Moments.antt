@@ -23,7 +23,8 @@ use Rattle.agc_trace.specs.Quiets.{quiet_of, quiet_reply}
 use Rattle.agc_trace.specs.Lines.{line_text}
 use Rattle.agc_trace.specs.declared.origins.Origin.{Origin}
 use Rattle.agc_trace.specs.Origins.{origins_after}
-use Rattle.agc_trace.specs.Reading.{IsShown, begins_unless, scene_in, seats_in}
+use Rattle.agc_exec.specs.Seats.{seats_in}
+use Rattle.agc_trace.specs.Reading.{IsShown, begins_unless, scene_in}
 use Rattle.agc_trace.specs.Scenes.{Scene, scene_of}
 use Rattle.agc_trace.specs.Traces.{Traced, Counted, begun_by, one_more, origins_unless, origins_next, scene_unless, time_unless, time_after, told_alarm, account_by, traced, traced_line, traced_account, traced_text, is_spent, is_log_full, counted_if, counted}
 use Rattle.agc_trace.specs.Openings.{heading, power_text, opening_text}

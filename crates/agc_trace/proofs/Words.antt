@@ -1,95 +1,44 @@
 -- A core set's words, and a task's.
-use Rattle.std.proofs.Common.{◌≡◌, ◌≢◌, ℕ, zero, suc, ◌+◌, ◌-◌, ◌/◌, ◌%◌, ◌<◌, ◌≤◌, ◌==◌, Bool, true, false, if◌then◌else◌, List, [], ◌∷◌, ◌++◌, codes, length, drop, drop-cons, add-one, zero-add, Option, Some, None, option_map, slice_get, slice_index, refl, sym, ap, ◌∙◌, append_assoc, append-nil, arith}
+use Rattle.std.proofs.Common.{◌≡◌, ◌≢◌, ℕ, zero, suc, ◌+◌, ◌-◌, ◌<◌, ◌≤◌, ◌==◌, Bool, true, false, if◌then◌else◌, List, [], ◌∷◌, ◌++◌, codes, length, drop, drop-cons, add-one, zero-add, Option, Some, None, slice_get, refl, sym, ap, ◌∙◌, append_assoc, append-nil, arith}
 use Rattle.std.proofs.lemmas.Grind.{common_steps}
-use Rattle.std.proofs.lemmas.List.{length-map, length-drop, nil_from_length}
+use Rattle.std.proofs.lemmas.List.{length-drop, nil_from_length}
 use Rattle.std.proofs.lemmas.List.Concat.{flat_map-cons}
-use Rattle.std.proofs.lemmas.Option.{slice_get-map, slice_get-get_or, slice_get_within, get_or_from_slice_get}
+use Rattle.std.proofs.lemmas.Option.{slice_get_within, get_or_from_slice_get}
 use Rattle.std.specs.Fmt.{decimal}
 use Rattle.std.specs.List.{flat_map}
 use Rattle.agc_text.specs.Numbers.{octal}
-use Rattle.agc_word.specs.Layout.{sets_in, set_place, area_of}
-use Rattle.agc_word.specs.Words.{complement}
-use Rattle.agc_exec.specs.Blocks.{block_in}
-use Rattle.agc_exec.specs.HeldJob.{HeldJob}
-use Rattle.agc_exec.specs.Image.{sets_of, held_by, minus_zero, sign}
-use Rattle.agc_exec.proofs.Decoding.{length-sets}
-use Rattle.agc_exec.proofs.Ranks.{at_words, held_by-free, held_by-awake, held_by-asleep}
-use Rattle.agc_exec.proofs.Reading.{get-block_in}
 use Rattle.agc_plan.specs.Tasks.{Waiting}
 use Rattle.agc_wait.specs.Table.{waits_from, waits_of, at_in, lst1, gap_of, distance_of, time3}
 use Rattle.agc_trace.specs.declared.origins.Origin.{Origin}
-use Rattle.agc_trace.specs.declared.seats.Seated.{Seated}
+use Rattle.agc_exec.specs.declared.seats.Seat.{Seat}
 use Rattle.agc_trace.specs.Accounts.{job_text, jobs_text}
-use Rattle.agc_trace.specs.Lines.{owner_of, wait_text, waits_text}
-use Rattle.agc_trace.specs.Reading.{seen, seats_in}
-
-pub length-seats : (words : List ℕ) → length (seats_in words) ≡ sets_in words
-unfolding seats_in
-length-seats words = length-map (sets_of words) (option_map seen) ∙ length-sets words
-
-seat_at : (words : List ℕ) (k : ℕ) → k < sets_in words → slice_get (seats_in words) k ≡ Some (option_map seen (held_by (block_in words k) (slice_index words (set_place k + 11))))
-unfolding seats_in
-seat_at words k lt =
-    let within : k < length (sets_of words) = rw (length-sets words) lt in
-    slice_get-map (option_map seen) (sets_of words) k
-    ∙ ap (option_map (option_map seen)) (slice_get-get_or (sets_of words) k None within ∙ ap (λ (h : Option HeldJob). Some h) (at_words words k lt))
-
-pub seat_free : (words : List ℕ) (k : ℕ) → k < sets_in words → slice_index words (set_place k + 11) ≡ minus_zero → slice_get (seats_in words) k ≡ Some None
-seat_free words k lt free = seat_at words k lt ∙ ap (λ (h : Option HeldJob). Some (option_map seen h)) (held_by-free (block_in words k) _ free)
-
--- a job in core set k, by its words, its priority word without its sign, and whether it sleeps
-pub record IsRead (words : List ℕ) (k urgency : ℕ) (asleep : Bool) (s : Seated) : Type 0 where
-  pub number : s.number ≡ slice_index words (set_place k + 0)
-  pub at : s.at ≡ slice_index words (set_place k + 8)
-  pub priority : s.priority ≡ urgency / 512
-  pub asleep_is : s.asleep ≡ asleep
-  pub area : s.area ≡ area_of (urgency % 512)
-
-abbrev seat_with : ℕ → ℕ → ℕ → Bool → ℕ → Seated
-seat_with number at priority asleep area = record { number = number; at = at; priority = priority; asleep = asleep; area = area }
-
-read_is : (words : List ℕ) (k urgency : ℕ) (asleep : Bool) (s : Seated) → IsRead words k urgency asleep s → seat_with (slice_index (block_in words k) 0) (slice_index (block_in words k) 8) (urgency / 512) asleep (area_of (urgency % 512)) ≡ s
-read_is words k urgency asleep s is =
-    ap (λ (x : ℕ). seat_with x (slice_index (block_in words k) 8) (urgency / 512) asleep (area_of (urgency % 512))) (get-block_in words k 0 0 (omega arith) ∙ sym is.number)
-    ∙ ap (λ (x : ℕ). seat_with s.number x (urgency / 512) asleep (area_of (urgency % 512))) (get-block_in words k 8 0 (omega arith) ∙ sym is.at)
-    ∙ ap (λ (x : ℕ). seat_with s.number s.at x asleep (area_of (urgency % 512))) (sym is.priority)
-    ∙ ap (λ (x : Bool). seat_with s.number s.at s.priority x (area_of (urgency % 512))) (sym is.asleep_is)
-    ∙ ap (λ (x : ℕ). seat_with s.number s.at s.priority s.asleep x) (sym is.area)
-
-pub seat_awake : (words : List ℕ) (k : ℕ) (s : Seated) → k < sets_in words → slice_index words (set_place k + 11) < sign → IsRead words k (slice_index words (set_place k + 11)) false s → slice_get (seats_in words) k ≡ Some (Some s)
-seat_awake words k s lt low is =
-    seat_at words k lt ∙ ap (λ (h : Option HeldJob). Some (option_map seen h)) (held_by-awake (block_in words k) _ low)
-    ∙ ap (λ (x : Seated). Some (Some x)) (read_is words k (slice_index words (set_place k + 11)) false s is)
-
-pub seat_asleep : (words : List ℕ) (k : ℕ) (s : Seated) → k < sets_in words → sign ≤ slice_index words (set_place k + 11) → slice_index words (set_place k + 11) ≢ minus_zero → IsRead words k (complement (slice_index words (set_place k + 11))) true s → slice_get (seats_in words) k ≡ Some (Some s)
-seat_asleep words k s lt high some is =
-    seat_at words k lt ∙ ap (λ (h : Option HeldJob). Some (option_map seen h)) (held_by-asleep (block_in words k) _ high some)
-    ∙ ap (λ (x : Seated). Some (Some x)) (read_is words k (complement (slice_index words (set_place k + 11))) true s is)
+use Rattle.agc_scene.specs.Scenes.{owner_of}
+use Rattle.agc_trace.specs.Lines.{wait_text, waits_text}
 
 -- the next core set
-next : (seats : List (Option Seated)) (k : ℕ) (x : Option Seated) → slice_get seats k ≡ Some x → drop k seats ≡ x ∷ drop (k + 1) seats
+next : (seats : List (Option Seat)) (k : ℕ) (x : Option Seat) → slice_get seats k ≡ Some x → drop k seats ≡ x ∷ drop (k + 1) seats
 next seats k x is =
     let within : k < length seats = slice_get_within seats k x is in
-    rw (add-one k) (drop-cons seats k x within) ∙ ap (λ (y : Option Seated). y ∷ drop (k + 1) seats) (get_or_from_slice_get seats k x x is)
+    rw (add-one k) (drop-cons seats k x within) ∙ ap (λ (y : Option Seat). y ∷ drop (k + 1) seats) (get_or_from_slice_get seats k x x is)
 
-owner_by : (area : ℕ) (s : Seated) (rest : List (Option Seated)) → s.area ≡ area → owner_of area (Some s ∷ rest) ≡ Some s.number
+owner_by : (area : ℕ) (s : Seat) (rest : List (Option Seat)) → s.area ≡ area → owner_of area (Some s ∷ rest) ≡ Some s.number
 owner_by area s rest same = let here : (s.area == area) ≡ true = grind (arith, common_steps) in rw here refl
 
-other_by : (area : ℕ) (s : Seated) (rest : List (Option Seated)) → s.area ≢ area → owner_of area (Some s ∷ rest) ≡ owner_of area rest
+other_by : (area : ℕ) (s : Seat) (rest : List (Option Seat)) → s.area ≢ area → owner_of area (Some s ∷ rest) ≡ owner_of area rest
 other_by area s rest other = let off : (s.area == area) ≡ false = grind (arith, common_steps) in rw off refl
 
-pub owner_here : (seats : List (Option Seated)) (k area : ℕ) (s : Seated) → slice_get seats k ≡ Some (Some s) → s.area ≡ area → owner_of area (drop k seats) ≡ Some s.number
+pub owner_here : (seats : List (Option Seat)) (k area : ℕ) (s : Seat) → slice_get seats k ≡ Some (Some s) → s.area ≡ area → owner_of area (drop k seats) ≡ Some s.number
 owner_here seats k area s is same = ap (owner_of area) (next seats k (Some s) is) ∙ owner_by area s (drop (k + 1) seats) same
 
-pub owner_other : (seats : List (Option Seated)) (k area : ℕ) (s : Seated) → slice_get seats k ≡ Some (Some s) → s.area ≢ area → owner_of area (drop k seats) ≡ owner_of area (drop (k + 1) seats)
+pub owner_other : (seats : List (Option Seat)) (k area : ℕ) (s : Seat) → slice_get seats k ≡ Some (Some s) → s.area ≢ area → owner_of area (drop k seats) ≡ owner_of area (drop (k + 1) seats)
 owner_other seats k area s is other = ap (owner_of area) (next seats k (Some s) is) ∙ other_by area s (drop (k + 1) seats) other
 
-pub owner_none : (seats : List (Option Seated)) (k area : ℕ) → length seats ≤ k → owner_of area (drop k seats) ≡ None
+pub owner_none : (seats : List (Option Seat)) (k area : ℕ) → length seats ≤ k → owner_of area (drop k seats) ≡ None
 owner_none seats k area past =
     let nothing : drop k seats ≡ [] = nil_from_length _ (simp length-drop (omega arith)) in
     ap (owner_of area) nothing
 
-pub owner_free : (seats : List (Option Seated)) (k area : ℕ) → slice_get seats k ≡ Some None → owner_of area (drop k seats) ≡ owner_of area (drop (k + 1) seats)
+pub owner_free : (seats : List (Option Seat)) (k area : ℕ) → slice_get seats k ≡ Some None → owner_of area (drop k seats) ≡ owner_of area (drop (k + 1) seats)
 owner_free seats k area is = ap (owner_of area) (next seats k None is)
 
 -- no task, or one more
@@ -120,29 +69,29 @@ some_waits words some =
     rw there refl
 
 -- the next job, and no more
-pub jobs_next : (origins : List Origin) (seats : List (Option Seated)) (k : ℕ) (seat : Option Seated) (old new whole : List ℕ) → slice_get seats k ≡ Some seat → new ≡ old ++ job_text origins k seat → old ++ jobs_text origins k (drop k seats) ≡ whole → new ++ jobs_text origins (k + 1) (drop (k + 1) seats) ≡ whole
+pub jobs_next : (origins : List Origin) (seats : List (Option Seat)) (k : ℕ) (seat : Option Seat) (old new whole : List ℕ) → slice_get seats k ≡ Some seat → new ≡ old ++ job_text origins k seat → old ++ jobs_text origins k (drop k seats) ≡ whole → new ++ jobs_text origins (k + 1) (drop (k + 1) seats) ≡ whole
 jobs_next origins seats k seat old new whole is made rest =
     ap (λ (t : List ℕ). t ++ jobs_text origins (k + 1) (drop (k + 1) seats)) made
     ∙ append_assoc old (job_text origins k seat) (jobs_text origins (k + 1) (drop (k + 1) seats))
-    ∙ ap (λ (l : List (Option Seated)). old ++ jobs_text origins k l) (sym (next seats k seat is)) ∙ rest
+    ∙ ap (λ (l : List (Option Seat)). old ++ jobs_text origins k l) (sym (next seats k seat is)) ∙ rest
 
-pub jobs_end : (origins : List Origin) (seats : List (Option Seated)) (k : ℕ) (text whole : List ℕ) → length seats ≤ k → text ++ jobs_text origins k (drop k seats) ≡ whole → text ≡ whole
+pub jobs_end : (origins : List Origin) (seats : List (Option Seat)) (k : ℕ) (text whole : List ℕ) → length seats ≤ k → text ++ jobs_text origins k (drop k seats) ≡ whole → text ≡ whole
 jobs_end origins seats k text whole past rest =
     let nothing : drop k seats ≡ [] = nil_from_length _ (simp length-drop (omega arith)) in
-    sym (append-nil text) ∙ ap (λ (l : List (Option Seated)). text ++ jobs_text origins k l) (sym nothing) ∙ rest
+    sym (append-nil text) ∙ ap (λ (l : List (Option Seat)). text ++ jobs_text origins k l) (sym nothing) ∙ rest
 
 -- the same of what comes of each core set by itself
-pub mapped_next : {X : Type 0} (f : Option Seated → List X) (seats : List (Option Seated)) (k : ℕ) (seat : Option Seated) (old new whole : List X) → slice_get seats k ≡ Some seat → new ≡ old ++ f seat → old ++ flat_map f (drop k seats) ≡ whole → new ++ flat_map f (drop (k + 1) seats) ≡ whole
+pub mapped_next : {X : Type 0} (f : Option Seat → List X) (seats : List (Option Seat)) (k : ℕ) (seat : Option Seat) (old new whole : List X) → slice_get seats k ≡ Some seat → new ≡ old ++ f seat → old ++ flat_map f (drop k seats) ≡ whole → new ++ flat_map f (drop (k + 1) seats) ≡ whole
 mapped_next {X} f seats k seat old new whole is made rest =
     ap (λ (t : List X). t ++ flat_map f (drop (k + 1) seats)) made
     ∙ append_assoc old (f seat) (flat_map f (drop (k + 1) seats))
     ∙ ap (λ (t : List X). old ++ t) (sym (flat_map-cons f seat (drop (k + 1) seats)))
-    ∙ ap (λ (l : List (Option Seated)). old ++ flat_map f l) (sym (next seats k seat is)) ∙ rest
+    ∙ ap (λ (l : List (Option Seat)). old ++ flat_map f l) (sym (next seats k seat is)) ∙ rest
 
-pub mapped_end : {X : Type 0} (f : Option Seated → List X) (seats : List (Option Seated)) (k : ℕ) (found whole : List X) → length seats ≤ k → found ++ flat_map f (drop k seats) ≡ whole → found ≡ whole
+pub mapped_end : {X : Type 0} (f : Option Seat → List X) (seats : List (Option Seat)) (k : ℕ) (found whole : List X) → length seats ≤ k → found ++ flat_map f (drop k seats) ≡ whole → found ≡ whole
 mapped_end {X} f seats k found whole past rest =
     let nothing : drop k seats ≡ [] = nil_from_length _ (simp length-drop (omega arith)) in
-    sym (append-nil found) ∙ ap (λ (l : List (Option Seated)). found ++ flat_map f l) (sym nothing) ∙ rest
+    sym (append-nil found) ∙ ap (λ (l : List (Option Seat)). found ++ flat_map f l) (sym nothing) ∙ rest
 
 -- how many tasks wait does not depend on when they are due
 count_by : (b : Bool) (x y : Waiting) (xs ys : List Waiting) → length xs ≡ length ys → length (if b then [] else x ∷ xs) ≡ length (if b then [] else y ∷ ys)

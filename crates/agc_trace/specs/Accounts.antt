@@ -13,7 +13,7 @@ use Rattle.agc_text.specs.Lines.{action_line_of}
 use Rattle.agc_text.specs.Numbers.{octal}
 use Rattle.agc_text.specs.Replies.{fired_text}
 use Rattle.agc_text.specs.Report.{count_text}
-use Rattle.agc_trace.specs.declared.seats.Seated.{Seated}
+use Rattle.agc_exec.specs.declared.seats.Seat.{Seat}
 use Rattle.agc_trace.specs.declared.origins.Origin.{Origin}
 use Rattle.agc_trace.specs.Lines.{column, scene_text}
 use Rattle.agc_trace.specs.Origins.{known, since_text}
@@ -61,29 +61,29 @@ abbrev pub area_text : ℕ → List ℕ
 area_text area = if area == 0 then [] else codes ", area " ++ decimal area
 
 -- core set k, and who is there
-abbrev pub who_text : ℕ → Seated → List ℕ
+abbrev pub who_text : ℕ → Seat → List ℕ
 who_text k seat =
     codes "          set "
     ++ (decimal k
     ++ (codes ": job " ++ (decimal seat.number ++ (codes ", priority " ++ octal 2 seat.priority))))
 
 -- where that job is, and its area
-abbrev pub where_text : Seated → List ℕ
+abbrev pub where_text : Seat → List ℕ
 where_text seat = at_text seat.asleep ++ (octal 5 seat.at ++ area_text seat.area)
 
 -- the job of core set k, if one is there, and by which request it came
-abbrev pub job_text : List Origin → ℕ → Option Seated → List ℕ
+abbrev pub job_text : List Origin → ℕ → Option Seat → List ℕ
 job_text origins k None = []
 job_text origins k (Some seat) =
     who_text k seat ++ (where_text seat ++ (since_text (known origins seat.number) ++ codes "\n"))
 
 -- the jobs of the core sets from set k on
-abbrev pub jobs_text : List Origin → ℕ → List (Option Seated) → List ℕ
+abbrev pub jobs_text : List Origin → ℕ → List (Option Seat) → List ℕ
 jobs_text origins k [] = []
 jobs_text origins k (seat ∷ seats) = job_text origins k seat ++ jobs_text origins (k + 1) seats
 
 -- who held a full table; the nine tasks stand in the line itself
-abbrev pub holders_text : Alarm → List Origin → List (Option Seated) → List ℕ
+abbrev pub holders_text : Alarm → List Origin → List (Option Seat) → List ℕ
 holders_text A1203 origins seats = []
 holders_text alarm origins seats = jobs_text origins 0 seats
 
@@ -96,7 +96,7 @@ unfoldable pub again_text : List ℕ → Scene → List ℕ
 again_text phases scene = column 72 (phases_text phases) ++ (scene_text scene ++ codes "\n")
 
 -- all of it
-unfoldable pub account_text : Rows → List Task → ℕ → Alarm → List Origin → List (Option Seated)
+unfoldable pub account_text : Rows → List Task → ℕ → Alarm → List Origin → List (Option Seat)
     → List ℕ → Scene → List ℕ
 account_text rows fired number alarm origins seats phases after =
     full_text alarm

@@ -11,7 +11,8 @@ use Rattle.agc_machine.specs.declared.answer.Refusal.{Refusal}
 use Rattle.agc_text.specs.Lines.{line_of}
 use Rattle.agc_text.specs.Numbers.{octal}
 use Rattle.agc_text.specs.Replies.{answer_text}
-use Rattle.agc_trace.specs.declared.seats.Seated.{Seated}
+use Rattle.agc_exec.specs.declared.seats.Seat.{Seat}
+use Rattle.agc_scene.specs.Scenes.{owner_of}
 use Rattle.agc_trace.specs.Scenes.{Scene}
 
 -- a text, as many spaces as bring it to this width, and two more
@@ -45,30 +46,23 @@ is_named None number = false
 is_named (Some other) number = other == number
 
 -- a job's number and its priority
-abbrev pub job_priority_text : Seated → List ℕ
+abbrev pub job_priority_text : Seat → List ℕ
 job_priority_text seat = decimal seat.number ++ (codes "/" ++ octal 2 seat.priority)
 
 -- what a core set holds: a job, in brackets where it sleeps, and behind > where NEWJOB names it
-abbrev pub seat_text : Option ℕ → Option Seated → List ℕ
+abbrev pub seat_text : Option ℕ → Option Seat → List ℕ
 seat_text named None = codes " ."
 seat_text named (Some seat) =
     if seat.asleep then codes " (" ++ (job_priority_text seat ++ codes ")")
     else if is_named named seat.number then codes " >" ++ job_priority_text seat
     else codes " " ++ job_priority_text seat
 
--- the number of the job that owns an area, if one does
-abbrev pub owner_of : ℕ → List (Option Seated) → Option ℕ
-owner_of area [] = None
-owner_of area (None ∷ seats) = owner_of area seats
-owner_of area (Some seat ∷ seats) = if seat.area == area then Some seat.number
-    else owner_of area seats
-
 abbrev pub owner_text : Option ℕ → List ℕ
 owner_text None = codes " ."
 owner_text (Some number) = codes " " ++ decimal number
 
 -- the owners of areas 1 to 5
-abbrev pub owners_text : List (Option Seated) → List ℕ
+abbrev pub owners_text : List (Option Seat) → List ℕ
 owners_text seats = flat_map (λ area. owner_text (owner_of area seats)) (range_with_len 1 5)
 
 -- a task: its address, and the centiseconds that it still has

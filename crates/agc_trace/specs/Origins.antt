@@ -4,7 +4,7 @@ use Rattle.std.specs.Prelude.{Option, Some, None, unwrap_or}
 use Rattle.std.specs.Fmt.{decimal}
 use Rattle.std.specs.List.{flat_map}
 use Rattle.agc_trace.specs.declared.origins.Origin.{Origin}
-use Rattle.agc_trace.specs.declared.seats.Seated.{Seated}
+use Rattle.agc_exec.specs.declared.seats.Seat.{Seat}
 
 -- what is known of the job of this number
 abbrev pub known : List Origin → ℕ → Option Origin
@@ -13,14 +13,14 @@ known (origin ∷ origins) job = if origin.job == job then Some origin else know
 
 -- of a job that has a core set: what was known, or else that it came by this request, or by the
 -- restart of it
-abbrev pub origin_in : ℕ → (restart : Bool) → List Origin → Option Seated → List Origin
+abbrev pub origin_in : ℕ → (restart : Bool) → List Origin → Option Seat → List Origin
 origin_in request restart origins None = []
 origin_in request restart origins (Some seat) =
     unwrap_or (known origins seat.number)
     (record { job = seat.number; request = request; restart = restart }) ∷ []
 
 -- of all jobs that have one; numbers of jobs that are gone are forgotten
-abbrev pub origins_after : ℕ → (restart : Bool) → List Origin → List (Option Seated) → List Origin
+abbrev pub origins_after : ℕ → (restart : Bool) → List Origin → List (Option Seat) → List Origin
 origins_after request restart origins seats = flat_map (origin_in request restart origins) seats
 
 -- how it is told

@@ -1,34 +1,19 @@
 -- A scene, as it is read from the words.
-use Rattle.std.specs.Prelude.{◌≡◌, ℕ, Bool, false, List, map, Option, Some, None, option_map}
+use Rattle.std.specs.Prelude.{◌≡◌, ℕ, Bool, false, List, Option, Some, None}
 use Rattle.agc_word.specs.Layout.{IsSized, sets_in}
 use Rattle.agc_plan.specs.declared.request.Request.{Request}
 use Rattle.agc_plan.specs.declared.reply.Reply.{Reply}
 use Rattle.agc_plan.specs.Steps.{raised_in, acted, begins}
-use Rattle.agc_exec.specs.HeldJob.{HeldJob}
-use Rattle.agc_exec.specs.Image.{sets_of, jobs_in, runner_in, IsLawfulWords}
+use Rattle.agc_exec.specs.Image.{jobs_in, runner_in, IsLawfulWords}
+use Rattle.agc_exec.specs.Seats.{named_of, seats_in}
 use Rattle.agc_wait.specs.Table.{waits_of}
 use Rattle.agc_phase.specs.Image.{base_of}
 use Rattle.agc_phase.specs.Image as phases
 use Rattle.agc_machine.specs.declared.answer.Refusal.{Refusal}
 use Rattle.agc_machine.specs.Machines.{Machined, answer_of, fired_of, result_of, plain_of}
 use Rattle.agc_machine.specs.Moments.{Acting}
-use Rattle.agc_trace.specs.declared.seats.Seated.{Seated}
-use Rattle.agc_trace.specs.Scenes.{Scene, named_of}
+use Rattle.agc_trace.specs.Scenes.{Scene}
 use Rattle.agc_trace.specs.Traces.{scene_unless}
-
--- a core set's job, as a trace shows it
-abbrev pub seen : HeldJob → Seated
-seen r = record {
-  number = r.number;
-  at = r.at;
-  priority = r.priority;
-  asleep = r.asleep;
-  area = r.area;
-}
-
--- what each core set holds
-unfoldable pub seats_in : List ℕ → List (Option Seated)
-seats_in words = map (option_map seen) (sets_of words)
 
 abbrev pub scene_in : List ℕ → Scene
 scene_in words =

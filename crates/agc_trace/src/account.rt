@@ -4,6 +4,7 @@ ghost use Rattle.std.specs.Prelude.{◌≡◌, ◌+◌, ◌-◌, ◌*◌, ◌≤
 ghost use Rattle.std.specs.List.{flat_map};
 ghost use Rattle.agc_word.specs.Layout.{IsSized};
 ghost use Rattle.agc_exec.specs.Image.{IsLawfulWords};
+ghost use Rattle.agc_exec.specs.Seats.{seats_in};
 ghost use Rattle.agc_phase.specs.Image.{base_of, IsLawfulTable};
 ghost use Rattle.agc_plan.specs.Plans.{Rows};
 ghost use Rattle.agc_text.specs.Lines.{action_line_of};
@@ -14,13 +15,13 @@ ghost use Rattle.agc_trace.specs.Accounts.{cause_by, cause_text, at_text, area_t
 ghost use Rattle.agc_trace.specs.Accounts.{who_text, where_text, job_text, jobs_text, holders_text};
 ghost use Rattle.agc_trace.specs.Accounts.{phases_text, again_text, account_text};
 ghost use Rattle.agc_trace.specs.Origins.{origin_text, since_text, since_word};
-ghost use Rattle.agc_trace.specs.Reading.{seats_in, scene_in};
+ghost use Rattle.agc_trace.specs.Reading.{scene_in};
 
 use crate::cells::{add_fired, add_request};
 use crate::columns::add_column;
 use crate::lines::add_scene;
 use crate::origins::{Origin, Origins, known};
-use crate::seats::{Seated, seat};
+use agc_exec::{Seat, job_at};
 use agc_machine::Moment;
 use agc_phase::phases;
 use agc_plan::{Action, Alarm, Fired, Phase, Plan, Request, Task};
@@ -158,7 +159,7 @@ fn add_area(cell: &mut ArrayString<256>, area: u16)
 }
 
 /// The first part of the line of a job in core set k: set, number and priority.
-fn add_who(cell: &mut ArrayString<256>, k: usize, seat: Seated)
+fn add_who(cell: &mut ArrayString<256>, k: usize, seat: Seat)
     requires { length cell.old.bytes + 80 ≤ 256 }
     ensures text { cell.new.bytes ≡ cell.old.bytes ++ who_text k seat }
     ensures len { length cell.new.bytes ≤ length cell.old.bytes + 80 }
@@ -172,7 +173,7 @@ fn add_who(cell: &mut ArrayString<256>, k: usize, seat: Seated)
 }
 
 /// The rest of it: where the job is, and its area.
-fn add_where(cell: &mut ArrayString<256>, seat: Seated)
+fn add_where(cell: &mut ArrayString<256>, seat: Seat)
     requires { length cell.old.bytes + 44 ≤ 256 }
     ensures text { cell.new.bytes ≡ cell.old.bytes ++ where_text seat }
     ensures len { length cell.new.bytes ≤ length cell.old.bytes + 44 }
@@ -221,7 +222,7 @@ fn add_since(cell: &mut ArrayString<256>, origin: Option<Origin>)
 }
 
 /// The line of a core set's job, if one is there.
-fn job_cell(origins: &Origins, k: usize, seat: Option<Seated>) -> ArrayString<256>
+fn job_cell(origins: &Origins, k: usize, seat: Option<Seat>) -> ArrayString<256>
     ensures text { result.bytes ≡ job_text origins.now k seat }
     ensures len { length result.bytes ≤ 176 }
 {
@@ -246,7 +247,7 @@ fn jobs_of(origins: &Origins, e: &Erasable) -> ArrayString<2048>
 {
     let mut jobs = ArrayString::new();
     for k in 0..e.sets().count() {
-        jobs.push_str(job_cell(origins, k, seat(e, k)).as_str());
+        jobs.push_str(job_cell(origins, k, job_at(e, k)).as_str());
     }
     jobs
 }

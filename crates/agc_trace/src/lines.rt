@@ -4,21 +4,20 @@ ghost use Rattle.std.specs.Fmt.{decimal};
 ghost use Rattle.std.specs.List.{flat_map};
 ghost use Rattle.agc_word.specs.Layout.{IsSized};
 ghost use Rattle.agc_exec.specs.Image.{IsLawfulWords, jobs_in, runner_in};
+ghost use Rattle.agc_exec.specs.Seats.{named_of, seats_in};
 ghost use Rattle.agc_wait.specs.Table.{waits_of};
 ghost use Rattle.agc_machine.specs.Machines.{result_of};
 ghost use Rattle.agc_text.specs.Lines.{line_of};
 ghost use Rattle.agc_text.specs.Replies.{answer_text};
 ghost use Rattle.agc_trace.specs.Lines.{running_text, seat_text, owners_text, waits_text};
 ghost use Rattle.agc_trace.specs.Lines.{scene_text, front_text, line_text};
-ghost use Rattle.agc_trace.specs.Reading.{seats_in, scene_in};
-ghost use Rattle.agc_trace.specs.Scenes.{named_of};
+ghost use Rattle.agc_trace.specs.Reading.{scene_in};
 
 use crate::cells::{add_reply, add_request, refusal_text};
 use crate::columns::{add_front_columns, add_state_columns};
-use crate::newjob::named;
 use crate::seats::{add_owners, add_seats};
 use crate::waits::add_waits;
-use agc_exec::running;
+use agc_exec::{named_job, running};
 use agc_machine::{Moment, Refusal};
 use agc_plan::Request;
 use agc_text::add_number;
@@ -83,7 +82,7 @@ pub fn seats_cell(e: &Erasable) -> ArrayString<256>
     ensures len { length result.bytes ≤ 208 }
 {
     let mut cell = ArrayString::new();
-    add_seats(&mut cell, e, named(e));
+    add_seats(&mut cell, e, named_job(e));
     cell
 }
 

@@ -2,12 +2,13 @@
 ghost use Rattle.std.specs.Prelude.{◌≡◌, ◌+◌, ◌<◌, ◌≤◌, [], ◌∷◌, ◌++◌, length, if◌then◌else◌};
 ghost use Rattle.std.specs.Prelude.{false, unwrap_or};
 ghost use Rattle.agc_word.specs.Layout.{IsSized};
+ghost use Rattle.agc_exec.specs.Seats.{seats_in};
 ghost use Rattle.agc_trace.specs.Origins.{known, origin_in, origins_after};
-ghost use Rattle.agc_trace.specs.Reading.{begins_unless, seats_in};
+ghost use Rattle.agc_trace.specs.Reading.{begins_unless};
 ghost use Rattle.agc_trace.specs.Traces.{begun_by};
 
 use crate::runs::begins;
-use crate::seats::{Seated, seat};
+use agc_exec::{Seat, job_at};
 use agc_machine::{Machine, Moment, Refusal};
 use agc_plan::Request;
 use agc_word::Erasable;
@@ -104,7 +105,7 @@ fn add_origin(
     request: u64,
     restart: bool,
     origins: &Origins,
-    seat: Option<Seated>,
+    seat: Option<Seat>,
 )
     requires { length found.old < 8 }
     ensures items { found.new ≡ found.old ++ origin_in request restart origins.now seat }
@@ -132,7 +133,7 @@ fn origins_by(request: u64, restart: bool, origins: &Origins, e: &Erasable) -> O
 {
     let mut found = Origins::new();
     for k in 0..e.sets().count() {
-        add_origin(&mut found, request, restart, origins, seat(e, k));
+        add_origin(&mut found, request, restart, origins, job_at(e, k));
     }
     found
 }

@@ -3,7 +3,8 @@ use Rattle.agc_plan.specs.declared.reply.Alarm.{Alarm}
 use Rattle.agc_plan.specs.Plans.{Planned, Rows}
 use Rattle.agc_phase.specs.Image.{base_of}
 use Rattle.agc_trace.specs.Accounts.{account_text}
-use Rattle.agc_trace.specs.Reading.{seats_in, scene_in}
+use Rattle.agc_exec.specs.Seats.{seats_in}
+use Rattle.agc_trace.specs.Reading.{scene_in}
 use Rattle.agc_trace.specs.Scenes.{Scene}
 use Rattle.agc_trace.specs.Traces.{account_by}
 use Rattle.agc_trace.proofs.Moments.{scene_now}

@@ -1,7 +1,7 @@
 use Rattle.std.proofs.Common.{◌≡◌, ◌*◌, ◌≤◌, ◌++◌, length, drop}
 use Rattle.agc_word.specs.Layout.{sets_in}
 use Rattle.agc_trace.specs.Accounts.{jobs_text}
-use Rattle.agc_trace.specs.Reading.{seats_in}
+use Rattle.agc_exec.specs.Seats.{seats_in}
 use Rattle.agc_trace.proofs.account.jobs_of.Given as goal
 
 abbrev pub invariant-loop-k : goal.invariant-loop-k

@@ -1,7 +1,7 @@
 use Rattle.std.proofs.Common.{ℕ, true, List, [], ap, ◌∙◌}
 use Rattle.agc_trace.specs.declared.origins.Origin.{Origin}
 use Rattle.agc_trace.specs.Origins.{origins_after}
-use Rattle.agc_trace.specs.Reading.{seats_in}
+use Rattle.agc_exec.specs.Seats.{seats_in}
 use Rattle.agc_trace.specs.Scenes.{Scene}
 use Rattle.agc_trace.proofs.Moments.{scene_now}
 use Rattle.agc_trace.proofs.origins.begun_by.Goals as goal

@@ -2,7 +2,7 @@ use Rattle.std.proofs.Common.{◌≡◌, ◌≤◌, ◌++◌, length, drop}
 use Rattle.std.specs.List.{flat_map}
 use Rattle.agc_word.specs.Layout.{sets_in}
 use Rattle.agc_trace.specs.Origins.{origin_in, origins_after}
-use Rattle.agc_trace.specs.Reading.{seats_in}
+use Rattle.agc_exec.specs.Seats.{seats_in}
 use Rattle.agc_trace.proofs.origins.origins_by.Given as goal
 
 abbrev pub invariant-loop-k : goal.invariant-loop-k

@@ -3,8 +3,9 @@ use Rattle.std.specs.List.{flat_map, range_with_len}
 use Rattle.std.proofs.lemmas.List.FromFn.{get_or-range_with_len}
 use Rattle.std.proofs.lemmas.Option.{slice_get-get_or}
 use Rattle.agc_text.proofs.Steps.{one_more}
-use Rattle.agc_trace.specs.Lines.{owner_of, owner_text}
-use Rattle.agc_trace.specs.Reading.{seats_in}
+use Rattle.agc_scene.specs.Scenes.{owner_of}
+use Rattle.agc_trace.specs.Lines.{owner_text}
+use Rattle.agc_exec.specs.Seats.{seats_in}
 use Rattle.agc_trace.proofs.seats.add_owners.Goals as goal
 
 pub loop-area-preserved : goal.loop-area-preserved

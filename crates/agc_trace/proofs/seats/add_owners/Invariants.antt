@@ -1,7 +1,8 @@
 use Rattle.std.proofs.Common.{◌≡◌, ◌+◌, ◌-◌, ◌*◌, ◌≤◌, ◌++◌, length, take}
 use Rattle.std.specs.List.{flat_map, range_with_len}
-use Rattle.agc_trace.specs.Lines.{owner_of, owner_text}
-use Rattle.agc_trace.specs.Reading.{seats_in}
+use Rattle.agc_scene.specs.Scenes.{owner_of}
+use Rattle.agc_trace.specs.Lines.{owner_text}
+use Rattle.agc_exec.specs.Seats.{seats_in}
 use Rattle.agc_trace.proofs.seats.add_owners.Given as goal
 
 abbrev pub invariant-loop-area : goal.invariant-loop-area

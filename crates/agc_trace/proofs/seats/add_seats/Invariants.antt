@@ -2,7 +2,7 @@ use Rattle.std.proofs.Common.{◌≡◌, ◌+◌, ◌*◌, ◌≤◌, ◌++◌, 
 use Rattle.std.specs.List.{flat_map}
 use Rattle.agc_word.specs.Layout.{sets_in}
 use Rattle.agc_trace.specs.Lines.{seat_text}
-use Rattle.agc_trace.specs.Reading.{seats_in}
+use Rattle.agc_exec.specs.Seats.{seats_in}
 use Rattle.agc_trace.proofs.seats.add_seats.Given as goal
 
 abbrev pub invariant-loop-k : goal.invariant-loop-k

@@ -1,19 +1,20 @@
 use Rattle.std.proofs.Common.{◌≤◌, length, Option, Some, ap, sym, ◌∙◌, arith}
-use Rattle.agc_trace.specs.declared.seats.Seated.{Seated}
-use Rattle.agc_trace.specs.Reading.{seats_in}
-use Rattle.agc_trace.proofs.Words.{length-seats, owner_here, owner_other, owner_free, owner_none}
+use Rattle.agc_exec.specs.declared.seats.Seat.{Seat}
+use Rattle.agc_exec.specs.Seats.{seats_in}
+use Rattle.agc_exec.proofs.Seating.{length-seats}
+use Rattle.agc_trace.proofs.Words.{owner_here, owner_other, owner_free, owner_none}
 use Rattle.agc_trace.proofs.seats.owner.Goals as goal
 use Rattle.agc_trace.proofs.seats.owner.Goals.{in-Some+else-seat-area, in-None}
 
 pub returns-then-seat-area : goal.returns-then-seat-area
 returns-then-seat-area c =
-    sym (owner_here (seats_in c.args.e.now) c.loop-k.k c.args.area c.in-Some.seat (c.seat.ensures ∙ ap (λ (s : Option Seated). Some s) c.in-Some.is) (omega arith)) ∙ c.loop-k.invariant.rest
+    sym (owner_here (seats_in c.args.e.now) c.loop-k.k c.args.area c.in-Some.seat (c.job_at.ensures ∙ ap (λ (s : Option Seat). Some s) c.in-Some.is) (omega arith)) ∙ c.loop-k.invariant.rest
 
 pub loop-k-preserved : goal.loop-k-preserved
 loop-k-preserved c = record {
-  rest = elim c.match-seat.branch [
-    | in-Some+else-seat-area w ↦ sym (owner_other (seats_in c.args.e.now) c.loop-k.k c.args.area w.in-Some.seat (c.seat.ensures ∙ ap (λ (s : Option Seated). Some s) w.in-Some.is) (λ e. omega (arith, w.if-seat-area.false))) ∙ c.loop-k.invariant.rest
-    | in-None w ↦ sym (owner_free (seats_in c.args.e.now) c.loop-k.k c.args.area (c.seat.ensures ∙ ap (λ (s : Option Seated). Some s) w.in-None.is)) ∙ c.loop-k.invariant.rest
+  rest = elim c.match-job_at.branch [
+    | in-Some+else-seat-area w ↦ sym (owner_other (seats_in c.args.e.now) c.loop-k.k c.args.area w.in-Some.seat (c.job_at.ensures ∙ ap (λ (s : Option Seat). Some s) w.in-Some.is) (λ e. omega (arith, w.if-seat-area.false))) ∙ c.loop-k.invariant.rest
+    | in-None w ↦ sym (owner_free (seats_in c.args.e.now) c.loop-k.k c.args.area (c.job_at.ensures ∙ ap (λ (s : Option Seat). Some s) w.in-None.is)) ∙ c.loop-k.invariant.rest
   ];
   end = c.loop-k.invariant.end;
 }

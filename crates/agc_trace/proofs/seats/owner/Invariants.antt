@@ -1,7 +1,7 @@
 use Rattle.std.proofs.Common.{◌≡◌, drop}
 use Rattle.agc_word.specs.Layout.{sets_in}
-use Rattle.agc_trace.specs.Lines.{owner_of}
-use Rattle.agc_trace.specs.Reading.{seats_in}
+use Rattle.agc_scene.specs.Scenes.{owner_of}
+use Rattle.agc_exec.specs.Seats.{seats_in}
 use Rattle.agc_trace.proofs.seats.owner.Given as goal
 
 abbrev pub invariant-loop-k : goal.invariant-loop-k
