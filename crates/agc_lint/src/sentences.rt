@@ -37,7 +37,7 @@ pub(crate) fn add_line_fault(told: &mut String, fault: LineFault) -> Result<(), 
         ),
         LineFault::OfBench => add(
             told,
-            &["this is a line of a bench, which is checked without --script"],
+            &["this looks like a bench, not a script: use check without --script"],
         ),
         LineFault::Unknown(None) => {
             add(told, &["its first word is unknown"])?;
