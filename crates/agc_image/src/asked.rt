@@ -12,8 +12,7 @@ use agc_plan::{Address, Delay, Entry, Group, Phase, Place, Priority, Request, Ta
 use agc_word::Word;
 
 /// A request: its kind, and its numbers in the order of a script's line. Those that the kind
-/// doesn't
-/// have aren't looked at. An action is a request of kind 0 (nothing), 1, 2, 5 or 9. Source:
+/// doesn't have aren't looked at. An action is a request of kind 0 (nothing), 1, 2, 5 or 9. Source:
 /// profile.
 #[repr(C)]
 #[derive(Clone, Copy)]
@@ -21,11 +20,12 @@ pub struct AgcRequest {
     /// 1 NOVAC, 2 FINDVAC, 3 end of job, 4 a sleep, 5 a rouse, 6 a priority, 7 a change of job, 8 a
     /// store, 9 a listing, 10 a tick, 11 a phase, 12 a restart, 13 a fresh start.
     pub kind: u32,
-    /// A priority, an address, a place, a delay or a group.
+    /// A priority (1 to 31), an address (1 to 16383), a place or a group (1 to 6), or a delay (1 to
+    /// 16250 centiseconds).
     pub first: u32,
-    /// An address, a word or a phase.
+    /// An address, a word (0 to 32767) or a phase (0 to 127).
     pub second: u32,
-    /// The word of a bank.
+    /// The word of a bank, 0 to 32767.
     pub third: u32,
 }
 

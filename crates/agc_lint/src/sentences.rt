@@ -33,11 +33,11 @@ pub(crate) fn add_line_fault(told: &mut String, fault: LineFault) -> Result<(), 
         LineFault::CarriageReturn => add(told, &["a line ends with LF alone, not with CR LF"]),
         LineFault::ByteOrderMark => add(
             told,
-            &["a byte order mark stands before it; a script has none"],
+            &["it begins with a byte order mark, which a script may not have"],
         ),
         LineFault::OfBench => add(
             told,
-            &["this is a line of a bench, which is checked without --script"],
+            &["this looks like a bench, not a script: use check without --script"],
         ),
         LineFault::Unknown(None) => {
             add(told, &["its first word is unknown"])?;
@@ -139,7 +139,7 @@ fn add_expected(told: &mut String, key: Key) -> Result<(), AllocError> {
     }
 }
 
-/// Says how octal digits are written that stand without quotes.
+/// Says how octal digits without quotes are to be written.
 fn add_quoted(told: &mut String, digits: &str) -> Result<(), AllocError> {
     let is_octal = digits
         .as_bytes()
@@ -195,17 +195,17 @@ fn add_key_fault(told: &mut String, fault: KeyFault, text: &str) -> Result<(), A
     }
 }
 
-/// Says what is wrong with a bench at one place, where this text stands.
+/// Says what is wrong with a bench at one place, where it has this text.
 pub(crate) fn add_wrong(told: &mut String, wrong: Wrong, text: &str) -> Result<(), AllocError> {
     match wrong {
         Wrong::NotToml => add(told, &["not TOML: ", text]),
         Wrong::NoQuotes => {
-            add(told, &["not TOML: five octal digits stand in quotes"])?;
+            add(told, &["not TOML: five octal digits need quotes"])?;
             add_quoted(told, text)
         }
         Wrong::NoKeys => add(
             told,
-            &["a bench has keys with values behind =; a script is told by check --script"],
+            &["this looks like a script, not a bench: use check --script"],
         ),
         Wrong::Key(fault) => add_key_fault(told, fault, text),
         Wrong::Text(form) => {

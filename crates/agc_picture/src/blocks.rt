@@ -17,7 +17,8 @@ pub(crate) fn column_at(width: u64, number: u64) -> Column {
     }
 }
 
-/// How a block looks: free, a job by its number, awake or asleep, the mark of who runs, or tasks.
+/// What a block shows: nothing, a job that is awake or asleep, by its number, the running job's
+/// mark, or waiting tasks.
 #[derive(Clone, Copy)]
 pub(crate) enum Look {
     Free,
@@ -28,7 +29,7 @@ pub(crate) enum Look {
 }
 
 impl fmt::Display for Look {
-    /// The class of the look.
+    /// The class by which the style sheet colours it.
     fn fmt<W: fmt::Write>(&self, f: &mut fmt::Formatter<W>) -> fmt::Result {
         match *self {
             Look::Free => write!(f, "f"),
@@ -45,7 +46,7 @@ pub(crate) fn put_open<W: Write>(writer: &mut W, look: Look) -> io::Result<()> {
     write!(writer, "<g class=\"{look}\"><title>")
 }
 
-/// Ends a title with the request's number, and writes the block's ground, from the column to the
+/// Ends a title with the request's number, and writes the block's rectangle, from the column to the
 /// right edge.
 pub(crate) fn put_ground<W: Write>(
     writer: &mut W,

@@ -27,7 +27,7 @@ fn put_name<W: Write>(writer: &mut W, y: u64, name: &str) -> io::Result<()> {
     write!(writer, "<text x=\"8\" y=\"{y}\">{name}</text>\n")
 }
 
-/// Writes the names of the core sets, and who runs.
+/// Writes the names of the core sets, and `runs` at the mark of the running job.
 fn put_set_names<W: Write>(writer: &mut W, sets: usize) -> io::Result<()> {
     write!(writer, "<text x=\"50\" y=\"69\">runs</text>\n")?;
     for k in 0..sets {

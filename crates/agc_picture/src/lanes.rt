@@ -1,11 +1,11 @@
-// The lanes: core sets, who runs, VAC areas, tasks.
+// The lanes: core sets, the running job's mark, VAC areas, tasks.
 use crate::blocks::{Column, Look, put_close, put_ground, put_label, put_open};
 use agc_exec::Seat;
 use agc_scene::Scene;
 use std::io;
 use std::io::Write;
 
-/// Where the mark of who runs stands: just below core set 0.
+/// The height at which the running job is marked, just below core set 0, in points.
 const RUNS_Y: u64 = 76;
 
 /// What is drawn of a scene: all lanes, those that have changed, or, as an era begins, these and
@@ -94,7 +94,7 @@ fn put_set<W: Write>(
     }
 }
 
-/// Writes the mark of who runs.
+/// Marks the running job, or shows that no job is running.
 fn put_runs<W: Write>(writer: &mut W, column: Column, running: Option<u16>) -> io::Result<()> {
     match running {
         None => {

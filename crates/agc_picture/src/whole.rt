@@ -27,9 +27,9 @@ fn draw<W: Write>(drawing: &mut Drawing, bench: &Bench, writer: &mut W) -> Resul
 
 /// Writes the picture of a bench, an SVG: its machine is asked for the requests in the order of
 /// `serial`, and each has a column, 24 points wide, or 8 where there are more than 60. In it what
-/// has changed since the column before is drawn, to the right edge, over what stood there: at an
-/// alarm the full table, before the era begins. Where an era begins, each
-/// block ends. The writer is not flushed. Source: profile.
+/// has changed since the column before is drawn, to the right edge, over what was there: at an
+/// alarm the full table, before the era begins. Where an era begins, each block ends. The writer is
+/// not flushed. Source: profile.
 ///
 /// # Errors
 ///

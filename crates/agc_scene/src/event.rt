@@ -1,27 +1,32 @@
-// What is told of one request.
+// One request, and all that is shown of it.
 use crate::listings::Listings;
 use crate::origins::Origins;
 use crate::scene::Scene;
 use agc_machine::Refusal;
 use agc_plan::{Fired, Reply, Request};
 
-/// What is told of one request: its number, from 1; the centisecond of the era, and since the
-/// start, in which it is answered; the request and its answer; the tasks that fired, in order, and
-/// where an alarm came inside a tick, which of the actions of the task that fired last raised it,
-/// from 1, else 0; the scene in which it is answered, which at an alarm is before the era begins
-/// and at a restart or fresh start is as it was found; the scene with which an era begins, if one
-/// does; and since when each job and each task of the first scene is there. Source: profile.
+/// One request, and all that is shown of it. Times are in centiseconds. Source: profile.
 #[derive(Drop)]
 pub struct Event {
+    /// The request's number, from 1.
     pub number: u64,
+    /// The time since the era began.
     pub time: u64,
+    /// The time since the start.
     pub total: u64,
     pub request: Request,
     pub answer: Result<Reply, Refusal>,
+    /// The tasks that fired, in order.
     pub fired: Fired,
+    /// Which action of the last task that fired raised an alarm, from 1; 0 if none did.
     pub raised: usize,
+    /// The tables as the request left them, before an era begins with it; for a restart, a fresh
+    /// start or a refused request, the tables as they were.
     pub scene: Scene,
+    /// The tables with which an era begins, if one does.
     pub era: Option<Scene>,
+    /// Since when each job of `scene` is there.
     pub jobs: Origins,
+    /// Since when each task of `scene` is there.
     pub tasks: Listings,
 }

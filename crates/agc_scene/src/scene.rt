@@ -13,8 +13,8 @@ use agc_word::Erasable;
 use arrayvec::ArrayVec;
 use std::marker::Model;
 
-/// What is shown of a state: who runs, whom NEWJOB names, what each core set holds, the tasks that
-/// wait, phases and FAILREG. Source: profile.
+/// The tables as they are shown: the running job, the job that NEWJOB names, the contents of each
+/// core set, the waiting tasks, phases and FAILREG. Source: profile.
 #[derive(Drop)]
 pub struct Scene {
     running: Option<JobNo>,

@@ -14,13 +14,14 @@ use std::marker::Model;
 /// How many requests the log of a script holds.
 const SCRIPT_LIMIT: u64 = 1000;
 
-/// A run: its machine, how many requests were asked and how many may still be, how many tasks
-/// fired, and the first request that was refused as the log was full.
+/// A run: its machine, how many requests were asked and how many more may be, whether there were
+/// more than that, how many tasks fired, and the first request that a full log refused.
 #[derive(Drop)]
 struct Counter {
     machine: Machine,
     asked: u64,
     left: u32,
+    is_cut: bool,
     fired: u64,
     log_full: Option<u64>,
 }
@@ -38,6 +39,7 @@ impl Counter {
             machine,
             asked: 0,
             left: MOST_RUN,
+            is_cut: false,
             fired: 0,
             log_full: None,
         }
@@ -63,6 +65,9 @@ impl Counter {
             .saturating_add(totals.a1202)
             .saturating_add(totals.a1203);
         add(told, &["ok: "])?;
+        if self.is_cut {
+            add(told, &["the first "])?;
+        }
         add_count(told, self.asked, "request")?;
         add(told, &[", "])?;
         add_count(told, self.fired, "task")?;
@@ -84,6 +89,8 @@ impl Asks for Counter {
         if self.left > 0 {
             self.left -= 1;
             self.count(request);
+        } else {
+            self.is_cut = true;
         }
         Ok(())
     }
@@ -101,8 +108,8 @@ fn add_count(told: &mut String, number: u64, thing: &str) -> Result<(), AllocErr
     }
 }
 
-/// Appends what the first 200,000 requests of a bench come to, which are asked by one caller, as
-/// `serial` does. Source: profile.
+/// Appends what a bench comes to, asked by one caller as `serial` does; of more than 200,000
+/// requests the first 200,000 are asked, and the line says so. Source: profile.
 ///
 /// # Errors
 ///

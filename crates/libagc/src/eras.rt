@@ -169,8 +169,7 @@ pub extern "C" fn agc_power_up(
 }
 
 /// As `agc_power_up`, and doesn't look at the entries: a number of one that is out of its range
-/// does
-/// nothing, and of two entries the first counts. Source: the listings' FRESH START AND RESTART
+/// does nothing, and of two entries the first counts. Source: the listings' FRESH START AND RESTART
 /// section.
 #[unsafe(no_mangle)]
 pub extern "C" fn agc_power_up_trusted(

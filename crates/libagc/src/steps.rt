@@ -24,25 +24,27 @@ use agc_word::Erasable;
 #[repr(C)]
 #[derive(Clone, Copy)]
 pub struct AgcFired {
-    /// Where the task begins.
+    /// The address where the task begins, 1 to 16383.
     pub at: u32,
-    /// The word for its bank.
+    /// The word for its bank, 0 to 32767.
     pub bank: u32,
 }
 
-/// What a step answers. Source: profile.
+/// What a step returns. Source: profile.
 #[repr(C)]
 #[derive(Clone, Copy)]
 pub struct AgcStep {
-    /// 0 where the request was served, else the code of what it lacked.
+    /// 0 if the request was served, else the code of the first thing that it lacks.
     pub code: u32,
-    /// The kind of the reply, 1 to 14; 0 where the request was not served.
+    /// The kind of the reply: 1 established, 2 left for a job, 3 left for none, 4 roused, 5 no
+    /// sleeper, 6 no job, 7 runs, 8 stored, 9 listed, 10 alarm, 11 phase set, 12 tick, 13 tick with
+    /// an alarm, 14 restarted; 0 if the request was not served.
     pub reply: u32,
     /// The number of the job that the reply names, or the alarm's code; else 0.
     pub number: u32,
     /// How many tasks fired, 0 to 9.
     pub fired: u32,
-    /// Which action of the last of them raised the alarm, 1 to 4; 0 where none did.
+    /// Which action of the last of these tasks raised the alarm, 1 to 4; 0 if none did.
     pub action: u32,
 }
 
@@ -158,10 +160,8 @@ fn lacks(image: &Erasable, rows: &[AgcRow], entries: &[AgcPhaseEntry]) -> Option
 /// done, and an era begins by the plan's entries, where one begins with the reply. `fired` gets the
 /// tasks that fired in its first places, in order. `moment` gets the words as they were when the
 /// request was answered, before an era began with it, and the words as they are where the code
-/// isn't
-/// 0. Codes: 1 to 3 for the image, 4 and 5 for the request, 6 where a task is due, 8 where the
-/// words
-/// are such as no step leaves, 9 to 12 for the plan. Source: the request's own.
+/// isn't 0. Codes: 1 to 3 for the image, 4 and 5 for the request, 6 where a task is due, 8 where
+/// the words are such as no step leaves, 9 to 12 for the plan. Source: the request's own.
 #[unsafe(no_mangle)]
 pub extern "C" fn agc_step(
     words: &mut [u16; 144],
@@ -200,8 +200,7 @@ pub extern "C" fn agc_step(
 }
 
 /// As `agc_step`, for an array that is known to have an image such as every step leaves it. Codes
-/// 0,
-/// 4 and 5 alone: a number of the plan that is out of its range does nothing, and of two rows or
+/// 0, 4 and 5 alone: a number of the plan that is out of its range does nothing, and of two rows or
 /// entries the first counts. Source: the request's own.
 #[unsafe(no_mangle)]
 pub extern "C" fn agc_step_trusted(
