@@ -10,6 +10,7 @@
 The functions of a source are found by its lines, which `rt fmt` lays out: one begins in the first
 column, or in the fifth within an impl or a trait.
 """
+import hashlib
 import functools
 import glob
 import importlib.machinery
@@ -350,6 +351,13 @@ def edits():
     return Edits()
 
 
+def cases():
+    """Returns of each case, by name, its file and the line at which it begins."""
+    return {line.removeprefix("=== case "): (path, at)
+            for path in files_below(f"{TOP}/tests/cases", ".cases")
+            for at, line in enumerate(text_of(path).splitlines(), 1) if line.startswith("=== case ")}
+
+
 # Tools
 
 def tool(name):
@@ -378,8 +386,29 @@ def places_of(name):
         if changed or it.name == name:
             yield f"{it.place}: edit {it.name}" + "".join(f", which changes {key}" for key in changed)
     yield from calls_of(name.split("::")[-1], {key.split("::")[0] for key in found})
-    for path in sorted(glob.glob(f"{TOP}/tests/*/*{name}*.case")):
-        yield f"{os.path.relpath(path, TOP)}:1: a case"
+    for case, (path, at) in cases().items():
+        if name in case:
+            yield f"{os.path.relpath(path, TOP)}:{at}: case {case}"
+    for path in sorted(glob.glob(f"{TOP}/tests/refused/*{name}*.case")):
+        yield f"{os.path.relpath(path, TOP)}:1: what must not compile"
+
+
+def plain(text):
+    """A text as data of a page: no `<` is in it."""
+    return text.replace("\\", "\\\\").replace("<", "\\l")
+
+
+def page_of(document):
+    """The page that agc_watch writes of a document, from the text that stands in agc_page."""
+    parts = re.findall(r'r##"(.*?)"##;', text_of(f"{TOP}/crates/agc_page/src/text.rt"), re.DOTALL)
+    return "".join(parts[:-1]) + plain(document) + parts[-1]
+
+
+def checksum_of_workbench(example):
+    """The checksum of what a picture of the workbench shows: its sources, and an example."""
+    paths = sorted(f"web/{it}" for it in os.listdir(f"{TOP}/web"))
+    texts = "".join(f"{it}\n{text_of(f'{TOP}/{it}')}" for it in [*paths, example])
+    return hashlib.sha256(texts.encode()).hexdigest()
 
 
 def calls_of(name, owners):

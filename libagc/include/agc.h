@@ -80,7 +80,10 @@ enum {
     AGC_TOO_MANY_AREAS = 12, /* each of the six groups has an entry with a job of AGC_FINDVAC, and
                                 there are five VAC areas */
     AGC_NOT_SPELLED = 13, /* a line spells no request, or no action */
-    AGC_NO_ROOM = 14      /* a text doesn't fit: the number says how many bytes it wants */
+    AGC_NO_ROOM = 14,     /* a text doesn't fit: the number says how many bytes it wants */
+    AGC_TIME_RANGE = 15,  /* a number of the timetable is out of its range */
+    AGC_STEAL_TWICE = 16, /* two rows of stolen time hold at one time */
+    AGC_COST_TWICE = 17   /* one address has two costs */
 };
 
 /* The kinds of replies, and what the reply's number then is. */
@@ -202,6 +205,23 @@ typedef struct {
     uint32_t delay, task_at, task_bank;
 } AgcPhaseEntry;
 
+/* Stolen time: from centisecond `from` on, before `to`, something else takes `percent`, 0 to 100, of
+   each centisecond. */
+typedef struct { uint32_t from, to, percent; } AgcStolen;
+
+/* What a job costs that stands at an address, in hundredths of a centisecond of computing, 1 to
+   100,000,000. Then it ends, where `then` is 0, or sleeps at that address. */
+typedef struct { uint32_t at, hundredths, then; } AgcCost;
+
+/* An event: it comes at a centisecond, 0 to 360,000, and where `every` isn't 0 again each so many
+   centiseconds, at last at `until`. Each time it asks for `count` requests, 1 to 16, of those that are
+   handed to the call, from number `first` on, which counts from 0. */
+typedef struct { uint32_t at, every, until, first, count; } AgcEvent;
+
+/* A clock: its centisecond, what of that is done, and the hundredths that jobs 1 to 8 were given since
+   they were established or roused. All zeros is a clock at its start; any other is as a call left it. */
+AGC_TYPE struct { uint32_t time; size_t event, asked; bool looks; uint32_t left; uint32_t given[8]; } AgcClock;
+
 /* What a code says: a constant text, never null, whatever the number. */
 AGC_INLINE const char *agc_code_text(uint32_t code) {
     switch (code) {
@@ -220,6 +240,9 @@ AGC_INLINE const char *agc_code_text(uint32_t code) {
     case AGC_TOO_MANY_AREAS: return "each of six groups wants a VAC area, and there are five";
     case AGC_NOT_SPELLED: return "the line spells no request";
     case AGC_NO_ROOM: return "the text doesn't fit into the room that is lent";
+    case AGC_TIME_RANGE: return "a number of the timetable is out of its range";
+    case AGC_STEAL_TWICE: return "two rows of stolen time hold at one time";
+    case AGC_COST_TWICE: return "one address has two costs";
     default: return "no call answers this code";
     }
 }
@@ -306,6 +329,32 @@ AgcNumber agc_write_reply(const AgcStep *step, const AgcFired fired[AGC_FIRED], 
    image. */
 AgcNumber agc_write_report(const uint16_t words[AGC_WORDS], uint32_t sets, const AgcTotals *totals, char *text,
                            size_t room);
+
+/* Whether rows make a timetable: AGC_OK, or the first of AGC_TIME_RANGE, AGC_STEAL_TWICE and
+   AGC_COST_TWICE. Of all rows and requests there may be none, and they may then be null. */
+uint32_t agc_clock_check(const AgcStolen *stolen, size_t stolen_count, const AgcCost *costs, size_t cost_count,
+                         const AgcEvent *events, size_t event_count, const AgcRequest *requests, size_t request_count);
+
+/* The next request of a clock for a machine with these words, which goes on for `lasts` centiseconds.
+   docs/MODEL.md says how time passes. The number tells who asks: 1 the clock, 2 and more an event, the
+   first being 2; and then *request is to be asked, and agc_clock_served to be told of it. It is 0 where
+   the time is over, and *request stays. Codes: those of the image, then those of agc_clock_check. The
+   trusted form looks at neither, and has the condition of other calls: an address that is out of its
+   range then counts as 037777, numbers that are no request as AGC_CHANGE, and of two rows for one time
+   or address the first counts. */
+AgcNumber agc_clock_next(const uint16_t words[AGC_WORDS], uint32_t sets, uint32_t lasts, const AgcStolen *stolen,
+                         size_t stolen_count, const AgcCost *costs, size_t cost_count, const AgcEvent *events,
+                         size_t event_count, const AgcRequest *requests, size_t request_count, AgcClock *clock,
+                         AgcRequest *request);
+AgcNumber agc_clock_next_trusted(const uint16_t words[AGC_WORDS], uint32_t sets, uint32_t lasts, const AgcStolen *stolen,
+                                 size_t stolen_count, const AgcCost *costs, size_t cost_count, const AgcEvent *events,
+                                 size_t event_count, const AgcRequest *requests, size_t request_count, AgcClock *clock,
+                                 AgcRequest *request);
+
+/* A clock takes what came of a request, also of one that it didn't ask for: the words as the step left
+   them, and what agc_step answered. Codes of the image. */
+uint32_t agc_clock_served(const uint16_t words[AGC_WORDS], uint32_t sets, const AgcStep *step, AgcClock *clock);
+uint32_t agc_clock_served_trusted(const uint16_t words[AGC_WORDS], uint32_t sets, const AgcStep *step, AgcClock *clock);
 
 /* The image of a fresh start, whatever stood there: no jobs, no tasks, six phases 0, no codes. */
 uint32_t agc_clear(uint16_t words[AGC_WORDS], uint32_t sets);

@@ -19,6 +19,9 @@ export declare const Code: {
   readonly TOO_MANY_AREAS: 12;
   readonly NOT_SPELLED: 13;
   readonly NO_ROOM: 14;
+  readonly TIME_RANGE: 15;
+  readonly STEAL_TWICE: 16;
+  readonly COST_TWICE: 17;
 };
 
 /** The kinds of replies. */
@@ -149,6 +152,17 @@ export declare class Machine {
   ask(line: string): Step;
   /** Asks one request: its name and numbers, as `"findvac", 0o30, 0o2100, 5`. */
   ask(name: string, ...numbers: number[]): Step;
+  /** Asks one request: what a clock gave. */
+  ask(asked: Asked): Step;
+  /**
+   * Lets so many centiseconds pass by a clock, or fewer where its time is over. Returns how many
+   * requests were asked. Where `row` returns false, the run stops.
+   */
+  run(
+    clock: Clock,
+    centiseconds: number,
+    row?: (asked: Asked, step: Step, time: number) => unknown,
+  ): number;
   readonly sets: number;
   /** The words as they are now: 132 with seven core sets, 144 with eight. */
   readonly words: Uint16Array;
@@ -161,6 +175,68 @@ export declare class Machine {
   report(): string;
   /** A machine of its own with the same words, plan and totals. */
   copy(): Machine;
+}
+
+/** From a centisecond on, and before another, something else takes so many percent of each. */
+export interface Stolen {
+  from: number;
+  to: number;
+  percent: number;
+}
+
+/** What a job costs that stands at an address, in centiseconds; then `"end"` or `"sleep 04000"`. */
+export interface JobCost {
+  at: string | number;
+  cost: number;
+  then?: string;
+}
+
+/** What is asked at a centisecond, and with `every` again, at last at `until`. */
+export interface TimedEvent {
+  at: number;
+  do: string | readonly string[];
+  every?: number;
+  until?: number;
+}
+
+/** What a scenario has of time. Other keys of it aren't looked at. */
+export interface Timetable {
+  /** How long it lasts: 3600 where it isn't named. */
+  seconds?: number;
+  /** Percent of each centisecond that something else takes, or rows of it. */
+  steal?: number | readonly Stolen[];
+  job?: readonly JobCost[];
+  event?: readonly TimedEvent[];
+}
+
+/** A request that a clock gave. */
+export declare class Asked {
+  readonly name: string;
+  readonly numbers: number[];
+  /** The number of the event that asks, from 0; null where the clock itself does. */
+  readonly event: number | null;
+  /** Its line, as in a script. */
+  readonly text: string;
+  toString(): string;
+}
+
+/** A clock, which lets time pass by a timetable for one machine. */
+export declare class Clock {
+  constructor(timetable?: Timetable);
+  /** The next request, or null where the time is over. It is to be asked, and `served` told of it. */
+  next(machine: Machine): Asked | null;
+  /** Tells what came of a request, also of one that the clock didn't give. */
+  served(machine: Machine, step: Step): void;
+  /** The centisecond that passes; 0 before the first tick. */
+  readonly time: number;
+  /** How many hundredths of a centisecond jobs 1 to 8 were given since they began or were roused. */
+  readonly given: number[];
+  /** How many centiseconds the timetable lasts. */
+  readonly lasts: number;
+  /** Another timetable from here on, of which what isn't named stays as it was. */
+  change(timetable: Timetable): void;
+  /** A clock of its own with the same time, counts and timetable. */
+  copy(): Clock;
 }
 
 /** What words say that a machine has left, or had at a moment. */
@@ -206,6 +282,24 @@ export interface Library {
   agc_write_report(
     answer: bigint, words: bigint, sets: number, totals: bigint, text: bigint, room: bigint,
   ): void;
+  agc_clock_check(
+    stolen: bigint, stolen_count: bigint, costs: bigint, cost_count: bigint,
+    events: bigint, event_count: bigint, requests: bigint, request_count: bigint,
+  ): number;
+  agc_clock_next(
+    answer: bigint, words: bigint, sets: number, lasts: number,
+    stolen: bigint, stolen_count: bigint, costs: bigint, cost_count: bigint,
+    events: bigint, event_count: bigint, requests: bigint, request_count: bigint,
+    clock: bigint, request: bigint,
+  ): void;
+  agc_clock_next_trusted(
+    answer: bigint, words: bigint, sets: number, lasts: number,
+    stolen: bigint, stolen_count: bigint, costs: bigint, cost_count: bigint,
+    events: bigint, event_count: bigint, requests: bigint, request_count: bigint,
+    clock: bigint, request: bigint,
+  ): void;
+  agc_clock_served(words: bigint, sets: number, step: bigint, clock: bigint): number;
+  agc_clock_served_trusted(words: bigint, sets: number, step: bigint, clock: bigint): number;
   agc_clear(words: bigint, sets: number): number;
   agc_check(answer: bigint, words: bigint, sets: number): void;
   agc_restart(words: bigint, sets: number): number;

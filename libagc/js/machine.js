@@ -13,6 +13,11 @@
  * @typedef {{ group: number, phase: number, job?: string, task?: string }} PlanPhase
  * @typedef {{ task?: PlanTask[], phase?: PlanPhase[] }} Plan
  * @typedef {{ at: number, bank: number }} Task
+ * @typedef {{ from: number, to: number, percent: number }} Stolen
+ * @typedef {{ at: string | number, cost: number, then?: string }} JobCost
+ * @typedef {{ at: number, do: string | string[], every?: number, until?: number }} TimedEvent
+ * @typedef {{ seconds?: number, steal?: number | Stolen[], job?: JobCost[],
+ *   event?: TimedEvent[] }} Timetable
  * @typedef {{ number: number, priority: number, at: number, bank: number, asleep: boolean,
  *   area: number, work: number[] }} Job
  * @typedef {{ at: number, bank: number, left: number }} Waiting
@@ -41,6 +46,9 @@ export const Code = Object.freeze({
   TOO_MANY_AREAS: 12,
   NOT_SPELLED: 13,
   NO_ROOM: 14,
+  TIME_RANGE: 15,
+  STEAL_TWICE: 16,
+  COST_TWICE: 17,
 });
 
 /** The kinds of replies. */
@@ -77,6 +85,9 @@ const CODE_TEXTS = {
   [Code.TOO_MANY_AREAS]: "each of six groups wants a VAC area, and there are five",
   [Code.NOT_SPELLED]: "the line spells no request",
   [Code.NO_ROOM]: "the text doesn't fit into the room that is lent",
+  [Code.TIME_RANGE]: "a number of the timetable is out of its range",
+  [Code.STEAL_TWICE]: "two rows of stolen time hold at one time",
+  [Code.COST_TWICE]: "one address has two costs",
 };
 
 /** @type {Record<number, string>} */
@@ -127,11 +138,11 @@ export class Lacking extends Error {
 }
 
 // The module, and what lies where in its memory behind its own: the words of the machine that was
-// asked last, the words as they were at its last request, a call's numbers and answer, a text, and
-// that machine's plan.
+// asked last, the words as they were at its last request, a call's numbers and answer, a clock, a text,
+// that machine's plan, and behind it that clock's timetable.
 const SIZE = {
   ...{ words: 288, moment: 288, answer: 24, fired: 72, request: 16, totals: 40, phases: 24 },
-  text: 2048,
+  ...{ clock: 64, text: 2048 },
 };
 const ROW = 72;
 const ENTRY = 36;
@@ -151,6 +162,8 @@ let halves;
 let numbers;
 /** @type {any} */
 let asked = null;
+/** @type {any} */
+let timed = null;
 
 const decoder = new TextDecoder();
 
@@ -386,8 +399,11 @@ export class Step {
   }
 }
 
-/** Saves what stands in the module's memory of the machine that was asked last. */
+/** Saves what stands in the module's memory of the machine that was asked last, and of its clock. */
 let leave = () => {};
+
+/** Saves the clock that stands in the module's memory. */
+let leaveClock = () => {};
 
 /**
  * A machine: its words, and the plan by which it goes on after an alarm.
@@ -407,6 +423,7 @@ export class Machine {
 
   static {
     leave = () => {
+      leaveClock();
       if (asked !== null) asked.#leave();
       asked = null;
     };
@@ -515,31 +532,69 @@ export class Machine {
 
   /**
    * Asks one request: a line as `"findvac 30 02100 00005"`, or its name and numbers, as
-   * `"findvac", 0o30, 0o2100, 5`. After an alarm, a restart or a fresh start an era has begun.
-   * @param {string} request
+   * `"findvac", 0o30, 0o2100, 5`, or what a clock gave. After an alarm, a restart or a fresh start an
+   * era has begun.
+   * @param {string | Asked} request
    * @param {...number} given
    * @returns {Step}
    */
   ask(request, ...given) {
     if (asked !== this) this.#enter();
-    this.#spell(request, given);
+    if (request instanceof Asked) this.#spell(request.name, request.numbers);
+    else this.#spell(request, given);
     this.#step(calls.agc_step_trusted);
+    served(numbers[at.answer / 4]);
+    this.#count();
+    return this.#reply();
+  }
+
+  /** The reply that a step has written. */
+  #reply() {
     const place = at.answer / 4;
-    if (numbers[place] !== Code.OK) throw new Lacking(numbers[place]);
     const fired = [];
     for (let k = 0; k < numbers[place + 3]; k++) {
       fired.push({ at: numbers[at.fired / 4 + 2 * k], bank: numbers[at.fired / 4 + 2 * k + 1] });
     }
-    const reply = new Step(numbers[place + 1], numbers[place + 2], fired, numbers[place + 4]);
-    this.#count(reply);
-    return reply;
+    return new Step(numbers[place + 1], numbers[place + 2], fired, numbers[place + 4]);
   }
 
-  /** @param {Step} reply */
-  #count(reply) {
+  /** Counts the reply that a step has written. */
+  #count() {
+    const kind = numbers[at.answer / 4 + 1];
+    const alarmed = kind === Kind.ALARMED || kind === Kind.TICK_ALARMED;
     this.#totals.served++;
-    if (reply.beginsEra) this.#totals.restarts++;
-    if (reply.alarm !== 0) this.#totals.alarms[reply.alarm - 0o1201]++;
+    if (alarmed) this.#totals.alarms[numbers[at.answer / 4 + 2] - 0o1201]++;
+    if (alarmed || kind === Kind.RESTARTED) this.#totals.restarts++;
+  }
+
+  /**
+   * Lets time pass by a clock: asks all that it gives until so many centiseconds have passed, or its
+   * time is over, and tells it what came of each. Returns how many requests that were. `row` is
+   * called with each request, its reply and the centisecond; where it returns false, the run stops.
+   * @param {Clock} clock
+   * @param {number} centiseconds
+   * @param {(asked: Asked, step: Step, time: number) => unknown} [row]
+   */
+  run(clock, centiseconds, row) {
+    const end = clock.time + whole(centiseconds);
+    for (let count = 0; ; count++) {
+      if (asked !== this) this.#enter();
+      if (!clock.give(this, end)) return count;
+      const request = row && Asked.read();
+      this.#step(calls.agc_step_trusted);
+      this.#count();
+      clock.take(this);
+      if (row && request && row(request, this.#reply(), clock.time) === false) return count + 1;
+    }
+  }
+
+  /**
+   * Puts this machine into the module's memory, for a clock: where its plan ends there.
+   * @returns {number}
+   */
+  enter() {
+    if (asked !== this) this.#enter();
+    return at.plan + this.#plan.numbers.byteLength;
   }
 
   /** How many core sets there are: 7 or 8. */
@@ -591,6 +646,286 @@ export class Machine {
     made.#words.set(this.#words);
     made.#moment.set(this.#moment);
     made.#totals = this.totals;
+    return made;
+  }
+}
+
+// How each request's numbers are written: so many octal digits, or in decimal where that is 0.
+/** @type {Record<string, number[]>} */
+const WIDTHS = {
+  ...{ novac: [2, 5, 5], findvac: [2, 5, 5], end: [], sleep: [5], rouse: [5], prio: [2] },
+  ...{ change: [], store: [0, 5], list: [0, 5, 5], tick: [], phase: [0, 0], restart: [] },
+  fresh: [],
+};
+const NAMES = [...KINDS.keys()];
+
+/** A request that a clock gave: its name, its numbers, and who asks for it. */
+export class Asked {
+  /**
+   * @param {string} name
+   * @param {number[]} given
+   * @param {number | null} event
+   */
+  constructor(name, given, event) {
+    this.name = name;
+    this.numbers = given;
+    /** The number of the event that asks, from 0; null where the clock itself does. */
+    this.event = event;
+  }
+
+  /** What a clock has written. */
+  static read() {
+    const place = at.request / 4;
+    const name = NAMES[numbers[place] - 1];
+    const given = Array.from(numbers.subarray(place + 1, place + 1 + WIDTHS[name].length));
+    const source = numbers[at.answer / 4 + 1];
+    return new Asked(name, given, source === 1 ? null : source - 2);
+  }
+
+  /** Its line, as in a script. */
+  get text() {
+    const shown = this.numbers.map((it, k) => {
+      const width = WIDTHS[this.name][k];
+      return width === 0 ? String(it) : it.toString(8).padStart(width, "0");
+    });
+    return [this.name, ...shown].join(" ");
+  }
+
+  toString() {
+    return this.text;
+  }
+}
+
+const STOLEN = 12;
+const COST = 12;
+const EVENT = 20;
+const REQUEST = 16;
+const LAST_TIME = 360000;
+
+/**
+ * What a job does that has used up its cost: 0 for its end, or the address at which it sleeps.
+ * @param {string | undefined} then
+ */
+function thenOf(then) {
+  if (then === undefined || then === "end") return 0;
+  read(calls.agc_read_request, then, "end or sleep");
+  if (NAMES[numbers[at.request / 4] - 1] !== "sleep") notSpelled(then, "end or sleep");
+  return numbers[at.request / 4 + 1];
+}
+
+/** What a timetable is in the module's memory, one part behind the other. */
+class LentTimes {
+  /** @param {Timetable} given */
+  constructor({ seconds = LAST_TIME / 100, steal = 0, job = [], event = [] }) {
+    const always = steal === 0 ? [] : [{ from: 0, to: 0xffffffff, percent: Number(steal) }];
+    const stolen = Array.isArray(steal) ? steal : always;
+    /** @type {number[][]} */
+    const requests = [];
+    this.lasts = whole(seconds * 100);
+    this.stolen = stolen.map((it) => [whole(it.from), whole(it.to), whole(it.percent)]);
+    this.costs = job.map((it) => [octal(it.at), whole(100 * it.cost), thenOf(it.then)]);
+    this.events = event.map((it) => {
+      const lines = Array.isArray(it.do) ? it.do : [it.do];
+      const first = requests.length;
+      lines.forEach((line) => {
+        read(calls.agc_read_request, line, "request");
+        requests.push(Array.from(numbers.subarray(at.request / 4, at.request / 4 + 4)));
+      });
+      const every = whole(it.every ?? 0);
+      if (it.every !== undefined && every === 0) throw new Lacking(Code.TIME_RANGE);
+      return [whole(it.at), every, whole(it.until ?? LAST_TIME), first, lines.length];
+    });
+    this.requests = requests;
+    this.numbers = Uint32Array.from([this.stolen, this.costs, this.events, requests].flat(2));
+    this.#look();
+  }
+
+  /** Looks whether it is a timetable, and says which row isn't. */
+  #look() {
+    leave();
+    const { stolen, costs, events, requests } = this;
+    const code = this.#checked(stolen, costs, events, requests);
+    if (code === Code.OK) return;
+    const rows = { steal: stolen, job: costs, event: events };
+    for (const [name, all] of Object.entries(rows)) {
+      const bad = all.findIndex((it) => this.#checked(
+        name === "steal" ? [it] : [], name === "job" ? [it] : [],
+        name === "event" ? [it] : [], requests,
+      ) !== Code.OK);
+      if (bad >= 0) throw new Lacking(code, `${name} ${bad + 1}: ${codeText(code)}`);
+    }
+    throw new Lacking(code);
+  }
+
+  /** @param {number[][][]} parts */
+  #checked(...parts) {
+    this.lend(at.plan, Uint32Array.from(parts.flat(2)));
+    /** @type {bigint[]} */
+    const lent = [];
+    let place = at.plan;
+    [STOLEN, COST, EVENT, REQUEST].forEach((size, k) => {
+      lent.push(BigInt(place), BigInt(parts[k].length));
+      place += size * parts[k].length;
+    });
+    return calls.agc_clock_check(...lent);
+  }
+
+  /**
+   * Writes it to a place.
+   * @param {number} place
+   * @param {Uint32Array} all
+   */
+  lend(place, all = this.numbers) {
+    reach(place + all.byteLength);
+    numbers.set(all, place / 4);
+  }
+}
+
+/**
+ * A clock: it lets time pass by a timetable, as docs/MODEL.md says, and gives what a machine is asked
+ * next. `timetable` has `seconds`, `steal`, `job` and `event` as a scenario has them, and all may be
+ * missing. A clock goes with one machine, and is told of all that this is asked.
+ */
+export class Clock {
+  #told;
+  /** @type {LentTimes} */
+  #times;
+  #state = new Uint8Array(SIZE.clock);
+  // (where the timetable stands in the module's memory, part by part)
+  #places = { end: -1, stolen: 0n, costs: 0n, events: 0n, requests: 0n };
+  #counts = { stolen: 0n, costs: 0n, events: 0n, requests: 0n };
+
+  static {
+    leaveClock = () => {
+      if (timed !== null) timed.#leave();
+      timed = null;
+    };
+  }
+
+  /** @param {Timetable} timetable */
+  constructor(timetable = {}) {
+    if (calls === null) throw new TypeError("the module isn't there yet: await start(bytes)");
+    // (a copy's is looked at already)
+    const looked = timetable instanceof LentTimes;
+    this.#told = looked ? {} : { ...timetable };
+    this.#times = looked ? timetable : new LentTimes(timetable);
+  }
+
+  #leave() {
+    this.#state.set(bytes.subarray(at.clock, at.clock + SIZE.clock));
+  }
+
+  /**
+   * Puts the clock and its timetable into the module's memory, behind this machine.
+   * @param {Machine} machine
+   */
+  #enter(machine) {
+    const end = machine.enter();
+    if (timed === this && this.#places.end === end) return;
+    leaveClock();
+    const { stolen, costs, events, requests } = this.#times;
+    this.#times.lend(end);
+    bytes.set(this.#state, at.clock);
+    const second = end + STOLEN * stolen.length;
+    const third = second + COST * costs.length;
+    const fourth = third + EVENT * events.length;
+    this.#places = {
+      ...{ end, stolen: BigInt(end), costs: BigInt(second) },
+      ...{ events: BigInt(third), requests: BigInt(fourth) },
+    };
+    this.#counts = {
+      ...{ stolen: BigInt(stolen.length), costs: BigInt(costs.length) },
+      ...{ events: BigInt(events.length), requests: BigInt(requests.length) },
+    };
+    timed = this;
+  }
+
+  /**
+   * Writes the next request to its place, up to a centisecond; false where there is none.
+   * @param {Machine} machine
+   * @param {number} end
+   */
+  give(machine, end) {
+    this.#enter(machine);
+    const lasts = Math.min(this.#times.lasts, end);
+    const { stolen, costs, events, requests } = this.#places;
+    const counts = this.#counts;
+    calls.agc_clock_next_trusted(
+      to.answer, to.words, machine.sets, lasts, stolen, counts.stolen, costs, counts.costs,
+      events, counts.events, requests, counts.requests, to.clock, to.request,
+    );
+    return numbers[at.answer / 4 + 1] !== 0;
+  }
+
+  /**
+   * Takes the reply that stands at its place.
+   * @param {Machine} machine
+   */
+  take(machine) {
+    calls.agc_clock_served_trusted(to.words, machine.sets, to.answer, to.clock);
+  }
+
+  /**
+   * The next request for this machine, or null where the time is over. The clock has then gone on,
+   * so that it is to be asked, and `served` to be told of it.
+   * @param {Machine} machine
+   * @returns {Asked | null}
+   */
+  next(machine) {
+    return this.give(machine, 0xffffffff) ? Asked.read() : null;
+  }
+
+  /**
+   * Tells what came of a request, also of one that the clock didn't give.
+   * @param {Machine} machine
+   * @param {Step} step
+   */
+  served(machine, step) {
+    this.#enter(machine);
+    const { kind, number, fired, action: raised } = step;
+    numbers.set([0, kind, number, fired.length, raised], at.answer / 4);
+    this.take(machine);
+  }
+
+  /** The clock's words of 32 bits, wherever they are. */
+  get #numbers() {
+    const from = timed === this ? at.clock / 4 : 0;
+    return (timed === this ? numbers : new Uint32Array(this.#state.buffer)).slice(from, from + 16);
+  }
+
+  /** The centisecond that passes; 0 before the first tick. */
+  get time() {
+    return timed === this ? numbers[at.clock / 4] : new Uint32Array(this.#state.buffer)[0];
+  }
+
+  /** How many hundredths of a centisecond jobs 1 to 8 were given since they began or were roused. */
+  get given() {
+    return Array.from(this.#numbers.subarray(8, 16));
+  }
+
+  /** How many centiseconds the timetable lasts. */
+  get lasts() {
+    return this.#times.lasts;
+  }
+
+  /**
+   * Another timetable from here on, of which what isn't named stays as it was.
+   * @param {Timetable} timetable
+   */
+  change(timetable) {
+    const told = { ...this.#told, ...timetable };
+    const times = new LentTimes(told);
+    this.#told = told;
+    this.#times = times;
+    this.#places.end = -1;
+  }
+
+  /** A clock of its own with the same time, counts and timetable. */
+  copy() {
+    leaveClock();
+    const made = new Clock(/** @type {any} */ (this.#times));
+    made.#told = this.#told;
+    made.#state.set(this.#state);
     return made;
   }
 }

@@ -27,6 +27,7 @@ MOST_NANOSECONDS = 1000
 
 def tools_browse():
     """tools/browse as a module, which knows a browser's protocol."""
+    sys.path.insert(0, f"{TOP}/tools")
     loader = importlib.machinery.SourceFileLoader("browse", f"{TOP}/tools/browse")
     module = importlib.util.module_from_spec(importlib.util.spec_from_loader("browse", loader))
     loader.exec_module(module)

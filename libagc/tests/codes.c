@@ -210,6 +210,23 @@ static void steps(void) {
         check(agc_plan_check(&row, 1, NULL, 0) == 9, "agc_plan_check " #CHANGE, 7, 9);      \
         IS("agc_step, " #CHANGE, 9, step(w, s, &row, 1, NULL, 0, change));                  \
     } while (0)
+    /* More rows than there are marks, by which rows are compared: none is twice, then the first and the last are one. */
+    static AgcRow many[200];
+    for (uint32_t k = 0; k < 200; k++) many[k].at = 1 + k / 2, many[k].bank = k % 2;
+    IS("agc_step, 200 rows", 0, step(w, s, many, 200, NULL, 0, change));
+    many[199] = many[0];
+    IS("agc_step, a row twice of 200", 10, step(w, s, many, 200, NULL, 0, change));
+    AgcPhaseEntry six[6];
+    for (uint32_t k = 0; k < 6; k++) {
+        AgcPhaseEntry it = {k + 1, 1, AGC_FINDVAC, 1, 1, 0, 0, 0, 0};
+        six[k] = it;
+    }
+    IS("agc_step, six areas", 12, step(w, s, NULL, 0, six, 6, change));
+    IS("agc_step, five areas", 0, step(w, s, NULL, 0, six, 5, change));
+    six[5] = six[0];
+    IS("agc_step, a phase twice", 11, step(w, s, rows, 1, six, 6, change));
+    six[5].phase = 0;
+    IS("agc_step, phase 0", 9, step(w, s, NULL, 0, six, 6, change));
     ROW(at = 0);
     ROW(at = 16384);
     ROW(bank = 32768);
@@ -220,6 +237,19 @@ static void steps(void) {
     ROW(actions[0].first = 16251);
     ROW(actions[0].second = 0);
     ROW(actions[0].third = 32768);
+}
+
+static void clocks(void) {
+    AgcClock clock;
+    AgcRequest it;
+    AgcStep step = {AGC_OK, AGC_TICKED, 0, 0, 0};
+    memset(&clock, 0, sizeof clock);
+    BROKEN("agc_clock_next", agc_clock_next(w, s, 1, NULL, 0, NULL, 0, NULL, 0, NULL, 0, &clock, &it).code);
+    BROKEN("agc_clock_served", agc_clock_served(w, s, &step, &clock));
+    check(clock.time == 0, "a clock of no image", 7, 0);
+    BOTH_OF("agc_clock_next", 0, agc_clock_next, w, s, 1, NULL, 0, NULL, 0, NULL, 0, NULL, 0, &clock, &it);
+    check(clock.time == 1 && it.kind == AGC_TICK, "the time is over after a tick", 7, 0);
+    BOTH("agc_clock_served", 0, agc_clock_served, w, s, &step, &clock);
 }
 
 static void power(void) {
@@ -314,7 +344,8 @@ static void texts(void) {
     check(!strcmp(agc_code_text(AGC_OK), "the call was served"), "agc_code_text", 7, 0);
     check(!strcmp(agc_code_text(4), "a number of the call is out of its range"), "agc_code_text", 7, 4);
     check(!strcmp(agc_code_text(13), "the line spells no request"), "agc_code_text", 7, 13);
-    check(!strcmp(agc_code_text(15), "no call answers this code"), "agc_code_text", 7, 15);
+    check(!strcmp(agc_code_text(17), "one address has two costs"), "agc_code_text", 7, 17);
+    check(!strcmp(agc_code_text(18), "no call answers this code"), "agc_code_text", 7, 18);
     check(!strcmp(agc_reply_text(AGC_NO_SLEEPER), "no job sleeps at that address"), "agc_reply_text", 7, 0);
     check(!strcmp(agc_reply_text(0), "no reply is of this kind"), "agc_reply_text", 7, 0);
 }
@@ -325,6 +356,7 @@ int main(void) {
     numbers();
     eras();
     steps();
+    clocks();
     power();
     lines();
     replies();

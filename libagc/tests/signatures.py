@@ -16,10 +16,11 @@ HERE = os.path.dirname(os.path.abspath(__file__))
 sys.path.insert(0, f"{HERE}/../python")
 import agc
 
-NUMBERS = {"uint32_t": "u32", "int32_t": "i32", "uint8_t": "u8", "bool": "bool", "char": "u8", "uint64_t": "u64"}
+NUMBERS = {"uint32_t": "u32", "int32_t": "i32", "uint8_t": "u8", "bool": "bool", "char": "u8", "uint64_t": "u64", "size_t": "usize"}
 NUMBERS |= {"uint16_t": "u16", "AgcAction": "AgcRequest"}
 SIZES = {"AGC_WORDS": 144, "AGC_PHASE_WORDS": 12, "AGC_FIRED": 9, "AGC_ACTIONS": 4}
 LENGTHS = {"rows": "row_count", "entries": "entry_count", "text: &[": "length", "text: &mut [": "room"}
+LENGTHS |= {"stolen": "stolen_count", "costs": "cost_count", "events": "event_count", "requests": "request_count"}
 
 
 def text_of(path):
@@ -32,6 +33,7 @@ def parameter(text):
     name, kind = (it.strip() for it in text.split(":", 1))
     kind = kind.replace("PhaseWords", "[u16; 12]").replace("Words", "[u16; 144]").replace("AgcAction", "AgcRequest")
     kind = kind.replace("FIRED", "9").replace("*const ", "&").replace("*mut ", "&mut ")
+    kind = re.sub(r"\b(Stolen|Clock)\b", r"Agc\1", kind)
     return f"{name}: {kind}"
 
 
@@ -71,6 +73,9 @@ def of_rust(text, keyword):
         if name == "AgcRow" and len(fields) == 6:
             fields[2:] = [("actions", "[AgcRequest; 4]")]
         structs[name] = fields
+    for name, body in re.findall(r"pub struct (Stolen|Clock) \{(.*?)\n\}", text, re.S):
+        structs.setdefault(f"Agc{name}", [])
+        structs[f"Agc{name}"] = structs[f"Agc{name}"] or re.findall(r"(?:pub )?(\w+): ([^,\n]+),", body)
     return calls, structs
 
 
@@ -101,7 +106,7 @@ def of_c(text):
 
 
 PYTHON = {ctypes.c_uint32: "u32", ctypes.c_int32: "i32", ctypes.c_bool: "bool", ctypes.c_uint8 * 6: "[u8; 6]"}
-PYTHON |= {ctypes.c_uint64: "u64", ctypes.c_size_t: "u64", agc.AgcRequest * 4: "[AgcRequest; 4]", ctypes.c_char_p: "u8"}
+PYTHON |= {ctypes.c_uint32 * 8: "[u32; 8]", ctypes.c_uint64: "u64", ctypes.c_size_t: "u64", agc.AgcRequest * 4: "[AgcRequest; 4]", ctypes.c_char_p: "u8"}
 
 
 def of_python():
@@ -198,7 +203,7 @@ def compared_texts(header, module):
     yield from compared("machine.js", wanted, shown)
     yield from compared("agc.rs", wanted, texts_of(module, r'(\w+) => "(.*)",'))
     yield from compared("agc.py", wanted, python)
-    if len(wanted) != 30:
+    if len(wanted) != 33:
         yield f"signatures: agc.h has {len(wanted)} texts"
 
 
@@ -211,6 +216,7 @@ def compared(name, wanted, found):
 def main():
     source = "".join(text_of(it) for it in glob.glob(f"{HERE}/../../crates/libagc/src/*.rt"))
     source += "".join(text_of(it) for it in glob.glob(f"{HERE}/../../crates/agc_image/src/*.rt"))
+    source += "".join(text_of(f"{HERE}/../../crates/agc_clock/src/{it}.rt") for it in ("clock", "timetable"))
     calls, structs = of_rust(source, r'no_mangle\)\]\npub extern "C" ')
     header, module = text_of(f"{HERE}/../include/agc.h"), text_of(f"{HERE}/../rust/agc.rs")
     faults = []
@@ -223,7 +229,8 @@ def main():
     faults += compared("agc.rs", {name: calls.get(name) for name in wrapped}, wrapped)
     faults += compared("agc.py", dict(pointed_types(calls)), of_python()[0])
     faults += compared_names(calls)
-    faults += compared("agc.py", structs, of_python()[1])
+    wide = {name: [(field, kind.replace("usize", "u64")) for field, kind in it] for name, it in structs.items()}
+    faults += compared("agc.py", wide, of_python()[1])
     faults += compared_texts(header, module)
     constants = {name: int(n, 8 if n[0] == "0" else 10) for name, n in re.findall(r"AGC_(\w+) = (\d+)", header)}
     faults += compared_javascript(calls, constants)

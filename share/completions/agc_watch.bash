@@ -1,13 +1,14 @@
 # Completes agc_watch's words in bash.
 _agc_watch() {
-    local commands='trace picture page check'
+    local commands='trace picture page check explore'
     COMPREPLY=()
     case $COMP_CWORD:${COMP_WORDS[1]} in
         1:*) mapfile -t COMPREPLY < <(compgen -W "$commands help --help --version" -- "$2") ;;
         2:help) mapfile -t COMPREPLY < <(compgen -W "$commands" -- "$2") ;;
-        2:check) mapfile -t COMPREPLY < <(compgen -W '--script --help' -- "$2") ;;
-        *:trace) mapfile -t COMPREPLY < <(compgen -W '--script --alarms --brief --from --to --help' -- "$2") ;;
-        2:picture | 2:page) mapfile -t COMPREPLY < <(compgen -W '--help' -- "$2") ;;
+        2:check) mapfile -t COMPREPLY < <(compgen -W '--script --progress --help' -- "$2") ;;
+        *:trace) mapfile -t COMPREPLY < <(compgen -W '--script --alarms --brief --from --to --progress --help' -- "$2") ;;
+        *:explore) mapfile -t COMPREPLY < <(compgen -W '--states --alarm --through --bench --help' -- "$2") ;;
+        2:picture | 2:page) mapfile -t COMPREPLY < <(compgen -W '--progress --help' -- "$2") ;;
     esac
 }
 complete -o default -F _agc_watch agc_watch

@@ -1,5 +1,6 @@
 """Parts of tests/run hostile: tools/many, ./agc and ./agc_watch, where much goes wrong around them."""
 import os
+import re
 import shutil
 import subprocess
 import sys
@@ -28,7 +29,10 @@ esac
 """
 PROGRAM = "#!/bin/sh\necho ran $*\necho own line >&2\nexit 7\n"
 PROGRAMS = ("agc", "agc_watch")
-NEEDED = "sh dirname find sort xargs cksum cp mkdir mktemp head cat tr awk sed rm".split()
+NEEDED = "sh dirname find sort xargs cksum cp mkdir mktemp head cat tr awk sed rm grep".split()
+
+# Cases of agc_watch that need no program: their words, and what comes on standard output.
+HELPS = ("help", "help-short", "help-word", "help-of-trace", "version", "version-short")
 
 # A program that does what its bench says, as a script of the shell.
 OBEYING = "#!/bin/sh\nexec sh\n"
@@ -229,13 +233,14 @@ class Clone:
 
 def starter(hostile):
     """./agc runs what was built from the sources that stand there; without the kit, what is there."""
-    ran, tried = (7, "ran script\n", ""), (0, "tried\n", "takes a minute or two")
+    ran, tried = (7, "ran script\n", ""), (0, "tried\n", "takes about 90 seconds")
     with tempfile.TemporaryDirectory() as room:
         clone = Clone(hostile, f"{room}/clone")
         clone.fill()
         status, _, said = clone.run([f"{room}/clone/agc"], "script", kit=False)
         hostile.expect(f"./agc with nothing: status {status}, {said}", status == 70)
         clone.expect("before it is built", tried, "script")
+        at_once(clone)
         status, text, _ = clone.run([sys.executable, f"{room}/clone/tools/prove"])
         hostile.expect(f"tools/prove with a kit that proves nothing: status {status}, {text}", status == 0)
         clone.expect("when it is built", ran, "script")
@@ -263,12 +268,66 @@ def starter(hostile):
         starter_of_watch(clone, ran[0])
 
 
+def starter_on_a_terminal(clone):
+    """./agc_watch asks its program to show how far it has come where standard error is a terminal."""
+    for words, wanted in (("trace bench.toml", "trace --progress bench.toml"), ("help trace", "help trace"), ("-V", "-V"), ("", "")):
+        master, slave = os.openpty()
+        ran = subprocess.run([f"{clone.room}/agc_watch", *words.split()], env={"PATH": f"{clone.room}/tools-of-system:{clone.room}/kit"},
+                             stdin=subprocess.DEVNULL, stdout=subprocess.PIPE, stderr=slave, check=False)
+        os.close(slave)
+        os.close(master)
+        clone.hostile.runs += 1
+        clone.hostile.expect(f"./agc_watch {words}, on a terminal: {ran.stdout}", ran.stdout == f"ran {wanted}".strip().encode() + b"\n")
+
+
+def progress(hostile):
+    """Long work tells each second how many requests were asked, and only where that is asked for."""
+    with tempfile.TemporaryDirectory() as room:
+        write(f"{room}/bench.toml", 'script = []\n[[device]]\nline = "timer"\npulses = 40000000\n')
+        program = f"{TOP}/crates/agc_watch/out/agc_watch"
+        ran = subprocess.Popen([program, "trace", "--alarms", "--progress", f"{room}/bench.toml"],
+                               stdout=subprocess.DEVNULL, stderr=subprocess.PIPE)
+        said = [ran.stderr.readline().decode() for _ in range(2)]
+        ran.kill()
+        ran.wait()
+        ran.stderr.close()
+        hostile.runs += 1
+        found = [re.fullmatch(r"agc_watch: (\d+) of 40000000 requests\n", it) for it in said]
+        is_right = all(found) and 0 < int(found[0][1]) < int(found[1][1])
+        hostile.expect(f"agc_watch trace --progress: {said}", is_right)
+
+
+def at_once(clone):
+    """Where nothing is built, wrong words and helps are answered without the kit, as the cases say."""
+    for words in ([], ["--help"], ["help"], ["script", "serial"]):
+        status, text, said = clone.run([f"{clone.room}/agc"], *words, kit=False)
+        is_right = (status, text) == (2, "") and said.endswith("\nagc: use script, serial or threads\n")
+        clone.hostile.expect(f"./agc {words}, unbuilt: status {status}, {text}, {said}", is_right)
+    helps = "tests/cases/watch-help.cases"
+    parts = read(f"{TOP}/{helps}").split("=== case watch-")
+    cases = {name: text for name, _, text in (it.partition("\n") for it in parts) if name in HELPS}
+    write(f"{clone.room}/{helps}", "".join(f"=== case watch-{it}\n{text}" for it, text in cases.items()))
+    wrong = {"run": "unrecognized subcommand 'run'", "trace --alarm": "unexpected argument '--alarm' found",
+             "": cases["help"].partition("=== stdout\n")[2].splitlines()[0]}
+    for it, text in cases.items():
+        words = text.partition("=== stdout\n")[0].splitlines()[1:]
+        wanted = (0, text.partition("=== stdout\n")[2], "")
+        found = clone.run([f"{clone.room}/agc_watch"], *words, kit=False)
+        clone.hostile.expect(f"./agc_watch {words}, unbuilt: {found}", found == wanted)
+    for words, first in wrong.items():
+        status, text, said = clone.run([f"{clone.room}/agc_watch"], *words.split(), kit=False)
+        is_right = (status, text) == (2, "") and said.splitlines()[0].removeprefix("error: ") == first
+        clone.hostile.expect(f"./agc_watch {words}, unbuilt: status {status}, {text}, {said}", is_right)
+    shutil.rmtree(f"{clone.room}/tests")
+
+
 def starter_of_watch(clone, ended_with):
     """./agc_watch does so too, and says nothing before what its program says, of wrong words too."""
-    clone.expect("before it is built", (0, "tried\n", "takes a minute or two"), "trace", name="agc_watch")
+    clone.expect("before it is built", (0, "tried\n", "takes about 90 seconds"), "trace", name="agc_watch")
     status, text, _ = clone.run([sys.executable, f"{clone.room}/tools/prove"], "agc_watch")
     clone.hostile.expect(f"tools/prove agc_watch: status {status}, {text}", status == 0)
     for words in ("trace", "picture", "page", "check", "check --script", "--help", "-V", "help check", "trace --help", "",
                   "serial", "trace trace", "trace bench.toml"):
         wanted = (ended_with, f"ran {words}".strip() + "\n", "")
         clone.expect(f"asked for {words}", wanted, *words.split(), name="agc_watch")
+    starter_on_a_terminal(clone)

@@ -11,7 +11,7 @@ import tempfile
 TOP = os.path.realpath(os.path.join(os.path.dirname(os.path.realpath(__file__)), "../.."))
 LEFT_OUT = [f":!{it}" for it in ("crates/*/src", "crates/*/specs", "crates/*/proofs", "tests")]
 COMMANDS = "crates/agc_watch/src/commands.rt"
-WATCHED = {"trace": "trace", "picture": "svg", "page": "html"}
+WATCHED = {"trace": "trace", "picture": "svg"}
 BUILT = ["crates/agc/out/agc", "crates/agc_watch/out/agc_watch", "crates/libagc/out/liblibagc.a"]
 MODULE = "libagc/js/agc.wasm"
 VERDICT = "logic=proved functions=1 target=wasm64-unknown-unknown sum=0123456789abcdef native=nat"
@@ -154,6 +154,7 @@ def unpacked(hostile, room, place):
     said = read(f"{top}/PROVED-BY.txt")
     wanted = (f"no kit logic {LOGIC}", git(room, "rev-parse", "HEAD"), "Gate:      not told", f"agc.wasm:  {VERDICT}\n")
     hostile.expect("a release has the module", read(f"{top}/{MODULE}") == "no module\n")
+    hostile.expect("a release has the workbench", read(f"{top}/workbench.html") == "page\n")
     hostile.expect(f"PROVED-BY.txt: {said}", all(it in said for it in wanted))
 
 

@@ -1,12 +1,13 @@
-"""Runs whole runs of the programs, each a file tests/cases/NAME.case, and compares what comes of them.
+"""Runs whole runs of the programs, and compares what comes of them.
 
     tests/run cases                 all
-    tests/run cases NAME ..         those named, with .case or without
+    tests/run cases NAME ..         those named; TOPIC.cases stands for all of that file
     tests/run cases --input NAME    prints what a case's program reads on standard input
 
-A case's sections begin with a line '=== SECTION', which no output has, and end at the next. Each may
-be missing: it is empty then, and the status is 0. A case named watch-* is of agc_watch, any other of
-agc.
+The cases of a topic are in one file, tests/cases/TOPIC.cases. A case begins with a line
+'=== case NAME'. Its sections begin with a line '=== SECTION', which no output has, and end at the
+next. Each may be missing: it is empty then, and the status is 0. A case named watch-* is of
+agc_watch, any other of agc.
 
     === args            the words of the command line, one a line
     === memory KIB      how much the program may address
@@ -32,6 +33,7 @@ import repository
 
 FOLDER = f"{repository.TOP}/tests/cases"
 HEADING = re.compile(r"=== (\w+)(?: (.+))?")
+NAME = re.compile(r"[a-z0-9]+(?:-[a-z0-9]+)*")
 # How the text of each section may be given.
 FORMS = {"args": "|escaped", "stdin": "|escaped|by sh|from .+", "stdout": "|escaped|by sh|to .+",
          "stderr": "|escaped|by sh", "memory": r"\d+", "status": r"\d+"}
@@ -84,18 +86,13 @@ def byte_of(found):
 
 
 class Case:
-    """A case, as its file has it."""
+    """A case, from its lines in a file, the first of which has this number."""
 
-    def __init__(self, name):
-        self.name = name
-        self.path = f"tests/cases/{name}.case"
+    def __init__(self, name, path, first, lines):
+        self.name, self.path = name, path
         self.parts = {}
         at = None
-        with open(f"{FOLDER}/{name}.case", "rb") as file:
-            lines = file.read().split(b"\n")
-        if lines.pop():
-            raise Unread(f"{self.path}:{len(lines) + 1}: its last line has no end")
-        for number, line in enumerate(lines, 1):
+        for number, line in enumerate(lines, first):
             if line.startswith(b"==="):
                 at = self.begun(number, line)
             elif not at:
@@ -202,24 +199,58 @@ def program_of(name):
     return f"{repository.TOP}/crates/{name}/out/{name}"
 
 
-def names():
-    """Returns the names of all cases; a file that is none ends the run."""
-    found = sorted(os.listdir(FOLDER))
-    for it in found:
-        if not it.endswith(".case"):
-            counting.refuse("cases", f"tests/cases/{it} is no NAME.case")
-    return [it.removesuffix(".case") for it in found]
+def written():
+    """Returns what Case takes of each case, by name; a file that is none, or a second case of a name, ends the run."""
+    found = {}
+    for it in sorted(os.listdir(FOLDER)):
+        path = f"tests/cases/{it}"
+        if not it.endswith(".cases"):
+            counting.refuse("cases", f"{path} is no TOPIC.cases")
+        for name, first, lines in cut(path):
+            if name in found:
+                counting.refuse("cases", f"{path}:{first - 1}: a second case is called {name}")
+            found[name] = (path, first, lines)
+    return found
 
 
-def read(wanted):
+def cut(path):
+    """Yields of each case of a file its name, the number of its first line, and its lines."""
+    with open(f"{repository.TOP}/{path}", "rb") as file:
+        lines = file.read().split(b"\n")
+    if lines.pop():
+        counting.refuse("cases", f"{path}:{len(lines) + 1}: its last line has no end")
+    heads = [at for at, it in enumerate(lines) if it.startswith(b"=== case ")]
+    if not heads or heads[0]:
+        counting.refuse("cases", f"{path}:1: no case has begun")
+    for at, end in zip(heads, [*heads[1:], len(lines)]):
+        name = lines[at].decode(errors="replace").removeprefix("=== case ")
+        if not NAME.fullmatch(name):
+            counting.refuse("cases", f"{path}:{at + 1}: a case can't be called {name!r}")
+        yield name, at + 2, lines[at + 1 : end]
+
+
+def read(wanted, all_written):
     """Returns the cases of these names, and what is wrong with those that can't be read."""
     found, wrong = [], []
     for it in wanted:
         try:
-            found.append(Case(it))
+            found.append(Case(it, *all_written[it]))
         except Unread as why:
             wrong.append(str(why))
     return found, wrong
+
+
+def all_read():
+    """Returns all cases, and what is wrong with those that can't be read."""
+    all_written = written()
+    return read(all_written, all_written)
+
+
+def named(words, all_written):
+    """Returns the names of the cases that these words name, a case or a file of them each."""
+    for it in words:
+        below = [name for name, (path, *_) in all_written.items() if path == f"tests/cases/{os.path.basename(it)}"]
+        yield from below or [it]
 
 
 def add_words(parser):
@@ -228,13 +259,14 @@ def add_words(parser):
 
 
 def check():
-    found, wrong = read(names())
+    found, wrong = all_read()
     return counting.checked("cases", len(found) + len(wrong), wrong)
 
 
 def run(given):
-    asked = [it.removesuffix(".case") for it in [*given.names, *([given.input] if given.input else [])]]
-    found, wrong = read(counting.chosen("cases", asked, names()))
+    all_written = written()
+    asked = list(named([*given.names, *([given.input] if given.input else [])], all_written))
+    found, wrong = read(counting.chosen("cases", asked, list(all_written)), all_written)
     if wrong:
         return counting.checked("cases", len(found) + len(wrong), wrong)
     if given.input:

@@ -1,8 +1,9 @@
 """Runs the built programs where memory, reads and writes fail, and agc on benches with faults in them.
 
     tests/run hostile           all of it
-    tests/run hostile PART ..   the parts named: growths, reads, writes, ends, texts, benches, many and
-                                starter of commands.py, and release of releases.py
+    tests/run hostile PART ..   the parts named: growths, reads, writes, ends, texts, benches, many,
+                                starter and progress of commands.py, orders of orders.py, and release of
+                                releases.py
 
 `failing.c` is put under the program: each growth of memory, each read of standard input and each write
 of standard output is refused in turn, until a run has none refused; reads and writes then move one byte
@@ -15,7 +16,8 @@ import subprocess
 import tempfile
 
 import counting
-from commands import many, starter
+from commands import many, progress, starter
+from orders import orders
 from releases import release
 from repository import TOP
 
@@ -23,7 +25,7 @@ FAILING = f"{TOP}/tests/hostile/failing.c"
 PROGRAMS = {name: f"{TOP}/crates/{name}/out/{name}" for name in ("agc", "agc_watch")}
 
 # By these words agc_watch is run, by all others agc.
-WATCHED = {"trace", "picture", "page", "check", "--help", "--version"}
+WATCHED = {"trace", "picture", "page", "check", "explore", "--help", "--version"}
 
 SECONDS = 120
 
@@ -76,14 +78,14 @@ def told(word, ran):
 class Ended:
     """How a run of the program ended, and how many growths, reads and writes it made."""
 
-    def __init__(self, room, word, text, **settings):
+    def __init__(self, room, word, text, words=(), **settings):
         counts = os.path.join(room, "counts")
         given = {name.upper(): str(value) for name, value in settings.items()}
         under = {**os.environ, "LD_PRELOAD": os.path.join(room, "failing.so"), "COUNTS": counts, **given}
-        called = [PROGRAMS[program_of(word)], word]
+        called = [PROGRAMS[program_of(word)], word, *words]
         ran = subprocess.run(called, input=text, capture_output=True, timeout=SECONDS, env=under, check=False)
         self.said = told(word, ran)
-        self.text = ran.stdout
+        self.text, self.status = ran.stdout, ran.returncode
         with open(counts, encoding="ascii") as file:
             self.growths, self.before_input, self.reads, self.writes = map(int, file.read().split())
         os.remove(counts)
@@ -259,7 +261,7 @@ def read(path):
         return file.read()
 
 
-PARTS = {it.__name__: it for it in (growths, reads, writes, ends, texts, benches, many, starter, release)}
+PARTS = {it.__name__: it for it in (growths, reads, writes, ends, texts, benches, orders, many, starter, progress, release)}
 
 
 def add_words(parser):

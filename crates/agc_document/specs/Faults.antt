@@ -32,6 +32,21 @@ abbrev pub HasPlanFault : Option Members → PlanFault → Type 0
 HasPlanFault document fault = (b : Benched) × IsInRange b × HasTexts document (bench_texts b)
     × (fault_of b.rows b.entries ≡ Some fault)
 
+-- these are the texts of a bench in its ranges, whose rows and entries have this fault
+abbrev pub SpellPlanFault : Texts → PlanFault → Type 0
+SpellPlanFault texts fault =
+    (b : Benched) × IsInRange b × (texts ≡ bench_texts b) × (fault_of b.rows b.entries ≡ Some fault)
+
+-- why numbers and texts spell no bench, by their first fault, want of memory aside
+abbrev pub RefusesTexts : Texts → BenchFault → Type 0
+RefusesTexts texts NoMemoryForBench = Unit {0}
+RefusesTexts texts NotToml = ⊥
+RefusesTexts texts Key = ⊥
+RefusesTexts texts NoLine = (b : Benched) → IsInRange b → texts ≢ bench_texts b
+RefusesTexts texts TaskTwice = SpellPlanFault texts TwiceTask
+RefusesTexts texts PhaseTwice = SpellPlanFault texts TwicePhase
+RefusesTexts texts TooManyAreas = SpellPlanFault texts ManyAreas
+
 -- why a document is no bench, by its first fault, want of memory aside
 abbrev pub RefusesBench : Option Members → BenchFault → Type 0
 RefusesBench document NoMemoryForBench = Unit {0}

@@ -64,6 +64,10 @@ read_or missing read (Some d) = read d
 abbrev pub given_text : Data → Option (Option (List ℕ))
 given_text d = as_str d >>= λ s. Some (Some s)
 
+-- a number that might be missing, and is there
+abbrev pub given_number : BenchKey → Data → Option (Option ℕ)
+given_number k d = number_of k d >>= λ n. Some (Some n)
+
 -- what reading gives of each item in turn
 abbrev pub each : {X : Type 0} → (Data → Option X) → Items → Option (List X)
 each read no_items = Some []
@@ -83,27 +87,33 @@ abbrev pub texts_by : Option (List ℕ) → BenchKey → Data → Option (List (
 texts_by (Some text) k d = Some (text ∷ [])
 texts_by None k d = items_of as_str k d
 
-abbrev pub action_texts : BenchKey → Data → Option (List (List ℕ))
-action_texts k d = texts_by (as_str d) k d
+abbrev pub some_texts : BenchKey → Data → Option (List (List ℕ))
+some_texts k d = texts_by (as_str d) k d
+
+-- the texts of the row that a table has
+unfoldable pub row_in : Members → Option RowTexts
+row_in ms = do
+  at ← read_at as_str key.At ms
+  bank ← read_at as_str key.Bank ms
+  actions ← read_at (some_texts key.Action) key.Action ms
+  Some (record { at = at; bank = bank; actions = actions })
 
 -- the texts of a row
 unfoldable pub row : Data → Option RowTexts
-row d = do
-  ms ← table_of level.Task d
-  at ← read_at as_str key.At ms
-  bank ← read_at as_str key.Bank ms
-  actions ← read_at (action_texts key.Action) key.Action ms
-  Some (record { at = at; bank = bank; actions = actions })
+row d = table_of level.Task d >>= row_in
 
--- the numbers and texts of a phase entry
-unfoldable pub entry : Data → Option EntryTexts
-entry d = do
-  ms ← table_of level.Phase d
+-- the numbers and texts of the phase entry that a table has
+unfoldable pub entry_in : Members → Option EntryTexts
+entry_in ms = do
   group ← read_at (number_of key.Group) key.Group ms
   phase ← read_at (number_of key.Phase) key.Phase ms
   job ← read_or None given_text (value_of key.Job ms)
   task ← read_or None given_text (value_of key.Listing ms)
   Some (record { group = group; phase = phase; job = job; task = task })
+
+-- the numbers and texts of a phase entry
+unfoldable pub entry : Data → Option EntryTexts
+entry d = table_of level.Phase d >>= entry_in
 
 -- the script of a worker
 unfoldable pub worker : Data → Option (List (List ℕ))
@@ -124,8 +134,8 @@ settings_in ms = do
   limit ← read_or 1000 (number_of key.Limit) (value_of key.Limit ms)
   allowance ← read_or 1000000 (number_of key.Allowance) (value_of key.Allowance ms)
   attends ← read_or 16 (number_of key.Attends) (value_of key.Attends ms)
-  pressed ← read_or (codes "nothing" ∷ []) (action_texts key.Key) (value_of key.Key ms)
-  radar ← read_or (codes "nothing" ∷ []) (action_texts key.Radar) (value_of key.Radar ms)
+  pressed ← read_or (codes "nothing" ∷ []) (some_texts key.Key) (value_of key.Key ms)
+  radar ← read_or (codes "nothing" ∷ []) (some_texts key.Radar) (value_of key.Radar ms)
   power ← read_or None (given_texts key.Power) (value_of key.Power ms)
   Some (record {
     sets = sets;

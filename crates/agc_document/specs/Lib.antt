@@ -5,5 +5,4 @@ pub mod Gives
 pub mod Benches
 pub mod Kinds
 pub mod Faults
-pub mod Findings
 pub mod Messages

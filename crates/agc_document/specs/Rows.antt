@@ -2,6 +2,8 @@
 use Rattle.std.specs.Prelude.{ℕ, List, [], ◌∷◌, map, codes, Bool, true, false}
 use Rattle.agc_document.specs.declared.key.Key.{Key as BenchKey}
 use Rattle.agc_document.specs.declared.key.Key.TheVariants as key
+use Rattle.agc_document.specs.declared.key.ScenarioKey.{ScenarioKey}
+use Rattle.agc_document.specs.declared.key.ScenarioKey.TheVariants as of_scenario
 use Rattle.agc_document.specs.declared.key.Level.{Level}
 use Rattle.agc_document.specs.declared.key.Level.TheVariants as level
 use Rattle.agc_document.specs.declared.key.Form.TheVariants as form
@@ -24,6 +26,30 @@ optional name what = record { name = name; kind = what; is_required = false }
 abbrev pub any : ℕ
 any = 18446744073709551615
 
+-- the row of a key that only a scenario has
+abbrev pub scenario_row_of : ScenarioKey → KeyRow
+scenario_row_of of_scenario.Seconds = needed (codes "seconds") (kind.Integer 1 3600)
+scenario_row_of of_scenario.Title = optional (codes "title") (kind.Text form.Name)
+scenario_row_of of_scenario.Steal =
+    optional (codes "steal") (kind.IntegerOrTables level.Steal 0 100)
+scenario_row_of of_scenario.NamedTasks =
+    optional (codes "task") (kind.Tables level.NamedTask 0 any)
+scenario_row_of of_scenario.NamedPhases =
+    optional (codes "phase") (kind.Tables level.NamedPhase 0 any)
+scenario_row_of of_scenario.Jobs = optional (codes "job") (kind.Tables level.Job 0 100)
+scenario_row_of of_scenario.Events = optional (codes "event") (kind.Tables level.Event 0 1000)
+scenario_row_of of_scenario.Name = optional (codes "name") (kind.Text form.Name)
+scenario_row_of of_scenario.From = needed (codes "from") (kind.Integer 0 360000)
+scenario_row_of of_scenario.To = needed (codes "to") (kind.Integer 0 360000)
+scenario_row_of of_scenario.Percent = needed (codes "percent") (kind.Integer 0 100)
+scenario_row_of of_scenario.Cost = needed (codes "cost") (kind.Integer 1 1000000)
+scenario_row_of of_scenario.Then = optional (codes "then") (kind.Text form.Leaving)
+scenario_row_of of_scenario.Moment = needed (codes "at") (kind.Integer 0 360000)
+scenario_row_of of_scenario.Do = needed (codes "do") (kind.OneOrMore form.Request 1 16)
+scenario_row_of of_scenario.Every = optional (codes "every") (kind.Integer 1 360000)
+scenario_row_of of_scenario.Until = optional (codes "until") (kind.Integer 0 360000)
+
+-- the row of a key
 abbrev pub row_of : BenchKey → KeyRow
 row_of key.Sets = optional (codes "sets") (kind.Integer 7 8)
 row_of key.Limit = optional (codes "limit") (kind.Integer 1 1000000)
@@ -47,6 +73,7 @@ row_of key.Listing = optional (codes "task") (kind.Text form.Listing)
 row_of key.Requests = needed (codes "script") (kind.Texts form.Request 0 any)
 row_of key.Line = needed (codes "line") (kind.Text form.Device)
 row_of key.Pulses = needed (codes "pulses") (kind.Integer 0 1000000)
+row_of (key.Of k) = scenario_row_of k
 
 -- the keys of a level's tables
 abbrev pub keys_of : Level → List BenchKey
@@ -57,6 +84,20 @@ keys_of level.Task = key.At ∷ key.Bank ∷ key.Action ∷ []
 keys_of level.Phase = key.Group ∷ key.Phase ∷ key.Job ∷ key.Listing ∷ []
 keys_of level.Worker = key.Requests ∷ []
 keys_of level.Device = key.Line ∷ key.Pulses ∷ []
+keys_of level.Scenario =
+    key.Of of_scenario.Seconds ∷ key.Of of_scenario.Title ∷ key.Sets ∷ key.Limit ∷ key.Allowance
+    ∷ key.Key ∷ key.Radar ∷ key.Power ∷ key.Of of_scenario.Steal ∷ key.Of of_scenario.NamedTasks
+    ∷ key.Of of_scenario.NamedPhases ∷ key.Of of_scenario.Jobs ∷ key.Of of_scenario.Events ∷ []
+keys_of level.NamedTask = key.At ∷ key.Bank ∷ key.Action ∷ key.Of of_scenario.Name ∷ []
+keys_of level.NamedPhase =
+    key.Group ∷ key.Phase ∷ key.Job ∷ key.Listing ∷ key.Of of_scenario.Name ∷ []
+keys_of level.Steal =
+    key.Of of_scenario.From ∷ key.Of of_scenario.To ∷ key.Of of_scenario.Percent ∷ []
+keys_of level.Job =
+    key.At ∷ key.Of of_scenario.Cost ∷ key.Of of_scenario.Then ∷ key.Of of_scenario.Name ∷ []
+keys_of level.Event =
+    key.Of of_scenario.Moment ∷ key.Of of_scenario.Do ∷ key.Of of_scenario.Every
+    ∷ key.Of of_scenario.Until ∷ key.Of of_scenario.Name ∷ []
 
 -- their names
 abbrev pub names_of : Level → List (List ℕ)
@@ -69,3 +110,4 @@ bounds_of (kind.Text f) = (0, any)
 bounds_of (kind.OneOrMore f low high) = (low, high)
 bounds_of (kind.Texts f low high) = (low, high)
 bounds_of (kind.Tables l low high) = (low, high)
+bounds_of (kind.IntegerOrTables l low high) = (low, high)

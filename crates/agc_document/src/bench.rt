@@ -6,8 +6,8 @@ ghost use Rattle.agc_plan.specs.Plans.{fault_of};
 ghost use Rattle.agc_plan.specs.Ranges.{IsBetween};
 ghost use Rattle.agc_plan.specs.declared.plan.PlanFault.{PlanFault};
 ghost use Rattle.agc_document.specs.Benches.{Benched, bench_texts, IsInRange, IsBench};
-ghost use Rattle.agc_document.specs.Faults.{bench_fault, HasTexts, RefusesBench};
-ghost use Rattle.agc_document.specs.Gives.{AreNoted, IsNotedFor, RefusedLine};
+ghost use Rattle.agc_document.specs.Faults.{bench_fault, HasTexts, RefusesTexts, RefusesBench};
+ghost use Rattle.agc_document.specs.Gives.{IsNotedFor, RefusedLine};
 
 use crate::fault::BenchFault;
 use crate::key::Form;
@@ -188,8 +188,8 @@ impl Bench {
     }
 }
 
-/// What an option holds, and a fault `Line` where there is nothing.
-fn or_line<T: Drop>(value: Option<T>) -> Result<T, BenchFault>
+/// What an option holds, and a fault `Line` where there is nothing. Source: profile.
+pub fn or_line<T: Drop>(value: Option<T>) -> Result<T, BenchFault>
     ensures found { IfOk result (λ x. value ≡ Some x) }
     ensures refused { IfErr result (λ fault. (fault ≡ BenchFault.Line) × (value ≡ None)) }
 {
@@ -251,11 +251,11 @@ fn planned(alloc: Global, parts: &Parts) -> Result<(), BenchFault>
 }
 
 /// The values that numbers and texts spell. Where a text is not of its form, one is noted.
+#[tactic(auto, using(crate::proofs::Refusals::noted_line, crate::proofs::Refusals::refused_line))]
 fn spelled<'a>(alloc: Global, texts: &Texts<'_>, notes: &mut Notes<'a>) -> Result<Parts, BenchFault>
     ensures found { IfOk result (λ p. IsInRange (p) × (texts.now ≡ bench_texts (p))) }
-    ensures refused { IfErr result (RefusedLine
-        ((b : Benched) → IsInRange b → texts.now ≢ bench_texts b)) }
-    ensures noted { IfErr result (λ _. AreNoted notes.new.texts.items) }
+    ensures refused { IfErr result (RefusesTexts texts.now) }
+    ensures noted { IfErr result (IsNotedFor notes.new.keys.items notes.new.texts.items) }
 {
     match parts_of(alloc, texts) {
         Ok(parts) => Ok(parts),
@@ -269,20 +269,24 @@ fn spelled<'a>(alloc: Global, texts: &Texts<'_>, notes: &mut Notes<'a>) -> Resul
     }
 }
 
-/// The bench that a document's table is. What is wrong is noted.
-#[tactic(auto, using(crate::proofs::Refusals::noted_line, crate::proofs::Refusals::noted_plan))]
-pub(crate) fn bench_of<'a>(
+/// The bench that numbers and texts spell; each text was looked at when it was read. Where there is
+/// none, that is noted. Source: profile.
+///
+/// # Errors
+///
+/// The first that applies: `Line`, a text that is not of its form; `TaskTwice`, `PhaseTwice` and
+/// `TooManyAreas`, rows and entries that make no plan. `NoMemory` may come in place of any.
+#[tactic(auto, using(crate::proofs::Refusals::noted_plan, crate::proofs::Refusals::refused_plan))]
+pub fn bench_from<'a>(
     alloc: Global,
-    table: &'a Table,
+    texts: &Texts<'_>,
     notes: &mut Notes<'a>,
 ) -> Result<Bench, BenchFault>
-    ensures found { IfOk result (λ b. IsBench b
-        × HasTexts (Some (table_view table.now)) (bench_texts b)) }
-    ensures refused { IfErr result (RefusesBench (Some (table_view table.now))) }
+    ensures found { IfOk result (λ b. IsBench b × (texts.now ≡ bench_texts b)) }
+    ensures refused { IfErr result (RefusesTexts texts.now) }
     ensures noted { IfErr result (IsNotedFor notes.new.keys.items notes.new.texts.items) }
 {
-    let texts = texts_in(alloc, table, notes)?;
-    let parts = spelled(alloc, &texts, notes)?;
+    let parts = spelled(alloc, texts, notes)?;
     match planned(alloc, &parts) {
         Ok(()) => Ok(Bench { parts }),
         Err(fault) => {
@@ -295,6 +299,26 @@ pub(crate) fn bench_of<'a>(
             Err(fault)
         }
     }
+}
+
+/// The bench that a document's table is. What is wrong is noted. Source: profile.
+///
+/// # Errors
+///
+/// As those of [`read_bench`], of a text that is a document.
+#[tactic(auto, using(crate::proofs::Refusals::refused_texts))]
+pub fn bench_of<'a>(
+    alloc: Global,
+    table: &'a Table,
+    notes: &mut Notes<'a>,
+) -> Result<Bench, BenchFault>
+    ensures found { IfOk result (λ b. IsBench b
+        × HasTexts (Some (table_view table.now)) (bench_texts b)) }
+    ensures refused { IfErr result (RefusesBench (Some (table_view table.now))) }
+    ensures noted { IfErr result (IsNotedFor notes.new.keys.items notes.new.texts.items) }
+{
+    let texts = texts_in(alloc, table, notes)?;
+    bench_from(alloc, &texts, notes)
 }
 
 /// The bench that a TOML document is: its values, and for each key that is missing the value that

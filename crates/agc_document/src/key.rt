@@ -1,11 +1,12 @@
-//! The keys of a bench: the table from which a document is read, and from which faults are told.
+//! The keys of a bench and of a scenario: the table from which a document is read, and from which
+//! faults are told.
 ghost use Rattle.std.specs.Prelude.{◌≡◌, true, false};
-ghost use Rattle.agc_document.specs.Rows.{row_of, bounds_of, keys_of};
+ghost use Rattle.agc_document.specs.Rows.{row_of, scenario_row_of, bounds_of, keys_of};
 
-use crate::values::{job_of, parse_kind, timed_of};
+use crate::values::{is_name, job_of, leaving_of, parse_kind, timed_of};
 use agc_text::{parse_action, parse_address, parse_line, parse_word};
 
-/// A key of a bench, or of one of its tables. Source: profile.
+/// A key of a bench, of a scenario, or of one of their tables. Source: profile.
 #[derive(Clone, Copy, PartialEq, Eq, Debug)]
 pub enum Key {
     Sets,
@@ -30,9 +31,34 @@ pub enum Key {
     Requests,
     Line,
     Pulses,
+    /// A key that a bench doesn't have.
+    Of(ScenarioKey),
 }
 
-/// Which table a key belongs to: the bench itself, or a table of an array. Source: profile.
+/// A key of a scenario or of one of its tables, which a bench doesn't have. Source: profile.
+#[derive(Clone, Copy, PartialEq, Eq, Debug)]
+pub enum ScenarioKey {
+    Seconds,
+    Title,
+    Steal,
+    NamedTasks,
+    NamedPhases,
+    Jobs,
+    Events,
+    Name,
+    From,
+    To,
+    Percent,
+    Cost,
+    Then,
+    Moment,
+    Do,
+    Every,
+    Until,
+}
+
+/// Which table a key belongs to: the bench or scenario itself, or a table of an array. Source:
+/// profile.
 #[derive(Clone, Copy, PartialEq, Eq, Debug)]
 pub enum Level {
     Bench,
@@ -40,6 +66,12 @@ pub enum Level {
     Phase,
     Worker,
     Device,
+    Scenario,
+    NamedTask,
+    NamedPhase,
+    Steal,
+    Job,
+    Event,
 }
 
 /// What a text spells. Source: profile.
@@ -55,6 +87,10 @@ pub enum Form {
     Word,
     /// The line of a device.
     Device,
+    /// A request by which a job leaves: it ends, or falls asleep.
+    Leaving,
+    /// One line that can be shown: without control characters.
+    Name,
 }
 
 /// What the value of a key is. Source: profile.
@@ -69,6 +105,8 @@ pub enum Kind {
     Texts(Form, u64, u64),
     /// An array of tables, as many as two bounds say.
     Tables(Level, u64, u64),
+    /// An integer between two bounds, or an array of tables, as many as they say.
+    IntegerOrTables(Level, u64, u64),
 }
 
 /// A row of the table of keys. Source: profile.
@@ -104,6 +142,53 @@ const WORKER: [Key; 1] = [Key::Requests];
 
 const DEVICE: [Key; 2] = [Key::Line, Key::Pulses];
 
+const SCENARIO: [Key; 13] = [
+    Key::Of(ScenarioKey::Seconds),
+    Key::Of(ScenarioKey::Title),
+    Key::Sets,
+    Key::Limit,
+    Key::Allowance,
+    Key::Key,
+    Key::Radar,
+    Key::Power,
+    Key::Of(ScenarioKey::Steal),
+    Key::Of(ScenarioKey::NamedTasks),
+    Key::Of(ScenarioKey::NamedPhases),
+    Key::Of(ScenarioKey::Jobs),
+    Key::Of(ScenarioKey::Events),
+];
+
+const NAMED_TASK: [Key; 4] = [Key::At, Key::Bank, Key::Action, Key::Of(ScenarioKey::Name)];
+
+const NAMED_PHASE: [Key; 5] = [
+    Key::Group,
+    Key::Phase,
+    Key::Job,
+    Key::Listing,
+    Key::Of(ScenarioKey::Name),
+];
+
+const STEAL: [Key; 3] = [
+    Key::Of(ScenarioKey::From),
+    Key::Of(ScenarioKey::To),
+    Key::Of(ScenarioKey::Percent),
+];
+
+const JOB: [Key; 4] = [
+    Key::At,
+    Key::Of(ScenarioKey::Cost),
+    Key::Of(ScenarioKey::Then),
+    Key::Of(ScenarioKey::Name),
+];
+
+const EVENT: [Key; 5] = [
+    Key::Of(ScenarioKey::Moment),
+    Key::Of(ScenarioKey::Do),
+    Key::Of(ScenarioKey::Every),
+    Key::Of(ScenarioKey::Until),
+    Key::Of(ScenarioKey::Name),
+];
+
 impl Level {
     /// The keys of this level's tables. Source: profile.
     pub fn keys(self) -> &'static [Key]
@@ -115,6 +200,22 @@ impl Level {
             Level::Phase => &PHASE,
             Level::Worker => &WORKER,
             Level::Device => &DEVICE,
+            Level::Scenario => &SCENARIO,
+            Level::NamedTask => &NAMED_TASK,
+            Level::NamedPhase => &NAMED_PHASE,
+            Level::Steal => &STEAL,
+            Level::Job => &JOB,
+            Level::Event => &EVENT,
+        }
+    }
+
+    /// The level of the document in which this level's tables stand. Source: profile.
+    pub fn top(self) -> Level {
+        match self {
+            Level::Bench | Level::Task | Level::Phase | Level::Worker | Level::Device => {
+                Level::Bench
+            }
+            _ => Level::Scenario,
         }
     }
 }
@@ -140,6 +241,35 @@ fn optional(name: &'static str, kind: Kind) -> Row
         name,
         kind,
         is_required: false,
+    }
+}
+
+impl ScenarioKey {
+    /// Its row of the table of keys.
+    fn row(self) -> Row
+        ensures name { result.name.now ≡ (scenario_row_of self).name }
+        ensures kind { result.kind ≡ (scenario_row_of self).kind }
+        ensures required { result.is_required ≡ (scenario_row_of self).is_required }
+    {
+        match self {
+            ScenarioKey::Seconds => needed("seconds", Kind::Integer(1, 3600)),
+            ScenarioKey::Title => optional("title", Kind::Text(Form::Name)),
+            ScenarioKey::Steal => optional("steal", Kind::IntegerOrTables(Level::Steal, 0, 100)),
+            ScenarioKey::NamedTasks => optional("task", Kind::Tables(Level::NamedTask, 0, ANY)),
+            ScenarioKey::NamedPhases => optional("phase", Kind::Tables(Level::NamedPhase, 0, ANY)),
+            ScenarioKey::Jobs => optional("job", Kind::Tables(Level::Job, 0, 100)),
+            ScenarioKey::Events => optional("event", Kind::Tables(Level::Event, 0, 1000)),
+            ScenarioKey::Name => optional("name", Kind::Text(Form::Name)),
+            ScenarioKey::From => needed("from", Kind::Integer(0, 360_000)),
+            ScenarioKey::To => needed("to", Kind::Integer(0, 360_000)),
+            ScenarioKey::Percent => needed("percent", Kind::Integer(0, 100)),
+            ScenarioKey::Cost => needed("cost", Kind::Integer(1, 1_000_000)),
+            ScenarioKey::Then => optional("then", Kind::Text(Form::Leaving)),
+            ScenarioKey::Moment => needed("at", Kind::Integer(0, 360_000)),
+            ScenarioKey::Do => needed("do", Kind::OneOrMore(Form::Request, 1, 16)),
+            ScenarioKey::Every => optional("every", Kind::Integer(1, 360_000)),
+            ScenarioKey::Until => optional("until", Kind::Integer(0, 360_000)),
+        }
     }
 }
 
@@ -173,6 +303,7 @@ impl Key {
             Key::Requests => needed("script", Kind::Texts(Form::Request, 0, ANY)),
             Key::Line => needed("line", Kind::Text(Form::Device)),
             Key::Pulses => needed("pulses", Kind::Integer(0, 1_000_000)),
+            Key::Of(key) => key.row(),
         }
     }
 
@@ -186,17 +317,20 @@ impl Key {
             Kind::OneOrMore(_form, low, high) => (low, high),
             Kind::Texts(_form, low, high) => (low, high),
             Kind::Tables(_level, low, high) => (low, high),
+            Kind::IntegerOrTables(_level, low, high) => (low, high),
         }
     }
 
-    /// What its text spells, or each text of its array.
-    pub(crate) fn form(self) -> Option<Form> {
+    /// What its text spells, or each text of its array. None where it has no texts. Source:
+    /// profile.
+    pub fn form(self) -> Option<Form> {
         match self.row().kind {
             Kind::Integer(_low, _high) => None,
             Kind::Text(form) => Some(form),
             Kind::OneOrMore(form, _low, _high) => Some(form),
             Kind::Texts(form, _low, _high) => Some(form),
             Kind::Tables(_level, _low, _high) => None,
+            Kind::IntegerOrTables(_level, _low, _high) => None,
         }
     }
 }
@@ -218,6 +352,11 @@ impl Form {
             Form::Address => parse_address(text).is_some(),
             Form::Word => parse_word(text).is_some(),
             Form::Device => parse_kind(text).is_some(),
+            Form::Leaving => match parse_line(text) {
+                Some(request) => leaving_of(&request).is_some(),
+                None => false,
+            },
+            Form::Name => is_name(text),
         }
     }
 }

@@ -4,24 +4,27 @@
 
 mod bench;
 mod fault;
-mod finding;
 mod key;
+mod key_fault;
 mod keys;
-mod locate;
 mod notes;
 mod place;
-mod reading;
+mod tables;
 mod texts;
 mod twice;
 mod values;
-mod wrong;
 
 pub use agc_plan::Line;
-pub use bench::{Bench, read_bench};
+pub use bench::{Bench, bench_from, bench_of, or_line, read_bench};
 pub use fault::BenchFault;
-pub use finding::{Finding, line_at};
-pub use key::{Form, Key, Kind, Level, Row};
-pub use locate::places_in;
+pub use key::{Form, Key, Kind, Level, Row, ScenarioKey};
+pub use key_fault::KeyFault;
+pub use keys::{entry_in, row_in, settings_in};
+pub use notes::{KeyNote, Notes, TextNote};
 pub use place::Place;
-pub use reading::{Checked, findings};
-pub use wrong::{KeyFault, Wrong};
+pub use tables::{
+    FromData, has_only, items_of, items_or_none, number_at, number_of, number_or, optional_number,
+    optional_text, some_texts_at, table_at, text_at, value_of,
+};
+pub use texts::{EntryTexts, Lists, RowTexts, Settings, Text, Texts};
+pub use values::{is_name, requests_of};

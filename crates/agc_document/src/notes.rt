@@ -5,19 +5,19 @@ ghost use Rattle.agc_document.specs.declared.fault.BenchFault.TheVariants as ref
 
 use crate::fault::BenchFault;
 use crate::key::{Form, Key};
+use crate::key_fault::KeyFault;
 use crate::place::Place;
-use crate::wrong::KeyFault;
 use arrayvec::ArrayVec;
 
 /// How many faults of either kind are noted.
-pub(crate) const MOST_NOTED: usize = 20;
+pub const MOST_NOTED: usize = 20;
 
 /// What is wrong with a key at a place: its name where it is unknown.
 #[derive(Clone, Copy)]
-pub(crate) struct KeyNote<'a> {
-    pub(crate) place: Place,
-    pub(crate) text: &'a str,
-    pub(crate) fault: KeyFault,
+pub struct KeyNote<'a> {
+    pub place: Place,
+    pub text: &'a str,
+    pub fault: KeyFault,
 }
 
 impl<'a> Default for KeyNote<'a> {
@@ -32,10 +32,10 @@ impl<'a> Default for KeyNote<'a> {
 
 /// A text at a place that isn't of its form.
 #[derive(Clone, Copy)]
-pub(crate) struct TextNote<'a> {
-    pub(crate) place: Place,
-    pub(crate) text: &'a str,
-    pub(crate) form: Form,
+pub struct TextNote<'a> {
+    pub place: Place,
+    pub text: &'a str,
+    pub form: Form,
 }
 
 impl<'a> Default for TextNote<'a> {
@@ -50,17 +50,17 @@ impl<'a> Default for TextNote<'a> {
 
 /// What is wrong with a document's keys, and with its texts: of either the first twenty.
 #[derive(Drop)]
-pub(crate) struct Notes<'a> {
-    pub(crate) keys: ArrayVec<KeyNote<'a>, MOST_NOTED>,
-    pub(crate) texts: ArrayVec<TextNote<'a>, MOST_NOTED>,
+pub struct Notes<'a> {
+    pub keys: ArrayVec<KeyNote<'a>, MOST_NOTED>,
+    pub texts: ArrayVec<TextNote<'a>, MOST_NOTED>,
     /// Where rows and entries make no plan.
-    pub(crate) plan: Place,
+    pub plan: Place,
     /// Whether all that is wrong is wanted, and not only whether something is.
     is_whole: bool,
 }
 
 impl<'a> Notes<'a> {
-    pub(crate) fn new(is_whole: bool) -> Notes<'a> {
+    pub fn new(is_whole: bool) -> Notes<'a> {
         Notes {
             keys: ArrayVec::new(),
             texts: ArrayVec::new(),
@@ -70,7 +70,7 @@ impl<'a> Notes<'a> {
     }
 
     /// Notes what is wrong with a key.
-    pub(crate) fn key(&mut self, place: Place, text: &'a str, fault: KeyFault) -> BenchFault
+    pub fn key(&mut self, place: Place, text: &'a str, fault: KeyFault) -> BenchFault
         ensures fault { result ≡ refusal.Key }
         ensures noted { AreNoted self.new.keys.items }
     {
@@ -81,7 +81,7 @@ impl<'a> Notes<'a> {
     }
 
     /// Notes a text that isn't of its form.
-    pub(crate) fn text(&mut self, place: Place, text: &'a str, form: Form)
+    pub fn text(&mut self, place: Place, text: &'a str, form: Form)
         ensures noted { AreNoted self.new.texts.items }
         ensures keys { self.new.keys ≡ self.old.keys }
     {
@@ -91,7 +91,7 @@ impl<'a> Notes<'a> {
     }
 
     /// Notes a text that isn't of its key's form, if that is wanted.
-    pub(crate) fn look_at(&mut self, place: Place, text: &'a str, key: Key)
+    pub fn look_at(&mut self, place: Place, text: &'a str, key: Key)
         ensures { self.new.keys ≡ self.old.keys }
     {
         match key.form() {

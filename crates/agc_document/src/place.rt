@@ -20,16 +20,16 @@ pub enum Place {
 }
 
 impl Place {
-    /// The place of a key's value in the table at this place.
-    pub(crate) fn of_value(self, key: Key) -> Place {
+    /// The place of a key's value in the table at this place. Source: profile.
+    pub fn of_value(self, key: Key) -> Place {
         match self {
             Place::Table(tables, number) => Place::Field(tables, number, key),
             _ => Place::Value(key),
         }
     }
 
-    /// The place of an item of the array at this place.
-    pub(crate) fn of_item(self, item: u64) -> Place {
+    /// The place of an item of the array at this place. Source: profile.
+    pub fn of_item(self, item: u64) -> Place {
         match self {
             Place::Value(key) => Place::Item(key, item),
             Place::Field(tables, number, key) => Place::FieldItem(tables, number, key, item),
@@ -37,8 +37,8 @@ impl Place {
         }
     }
 
-    /// The place of the table that the item at this place is.
-    pub(crate) fn of_table(self) -> Place {
+    /// The place of the table that the item at this place is. Source: profile.
+    pub fn of_table(self) -> Place {
         match self {
             Place::Item(key, number) => Place::Table(key, number),
             _ => self,

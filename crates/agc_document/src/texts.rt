@@ -6,7 +6,7 @@ use std::marker::Model;
 
 /// A text of a list. Contracts see its bytes, where they would see a `&str` as a reference.
 #[derive(Drop)]
-pub(crate) struct Text<'a> {
+pub struct Text<'a> {
     text: &'a str,
 }
 
@@ -19,13 +19,13 @@ impl<'a> Model for Text<'a> {
 }
 
 impl<'a> Text<'a> {
-    pub(crate) fn new(text: &'a str) -> Text<'a>
+    pub fn new(text: &'a str) -> Text<'a>
         ensures { result ≡ text.now }
     {
         Text { text }
     }
 
-    pub(crate) fn as_str(&self) -> &'a str
+    pub fn as_str(&self) -> &'a str
         ensures { result.now ≡ self.now }
     {
         self.text
@@ -34,10 +34,10 @@ impl<'a> Text<'a> {
 
 /// The texts of a task's row.
 #[derive(Drop)]
-pub(crate) struct RowTexts<'a> {
-    pub(crate) at: &'a str,
-    pub(crate) bank: &'a str,
-    pub(crate) actions: Vec<Text<'a>>,
+pub struct RowTexts<'a> {
+    pub at: &'a str,
+    pub bank: &'a str,
+    pub actions: Vec<Text<'a>>,
 }
 
 impl<'a> Model for RowTexts<'a> {
@@ -54,11 +54,11 @@ impl<'a> Model for RowTexts<'a> {
 
 /// A phase entry: its numbers, and the texts of its job and its task.
 #[derive(Drop)]
-pub(crate) struct EntryTexts<'a> {
-    pub(crate) group: u8,
-    pub(crate) phase: u8,
-    pub(crate) job: Option<&'a str>,
-    pub(crate) task: Option<&'a str>,
+pub struct EntryTexts<'a> {
+    pub group: u8,
+    pub phase: u8,
+    pub job: Option<&'a str>,
+    pub task: Option<&'a str>,
 }
 
 impl<'a> Model for EntryTexts<'a> {
@@ -77,8 +77,8 @@ impl<'a> Model for EntryTexts<'a> {
 
 /// A worker: the texts of its script.
 #[derive(Drop)]
-pub(crate) struct WorkerTexts<'a> {
-    pub(crate) script: Vec<Text<'a>>,
+pub struct WorkerTexts<'a> {
+    pub script: Vec<Text<'a>>,
 }
 
 impl<'a> Model for WorkerTexts<'a> {
@@ -91,9 +91,9 @@ impl<'a> Model for WorkerTexts<'a> {
 
 /// A device: the text of its line, and its pulses.
 #[derive(Drop)]
-pub(crate) struct DeviceTexts<'a> {
-    pub(crate) line: &'a str,
-    pub(crate) pulses: u32,
+pub struct DeviceTexts<'a> {
+    pub line: &'a str,
+    pub pulses: u32,
 }
 
 impl<'a> Model for DeviceTexts<'a> {
@@ -110,15 +110,15 @@ impl<'a> Model for DeviceTexts<'a> {
 /// What a bench has once, of both pulses a text for each action, and whether it says how many core
 /// sets there are.
 #[derive(Drop)]
-pub(crate) struct Settings<'a> {
-    pub(crate) sets: Sets,
-    pub(crate) names_sets: bool,
-    pub(crate) limit: u32,
-    pub(crate) allowance: u64,
-    pub(crate) attends: u32,
-    pub(crate) key: Vec<Text<'a>>,
-    pub(crate) radar: Vec<Text<'a>>,
-    pub(crate) power: Option<Vec<Text<'a>>>,
+pub struct Settings<'a> {
+    pub sets: Sets,
+    pub names_sets: bool,
+    pub limit: u32,
+    pub allowance: u64,
+    pub attends: u32,
+    pub key: Vec<Text<'a>>,
+    pub radar: Vec<Text<'a>>,
+    pub power: Option<Vec<Text<'a>>>,
 }
 
 impl<'a> Model for Settings<'a> {
@@ -148,12 +148,12 @@ impl<'a> Model for Settings<'a> {
 
 /// What a bench has many of.
 #[derive(Drop)]
-pub(crate) struct Lists<'a> {
-    pub(crate) script: Vec<Text<'a>>,
-    pub(crate) rows: Vec<RowTexts<'a>>,
-    pub(crate) entries: Vec<EntryTexts<'a>>,
-    pub(crate) workers: Vec<WorkerTexts<'a>>,
-    pub(crate) devices: Vec<DeviceTexts<'a>>,
+pub struct Lists<'a> {
+    pub script: Vec<Text<'a>>,
+    pub rows: Vec<RowTexts<'a>>,
+    pub entries: Vec<EntryTexts<'a>>,
+    pub workers: Vec<WorkerTexts<'a>>,
+    pub devices: Vec<DeviceTexts<'a>>,
 }
 
 impl<'a> Model for Lists<'a> {
@@ -175,9 +175,9 @@ impl<'a> Model for Lists<'a> {
 
 /// All of a bench.
 #[derive(Drop)]
-pub(crate) struct Texts<'a> {
-    pub(crate) settings: Settings<'a>,
-    pub(crate) lists: Lists<'a>,
+pub struct Texts<'a> {
+    pub settings: Settings<'a>,
+    pub lists: Lists<'a>,
 }
 
 impl<'a> Model for Texts<'a> {

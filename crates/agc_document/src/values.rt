@@ -16,7 +16,7 @@ ghost use Rattle.agc_text.specs.Lines.{line_of, action_line_of};
 ghost use Rattle.agc_document.specs.Benches.{job_request, timed_request, kind_text, row_texts};
 ghost use Rattle.agc_document.specs.Benches.{entry_texts, device_texts, IsRow, IsJob, IsTimed};
 ghost use Rattle.agc_document.specs.Benches.{IsEntry, IsDevice, IsPower};
-ghost use Rattle.agc_document.specs.Kinds.{job_of, timed_of};
+ghost use Rattle.agc_document.specs.Kinds.{job_of, timed_of, leaving_of, is_name};
 ghost use Rattle.agc_document.specs.Gives.{RefusedLine};
 
 use crate::fault::BenchFault;
@@ -26,8 +26,12 @@ use agc_text::{parse_action, parse_address, parse_line, parse_word};
 use agc_word::Word;
 use std::alloc::Global;
 
-/// The requests that texts spell, in order.
-pub(crate) fn requests_of(alloc: Global, texts: &[Text<'_>]) -> Result<Vec<Request>, BenchFault>
+/// The requests that texts spell, in order. Source: profile.
+///
+/// # Errors
+///
+/// `Line`, where one spells none; or `NoMemory`.
+pub fn requests_of(alloc: Global, texts: &[Text<'_>]) -> Result<Vec<Request>, BenchFault>
     ensures found { IfOk result (λ v. AllByRecursion IsRequest v.items
         × (texts.now ≡ map line_of v.items)) }
     ensures refused { IfErr result (RefusedLine
@@ -111,6 +115,27 @@ pub(crate) fn timed_of(request: &Request) -> Option<(Delay, Task)>
         Request::List(delay, task) => Some((delay, task)),
         _ => None,
     }
+}
+
+/// The request by which a job leaves, if this is one: it ends, or falls asleep.
+pub(crate) fn leaving_of(request: &Request) -> Option<Request>
+    ensures { result ≡ leaving_of request.now }
+{
+    match *request {
+        Request::EndOfJob => Some(Request::EndOfJob),
+        Request::Sleep(at) => Some(Request::Sleep(at)),
+        _ => None,
+    }
+}
+
+/// Whether a text is a line that can be shown: none of its bytes is that of a control character.
+/// Source: profile.
+pub fn is_name(text: &str) -> bool
+    ensures { result ≡ is_name text.now }
+{
+    text.as_bytes()
+        .iter()
+        .all(|byte| 32 <= *byte && *byte != 127)
 }
 
 /// The job of a phase entry, if its text is there. None where that text spells none.

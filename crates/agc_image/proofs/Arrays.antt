@@ -1,11 +1,11 @@
 -- The first numbers of an array.
-use Rattle.std.proofs.Common.{◌≡◌, ℕ, ◌<◌, ◌≤◌, List, length, slice_index, sym, ◌∙◌, inl, inr, arith}
+use Rattle.std.proofs.Common.{◌≡◌, ℕ, ◌<◌, ◌≤◌, List, length, slice_index, refl, sym, ◌∙◌, inl, inr, arith}
 use Rattle.std.proofs.lemmas.List.{ext_get_or, get_or-take, length-take-le}
 use Rattle.agc_word.specs.declared.sets.Sets.{Sets}
 use Rattle.agc_word.specs.declared.sets.Sets.TheVariants.{Seven, Eight}
 use Rattle.agc_word.specs.Layout.{IsSized, sets_in}
 use Rattle.agc_word.specs.Profiles.{count_of, size_of}
-use Rattle.agc_image.specs.Images.{size_with, image_of, AreWords}
+use Rattle.agc_image.specs.Images.{IsSets, size_with, image_of, AreWords}
 
 pub size_most : (sets : Sets) → size_of sets ≤ 144
 size_most Seven = omega arith
@@ -41,3 +41,8 @@ written words array sized long each =
     let len : length (image_of (sets_in words) array) ≡ size_with (sets_in words) = length-take-le (size_with (sets_in words)) array (omega arith) in
     ext_get_or 0 (image_of (sets_in words) array) words (len ∙ size)
     (λ i lt. get_or-take (size_with (sets_in words)) array i 0 (omega arith) ∙ each i (omega arith))
+
+-- seven core sets or eight
+pub counted : (sets : Sets) → IsSets (count_of sets)
+counted Seven = inl refl
+counted Eight = inr refl

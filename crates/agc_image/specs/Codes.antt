@@ -19,6 +19,9 @@ code_of fault.PhaseTwice = 11
 code_of fault.TooManyAreas = 12
 code_of fault.NotSpelled = 13
 code_of fault.NoRoom = 14
+code_of fault.TimeRange = 15
+code_of fault.StealTwice = 16
+code_of fault.CostTwice = 17
 
 -- the code of a fault, 0 where there is none
 abbrev pub code_for : Option Fault → ℕ

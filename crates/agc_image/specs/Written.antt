@@ -1,5 +1,6 @@
 -- What a caller's rows and entries have written: a number out of its range does nothing.
-use Rattle.std.specs.Prelude.{ℕ, ◌==◌, if◌then◌else◌, List, [], ◌∷◌, Option, None, map}
+use Rattle.std.specs.Prelude.{ℕ, ◌==◌, not, if◌then◌else◌, List, [], ◌∷◌, Option, None, map}
+use Rattle.std.specs.Prelude.{take}
 use Rattle.std.specs.Option.{option_map, option_map_or}
 use Rattle.agc_plan.specs.declared.request.Action.{Action}
 use Rattle.agc_plan.specs.declared.request.Action.TheVariants as action
@@ -25,9 +26,20 @@ action_told a =
     (listing_told a.first a.second a.third) action.Nothing
     else action.Nothing
 
+-- how many actions a row has, up to the last of a kind other than 0
+abbrev pub count_in : AgcRow → ℕ
+count_in row =
+    if not (row.fourth.kind == 0) then 4
+    else if not (row.third.kind == 0) then 3
+    else if not (row.second.kind == 0) then 2
+    else if not (row.first.kind == 0) then 1
+    else 0
+
 abbrev pub actions_told : AgcRow → List Action
-actions_told row = action_told row.first ∷ action_told row.second ∷ action_told row.third ∷
-    action_told row.fourth ∷ []
+actions_told row =
+    take (count_in row)
+    (action_told row.first ∷ action_told row.second ∷ action_told row.third ∷
+    action_told row.fourth ∷ [])
 
 abbrev pub row_told : AgcRow → Task × List Action
 row_told row = (record { at = row.at; bank = row.bank }, actions_told row)

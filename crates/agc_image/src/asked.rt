@@ -1,15 +1,12 @@
 // Numbers of a caller as requests, and their parts.
 ghost use Rattle.std.specs.Prelude.{◌≡◌};
-ghost use Rattle.agc_image.specs.Told.{word_told, priority_told, address_told, delay_told};
-ghost use Rattle.agc_image.specs.Told.{six_told};
-ghost use Rattle.agc_image.specs.Told.{phase_told, entry_told, start_told, task_told, listing_told};
+ghost use Rattle.agc_image.specs.Told.{entry_told, start_told, task_told, listing_told};
 ghost use Rattle.agc_image.specs.Asked.{request_told, storing_told, phasing_told};
 ghost use Rattle.agc_image.specs.Asked.{asked_fault, without_word};
 
 use crate::fault::Fault;
 use crate::numbers;
-use agc_plan::{Address, Delay, Entry, Group, Phase, Place, Priority, Request, Task};
-use agc_word::Word;
+use agc_plan::{Delay, Entry, Priority, Request, Task};
 
 /// A request: its kind, and its numbers in the order of a script's line. Those that the kind
 /// doesn't have aren't looked at. An action is a request of kind 0 (nothing), 1, 2, 5 or 9. Source:
@@ -29,134 +26,58 @@ pub struct AgcRequest {
     pub third: u32,
 }
 
-/// A word.
-fn word_of(number: u32) -> Option<Word>
-    ensures { result ≡ word_told number }
-{
-    match numbers::word(number) {
-        Some(word) => Some(word),
-        None => None,
-    }
-}
-
-/// A priority.
-fn priority_of(number: u32) -> Option<Priority>
-    ensures { result ≡ priority_told number }
-{
-    match numbers::priority(number) {
-        Some(priority) => Some(priority),
-        None => None,
-    }
-}
-
-/// An address.
-pub(crate) fn address_of(number: u32) -> Option<Address>
-    ensures { result ≡ address_told number }
-{
-    match numbers::address(number) {
-        Some(address) => Some(address),
-        None => None,
-    }
-}
-
-/// A delay.
-fn delay_of(number: u32) -> Option<Delay>
-    ensures { result ≡ delay_told number }
-{
-    match numbers::delay(number) {
-        Some(delay) => Some(delay),
-        None => None,
-    }
-}
-
-/// A group.
-pub(crate) fn group_of(number: u32) -> Option<Group>
-    ensures { result ≡ six_told number }
-{
-    match numbers::group(number) {
-        Some(group) => Some(group),
-        None => None,
-    }
-}
-
-/// A place.
-fn place_of(number: u32) -> Option<Place>
-    ensures { result ≡ six_told number }
-{
-    match numbers::place(number) {
-        Some(place) => Some(place),
-        None => None,
-    }
-}
-
-/// A phase.
-pub(crate) fn phase_of(number: u32) -> Option<Phase>
-    ensures { result ≡ phase_told number }
-{
-    match numbers::phase(number) {
-        Some(phase) => Some(phase),
-        None => None,
-    }
-}
-
 /// Where a job begins.
 fn entry_of(at: u32, bank: u32) -> Option<Entry>
     ensures { result ≡ entry_told at bank }
 {
-    match (address_of(at), word_of(bank)) {
-        (Some(at), Some(bank)) => Some(Entry { at, bank }),
-        _ => None,
-    }
+    let at = numbers::address(at)?;
+    let bank = numbers::word(bank)?;
+    Some(Entry { at, bank })
 }
 
 /// A task.
 pub(crate) fn task_of(at: u32, bank: u32) -> Option<Task>
     ensures { result ≡ task_told at bank }
 {
-    match (address_of(at), word_of(bank)) {
-        (Some(at), Some(bank)) => Some(Task { at, bank }),
-        _ => None,
-    }
+    let at = numbers::address(at)?;
+    let bank = numbers::word(bank)?;
+    Some(Task { at, bank })
 }
 
 /// A job's priority and where it begins.
 pub(crate) fn start_of(priority: u32, at: u32, bank: u32) -> Option<(Priority, Entry)>
     ensures { result ≡ start_told priority at bank }
 {
-    match (priority_of(priority), entry_of(at, bank)) {
-        (Some(priority), Some(entry)) => Some((priority, entry)),
-        _ => None,
-    }
+    let priority = numbers::priority(priority)?;
+    let entry = entry_of(at, bank)?;
+    Some((priority, entry))
 }
 
 /// A task and its delay.
 pub(crate) fn listing_of(delay: u32, at: u32, bank: u32) -> Option<(Delay, Task)>
     ensures { result ≡ listing_told delay at bank }
 {
-    match (delay_of(delay), task_of(at, bank)) {
-        (Some(delay), Some(task)) => Some((delay, task)),
-        _ => None,
-    }
+    let delay = numbers::delay(delay)?;
+    let task = task_of(at, bank)?;
+    Some((delay, task))
 }
 
 /// A place and a word.
 fn storing_of(place: u32, word: u32) -> Option<Request>
     ensures { result ≡ storing_told place word }
 {
-    match (place_of(place), word_of(word)) {
-        (Some(place), Some(word)) => Some(Request::Store(place, word)),
-        _ => None,
-    }
+    let place = numbers::place(place)?;
+    let word = numbers::word(word)?;
+    Some(Request::Store(place, word))
 }
 
 /// A group and its phase.
 fn phasing_of(group: u32, phase: u32) -> Option<Request>
     ensures { result ≡ phasing_told group phase }
 {
-    match (group_of(group), phase_of(phase)) {
-        (Some(group), Some(phase)) => Some(Request::SetPhase(group, phase)),
-        _ => None,
-    }
+    let group = numbers::group(group)?;
+    let phase = numbers::phase(phase)?;
+    Some(Request::SetPhase(group, phase))
 }
 
 /// A request. None where a number is out of its range, or a word is none. Source: profile.
@@ -173,15 +94,15 @@ pub fn request_of(request: &AgcRequest) -> Option<Request>
             None => None,
         },
         3 => Some(Request::EndOfJob),
-        4 => match address_of(request.first) {
+        4 => match numbers::address(request.first) {
             Some(at) => Some(Request::Sleep(at)),
             None => None,
         },
-        5 => match address_of(request.first) {
+        5 => match numbers::address(request.first) {
             Some(at) => Some(Request::Rouse(at)),
             None => None,
         },
-        6 => match priority_of(request.first) {
+        6 => match numbers::priority(request.first) {
             Some(priority) => Some(Request::Prio(priority)),
             None => None,
         },

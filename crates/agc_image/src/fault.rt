@@ -1,11 +1,13 @@
 // What is wrong with what a caller hands in.
-ghost use Rattle.std.specs.Prelude.{◌≡◌};
+ghost use Rattle.std.specs.Prelude.{◌≡◌, IfNone, length};
+ghost use Rattle.agc_word.specs.Profiles.{count_of, size_of};
 ghost use Rattle.agc_image.specs.Codes.{code_of, code_for, Coded};
+ghost use Rattle.agc_image.specs.Images.{IsOpened};
 
 use crate::array::{are_words, read};
 use crate::lawful::is_lawful;
 use crate::numbers::sets;
-use agc_word::Erasable;
+use agc_word::{Erasable, Sets};
 
 /// Why a call isn't served. Source: profile.
 #[derive(Clone, Copy, PartialEq, Eq, Debug)]
@@ -37,10 +39,16 @@ pub enum Fault {
     NotSpelled,
     /// A text doesn't fit into the room that is lent.
     NoRoom,
+    /// A number of the timetable is out of its range.
+    TimeRange,
+    /// Two rows of stolen time hold at one time.
+    StealTwice,
+    /// One address has two costs.
+    CostTwice,
 }
 
 impl Fault {
-    /// The code of the fault: 1 to 6, or 8 to 14. Source: profile.
+    /// The code of the fault: 1 to 6, or 8 to 17. Source: profile.
     pub fn code(self) -> u32
         ensures { result ≡ code_of self }
     {
@@ -58,8 +66,30 @@ impl Fault {
             Fault::TooManyAreas => 12,
             Fault::NotSpelled => 13,
             Fault::NoRoom => 14,
+            Fault::TimeRange => 15,
+            Fault::StealTwice => 16,
+            Fault::CostTwice => 17,
         }
     }
+}
+
+/// Reads the image of so many core sets from any array, into words of as many: what is wrong with
+/// it, None exactly where it is one, also inside a tick. Source: profile.
+// It fills what it is given, since an answer by value would be copied once more.
+pub fn try_open(array: &[u16; 144], sets: Sets, image: &mut Erasable) -> Option<Fault>
+    requires size { length image.old ≡ size_of sets }
+    ensures code { Coded (code_for result) (count_of sets) array.now (Unit {0}) (Unit {0})
+        (Unit {0}) }
+    ensures opened { IfNone result (IsOpened (count_of sets) array.now image.new) }
+{
+    if !are_words(array, sets) {
+        return Some(Fault::NotWords);
+    }
+    read(array, sets, image);
+    if !is_lawful(image) {
+        return Some(Fault::Unlawful);
+    }
+    None
 }
 
 /// What is wrong with an array as an image of so many core sets: None exactly where it is one, also
@@ -70,15 +100,8 @@ pub fn image_fault(array: &[u16; 144], count: u32) -> Option<Fault>
     match sets(count) {
         None => Some(Fault::NoSuchSets),
         Some(sets) => {
-            if !are_words(array, sets) {
-                return Some(Fault::NotWords);
-            }
             let mut image = Erasable::new(sets);
-            read(array, sets, &mut image);
-            if !is_lawful(&image) {
-                return Some(Fault::Unlawful);
-            }
-            None
+            try_open(array, sets, &mut image)
         }
     }
 }

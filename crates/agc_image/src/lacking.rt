@@ -1,5 +1,5 @@
 // What a caller's plan lacks.
-ghost use Rattle.std.specs.Prelude.{◌≡◌, IfNone};
+ghost use Rattle.std.specs.Prelude.{◌≡◌, IfNone, false};
 ghost use Rattle.agc_plan.specs.Plans.{has_task, task_twice, has_entry, phase_twice, group_wants};
 ghost use Rattle.agc_plan.specs.Plans.{wants_area, all_want};
 ghost use Rattle.agc_plan.specs.Quiet.{BeginsQuietly};
@@ -7,9 +7,10 @@ ghost use Rattle.agc_image.specs.Written.{rows_told, entries_told, written_told,
 ghost use Rattle.agc_image.specs.Lacking.{is_action, is_row, is_job, is_listed, is_entry};
 ghost use Rattle.agc_image.specs.Lacking.{are_rows, are_entries, lacking};
 
-use crate::asked::{AgcRequest, address_of, group_of, listing_of, phase_of, start_of, task_of};
+use crate::asked::{AgcRequest, listing_of, start_of, task_of};
 use crate::fault::Fault;
 use crate::lent::{AgcPhaseEntry, AgcRow, job_of, listed_of};
+use crate::numbers::{address, group, phase};
 use agc_plan::JobStart;
 
 /// Whether a task has a row.
@@ -24,14 +25,30 @@ fn has_row(rows: &[AgcRow], at: u32, bank: u32) -> bool
     false
 }
 
+/// Whether a task has a row, which it has only where it is marked.
+fn has_marked(marked: bool, rows: &[AgcRow], at: u32, bank: u32) -> bool
+    requires { marked ≡ false
+        → has_task (rows_told rows.now) (record { at = at; bank = bank }) ≡ false }
+    ensures { result ≡ has_task (rows_told rows.now) (record { at = at; bank = bank }) }
+{
+    marked && has_row(rows, at, bank)
+}
+
 /// Whether one task has two rows.
 fn task_twice(rows: &[AgcRow]) -> bool
     ensures { result ≡ task_twice (rows_told rows.now) }
 {
-    for (k, row) in rows.iter().enumerate() {
-        if has_row(&rows[k + 1..], row.at, row.bank) {
+    // From the last row to the first. A row is compared with those behind it only where one of
+    // these has the same mark, which few rows of a plan have.
+    let mut marks = [false; 64];
+    for k in 0..rows.len() {
+        let place = rows.len() - 1 - k;
+        let row = &rows[place];
+        let mark = (row.at % 64) as usize;
+        if has_marked(marks[mark], &rows[place + 1..], row.at, row.bank) {
             return true;
         }
+        marks[mark] = true;
     }
     false
 }
@@ -95,18 +112,26 @@ fn all_want(entries: &[AgcPhaseEntry]) -> bool
         && group_wants(entries, 6)
 }
 
-/// Whether numbers are an action.
-fn is_action(a: &AgcRequest) -> bool
+/// Whether the numbers of a kind other than 0 are an action.
+fn is_doing(a: &AgcRequest) -> bool
+    requires { ¬ (a.now.kind ≡ 0) }
     ensures { result ≡ is_action a.now }
 {
     match a.kind {
-        0 => true,
         1 => start_of(a.first, a.second, a.third).is_some(),
         2 => start_of(a.first, a.second, a.third).is_some(),
-        5 => address_of(a.first).is_some(),
+        5 => address(a.first).is_some(),
         9 => listing_of(a.first, a.second, a.third).is_some(),
         _ => false,
     }
+}
+
+/// Whether numbers are an action. Most rows have fewer than four, so the test for none is in line.
+#[inline(always)]
+fn is_action(a: &AgcRequest) -> bool
+    ensures { result ≡ is_action a.now }
+{
+    if a.kind == 0 { true } else { is_doing(a) }
 }
 
 /// Whether numbers are a row.
@@ -138,11 +163,7 @@ fn is_listed(e: &AgcPhaseEntry) -> bool
 fn is_entry(e: &AgcPhaseEntry) -> bool
     ensures { result ≡ is_entry e.now }
 {
-    group_of(e.group).is_some()
-        && phase_of(e.phase).is_some()
-        && 0 < e.phase
-        && is_job(e)
-        && is_listed(e)
+    group(e.group).is_some() && phase(e.phase).is_some() && 0 < e.phase && is_job(e) && is_listed(e)
 }
 
 /// Whether all rows are.

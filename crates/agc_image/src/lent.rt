@@ -1,10 +1,11 @@
 // A plan in memory of a caller's own.
-ghost use Rattle.std.specs.Prelude.{◌≡◌, ◌<◌};
-ghost use Rattle.agc_image.specs.Written.{action_told, actions_told, rows_told, job_told};
+ghost use Rattle.std.specs.Prelude.{◌≡◌, ◌<◌, [], IfSome, IfNone};
+ghost use Rattle.agc_image.specs.Written.{action_told, count_in, actions_told, rows_told, job_told};
 ghost use Rattle.agc_image.specs.Written.{listed_told, entries_told, written_told};
 ghost use Rattle.agc_plan.specs.Plans.{actions_in, entry_at};
 
-use crate::asked::{AgcRequest, address_of, listing_of, start_of};
+use crate::asked::{AgcRequest, listing_of, start_of};
+use crate::numbers::address;
 use agc_plan::{Action, Actions, Delay, Group, JobStart, Phase, PhaseEntry, Plans, Task};
 
 /// What is done when a task fires: four actions, in order. Source: profile.
@@ -73,7 +74,7 @@ fn action_of(a: &AgcRequest) -> Action
             Some(start) => Action::Findvac(start.0, start.1),
             None => Action::Nothing,
         },
-        5 => match address_of(a.first) {
+        5 => match address(a.first) {
             Some(at) => Action::Rouse(at),
             None => Action::Nothing,
         },
@@ -85,15 +86,41 @@ fn action_of(a: &AgcRequest) -> Action
     }
 }
 
-/// The four actions of a row.
-fn actions_of(row: &AgcRow) -> Actions
-    ensures { result ≡ actions_told row.now }
+/// How many actions a row has, up to the last of a kind other than 0.
+fn count_in(row: &AgcRow) -> usize
+    ensures { result ≡ count_in row.now }
 {
-    let mut actions = Actions::one(action_of(&row.first));
-    actions.push(action_of(&row.second));
-    actions.push(action_of(&row.third));
-    actions.push(action_of(&row.fourth));
-    actions
+    if row.fourth.kind != 0 {
+        4
+    } else if row.third.kind != 0 {
+        3
+    } else if row.second.kind != 0 {
+        2
+    } else if row.first.kind != 0 {
+        1
+    } else {
+        0
+    }
+}
+
+/// Puts the actions of a row into room where there are none.
+fn put_actions(row: &AgcRow, room: &mut Actions)
+    requires { room.old ≡ [] }
+    ensures { room.new ≡ actions_told row.now }
+{
+    let count = count_in(row);
+    if count >= 1 {
+        room.push(action_of(&row.first));
+    }
+    if count >= 2 {
+        room.push(action_of(&row.second));
+    }
+    if count >= 3 {
+        room.push(action_of(&row.third));
+    }
+    if count >= 4 {
+        room.push(action_of(&row.fourth));
+    }
 }
 
 /// The job of an entry.
@@ -120,18 +147,20 @@ pub(crate) fn listed_of(e: &AgcPhaseEntry) -> Option<(Delay, Task)>
     listing_of(e.delay, e.task_at, e.task_bank)
 }
 
-/// The actions of the first row of a task.
-fn actions_at(rows: &[AgcRow], task: &Task) -> Actions
-    ensures { result ≡ actions_in (rows_told rows.now) task.now }
+/// The first row of a task.
+fn row_of<'a>(rows: &'a [AgcRow], task: &Task) -> Option<&'a AgcRow>
+    ensures row { IfSome result
+        (λ row. actions_told row.now ≡ actions_in (rows_told rows.now) task.now) }
+    ensures none { IfNone result (actions_in (rows_told rows.now) task.now ≡ []) }
 {
     let at = u32::from(task.at.get());
     let bank = u32::from(task.bank.bits());
     for row in rows {
         if row.at == at && row.bank == bank {
-            return actions_of(row);
+            return Some(row);
         }
     }
-    Actions::new()
+    None
 }
 
 /// The first entry of a group's phase.
@@ -153,7 +182,11 @@ impl<'a> Plans for Lent<'a> {
     ghost written = { λ p. written_told p.rows.now p.entries.now };
 
     fn actions<'b>(&'b self, task: &Task, room: &'b mut Actions) -> &'b [Action] {
-        *room = actions_at(self.rows, task);
+        *room = Actions::new();
+        match row_of(self.rows, task) {
+            Some(row) => put_actions(row, room),
+            None => {}
+        }
         room.as_slice()
     }
 

@@ -13,7 +13,7 @@ mod numbers;
 
 pub use array::{blank, open, seven, twelve, write_all, write_back};
 pub use asked::{AgcRequest, asked_fault, request_of};
-pub use fault::{Fault, image_fault};
+pub use fault::{Fault, image_fault, try_open};
 pub use lacking::plan_lacks;
 pub use lawful::is_lawful;
 pub use lent::{AgcPhaseEntry, AgcRow, Lent};

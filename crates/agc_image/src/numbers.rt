@@ -4,6 +4,8 @@ ghost use Rattle.agc_plan.specs.Ranges.{IsPriority, IsAddress, IsDelay, IsSix};
 ghost use Rattle.agc_word.specs.Profiles.{count_of};
 ghost use Rattle.agc_phase.specs.Image.{code_of_word};
 ghost use Rattle.agc_image.specs.Images.{IsSets};
+ghost use Rattle.agc_image.specs.Told.{word_told, priority_told, address_told, delay_told};
+ghost use Rattle.agc_image.specs.Told.{six_told, phase_told};
 
 use agc_plan::{Address, Code, Delay, Group, Phase, Place, Priority};
 use agc_word::{Sets, Word};
@@ -24,6 +26,7 @@ pub fn sets(count: u32) -> Option<Sets>
 pub fn priority(number: u32) -> Option<Priority>
     ensures valid { IsSome result ↔ IsPriority number }
     ensures value { IfSome result (λ priority. priority ≡ number) }
+    ensures told { result ≡ priority_told number }
 {
     match u8::try_from(number) {
         Ok(number) => Priority::new(number),
@@ -35,6 +38,7 @@ pub fn priority(number: u32) -> Option<Priority>
 pub fn address(number: u32) -> Option<Address>
     ensures valid { IsSome result ↔ IsAddress number }
     ensures value { IfSome result (λ address. address ≡ number) }
+    ensures told { result ≡ address_told number }
 {
     match u16::try_from(number) {
         Ok(number) => Address::new(number),
@@ -46,6 +50,7 @@ pub fn address(number: u32) -> Option<Address>
 pub fn delay(number: u32) -> Option<Delay>
     ensures valid { IsSome result ↔ IsDelay number }
     ensures value { IfSome result (λ delay. delay ≡ number) }
+    ensures told { result ≡ delay_told number }
 {
     match u16::try_from(number) {
         Ok(number) => Delay::new(number),
@@ -57,6 +62,7 @@ pub fn delay(number: u32) -> Option<Delay>
 pub fn group(number: u32) -> Option<Group>
     ensures valid { IsSome result ↔ IsSix number }
     ensures value { IfSome result (λ group. group ≡ number) }
+    ensures told { result ≡ six_told number }
 {
     match u8::try_from(number) {
         Ok(number) => Group::new(number),
@@ -68,6 +74,7 @@ pub fn group(number: u32) -> Option<Group>
 pub fn phase(number: u32) -> Option<Phase>
     ensures valid { IsSome result ↔ (number ≤ 127) }
     ensures value { IfSome result (λ phase. phase ≡ number) }
+    ensures told { result ≡ phase_told number }
 {
     match u8::try_from(number) {
         Ok(number) => Phase::new(number),
@@ -79,6 +86,7 @@ pub fn phase(number: u32) -> Option<Phase>
 pub fn place(number: u32) -> Option<Place>
     ensures valid { IsSome result ↔ IsSix number }
     ensures value { IfSome result (λ place. place ≡ number) }
+    ensures told { result ≡ six_told number }
 {
     match u8::try_from(number) {
         Ok(number) => Place::new(number),
@@ -90,6 +98,7 @@ pub fn place(number: u32) -> Option<Place>
 pub fn word(number: u32) -> Option<Word>
     ensures valid { IsSome result ↔ (number < 32768) }
     ensures value { IfSome result (λ word. word ≡ number) }
+    ensures told { result ≡ word_told number }
 {
     match u16::try_from(number) {
         Ok(number) => Word::new(number),

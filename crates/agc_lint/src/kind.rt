@@ -51,6 +51,9 @@ pub(crate) const ACTIONS: [Kind; 5] = [
 /// What establishes a job.
 pub(crate) const JOBS: [Kind; 2] = [Kind::Novac, Kind::Findvac];
 
+/// By what a job leaves.
+pub(crate) const LEAVINGS: [Kind; 2] = [Kind::EndOfJob, Kind::Sleep];
+
 /// What lists a task.
 pub(crate) const LISTINGS: [Kind; 1] = [Kind::Listing];
 

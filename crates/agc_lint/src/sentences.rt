@@ -1,10 +1,11 @@
 //! What is said of what was found.
-use crate::kind::{ACTIONS, JOBS, Kind, LISTINGS, REQUESTS};
+use crate::kind::{ACTIONS, JOBS, Kind, LEAVINGS, LISTINGS, REQUESTS};
 use crate::line::{LineFault, fault_of};
 use crate::names::{Named, called, meant_by};
 use crate::part::Part;
 use crate::text::{add, add_decimal, add_shown};
-use agc_document::{Form, Key, KeyFault, Kind as Valued, Level, Wrong};
+use agc_document::{Form, Key, KeyFault, Kind as Valued, Level};
+use agc_findings::Wrong;
 use std::alloc::AllocError;
 
 impl Named for Key {
@@ -87,6 +88,8 @@ fn add_form(told: &mut String, form: Form, text: &str) -> Result<(), AllocError>
         Form::Address => add(told, &[Part::Address.spelling()]),
         Form::Word => add(told, &[Part::Word.spelling()]),
         Form::Device => add(told, &["a line is timer, key or radar"]),
+        Form::Leaving => add_text_fault(told, &LEAVINGS, text, "a job leaves by end or sleep"),
+        Form::Name => add(told, &["a name is one line, without control characters"]),
     }
 }
 
@@ -99,6 +102,14 @@ fn add_range(told: &mut String, low: u64, high: u64) -> Result<(), AllocError> {
     add_decimal(told, low)?;
     add(told, &[between])?;
     add_decimal(told, high)
+}
+
+/// Says that tables are meant, and how they begin.
+fn add_tables(told: &mut String, before: &str, name: &str) -> Result<(), AllocError> {
+    add(
+        told,
+        &[before, " tables, each below its line [[", name, "]]"],
+    )
 }
 
 /// Says what the value of a key has to be.
@@ -121,20 +132,18 @@ fn add_expected(told: &mut String, key: Key) -> Result<(), AllocError> {
             add_decimal(told, count)?;
             add(told, &[" strings"])
         }
+        Valued::IntegerOrTables(_level, low, high) => {
+            add(told, &["expected an integer, "])?;
+            add_range(told, low, high)?;
+            add_tables(told, ", or an array of", row.name)
+        }
         Valued::Tables(_level, _least, u64::MAX) => {
-            add(
-                told,
-                &[
-                    "expected an array of tables, each below its line [[",
-                    row.name,
-                    "]]",
-                ],
-            )
+            add_tables(told, "expected an array of", row.name)
         }
         Valued::Tables(_level, _least, most) => {
             add(told, &["expected at most "])?;
             add_decimal(told, most)?;
-            add(told, &[" tables, each below its line [[", row.name, "]]"])
+            add_tables(told, "", row.name)
         }
     }
 }
@@ -157,8 +166,15 @@ fn add_quoted(told: &mut String, digits: &str) -> Result<(), AllocError> {
 
 /// Says what may be meant by a key that is unknown in a table of this level.
 fn add_meant(told: &mut String, level: Level, name: &str) -> Result<(), AllocError> {
-    if level != Level::Bench && called(name, Level::Bench.keys()).is_some() {
+    let top = level.top();
+    if level != top && called(name, top.keys()).is_some() {
         return add(told, &["; it belongs above all tables"]);
+    }
+    if level == Level::Bench && called(name, Level::Scenario.keys()).is_some() {
+        return add(told, &["; a scenario has it, which has \"seconds\" too"]);
+    }
+    if level == Level::Scenario && called(name, Level::Bench.keys()).is_some() {
+        return add(told, &["; a bench has it, but no scenario"]);
     }
     match meant_by(name, level.keys()) {
         Some(key) => add(told, &["; did you mean \"", key.name(), "\"?"]),
@@ -181,7 +197,8 @@ fn add_key_fault(told: &mut String, fault: KeyFault, text: &str) -> Result<(), A
             add_quoted(told, text)
         }
         KeyFault::Item(key) => {
-            let is_table = matches!(key.row().kind, Valued::Tables(..));
+            let kind = key.row().kind;
+            let is_table = matches!(kind, Valued::Tables(..) | Valued::IntegerOrTables(..));
             add(
                 told,
                 &[if is_table {
@@ -192,6 +209,9 @@ fn add_key_fault(told: &mut String, fault: KeyFault, text: &str) -> Result<(), A
             )?;
             add_quoted(told, text)
         }
+        KeyFault::Backward => add(told, &["\"from\" has to be below \"to\""]),
+        KeyFault::Overlap => add(told, &["it overlaps an earlier row"]),
+        KeyFault::JobTwice => add(told, &["an earlier job has the same address"]),
     }
 }
 

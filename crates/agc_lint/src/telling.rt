@@ -4,7 +4,7 @@ use crate::line::LineFault;
 use crate::script::MOST_TOLD;
 use crate::sentences::{add_line_fault, add_wrong};
 use crate::text::{add, add_decimal, add_shown, add_where};
-use agc_document::Finding as BenchFinding;
+use agc_findings::Finding as BenchFinding;
 use std::alloc::{AllocError, Global};
 
 /// Tells of a line of a script.

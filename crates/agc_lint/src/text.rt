@@ -37,6 +37,7 @@ fn item_name(key: Key) -> &'static str {
     match key.row().kind {
         Kind::Texts(Form::Word, _least, _most) => "word",
         Kind::Texts(Form::Request, _least, _most) => "request",
+        Kind::OneOrMore(Form::Request, _least, _most) => "request",
         Kind::OneOrMore(Form::Action, _least, _most) => "action",
         _ => "item",
     }

@@ -16,6 +16,7 @@ use agc_word::Erasable;
 
 /// Lists a task, if there is room; else answers the alarm. That is shorter than a reply, which
 /// would be handed on through memory.
+#[inline(always)]
 pub(crate) fn list(e: &mut Erasable, delay: Delay, task: Task) -> Option<Alarm>
     requires { IsSound e.old }
     ensures works { Works (with_listed delay task) same_places e.old (listing_told result) e.new }

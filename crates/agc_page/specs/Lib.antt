@@ -1,4 +1,2 @@
-pub mod Told
-pub mod Cells
-pub mod Rows
+pub mod Data
 pub mod Pages

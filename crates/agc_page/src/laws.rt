@@ -1,21 +1,16 @@
-//! What holds of each page, whatever the bench.
+//! What holds of each page, whatever the document.
 
-ghost use Rattle.std.specs.Prelude.{◌≡◌, ℕ, ◌^◌, ◌<◌, List, Option, length, true};
+ghost use Rattle.std.specs.Prelude.{◌≡◌, ℕ, List, true};
 ghost use Rattle.std.specs.List.{list_all};
-ghost use Rattle.agc_plan.specs.declared.request.Request.{Request};
-ghost use Rattle.agc_machine.specs.Machines.{Machined};
-ghost use Rattle.agc_page.specs.Rows.{data_of, is_plain};
-ghost use Rattle.agc_page.specs.Told.{read_by, told_by};
+ghost use Rattle.agc_page.specs.Data.{data_of, is_plain, read_again};
 
-/// In the data of a page stand letters of ASCII, tabs and line ends alone, and no `<`: they can't
-/// end the element in which they stand, begin another, or hold a line separator.
+/// In the data of a page stands no `<`: they can't end the element in which they stand, or begin
+/// another.
 pub fn data_is_plain()
-    ensures { (power : Option (List ℕ)) (machine : Machined) (requests : List Request)
-        → list_all is_plain (data_of power machine requests) ≡ true }
+    ensures { (text : List ℕ) → list_all is_plain (data_of text) ≡ true }
 {}
 
-/// A text that is told by others is read again by these, as the page's script does.
-pub fn told_is_read()
-    ensures { (texts : List (List ℕ)) (now : List ℕ) → length now < 2 ^ 64
-        → read_by texts (told_by texts now) ≡ now }
+/// Read as the page's script does, the data of a page are the document again.
+pub fn data_is_read_again()
+    ensures { (text : List ℕ) → read_again (data_of text) ≡ text }
 {}

@@ -1,12 +1,11 @@
-//! A run as a page for a browser, which steps through its requests. Source: profile.
+//! A page for a browser, which runs a bench's requests and steps through them. Source: profile.
 #![tactic(auto)]
 
-mod cells;
-mod front;
+mod data;
+mod fault;
 pub mod laws;
 mod pages;
-mod power;
-mod stepper;
-mod told;
+mod text;
 
+pub use fault::PageFault;
 pub use pages::page;

@@ -7,9 +7,9 @@ use crate::frame::{put_head, width_of};
 use crate::lanes::{Part, below, put_part};
 use crate::marks::{put_axis, put_mark};
 use agc_machine::Machine;
-use agc_plan::{Alarm, Request};
+use agc_plan::Request;
 use agc_scene::{Event, Scene, Watched};
-use agc_session::Follows;
+use agc_session::{Follows, Source};
 use agc_text::Output;
 use std::io;
 use std::io::Write;
@@ -32,14 +32,6 @@ impl Model for Drawing {
     ghost view = { λ d. d.watched };
 }
 
-/// The alarm that an event tells.
-fn alarm_of(event: &Event) -> Option<Alarm> {
-    match event.answer {
-        Ok(reply) => reply.alarm(),
-        Err(_refusal) => None,
-    }
-}
-
 /// Writes the column of an event, after what was drawn last: in it what has changed. Where an era
 /// begins, its mark stands at the end of the column, and in the next what began.
 fn put_event<W: Write>(writer: &mut W, drawn: &Scene, width: u64, event: &Event) -> io::Result<()> {
@@ -51,7 +43,7 @@ fn put_event<W: Write>(writer: &mut W, drawn: &Scene, width: u64, event: &Event)
         Some(era) => {
             let next = column_at(width, event.number.saturating_add(1));
             let end = below(era).saturating_add(170);
-            put_mark(writer, alarm_of(event), event.number, next.x, end)?;
+            put_mark(writer, event, next.x, end)?;
             put_part(writer, next, &event.scene, Part::Begun, era)
         }
     }
@@ -79,6 +71,13 @@ impl Drawing {
         }
     }
 
+    /// The machine, after what was asked of it.
+    pub(crate) fn into_watched(self) -> Watched
+        ensures { result ≡ self }
+    {
+        self.watched
+    }
+
     /// Writes the head, and column 0, of the scene with which the machine begins.
     pub(crate) fn begin<W: Write>(&self, writer: &mut W) -> io::Result<()> {
         let width = width_of(self.count);
@@ -103,7 +102,12 @@ impl Follows for Drawing {
     ghost next = { λ drawing request. watched drawing request };
 
     /// Asks for one request, and writes its column.
-    fn follow<W: Write>(&mut self, request: &Request, writer: &mut W) -> Result<(), Output> {
+    fn follow<W: Write>(
+        &mut self,
+        _source: Source,
+        request: &Request,
+        writer: &mut W,
+    ) -> Result<(), Output> {
         let event = self.watched.ask(request);
         let put = put_event(writer, &self.drawn, width_of(self.count), &event);
         self.drawn = drawn_after(event);

@@ -3,7 +3,6 @@
 #![tactic(auto)]
 
 mod blocks;
-mod counting;
 mod drawing;
 mod frame;
 mod lanes;

@@ -1,14 +1,16 @@
 // Marks of alarms and restarts, across all lanes, and what stands above the lanes.
 use crate::blocks::Column;
 use agc_plan::Alarm;
+use agc_scene::{Event, Scene};
 use std::io;
 use std::io::Write;
 
-/// Which table was full.
-fn full_table(alarm: Alarm) -> &'static str {
+/// Which table was full, in a scene.
+fn full_table(alarm: Alarm, scene: &Scene) -> &'static str {
     match alarm {
         Alarm::A1201 => "alarm 1201: all five VAC areas are owned",
-        Alarm::A1202 => "alarm 1202: a job is in each core set",
+        Alarm::A1202 if scene.seats().len() == 8 => "alarm 1202: all eight core sets are in use",
+        Alarm::A1202 => "alarm 1202: all seven core sets are in use",
         Alarm::A1203 => "alarm 1203: nine tasks wait",
     }
 }
@@ -22,19 +24,19 @@ fn code(alarm: Alarm) -> &'static str {
     }
 }
 
-/// Writes the mark of an alarm, or of a restart, at the end of its request's column, down to this
+/// Writes the mark of an event's alarm, or of its restart, at the end of its column, down to this
 /// end.
 pub(crate) fn put_mark<W: Write>(
     writer: &mut W,
-    alarm: Option<Alarm>,
-    number: u64,
+    event: &Event,
     x: u64,
     end: u64,
 ) -> io::Result<()> {
     let left = x.saturating_sub(1);
-    let (class, title, name) = match alarm {
+    let number = event.number;
+    let (class, title, name) = match event.alarm() {
         None => ("n", "restart", "restart"),
-        Some(alarm) => ("m", full_table(alarm), code(alarm)),
+        Some(alarm) => ("m", full_table(alarm, &event.scene), code(alarm)),
     };
     write!(
         writer,

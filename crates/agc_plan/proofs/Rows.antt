@@ -1,12 +1,12 @@
 -- The numbers of tasks' rows, by task.
-use Rattle.std.proofs.Common.{◌≡◌, ℕ, suc, ◌+◌, ◌-◌, ◌<◌, ◌≤◌, ◌==◌, ◌||◌, Bool, true, false, if◌then◌else◌, List, [], ◌∷◌, length, get_or, drop, Some, None, refl, sym, ap, ◌∙◌, inl, inr, arith}
-use Rattle.std.specs.Prelude.{cond, is_some}
+use Rattle.std.proofs.Common.{◌≡◌, ℕ, zero, suc, ◌+◌, ◌-◌, ◌<◌, ◌≤◌, ◌==◌, ◌||◌, Bool, true, false, if◌then◌else◌, List, [], ◌∷◌, length, get_or, drop, Some, None, refl, sym, ap, ◌∙◌, inl, inr, arith}
+use Rattle.std.specs.Prelude.{cond, is_some, slice_get}
 use Rattle.std.specs.Option.{option_or}
 use Rattle.std.specs.Cmp.{both_tied, unsigned_tied}
 use Rattle.std.specs.Ordering.{nat_cmp}
 use Rattle.std.specs.BTreeMap.{BTreeMap, get, is_at}
 use Rattle.std.proofs.lemmas.Bool.{cases_Bool}
-use Rattle.std.proofs.lemmas.Option.{same_Some}
+use Rattle.std.proofs.lemmas.Option.{same_Some, slice_get-get_or}
 use Rattle.std.proofs.lemmas.Grind.{common_steps}
 use Rattle.agc_plan.specs.declared.request.Action.{Action}
 use Rattle.agc_plan.specs.declared.request.Task.{Task}
@@ -152,3 +152,45 @@ no_row n (row ∷ rows) task is = elim (cases_Bool (same_task row.0 task)) [
       no_row (n + 1) rows task (sym (ap (λ b. if b then Some n else number_from (n + 1) rows task) differ) ∙ is)
       ∙ sym (ap (λ b. if b then row.1 else actions_in rows task) differ)
 ]
+
+-- a task that has one of the rows has a row
+has_there : (rows : Rows) (k : ℕ) (row : Task × List Action) (task : Task) → slice_get rows k ≡ Some row → same_task row.0 task ≡ true → has_task rows task ≡ true
+has_there [] k row task at same = absurd (cc)
+has_there (first ∷ rows) zero row task at same =
+    let is : first ≡ row = same_Some first row at in
+    ap (λ b. b || has_task rows task) (ap (λ (r : Task × List Action). same_task r.0 task) is ∙ same)
+has_there (first ∷ rows) (suc k) row task at same =
+    let later : has_task rows task ≡ true = has_there rows k row task at same in
+    elim (cases_Bool (same_task first.0 task)) [
+      | inl here ↦ ap (λ b. b || has_task rows task) here
+      | inr not ↦ ap (λ b. b || has_task rows task) not ∙ later
+    ]
+
+same_both : (row first task : Task) → same_task row task ≡ true → same_task first task ≡ true → same_task row first ≡ true
+same_both row first task one other = grind (arith, common_steps)
+
+-- where no task has two rows, a row of the task has its actions
+pub row_known : (rows : Rows) (k : ℕ) (row : Task × List Action) (task : Task) → task_twice rows ≡ false → slice_get rows k ≡ Some row → same_task row.0 task ≡ true → row.1 ≡ actions_in rows task
+row_known [] k row task once at same = absurd (cc)
+row_known (first ∷ rows) zero row task once at same =
+    let is : first ≡ row = same_Some first row at in
+    let here : same_task first.0 task ≡ true = ap (λ (r : Task × List Action). same_task r.0 task) is ∙ same in
+    sym (ap (λ (r : Task × List Action). r.1) is) ∙ sym (ap (λ b. if b then first.1 else actions_in rows task) here)
+row_known (first ∷ rows) (suc k) row task once at same = elim (cases_Bool (same_task first.0 task)) [
+  | inl here ↦
+      let twice : has_task rows first.0 ≡ true = has_there rows k row first.0 at (same_both row.0 first.0 task same here) in
+      absurd (let no : true ≡ false = sym (ap (λ b. b || task_twice rows) twice) ∙ once in cc)
+  | inr differ ↦
+      let rest : task_twice rows ≡ false = or_right (has_task rows first.0) (task_twice rows) once in
+      row_known rows k row task rest at same ∙ sym (ap (λ b. if b then first.1 else actions_in rows task) differ)
+]
+  where
+    or_right : (a b : Bool) → (a || b) ≡ false → b ≡ false
+    or_right true b is = absurd (cc)
+    or_right false b is = is
+
+pub row_at : (rows : Rows) (k : ℕ) (one other : Task × List Action) (task : Task) → task_twice rows ≡ false → k < length rows → same_task (get_or rows k one).0 task ≡ true → (get_or rows k other).1 ≡ actions_in rows task
+row_at rows k one other task once lt same =
+    let here : slice_get rows k ≡ Some (get_or rows k one) = slice_get-get_or rows k one lt in
+    let there : slice_get rows k ≡ Some (get_or rows k other) = slice_get-get_or rows k other lt in
+    ap (λ (row : Task × List Action). row.1) (same_Some _ _ (sym there ∙ here)) ∙ row_known rows k (get_or rows k one) task once here same

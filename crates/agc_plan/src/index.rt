@@ -1,7 +1,7 @@
 //! The numbers of tasks' rows, by task.
-ghost use Rattle.std.specs.Prelude.{◌≡◌, ◌⊎◌, true, false, IfOk, IfErr, OnOk};
+ghost use Rattle.std.specs.Prelude.{◌≡◌, ◌⊎◌, true, false, IfOk, IfErr, IfSome, OnOk};
 ghost use Rattle.agc_plan.specs.Index.{indexed, IsIndex};
-ghost use Rattle.agc_plan.specs.Plans.{task_twice};
+ghost use Rattle.agc_plan.specs.Plans.{actions_in, task_twice};
 
 use crate::actions::Actions;
 use crate::plan::PlanFault;
@@ -17,6 +17,48 @@ pub(crate) fn number_of(index: &Index, task: &Task) -> Option<usize>
     ensures { result ≡ indexed index.now task.now }
 {
     index.get(&(task.at.get(), task.bank.bits())).copied()
+}
+
+/// For each of 64 remainders the number of a row, whose task is asked for most likely. It is looked
+/// at before the index, and spares the walk down the tree where it is right.
+pub(crate) type Guesses = [u8; 64];
+
+/// Which of the guesses is a task's.
+fn remainder(task: &Task) -> usize {
+    let at = task.at.get();
+    ((at ^ (at >> 6) ^ task.bank.bits()) % 64) as usize
+}
+
+/// Guesses for these rows.
+pub(crate) fn guesses_of(rows: &[(Task, Actions)]) -> Guesses {
+    let mut guesses = [0; 64];
+    for (k, row) in rows.iter().enumerate() {
+        match guesses.get_mut(remainder(&row.0)) {
+            Some(guess) => *guess = (k % 256) as u8,
+            None => {}
+        }
+    }
+    guesses
+}
+
+/// The actions of the row that is guessed for a task, where it is the task's.
+pub(crate) fn guessed<'a>(
+    rows: &'a [(Task, Actions)],
+    guesses: &Guesses,
+    task: &Task,
+) -> Option<&'a Actions>
+    requires { task_twice rows.now ≡ false }
+    ensures { IfSome result (λ actions. actions.now ≡ actions_in rows.now task.now) }
+{
+    let guess = match guesses.get(remainder(task)) {
+        Some(guess) => *guess as usize,
+        None => 0,
+    };
+    if guess < rows.len() && rows[guess].0 == *task {
+        Some(&rows[guess].1)
+    } else {
+        None
+    }
 }
 
 /// The index of rows, of which no two are of one task.

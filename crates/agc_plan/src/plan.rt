@@ -8,7 +8,7 @@ ghost use Rattle.agc_plan.specs.Quiet.{BeginsQuietly};
 ghost use Rattle.agc_plan.specs.Messages.{plan_fault_text};
 
 use crate::actions::Actions;
-use crate::index::{Index, index_of, number_of};
+use crate::index::{Guesses, Index, guessed, guesses_of, index_of, number_of};
 use crate::number::{Group, Phase};
 use crate::request::{Action, JobStart, PhaseEntry, Task};
 use std::alloc::Global;
@@ -61,6 +61,7 @@ impl Error for PlanFault {}
 pub struct Plan {
     rows: Vec<(Task, Actions)>,
     index: Index,
+    guesses: Guesses,
     entries: Vec<PhaseEntry>,
     key: Actions,
     radar: Actions,
@@ -273,11 +274,13 @@ impl Plan {
             return Err(PlanFault::NoMemory);
         }
         let index = index_of(alloc, rows.as_slice())?;
+        let guesses = guesses_of(rows.as_slice());
         match entries_fault(entries) {
             Some(fault) => Err(fault),
             None => Ok(Plan {
                 rows,
                 index,
+                guesses,
                 entries: own_entries,
                 key,
                 radar,
@@ -307,9 +310,12 @@ impl Plan {
     pub fn actions(&self, task: &Task) -> &[Action]
         ensures { result.now ≡ actions_in self.now.rows task.now }
     {
-        match number_of(&self.index, task) {
-            None => &[],
-            Some(number) => self.rows[number].1.as_slice(),
+        match guessed(self.rows.as_slice(), &self.guesses, task) {
+            Some(actions) => actions.as_slice(),
+            None => match number_of(&self.index, task) {
+                None => &[],
+                Some(number) => self.rows[number].1.as_slice(),
+            },
         }
     }
 

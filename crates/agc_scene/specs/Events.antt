@@ -7,7 +7,8 @@ use Rattle.agc_plan.specs.declared.reply.Reply.{Reply}
 use Rattle.agc_plan.specs.declared.request.Request.{Request}
 use Rattle.agc_plan.specs.declared.request.Request.TheVariants.{Tick}
 use Rattle.agc_plan.specs.Seats.{places_acted}
-use Rattle.agc_plan.specs.Steps.{raised_in, acted, begins}
+use Rattle.agc_plan.specs.declared.reply.Alarm.{Alarm}
+use Rattle.agc_plan.specs.Steps.{raised_in, acted, alarm_of, begins}
 use Rattle.agc_machine.specs.declared.answer.Refusal.{Refusal}
 use Rattle.agc_machine.specs.Machines.{Machined, after, answer_of, fired_of, refusal_of}
 use Rattle.agc_machine.specs.Machines.{plain_of, places_of, starts_over}
@@ -42,6 +43,11 @@ raised_at m asked =
 abbrev pub begins_with : Result Reply Refusal → Bool
 begins_with (Ok reply) = begins reply
 begins_with (Err refusal) = false
+
+-- the alarm that an answer tells
+abbrev pub alarm_told : Result Reply Refusal → Option Alarm
+alarm_told (Ok reply) = alarm_of reply
+alarm_told (Err refusal) = None
 
 abbrev pub is_tick : Request → Bool
 is_tick Tick = true

@@ -1,9 +1,12 @@
 // One request, and all that is shown of it.
+ghost use Rattle.std.specs.Prelude.{◌≡◌};
+ghost use Rattle.agc_scene.specs.Events.{alarm_told};
+
 use crate::listings::Listings;
 use crate::origins::Origins;
 use crate::scene::Scene;
 use agc_machine::Refusal;
-use agc_plan::{Fired, Reply, Request};
+use agc_plan::{Alarm, Fired, Reply, Request};
 
 /// One request, and all that is shown of it. Times are in centiseconds. Source: profile.
 #[derive(Drop)]
@@ -29,4 +32,17 @@ pub struct Event {
     pub jobs: Origins,
     /// Since when each task of `scene` is there.
     pub tasks: Listings,
+}
+
+impl Event {
+    /// The alarm that it raised, or that the action of a task raised in it, if one came. Source:
+    /// the listings' EXECUTIVE and WAITLIST sections.
+    pub fn alarm(&self) -> Option<Alarm>
+        ensures { result ≡ alarm_told self.now.answer }
+    {
+        match &self.answer {
+            Ok(reply) => reply.alarm(),
+            Err(_refusal) => None,
+        }
+    }
 }

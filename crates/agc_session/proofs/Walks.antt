@@ -1,5 +1,5 @@
 -- What is left of a walk: the requests that are still to be asked, and their texts.
-use Rattle.std.proofs.Common.{◌≡◌, ℕ, ◌+◌, ◌<◌, ◌≤◌, List, [], ◌∷◌, ◌++◌, length, get_or, drop, Option, map, subst, refl, sym, ap, ◌∙◌, append_assoc, append-nil, Result, Ok, Err}
+use Rattle.std.proofs.Common.{◌≡◌, ℕ, zero, suc, replicate, ◌+◌, ◌<◌, ◌≤◌, List, [], ◌∷◌, ◌++◌, length, get_or, drop, Option, map, subst, refl, sym, ap, ◌∙◌, append_assoc, append-nil, Result, Ok, Err}
 use Rattle.std.specs.Prelude.{IsErr}
 use Rattle.std.specs.Io.KnownBytes.{Appends}
 use Rattle.std.specs.List.{fold, flat_map}
@@ -8,6 +8,7 @@ use Rattle.std.proofs.lemmas.List.Folds.{flat_map-map}
 use Rattle.std.proofs.lemmas.List.Sums.{fold-append}
 use Rattle.agc_plan.proofs.Lists.{next_is, none_left}
 use Rattle.agc_plan.specs.declared.request.Request.{Request}
+use Rattle.agc_plan.specs.Pulses.{repeated}
 use Rattle.agc_text.specs.Writing.{AppendsFront, Writes}
 use Rattle.agc_text.proofs.Steps.{appends_none, appends_both, up_to_start, up_to_more, up_to_front}
 use Rattle.agc_document.specs.Benches.{Benched}
@@ -144,3 +145,8 @@ bench_is f bench workers e =
 -- before the first request of a bench all are left
 pub bench_left : {S V : Type 0} → (next : S → Request → S) (text : S → Request → List ℕ) (start : S) (o : Option (List ℕ)) (f : V → List Request) (bench : Benched) (workers : List V) → map f workers ≡ bench.workers → IsLeft S next text start (bench_requests bench) o start o (bench.script ++ (flat_map f workers ++ flat_map (device_requests bench) bench.devices))
 bench_left next text start o f bench workers e = left_as (bench_is f bench workers e) (all_left next text start (bench_requests bench) o)
+
+-- a list of one request so many times
+pub repeated_sole : (request : Request) (n : ℕ) → repeated (request ∷ []) n ≡ replicate n request
+repeated_sole request zero = refl
+repeated_sole request (suc n) = ap (λ (rs : List Request). request ∷ rs) (repeated_sole request n)

@@ -3,3 +3,4 @@ pub mod Walks
 pub mod Session
 pub mod Runs
 pub mod Steps
+pub mod Shown

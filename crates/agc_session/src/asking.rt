@@ -1,5 +1,5 @@
 // One walk of a bench, whoever is asked.
-ghost use Rattle.std.specs.Prelude.{◌≡◌, ◌==◌, length};
+ghost use Rattle.std.specs.Prelude.{◌≡◌, ◌==◌, [], ◌∷◌, IfSome, length, replicate};
 ghost use Rattle.std.specs.List.{flat_map};
 ghost use Rattle.agc_plan.specs.Pulses.{asks_nothing, pulse_requests, requests_for};
 ghost use Rattle.agc_session.specs.Runs.{bench_plan, bench_requests, device_requests};
@@ -88,8 +88,8 @@ fn ask_pulse<A: Asks, W: Write>(
     }
 }
 
-/// Asks for a device's requests.
-fn ask_device<A: Asks, W: Write>(
+/// Asks for a device's requests, one pulse after the other.
+fn ask_pulses<A: Asks, W: Write>(
     asker: &mut A,
     bench: &Bench,
     device: (Line, u32),
@@ -102,6 +102,59 @@ fn ask_device<A: Asks, W: Write>(
         ask_pulse(asker, bench, device.0, writer)?;
     }
     Ok(())
+}
+
+/// The request that these actions are asked for, where it is just one.
+fn sole_request(actions: &[Action]) -> Option<Request>
+    ensures { IfSome result (λ request. requests_for actions.now ≡ request ∷ []) }
+{
+    match actions {
+        [action] => action_request(*action),
+        _ => None,
+    }
+}
+
+/// The request that a pulse of the line asks for, where it is just one.
+fn sole_pulse(bench: &Bench, line: Line) -> Option<Request>
+    ensures { IfSome result (λ request. pulse_requests (bench_plan bench.now) line ≡ request ∷ []) }
+{
+    match line {
+        Line::Timer => Some(Request::Tick),
+        Line::Key => sole_request(bench.key().as_slice()),
+        Line::Radar => sole_request(bench.radar().as_slice()),
+    }
+}
+
+/// Asks for one request so many times.
+fn ask_often<A: Asks, W: Write>(
+    asker: &mut A,
+    request: &Request,
+    times: u32,
+    writer: &mut W,
+) -> Result<(), Output>
+    ensures { AsksInOrder A.next A.text asker.old (replicate times request.now)
+        asker.new (W.contents writer.old) (W.contents writer.new) result }
+{
+    for _time in 0..times {
+        asker.ask(request, writer)?;
+    }
+    Ok(())
+}
+
+/// Asks for a device's requests. Where a pulse asks for one, it is made once.
+fn ask_device<A: Asks, W: Write>(
+    asker: &mut A,
+    bench: &Bench,
+    device: (Line, u32),
+    writer: &mut W,
+) -> Result<(), Output>
+    ensures { AsksInOrder A.next A.text asker.old (device_requests bench.now device)
+        asker.new (W.contents writer.old) (W.contents writer.new) result }
+{
+    match sole_pulse(bench, device.0) {
+        Some(request) => ask_often(asker, &request, device.1, writer),
+        None => ask_pulses(asker, bench, device, writer),
+    }
 }
 
 /// Asks for each worker's requests.

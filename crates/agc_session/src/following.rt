@@ -6,6 +6,8 @@ ghost use Rattle.agc_plan.specs.declared.request.Request.{Request};
 ghost use Rattle.agc_plan.specs.Pulses.{action_request, pulse_requests, requests_for};
 ghost use Rattle.agc_session.specs.Runs.{bench_plan, bench_requests, device_requests};
 
+use crate::progress::Progress;
+use crate::source::Source;
 use agc_document::Bench;
 use agc_plan::{Action, Line, Request, action_request};
 use agc_text::Output;
@@ -18,36 +20,60 @@ pub trait Follows {
     /// The state after a request, which was asked in this state. Source: profile.
     ghost next: { Self → Request → Self };
 
-    /// Asks for one request, and writes of it. Source: profile.
+    /// Asks for one request, as this source asks for it, and writes of it. Source: profile.
     ///
     /// # Errors
     ///
     /// Where a write fails.
-    fn follow<W: Write>(&mut self, request: &Request, writer: &mut W) -> Result<(), Output>
+    fn follow<W: Write>(
+        &mut self,
+        source: Source,
+        request: &Request,
+        writer: &mut W,
+    ) -> Result<(), Output>
         ensures { self.new ≡ next self.old request.now };
 }
 
-/// Asks for all requests in order. Source: profile.
+/// Asks for one request, and tells that it was asked.
+fn follow_one<F: Follows, P: Progress, W: Write>(
+    follower: &mut F,
+    progress: &mut P,
+    source: Source,
+    request: &Request,
+    writer: &mut W,
+) -> Result<(), Output>
+    ensures { OnOk result (follower.new ≡ F.next follower.old request.now) }
+{
+    follower.follow(source, request, writer)?;
+    progress.asked();
+    Ok(())
+}
+
+/// Asks for all requests in order, which come of one source. Source: profile.
 ///
 /// # Errors
 ///
 /// Where a write fails. No further request is then asked.
-pub fn follow_all<F: Follows, W: Write>(
+pub fn follow_all<F: Follows, P: Progress, W: Write>(
     follower: &mut F,
+    progress: &mut P,
+    source: Source,
     requests: &[Request],
     writer: &mut W,
 ) -> Result<(), Output>
     ensures { OnOk result (follower.new ≡ fold F.next follower.old requests.now) }
 {
     for request in requests {
-        follower.follow(request, writer)?;
+        follow_one(follower, progress, source, request, writer)?;
     }
     Ok(())
 }
 
 /// Asks for what an action asks for.
-fn follow_action<F: Follows, W: Write>(
+fn follow_action<F: Follows, P: Progress, W: Write>(
     follower: &mut F,
+    progress: &mut P,
+    source: Source,
     action: Action,
     writer: &mut W,
 ) -> Result<(), Output>
@@ -56,27 +82,30 @@ fn follow_action<F: Follows, W: Write>(
 {
     match action_request(action) {
         None => Ok(()),
-        Some(request) => follower.follow(&request, writer),
+        Some(request) => follow_one(follower, progress, source, &request, writer),
     }
 }
 
 /// Asks for what these actions ask for.
-fn follow_actions<F: Follows, W: Write>(
+fn follow_actions<F: Follows, P: Progress, W: Write>(
     follower: &mut F,
+    progress: &mut P,
+    source: Source,
     actions: &[Action],
     writer: &mut W,
 ) -> Result<(), Output>
     ensures { OnOk result (follower.new ≡ fold F.next follower.old (requests_for actions.now)) }
 {
     for action in actions {
-        follow_action(follower, *action, writer)?;
+        follow_action(follower, progress, source, *action, writer)?;
     }
     Ok(())
 }
 
 /// Asks for what a pulse of the line asks for: a tick for a timer's, else the plan's actions.
-fn follow_pulse<F: Follows, W: Write>(
+fn follow_pulse<F: Follows, P: Progress, W: Write>(
     follower: &mut F,
+    progress: &mut P,
     bench: &Bench,
     line: Line,
     writer: &mut W,
@@ -84,16 +113,20 @@ fn follow_pulse<F: Follows, W: Write>(
     ensures { OnOk result
         (follower.new ≡ fold F.next follower.old (pulse_requests (bench_plan bench.now) line)) }
 {
+    let source = Source::Pulse(line);
     match line {
-        Line::Timer => follower.follow(&Request::Tick, writer),
-        Line::Key => follow_actions(follower, bench.key().as_slice(), writer),
-        Line::Radar => follow_actions(follower, bench.radar().as_slice(), writer),
+        Line::Timer => follow_one(follower, progress, source, &Request::Tick, writer),
+        Line::Key => follow_actions(follower, progress, source, bench.key().as_slice(), writer),
+        Line::Radar => {
+            follow_actions(follower, progress, source, bench.radar().as_slice(), writer)
+        }
     }
 }
 
 /// Asks for a device's requests.
-fn follow_device<F: Follows, W: Write>(
+fn follow_device<F: Follows, P: Progress, W: Write>(
     follower: &mut F,
+    progress: &mut P,
     bench: &Bench,
     device: (Line, u32),
     writer: &mut W,
@@ -102,29 +135,32 @@ fn follow_device<F: Follows, W: Write>(
         (follower.new ≡ fold F.next follower.old (device_requests bench.now device)) }
 {
     for _pulse in 0..device.1 {
-        follow_pulse(follower, bench, device.0, writer)?;
+        follow_pulse(follower, progress, bench, device.0, writer)?;
     }
     Ok(())
 }
 
 /// Asks for each worker's requests.
-fn follow_workers<F: Follows, W: Write>(
+fn follow_workers<F: Follows, P: Progress, W: Write>(
     follower: &mut F,
+    progress: &mut P,
     workers: &[Vec<Request>],
     writer: &mut W,
 ) -> Result<(), Output>
     ensures { OnOk result
         (follower.new ≡ fold F.next follower.old (flat_map (λ w. w.items) workers.now)) }
 {
-    for worker in workers {
-        follow_all(follower, worker.as_slice(), writer)?;
+    for (k, worker) in workers.iter().enumerate() {
+        let source = Source::Worker(k as u64 + 1);
+        follow_all(follower, progress, source, worker.as_slice(), writer)?;
     }
     Ok(())
 }
 
 /// Asks for each device's requests.
-fn follow_devices<F: Follows, W: Write>(
+fn follow_devices<F: Follows, P: Progress, W: Write>(
     follower: &mut F,
+    progress: &mut P,
     bench: &Bench,
     writer: &mut W,
 ) -> Result<(), Output>
@@ -132,7 +168,7 @@ fn follow_devices<F: Follows, W: Write>(
         ≡ fold F.next follower.old (flat_map (device_requests bench.now) bench.now.devices)) }
 {
     for device in bench.devices() {
-        follow_device(follower, bench, *device, writer)?;
+        follow_device(follower, progress, bench, *device, writer)?;
     }
     Ok(())
 }
@@ -143,14 +179,15 @@ fn follow_devices<F: Follows, W: Write>(
 /// # Errors
 ///
 /// Where a write fails. No further request is then asked.
-pub fn follow_bench<F: Follows, W: Write>(
+pub fn follow_bench<F: Follows, P: Progress, W: Write>(
     follower: &mut F,
+    progress: &mut P,
     bench: &Bench,
     writer: &mut W,
 ) -> Result<(), Output>
     ensures { OnOk result (follower.new ≡ fold F.next follower.old (bench_requests bench.now)) }
 {
-    follow_all(follower, bench.script(), writer)?;
-    follow_workers(follower, bench.workers(), writer)?;
-    follow_devices(follower, bench, writer)
+    follow_all(follower, progress, Source::Script, bench.script(), writer)?;
+    follow_workers(follower, progress, bench.workers(), writer)?;
+    follow_devices(follower, progress, bench, writer)
 }

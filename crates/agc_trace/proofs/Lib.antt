@@ -1,9 +1,4 @@
-pub mod Scenes
-pub mod Moments
-pub mod Words
-pub mod Pieces
-pub mod Joined
-pub mod Whole
-pub mod Fronts
-pub mod Still
-pub mod Quieted
+mod Fronts
+mod Runners
+mod Still
+mod Quieted

@@ -1,11 +1,1 @@
-pub mod Scenes
-pub mod Lines
-pub mod Origins
-pub mod Accounts
-pub mod Traces
-pub mod Openings
-pub mod Quiets
-pub mod Choices
-pub mod Briefs
-pub mod Reading
-pub mod Runs
+pub mod Brief

@@ -3,18 +3,19 @@
 ghost use Rattle.std.specs.Prelude.{◌≡◌, Some};
 ghost use Rattle.agc_plan.specs.declared.request.Request.{Request};
 ghost use Rattle.agc_machine.specs.Machines.{after, plain_of, places_of};
-ghost use Rattle.agc_trace.specs.declared.quiet.Quiet.{Quiet};
-ghost use Rattle.agc_trace.specs.Choices.{quiet_at};
-ghost use Rattle.agc_trace.specs.Quiets.{later_by, time_of};
-ghost use Rattle.agc_trace.specs.Traces.{Traced};
+ghost use Rattle.agc_scene.specs.Events.{Watching, event_of, scene_now};
+ghost use Rattle.agc_trace.specs.declared.brief.Quiet.{Quiet};
+ghost use Rattle.agc_trace.specs.Brief.{later_by, quiet_of, time_of};
 
 /// After a request that is quiet, which a trace in brief counts, nothing has changed but the time,
 /// and that by one centisecond where it is a tick: the same jobs live, run and sleep, each in its
-/// core set and with its area, the same tasks are due when they were, and the phases and the codes
-/// stay.
+/// core set, with its priority and its area, the same tasks are due when they were, and the phases
+/// and the codes stay.
 pub fn quiet_request_changes_the_time_alone()
-    ensures state { (t : Traced) (asked : Request) (quiet : Quiet) → quiet_at t asked ≡ Some quiet
-        → plain_of (after t.machine asked) ≡ later_by (time_of quiet) (plain_of t.machine) }
-    ensures core_sets { (t : Traced) (asked : Request) (quiet : Quiet) → quiet_at t asked
-        ≡ Some quiet → places_of (after t.machine asked) ≡ places_of t.machine }
+    ensures state { (w : Watching) (asked : Request) (quiet : Quiet)
+        → quiet_of (scene_now w.machine) (event_of w asked) ≡ Some quiet
+        → plain_of (after w.machine asked) ≡ later_by (time_of quiet) (plain_of w.machine) }
+    ensures core_sets { (w : Watching) (asked : Request) (quiet : Quiet)
+        → quiet_of (scene_now w.machine) (event_of w asked) ≡ Some quiet
+        → places_of (after w.machine asked) ≡ places_of w.machine }
 {}

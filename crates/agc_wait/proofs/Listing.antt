@@ -15,7 +15,8 @@ use Rattle.agc_wait.proofs.Distances.{StandsFor-length, StandsFor-listed}
 use Rattle.agc_wait.proofs.Dues.{due_now-insert}
 use Rattle.agc_wait.proofs.Standing.{shown}
 use Rattle.agc_wait.proofs.Tables.{Carries, waits_of-carried, IsLawfulTable-carried}
-use Rattle.agc_wait.proofs.Putting.{Puts, put-is, put-outside, Carries-put, IsTidy-put}
+use Rattle.agc_wait.proofs.Spots.{spot-within}
+use Rattle.agc_wait.proofs.Putting.{Stands, Puts, put-is, put-outside, Carries-put, IsTidy-put}
 
 below : (k : ℕ) → k < 9 → nat_lt k 9 ≡ true
 below k lt = grind (arith, common_steps)
@@ -69,12 +70,15 @@ lists-put delay task old new lawful few far near low high word put others =
         below (length agenda.tasks) (omega arith)
 
 -- by the writes, one after another
-pub lists-by : (delay d : ℕ) (task : Task) (old put e new : List ℕ) (p n b a : ℕ) → d ≡ delay → (1 ≤ delay) × (delay ≤ 16250) → IsLawfulTable old → n ≡ length (waits_of old) → n ≤ 8 → p ≤ n → IsSpot (waits_of old) d p b a → 1 ≤ task.at → task.at ≤ 16383 → task.bank < 32768 → Puts old put e new task p n d b a → length new ≡ length old → Lists delay task old true new
-lists-by delay d task old put e new p n b a is range lawful n_is room within spot low high word by len =
+pub lists-by : (delay d : ℕ) (task : Task) (old put e new : List ℕ) (p : ℕ) (there : Bool) (b a : ℕ) → d ≡ delay → (1 ≤ delay) × (delay ≤ 16250) → IsLawfulTable old → length (waits_of old) ≤ 8 → Stands old p there → IsSpot (waits_of old) d p b a → 1 ≤ task.at → task.at ≤ 16383 → task.bank < 32768 → Puts old put e new task p there d b a → length new ≡ length old → Lists delay task old true new
+lists-by delay d task old put e new p there b a is range lawful room stands spot low high word by len =
     let place : p ≡ place_for d (waits_of old) = spot.place_is in
     let low_d : 1 ≤ delay = range.0 in
     let high_d : delay ≤ 16250 = range.1 in
-    let words : IsPut p d task old new = put-is old put e new task p n d b a by within room lawful n_is spot in
+    let within : p ≤ length (waits_of old) = spot-within (waits_of old) d p b a spot in
+    let small : p ≤ 8 = omega arith in
+    let fits : there ≡ true → p ≤ 7 = λ is. (let some : p < length (waits_of old) = stands.some is in omega arith) in
+    let words : IsPut p d task old new = put-is old put e new task p there d b a by small fits lawful stands spot in
     subst (λ x. Lists x task old true new) is
-    (lists-put d task old new lawful (omega arith) (omega arith) (omega arith) low high word (subst (λ x. IsPut x d task old new) place words)
-    (record { same_length = len; words = put-outside old put e new task p n d b a by within room }))
+    (lists-put d task old new lawful room (omega arith) (omega arith) low high word (subst (λ x. IsPut x d task old new) place words)
+    (record { same_length = len; words = put-outside old put e new task p there d b a by small fits }))

@@ -1,7 +1,7 @@
 -- The words after a task is put in.
-use Rattle.std.proofs.Common.{◌≡◌, ◌≢◌, ◌⊎◌, ℕ, ◌+◌, ◌-◌, ◌*◌, ◌<◌, ◌≤◌, ◌==◌, nat_lt, Bool, true, false, cond, List, length, slice_index, refl, ap, sym, subst, ◌∙◌, inl, inr, arith}
+use Rattle.std.proofs.Common.{IsTrue, ◌↔◌, ◌≡◌, ◌≢◌, ◌⊎◌, ℕ, ◌+◌, ◌-◌, ◌*◌, ◌<◌, ◌≤◌, ◌==◌, nat_lt, Bool, true, false, cond, List, length, slice_index, refl, ap, sym, subst, ◌∙◌, inl, inr, arith}
 use Rattle.std.specs.List.{insert}
-use Rattle.std.proofs.lemmas.Bool.{cases_eq, cases_lt}
+use Rattle.std.proofs.lemmas.Bool.{cases_Bool, cases_eq, cases_lt}
 use Rattle.std.proofs.lemmas.List.Edits.{length-insert, get_or-insert_below, get_or-insert_at, get_or-insert_above}
 use Rattle.std.proofs.lemmas.Grind.{common_steps}
 use Rattle.agc_word.specs.Layout as layout
@@ -16,16 +16,16 @@ use Rattle.agc_wait.proofs.Gaps.{gap_of-gap_word, gap_word-legal, gap_word-tidy,
 use Rattle.agc_wait.proofs.Places.{at_each_place}
 use Rattle.agc_wait.proofs.Tables.{Carries, Carries-lawful}
 use Rattle.agc_wait.proofs.Writes.{other_word, same_word, moved_down-in, moved_down-below, moved_down-above}
-use Rattle.agc_wait.proofs.Spots.{place_for-passed, place_for-next, place_for-within}
+use Rattle.agc_wait.proofs.Spots.{Carries-occupied, Carries-empty, none_there, place_for-passed, place_for-next, place_for-within}
 
-gap_put-then : (words : List ℕ) (p n word j : ℕ) → p < n → gap_put words p n word j ≡ cond (j == layout.lst1 + p) word (moved_down words (layout.lst1 + p) (layout.lst1 + n - 1) 1 j)
-gap_put-then words p n word j lt = pick (nat_lt p n) _ _ (grind (arith, common_steps))
+gap_put-then : (words : List ℕ) (p : ℕ) (there : Bool) (word j : ℕ) → there ≡ true → gap_put words p there word j ≡ cond (j == layout.lst1 + p) word (moved_down words (layout.lst1 + p) (layout.lst1 + 7) 1 j)
+gap_put-then words p there word j is = pick there _ _ is
   where
     pick : (b : Bool) (x y : ℕ) → b ≡ true → cond b x y ≡ x
     pick b x y e = rw e refl
 
-gap_put-else : (words : List ℕ) (p n word j : ℕ) → n ≤ p → gap_put words p n word j ≡ slice_index words j
-gap_put-else words p n word j le = pass (nat_lt p n) _ _ (grind (arith, common_steps))
+gap_put-else : (words : List ℕ) (p : ℕ) (there : Bool) (word j : ℕ) → there ≡ false → gap_put words p there word j ≡ slice_index words j
+gap_put-else words p there word j is = pass there _ _ is
   where
     pass : (b : Bool) (x y : ℕ) → b ≡ false → cond b x y ≡ y
     pass b x y e = rw e refl
@@ -46,44 +46,58 @@ gap_to_next-none words p d le = pass (nat_lt p (length (waits_of words))) _ _ (g
 abbrev pub lead_word : ℕ → ℕ → ℕ → ℕ
 lead_word p b d = cond (p == 0) (counter_at d) (gap_word (d - b))
 
+-- whether a task stands in place p
+pub record Stands (words : List ℕ) (p : ℕ) (there : Bool) : Type 0 where
+  pub some : there ≡ true → p < length (waits_of words)
+  pub none : there ≡ false → length (waits_of words) ≤ p
+
+-- it does where its address says so
+pub stands-by : (words : List ℕ) (p : ℕ) (there : Bool) → IsLawfulTable words → p ≤ 8 → IsTrue there ↔ (1 ≤ at_in words p) → Stands words p there
+stands-by words p there lawful small by = record {
+  some = λ is.
+      let at : 1 ≤ at_in words p = by.0 is in
+      Carries-occupied words (waits_of words) (Carries-lawful words lawful) p (omega arith) (λ e. omega arith);
+  none = λ is. Carries-empty words (waits_of words) (Carries-lawful words lawful) p (omega arith) (none_there (at_in words p) (λ at. sym is ∙ by.1 at));
+}
+
 -- the writes of a listing, one after another
-pub record Puts (old put e new : List ℕ) (task : Task) (p n d b a : ℕ) : Type 0 where
-  pub by_task : (j : ℕ) → slice_index put j ≡ task_put old p n task.at task.bank j
-  pub by_gap : (j : ℕ) → slice_index e j ≡ gap_put put p n (gap_word (a - d)) j
+pub record Puts (old put e new : List ℕ) (task : Task) (p : ℕ) (there : Bool) (d b a : ℕ) : Type 0 where
+  pub by_task : (j : ℕ) → slice_index put j ≡ task_put old p task.at task.bank j
+  pub by_gap : (j : ℕ) → slice_index e j ≡ gap_put put p there (gap_word (a - d)) j
   pub by_lead : (j : ℕ) → slice_index new j ≡ cond (j == layout.time3 + p) (lead_word p b d) (slice_index e j)
 
-module _ (old put e new : List ℕ) (task : Task) (p n d b a : ℕ) (by : Puts old put e new task p n d b a) (small : p ≤ n) (room : n ≤ 8) where
+module _ (old put e new : List ℕ) (task : Task) (p : ℕ) (there : Bool) (d b a : ℕ) (by : Puts old put e new task p there d b a) (small : p ≤ 8) (fits : there ≡ true → p ≤ 7) where
   abbrev lead : ℕ
   lead = lead_word p b d
 
   task_low : (j : ℕ) → j < layout.lst2 + 2 * p → slice_index put j ≡ slice_index old j
   task_low j lt =
       by.by_task j ∙ other_word j (layout.lst2 + 1 + 2 * p) task.bank _ (λ s. omega arith) ∙ other_word j (layout.lst2 + 2 * p) task.at _ (λ s. omega arith)
-      ∙ moved_down-below old (layout.lst2 + 2 * p) (layout.lst2 + 2 * n) 2 j (omega arith)
+      ∙ moved_down-below old (layout.lst2 + 2 * p) (layout.lst2 + 16) 2 j (omega arith)
 
-  task_after : (j : ℕ) → layout.lst2 + 2 + 2 * p ≤ j → j < layout.lst2 + 2 + 2 * n → slice_index put j ≡ slice_index old (j - 2)
+  task_after : (j : ℕ) → layout.lst2 + 2 + 2 * p ≤ j → j < layout.lst2 + 18 → slice_index put j ≡ slice_index old (j - 2)
   task_after j le lt =
       by.by_task j ∙ other_word j (layout.lst2 + 1 + 2 * p) task.bank _ (λ s. omega arith) ∙ other_word j (layout.lst2 + 2 * p) task.at _ (λ s. omega arith)
-      ∙ moved_down-in old (layout.lst2 + 2 * p) (layout.lst2 + 2 * n) 2 j (omega arith) (omega arith)
+      ∙ moved_down-in old (layout.lst2 + 2 * p) (layout.lst2 + 16) 2 j (omega arith) (omega arith)
 
-  task_past : (j : ℕ) → layout.lst2 + 2 + 2 * n ≤ j → slice_index put j ≡ slice_index old j
+  task_past : (j : ℕ) → layout.lst2 + 18 ≤ j → slice_index put j ≡ slice_index old j
   task_past j le =
       by.by_task j ∙ other_word j (layout.lst2 + 1 + 2 * p) task.bank _ (λ s. omega arith) ∙ other_word j (layout.lst2 + 2 * p) task.at _ (λ s. omega arith)
-      ∙ moved_down-above old (layout.lst2 + 2 * p) (layout.lst2 + 2 * n) 2 j (omega arith)
+      ∙ moved_down-above old (layout.lst2 + 2 * p) (layout.lst2 + 16) 2 j (omega arith)
 
-  gap_outside : (j : ℕ) → (j < layout.lst1 + p) ⊎ (layout.lst1 + n ≤ j) → slice_index e j ≡ slice_index put j
-  gap_outside j out = elim (cases_lt p n) [
-    | inl lt ↦ by.by_gap j ∙ gap_put-then put p n _ j lt ∙ other_word j (layout.lst1 + p) _ _ (apart out lt) ∙ still out lt
-    | inr le ↦ by.by_gap j ∙ gap_put-else put p n _ j le
+  gap_outside : (j : ℕ) → (j < layout.lst1 + p) ⊎ (layout.lst1 + 8 ≤ j) → slice_index e j ≡ slice_index put j
+  gap_outside j out = elim (cases_Bool there) [
+    | inl is ↦ let low : p ≤ 7 = fits is in by.by_gap j ∙ gap_put-then put p there _ j is ∙ other_word j (layout.lst1 + p) _ _ (apart out low) ∙ still out
+    | inr is ↦ by.by_gap j ∙ gap_put-else put p there _ j is
   ]
     where
-      apart : (j < layout.lst1 + p) ⊎ (layout.lst1 + n ≤ j) → p < n → j ≢ layout.lst1 + p
-      apart (inl low) lt s = omega arith
-      apart (inr high) lt s = omega arith
+      apart : (j < layout.lst1 + p) ⊎ (layout.lst1 + 8 ≤ j) → p ≤ 7 → j ≢ layout.lst1 + p
+      apart (inl low) le s = omega arith
+      apart (inr high) le s = omega arith
 
-      still : (j < layout.lst1 + p) ⊎ (layout.lst1 + n ≤ j) → p < n → moved_down put (layout.lst1 + p) (layout.lst1 + n - 1) 1 j ≡ slice_index put j
-      still (inl low) lt = moved_down-below put (layout.lst1 + p) (layout.lst1 + n - 1) 1 j (omega arith)
-      still (inr high) lt = moved_down-above put (layout.lst1 + p) (layout.lst1 + n - 1) 1 j (omega arith)
+      still : (j < layout.lst1 + p) ⊎ (layout.lst1 + 8 ≤ j) → moved_down put (layout.lst1 + p) (layout.lst1 + 7) 1 j ≡ slice_index put j
+      still (inl low) = moved_down-below put (layout.lst1 + p) (layout.lst1 + 7) 1 j (omega arith)
+      still (inr high) = moved_down-above put (layout.lst1 + p) (layout.lst1 + 7) 1 j (omega arith)
 
   pairs : (j : ℕ) → layout.lst2 ≤ j → slice_index new j ≡ slice_index put j
   pairs j le = by.by_lead j ∙ other_word j (layout.time3 + p) lead _ (λ s. omega arith) ∙ gap_outside j (inr (omega arith))
@@ -93,36 +107,33 @@ module _ (old put e new : List ℕ) (task : Task) (p n d b a : ℕ) (by : Puts o
       by.by_lead j ∙ other_word j (layout.time3 + p) lead _ (λ s. omega arith) ∙ gap_outside j (inl (omega arith)) ∙ task_low j (omega arith)
   put-outside j (inr le) = pairs j (omega arith) ∙ task_past j (omega arith)
 
-  gap_at : p < n → lst1 new p ≡ gap_word (a - d)
-  gap_at lt =
-      by.by_lead (layout.lst1 + p) ∙ other_word (layout.lst1 + p) (layout.time3 + p) lead _ (λ s. omega arith) ∙ by.by_gap (layout.lst1 + p) ∙ gap_put-then put p n _ (layout.lst1 + p) lt ∙ same_word (layout.lst1 + p) (layout.lst1 + p) _ _ refl
+  gap_at : there ≡ true → lst1 new p ≡ gap_word (a - d)
+  gap_at is =
+      by.by_lead (layout.lst1 + p) ∙ other_word (layout.lst1 + p) (layout.time3 + p) lead _ (λ s. omega arith) ∙ by.by_gap (layout.lst1 + p) ∙ gap_put-then put p there _ (layout.lst1 + p) is ∙ same_word (layout.lst1 + p) (layout.lst1 + p) _ _ refl
 
-  gap_past : (k : ℕ) → p ≤ k → k + 1 < n → lst1 new (k + 1) ≡ lst1 old k
-  gap_past k le lt =
-      by.by_lead (layout.lst1 + (k + 1)) ∙ other_word (layout.lst1 + (k + 1)) (layout.time3 + p) lead _ (λ s. omega arith) ∙ by.by_gap (layout.lst1 + (k + 1)) ∙ gap_put-then put p n _ (layout.lst1 + (k + 1)) (omega arith)
-      ∙ other_word (layout.lst1 + (k + 1)) (layout.lst1 + p) _ _ (λ s. omega arith) ∙ moved_down-in put (layout.lst1 + p) (layout.lst1 + n - 1) 1 (layout.lst1 + (k + 1)) (omega arith) (omega arith)
+  gap_past : there ≡ true → (k : ℕ) → p ≤ k → k < 7 → lst1 new (k + 1) ≡ lst1 old k
+  gap_past is k le lt =
+      by.by_lead (layout.lst1 + (k + 1)) ∙ other_word (layout.lst1 + (k + 1)) (layout.time3 + p) lead _ (λ s. omega arith) ∙ by.by_gap (layout.lst1 + (k + 1)) ∙ gap_put-then put p there _ (layout.lst1 + (k + 1)) is
+      ∙ other_word (layout.lst1 + (k + 1)) (layout.lst1 + p) _ _ (λ s. omega arith) ∙ moved_down-in put (layout.lst1 + p) (layout.lst1 + 7) 1 (layout.lst1 + (k + 1)) (omega arith) (omega arith)
       ∙ ap (slice_index put) (let s : layout.lst1 + (k + 1) - 1 ≡ layout.lst1 + k = omega arith in s) ∙ task_low (layout.lst1 + k) (omega arith)
 
-  gap_same : (k : ℕ) → n ≤ k → k < 8 → lst1 new k ≡ lst1 old k
-  gap_same k le lt =
-      by.by_lead (layout.lst1 + k) ∙ other_word (layout.lst1 + k) (layout.time3 + p) lead _ (λ s. omega arith) ∙ gap_outside (layout.lst1 + k) (inr (omega arith)) ∙ task_low (layout.lst1 + k) (omega arith)
+  gap_same : there ≡ false → (k : ℕ) → p ≤ k → k < 8 → lst1 new k ≡ lst1 old k
+  gap_same is k le lt =
+      by.by_lead (layout.lst1 + k) ∙ other_word (layout.lst1 + k) (layout.time3 + p) lead _ (λ s. omega arith) ∙ by.by_gap (layout.lst1 + k) ∙ gap_put-else put p there _ (layout.lst1 + k) is
+      ∙ task_low (layout.lst1 + k) (omega arith)
 
   gap_low : (j : ℕ) → j < layout.time3 + p → slice_index new j ≡ slice_index old j
   gap_low j lt =
       by.by_lead j ∙ other_word j (layout.time3 + p) lead _ (λ s. omega arith) ∙ gap_outside j (inl (omega arith)) ∙ task_low j (omega arith)
 
-  -- a word of a pair that is moved: those from place n on are 00000 before and after
-  moved : (first k : ℕ) → layout.lst2 ≤ first → first ≤ layout.lst2 + 1 → p ≤ k → k < 8 → ((i : ℕ) → n ≤ i → i < 9 → slice_index old (first + 2 * i) ≡ 0) → slice_index new (first + 2 * (k + 1)) ≡ slice_index old (first + 2 * k)
-  moved first k from to le lt none = elim (cases_lt k n) [
-    | inl less ↦
-        pairs (first + 2 * (k + 1)) (omega arith) ∙ task_after (first + 2 * (k + 1)) (omega arith) (omega arith)
-        ∙ ap (slice_index old) (let s : first + 2 * (k + 1) - 2 ≡ first + 2 * k = omega arith in s)
-    | inr more ↦
-        pairs (first + 2 * (k + 1)) (omega arith) ∙ task_past (first + 2 * (k + 1)) (omega arith) ∙ none (k + 1) (omega arith) (omega arith) ∙ sym (none k more (omega arith))
-  ]
+  -- a word of a pair that is moved
+  moved : (first k : ℕ) → layout.lst2 ≤ first → first ≤ layout.lst2 + 1 → p ≤ k → k < 8 → slice_index new (first + 2 * (k + 1)) ≡ slice_index old (first + 2 * k)
+  moved first k from to le lt =
+      pairs (first + 2 * (k + 1)) (omega arith) ∙ task_after (first + 2 * (k + 1)) (omega arith) (omega arith)
+      ∙ ap (slice_index old) (let s : first + 2 * (k + 1) - 2 ≡ first + 2 * k = omega arith in s)
 
-  pub put-is : IsLawfulTable old → n ≡ length (waits_of old) → IsSpot (waits_of old) d p b a → IsPut p d task old new
-  put-is lawful n_is spot = record {
+  pub put-is : IsLawfulTable old → Stands old p there → IsSpot (waits_of old) d p b a → IsPut p d task old new
+  put-is lawful stands spot = record {
     counter = elim (cases_eq p 0) [
       | inl is ↦
           by.by_lead layout.time3 ∙ same_word layout.time3 (layout.time3 + p) lead _ (omega arith) ∙ same_word p 0 _ _ is ∙ sym (same_word p 0 _ _ is)
@@ -132,22 +143,24 @@ module _ (old put e new : List ℕ) (task : Task) (p n d b a : ℕ) (by : Puts o
     gap_before = λ k e.
         by.by_lead (layout.lst1 + k) ∙ same_word (layout.lst1 + k) (layout.time3 + p) lead _ (omega arith) ∙ other_word p 0 (counter_at d) (gap_word (d - b)) (λ z. omega arith)
         ∙ ap (λ x. gap_word (d - x)) (spot.before_is k (omega arith));
-    gap_after = λ lt. elim (cases_lt p n) [
-      | inl less ↦ gap_at less ∙ ap (λ x. gap_word (x - d)) (spot.after_is (omega arith)) ∙ sym (gap_to_next-is old p d (omega arith))
-      | inr end ↦ gap_same p end lt ∙ lawful.no_gap p (omega arith) lt ∙ sym (gap_to_next-none old p d (omega arith))
+    gap_after = λ lt. elim (cases_Bool there) [
+      | inl is ↦ let some : p < length (waits_of old) = stands.some is in gap_at is ∙ ap (λ x. gap_word (x - d)) (spot.after_is some) ∙ sym (gap_to_next-is old p d some)
+      | inr is ↦ let none : length (waits_of old) ≤ p = stands.none is in gap_same is p (omega arith) lt ∙ lawful.no_gap p (omega arith) lt ∙ sym (gap_to_next-none old p d none)
     ];
-    gap_moved = λ k le lt. elim (cases_lt (k + 1) n) [
-      | inl less ↦ gap_past k le less
-      | inr end ↦ gap_same (k + 1) end (omega arith) ∙ lawful.no_gap (k + 1) (omega arith) (omega arith) ∙ sym (lawful.no_gap k (omega arith) (omega arith))
+    gap_moved = λ k le lt. elim (cases_Bool there) [
+      | inl is ↦ gap_past is k le lt
+      | inr is ↦
+          let none : length (waits_of old) ≤ p = stands.none is in
+          gap_same is (k + 1) (omega arith) (omega arith) ∙ lawful.no_gap (k + 1) (omega arith) (omega arith) ∙ sym (lawful.no_gap k (omega arith) (omega arith))
     ];
     at_kept = λ k lt. pairs (layout.lst2 + 2 * k) (omega arith) ∙ task_low (layout.lst2 + 2 * k) (omega arith);
     at =
         pairs (layout.lst2 + 2 * p) (omega arith) ∙ by.by_task (layout.lst2 + 2 * p) ∙ other_word (layout.lst2 + 2 * p) (layout.lst2 + 1 + 2 * p) task.bank _ (λ s. omega arith)
         ∙ same_word (layout.lst2 + 2 * p) (layout.lst2 + 2 * p) task.at _ refl;
-    at_moved = λ k le lt. moved layout.lst2 k (omega arith) (omega arith) le lt (λ i from to. (lawful.no_task i (omega arith) to).0);
+    at_moved = λ k le lt. moved layout.lst2 k (omega arith) (omega arith) le lt;
     bank_kept = λ k lt. pairs (layout.lst2 + 1 + 2 * k) (omega arith) ∙ task_low (layout.lst2 + 1 + 2 * k) (omega arith);
     bank = pairs (layout.lst2 + 1 + 2 * p) (omega arith) ∙ by.by_task (layout.lst2 + 1 + 2 * p) ∙ same_word (layout.lst2 + 1 + 2 * p) (layout.lst2 + 1 + 2 * p) task.bank _ refl;
-    bank_moved = λ k le lt. moved (layout.lst2 + 1) k (omega arith) (omega arith) le lt (λ i from to. (lawful.no_task i (omega arith) to).1);
+    bank_moved = λ k le lt. moved (layout.lst2 + 1) k (omega arith) (omega arith) le lt;
   }
 
 -- where k stands to p

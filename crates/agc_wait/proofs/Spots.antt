@@ -1,11 +1,11 @@
 -- The walk to the place of a new task.
-use Rattle.std.proofs.Common.{IsTrue, true, false, ◌≡◌, ◌≢◌, ℕ, zero, suc, ◌+◌, ◌<◌, ◌≤◌, List, [], ◌∷◌, drop, length, refl, ap, sym, ◌∙◌, inl, inr, arith}
+use Rattle.std.proofs.Common.{IsTrue, true, false, ◌≡◌, ◌≢◌, ◌⊎◌, ℕ, zero, suc, ◌+◌, ◌<◌, ◌≤◌, List, [], ◌∷◌, drop, length, refl, ap, sym, ◌∙◌, inl, inr, arith}
 use Rattle.std.proofs.lemmas.Bool.{cases_lt}
 use Rattle.std.proofs.lemmas.List.{get_or_past, drop_all, drop_more}
 use Rattle.std.proofs.lemmas.Grind.{common_steps}
 use Rattle.agc_plan.specs.Tasks.{Waiting}
 use Rattle.agc_wait.specs.Waits.{place_for}
-use Rattle.agc_wait.specs.Table.{IsLawfulTable, waits_of, at_in, lst1, time3, distance_of, gap_of}
+use Rattle.agc_wait.specs.Table.{IsLawfulTable, waits_of, at_in, lst1, time3, distance_of, gap_of, blank_gap}
 use Rattle.agc_wait.specs.Writing.{place_in, no_task}
 use Rattle.agc_wait.specs.Moving.{IsSpot, IsWalked}
 use Rattle.agc_wait.proofs.Tables.{Carries, Carries-lawful}
@@ -124,12 +124,21 @@ walked-start words waits d carries = record {
   here_is = λ some. carries.first;
 }
 
--- the spot is among so many places, of which the last is empty
-pub spot-fits : (words : List ℕ) (bits d p b a n : ℕ) → IsLawfulTable words → bits ≡ at_in words 8 → bits ≡ 0 → IsSpot (waits_of words) d p b a → n ≡ length (waits_of words) → (p ≤ n) × (n ≤ 8)
-spot-fits words bits d p b a n lawful is empty spot n_is =
-    let few : length (waits_of words) ≤ 8 = Carries-empty words (waits_of words) (Carries-lawful words lawful) 8 (omega arith) (sym is ∙ empty) in
-    let within : p ≤ length (waits_of words) = spot-within (waits_of words) d p b a spot in
-    (omega arith, omega arith)
+-- where the last place is empty
+pub few_wait : (words : List ℕ) (bits : ℕ) → IsLawfulTable words → bits ≡ at_in words 8 → bits ≡ 0 → length (waits_of words) ≤ 8
+few_wait words bits lawful is empty = Carries-empty words (waits_of words) (Carries-lawful words lawful) 8 (omega arith) (sym is ∙ empty)
+
+-- the spot is one of nine places
+pub spot-small : (words : List ℕ) (d p b a : ℕ) → length (waits_of words) ≤ 8 → IsSpot (waits_of words) d p b a → p ≤ 8
+spot-small words d p b a few spot =
+    let within : p ≤ length (waits_of words) = spot-within (waits_of words) d p b a spot in omega arith
+
+-- the word behind a task is one that a gap may have
+pub walked-gap : (words : List ℕ) (waits : List Waiting) → Carries words waits → length waits ≤ 8 → (k : ℕ) → k < length waits → (lst1 words k ≤ 1) ⊎ (16384 ≤ lst1 words k)
+walked-gap words waits carries few k lt = elim (cases_lt (k + 1) (length waits)) [
+  | inl more ↦ carries.gaps k more
+  | inr last ↦ inr (let blank : lst1 words k ≡ blank_gap = carries.rest k last (omega arith) in omega arith)
+]
 
 -- an address that isn't one or more is none
 pub none_there : (at : ℕ) → (1 ≤ at → IsTrue false) → at ≡ 0

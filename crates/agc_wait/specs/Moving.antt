@@ -1,6 +1,6 @@
 -- Helpers of proofs: words that move by some places, and the walk to the place of a new task.
 use Rattle.std.specs.Prelude.{◌≡◌, ℕ, ◌+◌, ◌-◌, ◌*◌, ◌<◌, ◌≤◌, ◌==◌, nat_lt, nat_le, ◌&&◌}
-use Rattle.std.specs.Prelude.{if◌then◌else◌, List, length, drop, slice_index}
+use Rattle.std.specs.Prelude.{Bool, if◌then◌else◌, List, length, drop, slice_index}
 use Rattle.agc_word.specs.Layout as layout
 use Rattle.agc_plan.specs.Tasks.{Waiting}
 use Rattle.agc_wait.specs.Waits.{place_for}
@@ -21,20 +21,20 @@ moved_down words from to by j =
 abbrev pub filled : List ℕ → ℕ → ℕ → ℕ → ℕ → ℕ
 filled words from to word j = if nat_le from j && nat_lt j to then word else slice_index words j
 
--- word j, once a task was put into a place of LST2, and so many stood there before
-abbrev pub task_put : List ℕ → ℕ → ℕ → ℕ → ℕ → ℕ → ℕ
-task_put words place count at bank j =
+-- word j, once a task was put into a place of LST2, and what stood there and behind went down
+abbrev pub task_put : List ℕ → ℕ → ℕ → ℕ → ℕ → ℕ
+task_put words place at bank j =
     if j == layout.lst2 + 1 + 2 * place then bank
     else if j == layout.lst2 + 2 * place then at
-    else moved_down words (layout.lst2 + 2 * place) (layout.lst2 + 2 * count) 2 j
+    else moved_down words (layout.lst2 + 2 * place) (layout.lst2 + 16) 2 j
 
--- word j, once the word of a gap was put into a place of LST1, if a task of so many stands there
-abbrev pub gap_put : List ℕ → ℕ → ℕ → ℕ → ℕ → ℕ
-gap_put words place count word j =
-    if nat_lt place count
+-- word j, once the word of a gap was put into a place of LST1, if a task is behind it
+abbrev pub gap_put : List ℕ → ℕ → Bool → ℕ → ℕ → ℕ
+gap_put words place is_before word j =
+    if is_before
     then (
     if j == layout.lst1 + place then word
-    else moved_down words (layout.lst1 + place) (layout.lst1 + count - 1) 1 j)
+    else moved_down words (layout.lst1 + place) (layout.lst1 + 7) 1 j)
     else slice_index words j
 
 -- the place for a task of this distance, how far the task before it is, and the task that stands

@@ -1,5 +1,5 @@
 // How distances and gaps are written as words, and read from them.
-ghost use Rattle.std.specs.Prelude.{◌≡◌, ◌<◌, ◌≤◌};
+ghost use Rattle.std.specs.Prelude.{◌≡◌, ◌⊎◌, ◌<◌, ◌≤◌};
 ghost use Rattle.agc_wait.specs.Table.{distance_of, gap_of};
 ghost use Rattle.agc_wait.specs.Writing.{counter_at, gap_word};
 
@@ -39,6 +39,17 @@ pub(crate) fn gap_of(word: Word) -> u16
     } else {
         0o100000 - bits
     }
+}
+
+/// The gap that a word of LST1 says, where it is one that a gap may have: so it is read as it is
+/// written, in fewer steps.
+pub(crate) fn written_gap(word: Word) -> u16
+    requires { (word ≤ 1) ⊎ (0o40000 ≤ word) }
+    ensures value { result ≡ gap_of word }
+    ensures small { result ≤ 0o40000 }
+{
+    let bits = word.bits();
+    if bits < 2 { 1 - bits } else { 0o100000 - bits }
 }
 
 /// TIME3 where the first task is this far from now.

@@ -93,7 +93,7 @@ fn is_blank_behind(e: &Erasable, count: usize) -> bool
 pub fn is_lawful(e: &Erasable) -> bool
     ensures { IsTrue result ↔ IsLawfulTable e.now }
 {
-    let count = count_tasks(e, 0);
+    let count = count_tasks(e);
     if !are_words(e) {
         return false;
     }

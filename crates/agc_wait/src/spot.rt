@@ -3,7 +3,7 @@ ghost use Rattle.std.specs.Prelude.{◌≡◌, ◌↔◌, IsTrue, ◌<◌, ◌�
 ghost use Rattle.agc_wait.specs.Table.{at_in, waits_of, IsLawfulTable};
 ghost use Rattle.agc_wait.specs.Moving.{IsSpot};
 
-use crate::coding::{TASKS, distance_of, gap_of};
+use crate::coding::{TASKS, distance_of, written_gap};
 use agc_word::Erasable;
 use agc_word::layout::{LST1, LST2, TIME3};
 
@@ -48,18 +48,17 @@ pub(crate) fn spot_for(e: &Erasable, distance: u16) -> Spot
             };
         }
         before = here;
-        here += gap_of(e.get(LST1 + place));
+        here += written_gap(e.get(LST1 + place));
     }
     unreachable!()
 }
 
-/// How many tasks wait, of which at least so many are known to.
-pub(crate) fn count_tasks(e: &Erasable, known: usize) -> usize
-    requires { known ≤ length (waits_of e.now) }
+/// How many tasks wait.
+pub(crate) fn count_tasks(e: &Erasable) -> usize
     ensures count { result ≡ length (waits_of e.now) }
     ensures nine { result ≤ 9 }
 {
-    for k in known..TASKS {
+    for k in 0..TASKS {
         if !is_occupied(e, k) {
             return k;
         }

@@ -10,7 +10,7 @@ ghost use Rattle.agc_wait.specs.Calls.{Clears, Counts, Dispatches, Lists, TellsD
 
 use crate::coding::{NO_GAP, TASKS, counter_at, gap_of, gap_word};
 use crate::moving::{fill, move_down, move_up};
-use crate::spot::{count_tasks, spot_for};
+use crate::spot::{is_occupied, spot_for};
 use agc_plan::{Address, Delay, Task};
 use agc_word::layout::{LST1, LST2, PHASE_WORDS, TIME3};
 use agc_word::{Erasable, Word};
@@ -107,32 +107,31 @@ pub fn dispatch(e: &mut Erasable) -> Task
     task
 }
 
-/// Puts a task into a place, and the tasks from there on, up to so many, down by one.
-fn put_task(e: &mut Erasable, place: usize, count: usize, task: Task)
-    requires within { place ≤ count }
-    requires room { count ≤ 8 }
+/// Puts a task into a place, and what stands there and behind down by one: with no more than eight
+/// tasks the last place is empty.
+fn put_task(e: &mut Erasable, place: usize, task: Task)
+    requires { place ≤ 8 }
     ensures low { 1 ≤ task.at }
     ensures high { task.at ≤ 16383 }
     ensures word { task.bank < 32768 }
     ensures all { length e.new ≡ length e.old }
-    ensures put { (j : ℕ) → slice_index e.new j ≡ task_put e.old place count task.at task.bank j }
+    ensures put { (j : ℕ) → slice_index e.new j ≡ task_put e.old place task.at task.bank j }
 {
-    move_down(e, LST2 + 2 * place, LST2 + 2 * count, 2);
+    move_down(e, LST2 + 2 * place, PHASE_WORDS - 2, 2);
     e.set(LST2 + 2 * place, Word::of_bits(task.at.get()));
     e.set(LST2 + 2 * place + 1, Word::of_bits(task.bank.bits()));
 }
 
-/// Puts the gap behind a place, if a task is there, and the gaps from there on, between so many
-/// tasks, down by one.
-fn put_gap(e: &mut Erasable, place: usize, count: usize, distance: u16, after: u16)
-    requires room { count ≤ 8 }
-    requires rises { place < count → (distance ≤ after) × (after ≤ 16250) }
+/// Puts the gap behind a place, if a task stood there, and the gaps from there on down by one.
+fn put_gap(e: &mut Erasable, place: usize, is_before: bool, distance: u16, after: u16)
+    requires room { is_before ≡ true → place ≤ 7 }
+    requires rises { is_before ≡ true → (distance ≤ after) × (after ≤ 16250) }
     ensures all { length e.new ≡ length e.old }
     ensures put { (j : ℕ) → slice_index e.new j
-        ≡ gap_put e.old place count (gap_word (after - distance)) j }
+        ≡ gap_put e.old place is_before (gap_word (after - distance)) j }
 {
-    if place < count {
-        move_down(e, LST1 + place, LST1 + count - 1, 1);
+    if is_before {
+        move_down(e, LST1 + place, LST2 - 1, 1);
         e.set(LST1 + place, gap_word(after - distance));
     }
 }
@@ -157,6 +156,8 @@ fn word_before(place: usize, before: u16, distance: u16) -> Word
 /// # Errors
 ///
 /// `Full` exactly where nine tasks wait; nothing then changes.
+// In line in a tick, which lists for each task that fires.
+#[inline(always)]
 pub fn list(e: &mut Erasable, delay: Delay, task: Task) -> Result<(), Full>
     requires { IsLawfulTable e.old }
     ensures { Lists delay task e.old (is_ok result) e.new }
@@ -166,9 +167,9 @@ pub fn list(e: &mut Erasable, delay: Delay, task: Task) -> Result<(), Full>
     }
     let distance = delay.get();
     let spot = spot_for(e, distance);
-    let count = count_tasks(e, spot.place);
-    put_task(e, spot.place, count, task);
-    put_gap(e, spot.place, count, distance, spot.after);
+    let is_before = is_occupied(e, spot.place);
+    put_task(e, spot.place, task);
+    put_gap(e, spot.place, is_before, distance, spot.after);
     // TIME3 stands just before LST1.
     e.set(
         TIME3 + spot.place,

@@ -7,10 +7,10 @@ use Rattle.std.proofs.lemmas.Grind.{common_steps}
 use Rattle.agc_plan.specs.declared.request.Request.{Request}
 use Rattle.agc_machine.specs.Machines.{after, refusal_of}
 use Rattle.agc_text.proofs.Cuts.{eqb-false}
-use Rattle.agc_trace.specs.Traces.{one_more, is_log_full, is_spent}
+use Rattle.agc_scene.specs.Events.{one_more}
 use Rattle.agc_document.specs.Benches.{Benched}
 use Rattle.agc_session.specs.Runs.{bench_machine, bench_requests}
-use Rattle.agc_warn.specs.Refusals.{first_refused, log_full_at, spent_at, is_cut}
+use Rattle.agc_warn.specs.Refusals.{first_refused, is_log_full, is_spent, log_full_at, spent_at, is_cut}
 use Rattle.agc_warn.specs.Runners.{Running, first_of, ran_on, cut, ran, run_from}
 
 none_after : (first : Option ℕ) → first ≡ option_or first None

@@ -1,12 +1,26 @@
 -- The first requests of a run that are refused.
-use Rattle.std.specs.Prelude.{ℕ, Bool, if◌then◌else◌, List, [], ◌∷◌, length, nat_lt, take}
+use Rattle.std.specs.Prelude.{◌≡◌, ℕ, Bool, true, false, if◌then◌else◌, List, [], ◌∷◌, length}
+use Rattle.std.specs.Prelude.{nat_lt, take}
 use Rattle.std.specs.Prelude.{Option, Some, None}
 use Rattle.agc_plan.specs.declared.request.Request.{Request}
 use Rattle.agc_machine.specs.Machines.{Machined, after, refusal_of}
 use Rattle.agc_machine.specs.declared.answer.Refusal.{Refusal}
 use Rattle.agc_document.specs.Benches.{Benched}
 use Rattle.agc_session.specs.Runs.{bench_machine, bench_requests}
-use Rattle.agc_trace.specs.Traces.{one_more, is_log_full, is_spent}
+use Rattle.agc_machine.specs.declared.answer.Refusal.TheVariants.{LogFull, Spent}
+use Rattle.agc_warn.specs.declared.running.Ran.{Ran}
+use Rattle.agc_scene.specs.Events.{one_more}
+
+-- whether a request was refused because the log is full, or because all of the allowance was served
+abbrev pub is_log_full : Option Refusal → Bool
+is_log_full None = false
+is_log_full (Some Spent) = false
+is_log_full (Some LogFull) = true
+
+abbrev pub is_spent : Option Refusal → Bool
+is_spent None = false
+is_spent (Some Spent) = true
+is_spent (Some LogFull) = false
 
 -- the number of the first of these requests that the machine refuses so, where so many were asked
 -- before
@@ -31,3 +45,9 @@ spent_at bench = first_refused is_spent (bench_machine bench) 0 (run_of bench)
 -- whether the bench has more requests
 unfoldable pub is_cut : Benched → Bool
 is_cut bench = nat_lt 200000 (length (bench_requests bench))
+
+-- this is what the run of a bench comes to
+pub record IsRunOf (bench : Benched) (ran : Ran) : Type 0 where
+  pub log_full : ran.log_full ≡ log_full_at bench
+  pub spent : ran.spent ≡ spent_at bench
+  pub is_cut : ran.is_cut ≡ is_cut bench

@@ -3,7 +3,8 @@ use Rattle.std.specs.Prelude.{ℕ, ◌-◌, ◌==◌, Bool, true, false, if◌th
 use Rattle.std.specs.Prelude.{None}
 use Rattle.agc_plan.specs.declared.request.Request.{Request}
 use Rattle.agc_machine.specs.Machines.{Machined, after, refusal_of}
-use Rattle.agc_trace.specs.Traces.{one_more, is_log_full, is_spent}
+use Rattle.agc_scene.specs.Events.{one_more}
+use Rattle.agc_warn.specs.Refusals.{is_log_full, is_spent}
 
 -- a machine, how many requests were asked, how many may still be, the number of the first that was
 -- refused so, and whether there were more

@@ -12,7 +12,7 @@ use Rattle.agc_document.specs.Benches.{Benched}
 use Rattle.agc_document.specs.declared.key.Key.TheVariants as key
 use Rattle.agc_document.specs.declared.place.Place.{Place}
 use Rattle.agc_document.specs.declared.place.Place.TheVariants as place
-use Rattle.agc_document.specs.Findings.{StandsIn}
+use Rattle.agc_findings.specs.Findings.{StandsIn}
 use Rattle.agc_warn.specs.declared.warning.Warning.{Warning}
 use Rattle.agc_warn.specs.declared.warning.Warning.TheVariants as warning
 use Rattle.agc_warn.specs.declared.warning.Warned.{Warned}

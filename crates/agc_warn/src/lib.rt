@@ -15,7 +15,7 @@ mod walk;
 mod warning;
 
 pub use locating::bench_warnings;
-pub use running::{FirstRefused, first_refused};
-pub use summary::{add_bench_summary, add_script_summary};
+pub use running::{Ran, run_bench, run_requests};
+pub use summary::{add_script_summary, add_summary};
 pub use telling::warnings_told;
 pub use warning::{Located, Warned, Warning};

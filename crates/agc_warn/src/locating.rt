@@ -1,12 +1,15 @@
 //! The lines of a document in which the reasons of warnings stand.
 ghost use Rattle.std.specs.Prelude.{◌≡◌, IfOk, map};
 ghost use Rattle.std.specs.List.{AllByRecursion};
-ghost use Rattle.agc_document.specs.Findings.{StandsIn};
+ghost use Rattle.agc_findings.specs.Findings.{StandsIn};
+ghost use Rattle.agc_warn.specs.Refusals.{IsRunOf};
 ghost use Rattle.agc_warn.specs.Warnings.{AreWarned};
 
+use crate::running::Ran;
 use crate::walk::warned_of;
 use crate::warning::{Located, Warned};
-use agc_document::{Bench, Place, line_at, places_in};
+use agc_document::{Bench, Place};
+use agc_findings::{line_at, places_in};
 use std::alloc::{AllocError, Global};
 
 /// Where these warnings begin in a document.
@@ -34,8 +37,8 @@ fn located(alloc: Global, document: &str, warned: &[Warned]) -> Result<Vec<Locat
     Ok(all)
 }
 
-/// What is warned of in the bench of a document, at most twenty times, in the order of the bench's
-/// keys, each with the number of a line of the document. Source: profile.
+/// What is warned of in the bench of a document, which comes to this run, at most twenty times, in
+/// the order of the bench's keys, each with the number of a line of the document. Source: profile.
 ///
 /// # Errors
 ///
@@ -44,9 +47,11 @@ pub fn bench_warnings(
     alloc: Global,
     document: &str,
     bench: &Bench,
+    ran: &Ran,
 ) -> Result<Vec<Located>, AllocError>
+    requires { IsRunOf bench.now ran.now }
     ensures { IfOk result (λ v. AreWarned document.now bench.now v.items) }
 {
-    let warned = warned_of(alloc, bench)?;
+    let warned = warned_of(alloc, bench, ran)?;
     located(alloc, document, warned.as_slice())
 }

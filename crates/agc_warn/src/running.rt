@@ -1,42 +1,51 @@
-//! The first requests of a bench's run that are refused.
+//! What a run comes to: how many requests were asked, how many tasks fired, how many alarms came,
+//! and the first requests that were refused.
 ghost use Rattle.std.specs.Prelude.{◌≡◌, ◌<◌, IfOk};
 ghost use Rattle.std.specs.List.{fold};
+ghost use Rattle.agc_scene.specs.Events.{one_more};
 ghost use Rattle.agc_session.specs.Runs.{bench_requests};
-ghost use Rattle.agc_trace.specs.Traces.{is_log_full, is_spent};
-ghost use Rattle.agc_warn.specs.Refusals.{log_full_at, spent_at, is_cut};
+ghost use Rattle.agc_warn.specs.Refusals.{IsRunOf, is_log_full, is_spent};
 ghost use Rattle.agc_warn.specs.Runners.{first_of, ran, ran_on, run_from};
 
 use agc_document::Bench;
 use agc_machine::{Machine, Refusal};
-use agc_plan::Request;
-use agc_session::{Asks, ask_bench, machine_of};
+use agc_plan::{Fired, Request};
+use agc_session::{Asks, ask_all, ask_bench, machine_of, script_machine};
 use agc_text::Output;
-use agc_trace::one_more;
 use std::alloc::{AllocError, Global};
 use std::io;
 use std::io::Write;
 use std::marker::Model;
 
-/// Which requests of a run were the first that were refused, for each reason: their numbers, from 1
-/// in the order of `serial`, and None where none was. Only the first 200,000 are run; whether there
-/// were more. Source: profile.
+/// What the first 200,000 requests of a run come to. Source: profile.
 #[derive(Clone, Copy, PartialEq, Eq, Debug)]
-pub struct FirstRefused {
+pub struct Ran {
+    /// How many were asked.
+    pub requests: u64,
+    /// How many tasks fired.
+    pub fired: u64,
+    /// How many alarms came.
+    pub alarms: u64,
+    /// The number, from 1 in the order of `serial`, of the first that was refused as the log was
+    /// full.
     pub log_full: Option<u64>,
+    /// And of the first that was refused as all of the allowance was served.
     pub spent: Option<u64>,
+    /// Whether there were more.
     pub is_cut: bool,
 }
 
 /// How many requests are run: more than a document has room to write out.
-pub(crate) const MOST_RUN: u32 = 200_000;
+const MOST_RUN: u32 = 200_000;
 
-/// A run: its machine, how many requests were asked, how many may still be, the first that were
-/// refused, and whether there were more.
+/// A run: its machine, how many requests were asked, how many may still be, how many tasks fired,
+/// the first that were refused, and whether there were more. Contracts see all but the tasks.
 #[derive(Drop)]
 struct Runner {
     machine: Machine,
     asked: u64,
     left: u32,
+    fired: u64,
     log_full: Option<u64>,
     spent: Option<u64>,
     is_cut: bool,
@@ -55,6 +64,17 @@ impl Model for Runner {
       spent = r.spent;
       is_cut = r.is_cut;
     } };
+}
+
+/// One more, up to the greatest number of 64 bits.
+fn one_more(number: u64) -> u64
+    ensures { result ≡ one_more number }
+{
+    if number == 18_446_744_073_709_551_615 {
+        number
+    } else {
+        number + 1
+    }
 }
 
 /// Whether a request was refused because the log is full.
@@ -100,7 +120,9 @@ fn run_on(runner: &mut Runner, request: &Request)
     runner.asked = number;
     runner.log_full = first_of(runner.log_full, is_log_full(refusal), number);
     runner.spent = first_of(runner.spent, is_spent(refusal), number);
-    let _ = runner.machine.apply(*request);
+    let mut fired = Fired::new();
+    let _ = runner.machine.ask(request, &mut fired);
+    runner.fired = runner.fired.saturating_add(fired.len() as u64);
 }
 
 /// Asks for one request, unless enough were asked.
@@ -147,22 +169,38 @@ fn runner_of(machine: Machine) -> Runner
         machine,
         asked: 0,
         left: MOST_RUN,
+        fired: 0,
         log_full: None,
         spent: None,
         is_cut: false,
     }
 }
 
-/// Runs the first 200,000 requests of a bench by one caller, as `serial` does, and answers which of
-/// them are the first that are refused. Source: profile.
+/// What a run came to.
+fn ran_of(runner: &Runner) -> Ran
+    ensures log_full { result.log_full ≡ runner.now.log_full }
+    ensures spent { result.spent ≡ runner.now.spent }
+    ensures cut { result.is_cut ≡ runner.now.is_cut }
+{
+    let totals = runner.machine.totals();
+    let alarms = totals.a1201.saturating_add(totals.a1202);
+    Ran {
+        requests: runner.asked,
+        fired: runner.fired,
+        alarms: alarms.saturating_add(totals.a1203),
+        log_full: runner.log_full,
+        spent: runner.spent,
+        is_cut: runner.is_cut,
+    }
+}
+
+/// Runs the first 200,000 requests of a bench by one caller, as `serial` does. Source: profile.
 ///
 /// # Errors
 ///
 /// Where there is no memory.
-pub fn first_refused(alloc: Global, bench: &Bench) -> Result<FirstRefused, AllocError>
-    ensures log_full { IfOk result (λ r. r.log_full ≡ log_full_at bench.now) }
-    ensures spent { IfOk result (λ r. r.spent ≡ spent_at bench.now) }
-    ensures cut { IfOk result (λ r. r.is_cut ≡ is_cut bench.now) }
+pub fn run_bench(alloc: Global, bench: &Bench) -> Result<Ran, AllocError>
+    ensures { IfOk result (λ r. IsRunOf bench.now r) }
 {
     let machine = match machine_of(alloc, bench) {
         Ok(machine) => machine,
@@ -170,9 +208,20 @@ pub fn first_refused(alloc: Global, bench: &Bench) -> Result<FirstRefused, Alloc
     };
     let mut runner = runner_of(machine);
     run_all(&mut runner, bench);
-    Ok(FirstRefused {
-        log_full: runner.log_full,
-        spent: runner.spent,
-        is_cut: runner.is_cut,
-    })
+    Ok(ran_of(&runner))
+}
+
+/// Runs the first 200,000 requests of a script, as `run_script` does. Source: profile.
+///
+/// # Errors
+///
+/// Where there is no memory.
+pub fn run_requests(alloc: Global, requests: &[Request]) -> Result<Ran, AllocError> {
+    let machine = match script_machine(alloc) {
+        Ok(machine) => machine,
+        Err(_fault) => return Err(AllocError),
+    };
+    let mut runner = runner_of(machine);
+    let _ = ask_all(&mut runner, requests, &mut io::sink());
+    Ok(ran_of(&runner))
 }

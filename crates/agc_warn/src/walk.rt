@@ -1,6 +1,7 @@
 //! What is warned of in a bench, from key to key.
 ghost use Rattle.std.specs.Prelude.{◌≡◌, [], IfOk};
 ghost use Rattle.std.specs.List.{fold};
+ghost use Rattle.agc_warn.specs.Refusals.{IsRunOf};
 ghost use Rattle.agc_warn.specs.Warnings.{numbered, noted, request_place, of_requests, of_row};
 ghost use Rattle.agc_warn.specs.Warnings.{of_entry, of_worker, of_device, of_actions, of_pulses};
 ghost use Rattle.agc_warn.specs.Warnings.{action_place, item_place};
@@ -12,7 +13,7 @@ use crate::reasons::{
     action_warning, cut_warning, device_warning, entry_warning, log_full_warning, request_warning,
     row_warning, spent_warning,
 };
-use crate::running::first_refused;
+use crate::running::Ran;
 use crate::warning::Warned;
 use agc_document::{Bench, Key, Place};
 use agc_plan::{Action, Actions, Line, PhaseEntry, Request, Task};
@@ -186,32 +187,26 @@ fn note_bench(found: &mut Vec<Warned>, bench: &Indexed<'_>) -> Result<(), AllocE
     Ok(())
 }
 
-/// Runs a bench, and notes what is warned of its run.
-fn note_run(alloc: Global, found: &mut Vec<Warned>, bench: &Bench) -> Result<(), AllocError>
+/// Notes what is warned of the run of a bench.
+fn note_run(found: &mut Vec<Warned>, bench: &Bench, ran: &Ran) -> Result<(), AllocError>
+    requires { IsRunOf bench.now ran.now }
     ensures { IfOk result (λ _. found.new.items
         ≡ fold noted found.old.items (of_run bench.now)) }
 {
-    let first = first_refused(alloc, bench)?;
-    note(
-        found,
-        Place::Value(Key::Limit),
-        log_full_warning(bench, first.log_full),
-    )?;
-    note(
-        found,
-        Place::Value(Key::Allowance),
-        spent_warning(bench, first.spent),
-    )?;
-    note(found, Place::Whole, cut_warning(first.is_cut))
+    let (limit, allowance) = (Place::Value(Key::Limit), Place::Value(Key::Allowance));
+    note(found, limit, log_full_warning(bench, ran.log_full))?;
+    note(found, allowance, spent_warning(bench, ran.spent))?;
+    note(found, Place::Whole, cut_warning(ran.is_cut))
 }
 
 /// What is warned of in a bench, in the order of its keys, and then of its run.
-pub(crate) fn warned_of(alloc: Global, bench: &Bench) -> Result<Vec<Warned>, AllocError>
+pub(crate) fn warned_of(alloc: Global, bench: &Bench, ran: &Ran) -> Result<Vec<Warned>, AllocError>
+    requires { IsRunOf bench.now ran.now }
     ensures { IfOk result (λ v. v.items ≡ warnings_of bench.now) }
 {
     let mut found: Vec<Warned> = Vec::new(alloc);
     let indexed = Indexed::new(alloc, bench)?;
     note_bench(&mut found, &indexed)?;
-    note_run(alloc, &mut found, bench)?;
+    note_run(&mut found, bench, ran)?;
     Ok(found)
 }

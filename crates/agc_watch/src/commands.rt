@@ -35,8 +35,14 @@ fn reading_command<'a>(
         .arg(file)
 }
 
+/// The command, which may also tell how far it has come.
+fn with_progress<'a>(alloc: Global, command: Command<'a>) -> Result<Command<'a>, AllocError> {
+    let help = "Tells on standard error, once a second, how far it has come";
+    command.arg(flag(alloc, "progress", help))
+}
+
 /// The command `trace`.
-fn trace_command<'a>(alloc: Global) -> Result<Command<'a>, AllocError> {
+pub(crate) fn trace_command<'a>(alloc: Global) -> Result<Command<'a>, AllocError> {
     reading_command(
         alloc,
         "trace",
@@ -52,7 +58,7 @@ fn trace_command<'a>(alloc: Global) -> Result<Command<'a>, AllocError> {
     .arg(flag(
         alloc,
         "brief",
-        "Counts refusals, no job, no sleeper, and ticks that fire nothing",
+        "Counts requests after which nothing changed but the time",
     ))?
     .arg(numbered(alloc, "from", "Tells only the requests from number N on"))?
     .arg(numbered(alloc, "to", "Tells only the requests up to number N"))
@@ -89,6 +95,36 @@ fn check_command<'a>(alloc: Global) -> Result<Command<'a>, AllocError> {
     .arg(flag(alloc, "script", "Reads a script"))
 }
 
+/// An option that takes an alarm's number.
+fn alarm_option<'a>(alloc: Global, name: &'a str, help: &'a str) -> Arg<'a> {
+    Arg::new(alloc, name)
+        .long(name)
+        .value_name("ALARM")
+        .help(help)
+}
+
+/// The command `explore`.
+fn explore_command<'a>(alloc: Global) -> Result<Command<'a>, AllocError> {
+    reading_command(
+        alloc,
+        "explore",
+        "Says whether any order of the workers and devices raises an alarm",
+        "Example: agc_watch explore --alarm 1201 examples/race.toml",
+    )?
+    .arg(numbered(
+        alloc,
+        "states",
+        "Gives up after N states; 200000 if nothing is said",
+    ))?
+    .arg(alarm_option(alloc, "alarm", "Tells of one alarm: 1201, 1202 or 1203"))?
+    .arg(flag(alloc, "through", "Goes on after an alarm"))?
+    .arg(alarm_option(
+        alloc,
+        "bench",
+        "Writes a shortest order to this alarm, as a bench",
+    ))
+}
+
 /// The program, with all of its commands. Without a word it prints its help.
 pub(crate) fn whole_command<'a>(alloc: Global) -> Result<Command<'a>, AllocError> {
     Command::new(alloc, "agc_watch")
@@ -96,8 +132,9 @@ pub(crate) fn whole_command<'a>(alloc: Global) -> Result<Command<'a>, AllocError
         .about("Shows what the requests of a bench do to the tables")
         .subcommand_required(true)
         .arg_required_else_help(true)
-        .subcommand(trace_command(alloc)?)?
-        .subcommand(picture_command(alloc)?)?
-        .subcommand(page_command(alloc)?)?
-        .subcommand(check_command(alloc)?)
+        .subcommand(with_progress(alloc, trace_command(alloc)?)?)?
+        .subcommand(with_progress(alloc, picture_command(alloc)?)?)?
+        .subcommand(with_progress(alloc, page_command(alloc)?)?)?
+        .subcommand(with_progress(alloc, check_command(alloc)?)?)?
+        .subcommand(explore_command(alloc)?)
 }

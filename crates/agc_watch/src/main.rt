@@ -4,7 +4,9 @@
 #![tactic(auto)]
 
 mod commands;
+mod exploring;
 mod program;
+mod progress;
 mod words;
 
 use std::process::ExitCode;

@@ -3,25 +3,28 @@
 ghost use Rattle.std.specs.Prelude.{◌≡◌};
 ghost use Rattle.std.specs.Process.{exit_status};
 ghost use Rattle.agc_program.specs.Inputs.{CanEnd, EndsBy};
-ghost use Rattle.agc_watch.specs.Program.{choice_of, is_nothing};
-ghost use Rattle.agc_watch.specs.Program.{DrawsText, PagesText, TracesBench, TracesScript};
-ghost use Rattle.agc_watch.specs.Program.{ChecksBench, ChecksScript, PutsTold, TracesText, WorksOn};
-ghost use Rattle.agc_watch.specs.Program.{status_by};
+ghost use Rattle.agc_watch.specs.Program.{EndsOn, IsBenchIf, IsScriptIf, IsShown, IsShownScript};
+ghost use Rattle.agc_watch.specs.Program.{WorksOn, is_nothing, status_by};
 
-use crate::words::{Asked, Refused, TraceOptions, Work, asked_for};
-use agc_document::{Checked, findings, read_bench};
+use crate::exploring::run_explore;
+use crate::progress::Teller;
+use crate::words::{Asked, Refused, Task, Work, asked_for};
+use agc_document::read_bench;
+use agc_findings::{Checked, findings};
 use agc_lint::{Finding, bench_told, script_findings, script_told};
-use agc_page::page;
+use agc_page::{PageFault, page};
 use agc_picture::picture;
 use agc_program::{Fault, Program, buffered, ended, flushed, given_words};
+use agc_session::Progress;
 use agc_text::{put, read_all, read_script};
 use agc_trace::{Choice, trace, trace_script};
-use agc_warn::{add_bench_summary, add_script_summary, bench_warnings, warnings_told};
+use agc_warn::{add_script_summary, add_summary, bench_warnings, run_bench, warnings_told};
 use clap::Error;
 use std::alloc::{AllocError, Global};
 use std::io::{Eprint, ErrorKind, Input, Print, Read, Write};
 use std::process::ExitCode;
 use std::rt::{Env, Files};
+use std::time::Clock;
 use std::{fs, io};
 
 /// How many bytes an input may have.
@@ -44,79 +47,60 @@ fn ended_by(rt: &impl Eprint, outcome: Result<bool, Fault>) -> ExitCode
     }
 }
 
-/// The requests that options of a trace choose.
-fn choice_of(options: TraceOptions) -> Choice
-    ensures { result ≡ choice_of options }
-{
-    Choice {
-        alarms: options.alarms,
-        from: options.from,
-        to: options.to,
-        brief: options.brief,
-    }
-}
-
 /// Writes the trace of a text's bench, of the requests that are chosen.
-fn trace_bench<W: Write>(
+fn trace_bench<P: Progress, W: Write>(
     alloc: Global,
     text: &str,
     choice: Choice,
+    progress: &mut P,
     writer: &mut W,
-) -> Result<(), Fault>
-    ensures { TracesBench choice text.now (W.contents writer.old) (W.contents writer.new) result }
+) -> Result<bool, Fault>
+    ensures { EndsOn IsShown text.now (W.contents writer.old) (W.contents writer.new) result }
 {
     let bench = read_bench(alloc, text)?;
-    trace(alloc, &bench, choice, writer)?;
-    Ok(())
+    trace(alloc, &bench, choice, progress, writer)?;
+    Ok(true)
 }
 
 /// Writes the trace of a text's script in the same way.
-fn trace_script_of<W: Write>(
+fn trace_script_of<P: Progress, W: Write>(
     alloc: Global,
     text: &str,
     choice: Choice,
+    progress: &mut P,
     writer: &mut W,
-) -> Result<(), Fault>
-    ensures { TracesScript choice text.now (W.contents writer.old) (W.contents writer.new) result }
+) -> Result<bool, Fault>
+    ensures { EndsOn IsShownScript text.now (W.contents writer.old) (W.contents writer.new) result }
 {
     let requests = read_script(alloc, text)?;
-    trace_script(alloc, requests.as_slice(), choice, writer)?;
-    Ok(())
-}
-
-/// Writes the trace of a text, which is a script or a bench.
-fn trace_text<W: Write>(
-    alloc: Global,
-    options: TraceOptions,
-    text: &str,
-    writer: &mut W,
-) -> Result<(), Fault>
-    ensures { TracesText options.script (choice_of options) text.now (W.contents writer.old)
-        (W.contents writer.new) result }
-{
-    if options.script {
-        trace_script_of(alloc, text, choice_of(options), writer)
-    } else {
-        trace_bench(alloc, text, choice_of(options), writer)
-    }
+    trace_script(alloc, requests.as_slice(), choice, progress, writer)?;
+    Ok(true)
 }
 
 /// Writes the picture of a text's bench.
-fn picture_text<W: Write>(alloc: Global, text: &str, writer: &mut W) -> Result<(), Fault>
-    ensures { DrawsText text.now (W.contents writer.old) (W.contents writer.new) result }
+fn draw<P: Progress, W: Write>(
+    alloc: Global,
+    text: &str,
+    progress: &mut P,
+    writer: &mut W,
+) -> Result<bool, Fault>
+    ensures { EndsOn IsShown text.now (W.contents writer.old) (W.contents writer.new) result }
 {
     let drawn = read_bench(alloc, text)?;
-    picture(alloc, &drawn, writer)?;
-    Ok(())
+    picture(alloc, &drawn, progress, writer)?;
+    Ok(true)
 }
 
 /// Writes the page of a text's bench.
-fn page_text<W: Write>(alloc: Global, text: &str, writer: &mut W) -> Result<(), Fault>
-    ensures { PagesText text.now (W.contents writer.old) (W.contents writer.new) result }
+fn make_page<W: Write>(alloc: Global, text: &str, writer: &mut W) -> Result<bool, Fault>
+    ensures { EndsOn IsShown text.now (W.contents writer.old) (W.contents writer.new) result }
 {
-    let paged = read_bench(alloc, text)?;
-    page(alloc, &paged, writer)?;
-    Ok(())
+    let _paged = read_bench(alloc, text)?;
+    match page(alloc, text, writer) {
+        Ok(()) => Ok(true),
+        Err(PageFault::NoMemory) => Err(Fault::NoMemory),
+        Err(PageFault::Output) => Err(Fault::Output),
+    }
 }
 
 /// Whether nothing was found.
@@ -126,16 +110,6 @@ fn is_nothing<T>(findings: &[T]) -> bool
     match findings {
         [] => true,
         _ => false,
-    }
-}
-
-/// Writes what a check tells, and returns what it found.
-fn put_told<W: Write>(told: &str, is_well: bool, writer: &mut W) -> Result<bool, Fault>
-    ensures { PutsTold is_well (W.contents writer.old) (W.contents writer.new) result }
-{
-    match put(writer, told.as_bytes()) {
-        Ok(()) => Ok(is_well),
-        Err(_failed) => Err(Fault::Output),
     }
 }
 
@@ -149,22 +123,26 @@ fn told_of_script(alloc: Global, text: &str, found: &[Finding<'_>]) -> Result<St
 }
 
 /// Writes what is wrong with a script, and returns whether that is nothing.
-#[tactic(auto, using(crate::proofs::Checks::checks_script))]
+#[tactic(auto, using(crate::proofs::Checks::script_if))]
 fn check_script<W: Write>(alloc: Global, text: &str, writer: &mut W) -> Result<bool, Fault>
-    ensures { ChecksScript text.now (W.contents writer.old) (W.contents writer.new) result }
+    ensures { EndsOn IsScriptIf text.now (W.contents writer.old) (W.contents writer.new) result }
 {
     let found = script_findings(alloc, text)?;
     let told = told_of_script(alloc, text, found.as_slice())?;
-    put_told(told.as_str(), is_nothing(found.as_slice()), writer)
+    match put(writer, told.as_bytes()) {
+        Ok(()) => Ok(is_nothing(found.as_slice())),
+        Err(_failed) => Err(Fault::Output),
+    }
 }
 
 /// What is told of a bench, or of a document that is none.
 fn told_of_bench(alloc: Global, text: &str, checked: &Checked) -> Result<String, AllocError> {
     match &checked.bench {
         Some(bench) => {
-            let warnings = bench_warnings(alloc, text, bench)?;
+            let ran = run_bench(alloc, bench)?;
+            let warnings = bench_warnings(alloc, text, bench, &ran)?;
             let mut told = warnings_told(alloc, warnings.as_slice())?;
-            add_bench_summary(alloc, &mut told, bench)?;
+            add_summary(&mut told, &ran)?;
             Ok(told)
         }
         None => bench_told(alloc, checked.findings.as_slice()),
@@ -172,33 +150,43 @@ fn told_of_bench(alloc: Global, text: &str, checked: &Checked) -> Result<String,
 }
 
 /// Writes what is wrong with a bench, or else what is warned of, and returns whether it is one.
-#[tactic(auto, using(crate::proofs::Checks::checks_bench))]
+#[tactic(auto, using(crate::proofs::Checks::bench_if))]
 fn check_bench<W: Write>(alloc: Global, text: &str, writer: &mut W) -> Result<bool, Fault>
-    ensures { ChecksBench text.now (W.contents writer.old) (W.contents writer.new) result }
+    ensures { EndsOn IsBenchIf text.now (W.contents writer.old) (W.contents writer.new) result }
 {
     let checked = findings(alloc, text)?;
     let told = told_of_bench(alloc, text, &checked)?;
-    put_told(told.as_str(), checked.bench.is_some(), writer)
+    match put(writer, told.as_bytes()) {
+        Ok(()) => Ok(checked.bench.is_some()),
+        Err(_failed) => Err(Fault::Output),
+    }
 }
 
 /// Does what is asked of a text. False where that is a check, and something is wrong.
-fn work_text<W: Write>(alloc: Global, work: Work, text: &str, writer: &mut W) -> Result<bool, Fault>
+fn work_text<P: Progress, W: Write>(
+    alloc: Global,
+    work: Work,
+    text: &str,
+    progress: &mut P,
+    writer: &mut W,
+) -> Result<bool, Fault>
     ensures { WorksOn work text.now (W.contents writer.old) (W.contents writer.new) result }
 {
     match work {
-        Work::Trace(options) => trace_text(alloc, options, text, writer)?,
-        Work::Picture => picture_text(alloc, text, writer)?,
-        Work::Page => page_text(alloc, text, writer)?,
-        Work::CheckBench => return check_bench(alloc, text, writer),
-        Work::CheckScript => return check_script(alloc, text, writer),
+        Work::Trace(choice) => trace_bench(alloc, text, choice, progress, writer),
+        Work::TraceScript(choice) => trace_script_of(alloc, text, choice, progress, writer),
+        Work::Picture => draw(alloc, text, progress, writer),
+        Work::Page => make_page(alloc, text, writer),
+        Work::CheckBench => check_bench(alloc, text, writer),
+        Work::CheckScript => check_script(alloc, text, writer),
     }
-    Ok(true)
 }
 
 /// Reads the input whole, and does what is asked of its text.
-fn work_input<R: Read, W: Write>(
+fn work_input<P: Progress, R: Read, W: Write>(
     alloc: Global,
     work: Work,
+    progress: &mut P,
     reader: &mut R,
     writer: &mut W,
 ) -> Result<bool, Fault>
@@ -206,21 +194,36 @@ fn work_input<R: Read, W: Write>(
         (W.contents writer.old) (W.contents writer.new) result }
 {
     let text = read_all(alloc, reader)?;
-    work_text(alloc, work, text.as_str(), writer)
+    work_text(alloc, work, text.as_str(), progress, writer)
 }
 
 /// Does what is asked of an input, and writes it through a buffer that is flushed at the end.
-fn run_work<H: AllocGlobal + Print, R: Read>(
+fn run_work<H: AllocGlobal + Clock + Eprint + Print, R: Read>(
     rt: &H,
     work: Work,
+    has_progress: bool,
     reader: &mut R,
 ) -> Result<bool, Fault>
     ensures { CanEnd (WorksOn work) result }
 {
     let mut output = buffered(rt)?;
-    let is_well = work_input(rt.alloc(), work, reader, &mut output)?;
+    let mut progress = Teller::new(rt, has_progress);
+    let is_well = work_input(rt.alloc(), work, &mut progress, reader, &mut output)?;
     flushed(&mut output)?;
     Ok(is_well)
+}
+
+/// Does this task on an input.
+fn run_task<H: AllocGlobal + Clock + Print + Eprint, R: Read>(
+    rt: &H,
+    task: Task,
+    has_progress: bool,
+    reader: &mut R,
+) -> ExitCode {
+    match task {
+        Task::Work(work) => ended_by(rt, run_work(rt, work, has_progress, reader)),
+        Task::Explore(options) => run_explore(rt, PROGRAM, options, reader),
+    }
 }
 
 /// The bytes of a file, as many as an input may have, and one more.
@@ -241,14 +244,15 @@ fn ended_unread(rt: &impl Eprint, name: &str, error: &io::Error) -> ExitCode {
 }
 
 /// Does what is asked for, of the file that is named or of standard input.
-fn run_asked<H: AllocGlobal + Files + Input + Print + Eprint>(
+fn run_asked<H: AllocGlobal + Clock + Files + Input + Print + Eprint>(
     rt: &H,
     asked: &Asked<'_>,
 ) -> ExitCode {
+    let task = asked.task;
     match asked.file {
-        None => ended_by(rt, run_work(rt, asked.work, &mut rt.reader())),
+        None => run_task(rt, task, asked.has_progress, &mut rt.reader()),
         Some(name) => match read_file(rt, name) {
-            Ok(bytes) => ended_by(rt, run_work(rt, asked.work, &mut bytes.as_slice())),
+            Ok(bytes) => run_task(rt, task, asked.has_progress, &mut bytes.as_slice()),
             Err(error) => ended_unread(rt, name, &error),
         },
     }
@@ -264,7 +268,7 @@ fn printed<H: Print + Eprint>(rt: &H, text: &Error) -> ExitCode {
 }
 
 /// Does what these words ask for, of which the first is the program's own name.
-fn run_words<H: AllocGlobal + Files + Input + Print + Eprint>(
+fn run_words<H: AllocGlobal + Clock + Files + Input + Print + Eprint>(
     rt: &H,
     words: &[String],
 ) -> ExitCode {
@@ -276,7 +280,7 @@ fn run_words<H: AllocGlobal + Files + Input + Print + Eprint>(
 }
 
 /// Runs the program.
-pub fn run(rt: &(impl Env + AllocGlobal + Files + Input + Print + Eprint)) -> ExitCode {
+pub fn run(rt: &(impl Env + AllocGlobal + Clock + Files + Input + Print + Eprint)) -> ExitCode {
     match given_words(rt) {
         Ok(given) => run_words(rt, given.as_slice()),
         Err(fault) => ended_by(rt, Err(fault)),

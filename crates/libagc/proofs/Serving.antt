@@ -32,6 +32,9 @@ one_or_more fault.PhaseTwice = omega arith
 one_or_more fault.TooManyAreas = omega arith
 one_or_more fault.NotSpelled = omega arith
 one_or_more fault.NoRoom = omega arith
+one_or_more fault.TimeRange = omega arith
+one_or_more fault.StealTwice = omega arith
+one_or_more fault.CostTwice = omega arith
 
 -- there is no image
 pub no_image : (found : Option Fault) (this : Fault) (code sets : ℕ) (array : List ℕ) (R W T : Type 0) → found ≡ Some this → code ≡ code_of this → Coded (code_for found) sets array (Unit {0}) (Unit {0}) (Unit {0}) → Coded code sets array R W T

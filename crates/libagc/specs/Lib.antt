@@ -6,3 +6,6 @@ pub mod Beginnings
 pub mod Stepping
 pub mod Eras
 pub mod Spelled
+pub mod LentTimes
+pub mod LateTimes
+pub mod Clocks

@@ -3,6 +3,7 @@
 #![tactic(auto)]
 
 mod clearing;
+mod clock;
 mod eras;
 mod images;
 mod jobs;
@@ -14,10 +15,13 @@ mod reply;
 mod steps;
 mod tasks;
 mod texts;
+mod times;
+mod timetable;
 mod words;
 
 pub use phases::AgcPhases;
 pub use reply::{AgcNumber, AgcReply, AgcTask, AgcTruth};
 pub use steps::{AgcFired, AgcStep};
 pub use texts::AgcTotals;
+pub use timetable::{AgcCost, AgcEvent};
 pub use words::{AgcSum, AgcValue};

@@ -49,7 +49,7 @@ fn listing(delay: Delay, task: Task) -> AgcRequest
 }
 
 /// The numbers of a request.
-fn numbers_of(request: &Request) -> AgcRequest
+pub(crate) fn numbers_of(request: &Request) -> AgcRequest
     ensures { result ≡ numbers_of request.now }
 {
     match *request {

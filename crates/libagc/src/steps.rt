@@ -1,20 +1,23 @@
 // The whole step.
-ghost use Rattle.std.specs.Prelude.{◌≡◌, ℕ};
+ghost use Rattle.std.specs.Prelude.{◌≡◌, ℕ, List, false};
 ghost use Rattle.agc_plan.specs.declared.request.Request.{Request};
+ghost use Rattle.agc_plan.specs.Steps.{begins};
+ghost use Rattle.agc_wait.specs.Table.{waits_of};
+ghost use Rattle.agc_wait.specs.Waits.{due_now};
 ghost use Rattle.agc_image.specs.Codes.{code_of, code_for};
-ghost use Rattle.agc_image.specs.Images.{IsImage, IsLawful, IsOpened, IsSets, image_of};
+ghost use Rattle.agc_image.specs.Images.{IsImage, IsLawful, IsOpened, IsSets, IsWritten, image_of};
 ghost use Rattle.agc_image.specs.Lacking.{lacking};
-ghost use Rattle.agc_machine.specs.Stands.{IsReady};
+ghost use Rattle.agc_machine.specs.Stands.{IsReady, IsSound, Acts, StepsTo};
 ghost use Rattle.libagc.specs.Replies.{alarm_code};
 ghost use Rattle.libagc.specs.Stepping.{AreTold, Steps, Serves, Refuses, StepCoded, asked_code};
-ghost use Rattle.libagc.specs.Stepping.{Lacks};
+ghost use Rattle.libagc.specs.Stepping.{Lacks, plan_for};
 ghost use Rattle.libagc.specs.Stepping.{step_told, step_refusal, action_told};
 
 use crate::ready::time_fault;
 use crate::reply::alarm_code;
 use agc_image::{
-    AgcPhaseEntry, AgcRequest, AgcRow, Fault, Lent, asked_fault, blank, image_fault, open,
-    plan_lacks, request_of, write_back,
+    AgcPhaseEntry, AgcRequest, AgcRow, Fault, Lent, asked_fault, blank, open, plan_lacks,
+    request_of, try_open, write_back,
 };
 use agc_machine::{act_words, finish_words};
 use agc_plan::{Fired, Reply, Request};
@@ -120,7 +123,25 @@ fn action_told(number: usize) -> u32
     }
 }
 
+/// An era begins in an image that an array has, where one begins with the reply.
+fn finish(plan: &Lent<'_>, reply: &Reply, image: &mut Erasable, words: &mut [u16; 144])
+    requires sound { IsSound image.old }
+    requires none_due { begins reply.now ≡ false → due_now (waits_of image.old) ≡ 0 }
+    requires written { IsWritten image.old words.old words.old }
+    ensures steps { (asked : Request) (old : List ℕ)
+        → Acts (plan_for plan.now.rows.now plan.now.entries.now old) asked old reply.now image.old
+        → StepsTo (plan_for plan.now.rows.now plan.now.entries.now old) asked old reply.now
+        image.new }
+    ensures written { IsWritten image.new words.old words.new }
+{
+    if reply.begins() {
+        finish_words(plan, reply, image);
+        write_back(image, words);
+    }
+}
+
 /// Serves a request on an open image, and writes it back.
+#[inline(always)]
 fn serve(
     words: &mut [u16; 144],
     plan: &Lent<'_>,
@@ -129,7 +150,6 @@ fn serve(
     fired: &mut [AgcFired; 9],
     moment: &mut [u16; 144],
 ) -> AgcStep
-    requires moment { moment.old ≡ words.old }
     requires ready { IsReady image.old }
     ensures served { (sets : ℕ) → IsSets sets → IsOpened sets words.old image.old
         → Steps plan.now.rows.now plan.now.entries.now request.now sets words.old words.new
@@ -138,11 +158,20 @@ fn serve(
 {
     let mut list = Fired::new();
     let (reply, action) = act_words(plan, image, request, &mut list);
-    write_back(image, moment);
-    finish_words(plan, &reply, image);
     write_back(image, words);
+    *moment = *words;
+    finish(plan, &reply, image, words);
     hand_out(&list, fired);
     AgcStep::of(&reply, list.len() as u32, action_told(action))
+}
+
+/// A step isn't served: the moment has the words as they are.
+fn refuse(words: &[u16; 144], moment: &mut [u16; 144], fault: Fault) -> AgcStep
+    ensures moment { moment.new ≡ words.now }
+    ensures result { result ≡ step_refusal (code_of fault) }
+{
+    *moment = *words;
+    AgcStep::refused(fault)
 }
 
 /// What a step lacks besides an image and a request: the time for it, tidy words, a plan.
@@ -179,23 +208,24 @@ pub extern "C" fn agc_step(
     ensures refused { ¬ (result.code ≡ 0)
         → Refuses words.old words.new moment.new fired.old fired.new result }
 {
-    *moment = *words;
-    match image_fault(words, sets) {
-        Some(fault) => AgcStep::refused(fault),
-        None => match request_of(request) {
-            None => AgcStep::refused(asked_fault(request)),
-            Some(asked) => {
-                let mut image = blank(sets);
-                open(words, sets, &mut image);
-                match lacks(&image, rows, entries) {
-                    Some(fault) => AgcStep::refused(fault),
-                    None => {
-                        let plan = Lent { rows, entries };
-                        serve(words, &plan, &asked, &mut image, fired, moment)
-                    }
-                }
+    match agc_image::sets(sets) {
+        None => refuse(words, moment, Fault::NoSuchSets),
+        Some(count) => {
+            let mut image = Erasable::new(count);
+            match try_open(words, count, &mut image) {
+                Some(fault) => refuse(words, moment, fault),
+                None => match request_of(request) {
+                    None => refuse(words, moment, asked_fault(request)),
+                    Some(asked) => match lacks(&image, rows, entries) {
+                        Some(fault) => refuse(words, moment, fault),
+                        None => {
+                            let plan = Lent { rows, entries };
+                            serve(words, &plan, &asked, &mut image, fired, moment)
+                        }
+                    },
+                },
             }
-        },
+        }
     }
 }
 
@@ -220,9 +250,8 @@ pub extern "C" fn agc_step_trusted(
     ensures refused { ¬ (result.code ≡ 0)
         → Refuses words.old words.new moment.new fired.old fired.new result }
 {
-    *moment = *words;
     match request_of(request) {
-        None => AgcStep::refused(asked_fault(request)),
+        None => refuse(words, moment, asked_fault(request)),
         Some(asked) => {
             let mut image = blank(sets);
             open(words, sets, &mut image);

@@ -1,34 +1,15 @@
-use Rattle.std.proofs.Common.{◌<◌, ◌≤◌, length, replicate, sym}
-use Rattle.std.proofs.lemmas.List.{get_or-replicate, length-replicate}
-use Rattle.agc_plan.specs.Pulses.{pulse_requests}
-use Rattle.agc_session.specs.Runs.{bench_plan}
-use Rattle.agc_session.proofs.Walks.{all_left, left_as, some_asked, walk_stopped, walk_done, next_item, no_item}
+use Rattle.std.proofs.Common.{◌≡◌, [], ◌∷◌, List, replicate, sym, ap, subst, ◌∙◌}
+use Rattle.agc_plan.specs.declared.request.Request.{Request}
+use Rattle.agc_plan.specs.Pulses.{pulse_requests, repeated}
+use Rattle.agc_session.specs.Runs.{bench_plan, device_requests}
+use Rattle.agc_session.specs.Walks.{AsksInOrder}
+use Rattle.agc_session.proofs.Walks.{repeated_sole}
 use Rattle.agc_session.proofs.asking.ask_device.Goals as goal
 
-pub loop-pulse-init : goal.loop-pulse-init
-loop-pulse-init g c = record { left = all_left g.A.Asks.next g.A.Asks.text _ _ _ }
-
-pub loop-pulse-preserved : goal.loop-pulse-preserved
-loop-pulse-preserved g c =
-    let asked = pulse_requests (bench_plan c.args.bench.now) c.args.device.0 in
+pub returns-in-Some : goal.returns-in-Some
+returns-in-Some g c =
+    let asked = c.in-Some.request in
     let n = c.args.device.1 in
-    let i = c.loop-pulse._pulse in
-    let low : i < length (replicate n asked) = rw (length-replicate n asked) c.loop-pulse-test.true in
-    let is = next_item (λ all. all) (replicate n asked) i asked low (sym (get_or-replicate n i asked asked c.loop-pulse-test.true)) in
-    record { left = some_asked asked _ (left_as is c.loop-pulse.invariant.left) c.in_ok-ask_pulse.ensures }
-
-pub returns-in_err-ask_pulse : goal.returns-in_err-ask_pulse
-returns-in_err-ask_pulse g c =
-    let asked = pulse_requests (bench_plan c.args.bench.now) c.args.device.0 in
-    let n = c.args.device.1 in
-    let i = c.loop-pulse._pulse in
-    let low : i < length (replicate n asked) = rw (length-replicate n asked) c.loop-pulse-test.true in
-    let is = next_item (λ all. all) (replicate n asked) i asked low (sym (get_or-replicate n i asked asked c.loop-pulse-test.true)) in
-    walk_stopped asked _ c.from_residual.result (left_as is c.loop-pulse.invariant.left) c.in_err-ask_pulse.ensures c.from_residual.ensures.0
-
-pub returns : goal.returns
-returns g c =
-    let asked = pulse_requests (bench_plan c.args.bench.now) c.args.device.0 in
-    let n = c.args.device.1 in
-    let high : length (replicate n asked) ≤ c.loop-pulse._pulse = rw (length-replicate n asked) c.loop-pulse-test.false in
-    walk_done (left_as (no_item (λ all. all) (replicate n asked) c.loop-pulse._pulse high) c.loop-pulse.invariant.left)
+    let is : replicate n asked ≡ device_requests c.args.bench.now c.args.device =
+    sym (repeated_sole asked n) ∙ ap (λ (rs : List Request). repeated rs n) (sym c.in-Some.ensures) in
+    subst (λ (rs : List Request). AsksInOrder g.A.Asks.next g.A.Asks.text c.args.asker.now rs c.ask_often.new.asker (g.W.Write.contents c.args.writer.now) (g.W.Write.contents c.ask_often.new.writer) c.ask_often.result) is c.ask_often.ensures

@@ -1,5 +1,5 @@
 use Rattle.std.proofs.Common.{◌≡◌, ◌+◌, ◌-◌, ◌*◌, ◌≤◌, ◌++◌, length}
-use Rattle.agc_wait.specs.Table.{waits_from, waits_of, IsLawfulTable}
+use Rattle.agc_wait.specs.Table.{waits_from, waits_of}
 use Rattle.agc_wait.proofs.order.tasks_waiting.Given as goal
 
 abbrev pub invariant-loop-place : goal.invariant-loop-place

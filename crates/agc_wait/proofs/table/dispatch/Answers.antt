@@ -1,4 +1,4 @@
-use Rattle.std.proofs.Common.{◌-◌, ◌≡◌, ◌≤◌, ◌∙◌, ap, sym, arith, refl, length}
+use Rattle.std.proofs.Common.{◌-◌, ◌≡◌, ◌≤◌, ◌∙◌, ap, arith, refl}
 use Rattle.agc_word.specs.Layout as layout
 use Rattle.agc_word.specs.Layout.{IsSized}
 use Rattle.agc_wait.specs.Table.{waits_of, at_in, lst1, gap_of}

@@ -1,4 +1,4 @@
-use Rattle.std.proofs.Common.{◌≡◌, ◌+◌, ◌*◌, ◌==◌, cond, slice_set, ap, ◌∙◌, arith}
+use Rattle.std.proofs.Common.{◌+◌, ◌*◌, ◌==◌, cond, slice_set, ap, ◌∙◌, arith}
 use Rattle.agc_word.specs.Layout as layout
 use Rattle.agc_wait.proofs.Writes.{after_set}
 use Rattle.agc_wait.proofs.table.put_task.Goals as goal

@@ -1,5 +1,5 @@
 use Rattle.std.proofs.Common.{refl}
-use Rattle.agc_document.specs.Findings.{StandsIn}
+use Rattle.agc_findings.specs.Findings.{StandsIn}
 use Rattle.agc_document.proofs.Beside.{beside_here, all_beside}
 use Rattle.agc_warn.specs.declared.warning.Located.{Located}
 use Rattle.agc_warn.proofs.locating.located.Goals as goal

@@ -1,6 +1,6 @@
 use Rattle.std.proofs.Common.{◌≡◌, take, map}
 use Rattle.std.specs.List.{AllByRecursion}
-use Rattle.agc_document.specs.Findings.{StandsIn}
+use Rattle.agc_findings.specs.Findings.{StandsIn}
 use Rattle.agc_warn.proofs.locating.located.Given as goal
 
 abbrev pub invariant-loop-one : goal.invariant-loop-one

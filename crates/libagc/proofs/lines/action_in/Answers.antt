@@ -1,4 +1,4 @@
-use Rattle.std.proofs.Common.{◌≡◌, sym, subst, ℕ, List}
+use Rattle.std.proofs.Common.{sym, subst}
 use Rattle.std.specs.Str.{IsUtf8}
 use Rattle.libagc.proofs.Spelling.{action_is_text}
 use Rattle.libagc.proofs.lines.action_in.Goals as goal

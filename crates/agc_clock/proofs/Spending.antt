@@ -1,0 +1,191 @@
+-- What each job was given is less than its cost, and nothing where it is not awake.
+use Rattle.std.proofs.Common.{◌≡◌, ℕ, ◌+◌, ◌-◌, ◌<◌, ◌≤◌, nat_le, Bool, true, false, not, cond, if◌then◌else◌, List, [], ◌∷◌, length, length-set, Option, Some, None, option_map, is_some, IsSome, slice_index, slice_index_or, slice_set, get_or-set_same, get_or-set_other, refl, sym, ap, subst, ◌∙◌, inl, inr, arith}
+use Rattle.std.specs.Option.{option_map_or}
+use Rattle.std.proofs.lemmas.Bool.{cases_eq, cases_lt}
+use Rattle.std.proofs.lemmas.Grind.{common_steps}
+use Rattle.std.proofs.lemmas.List.{get_or_past, get_or-replicate}
+use Rattle.std.proofs.lemmas.List.FromFn.{get_or-map-range_with_len}
+use Rattle.std.proofs.lemmas.Option.{same_Some}
+use Rattle.agc_plan.specs.Jobs.{Job, Jobs, job_in}
+use Rattle.agc_plan.specs.Laws.{IsRunnerAwake}
+use Rattle.agc_plan.proofs.Steady.{reached_runner}
+use Rattle.agc_machine.specs.Machines.{Machined, after, answer_of, plain_of}
+use Rattle.agc_clock.specs.declared.asked.Asked.{Asked}
+use Rattle.agc_clock.specs.declared.counting.JobCost.{JobCost}
+use Rattle.agc_clock.specs.declared.timetable.Cost.{Cost}
+use Rattle.agc_clock.specs.Counts.{given_to, is_awake, kept, kept_by, none_given, passed, worked, worker_of}
+use Rattle.agc_clock.specs.Instants.{Instant, Asks, Looks, Works}
+use Rattle.agc_clock.specs.Laws.{EndsByItsCost, IsEachCostSome}
+use Rattle.agc_clock.specs.Runs.{Standing, begins_with, by_machine, goes_on, lived, lived_all, standing_at}
+use Rattle.agc_clock.specs.Timetables.{cost_at}
+use Rattle.agc_clock.proofs.Keeping.{Keep, machine_keeps, stand_of, stands}
+
+record IsCounted (costs : List Cost) (slots : List (Option Job)) (given : List ℕ) : Type 0 where
+  less : (k at : ℕ) (cost : Cost) → stands slots k ≡ Some at → cost_at costs at ≡ Some cost → slice_index given k < cost.hundredths
+  none : (k : ℕ) → stands slots k ≡ None → slice_index given k ≡ 0
+
+nothing_given : (k : ℕ) → slice_index none_given k ≡ 0
+nothing_given k = elim (cases_lt k 8) [
+  | inl lt ↦ get_or-replicate 8 k 0 0 lt
+  | inr ge ↦ get_or_past none_given k 0 ge
+]
+
+start_counted : (costs : List Cost) (slots : List (Option Job)) → IsEachCostSome costs → IsCounted costs slots none_given
+start_counted costs slots some = record {
+  less = λ k at cost stand is. let low = some at cost is in let zero_is = nothing_given k in omega arith;
+  none = λ k stand. nothing_given k;
+}
+
+-- whether a job is awake
+awake_is : (o : Option Job) → option_map_or (λ (job : Job). not job.asleep) o false ≡ is_some (stand_of o)
+awake_is None = refl
+awake_is (Some job) = go job.asleep where
+  go : (b : Bool) → not b ≡ is_some (cond b None (Some job.at))
+  go true = refl
+  go false = refl
+
+awake_stands : (jobs : Jobs) (k : ℕ) → is_awake jobs (k + 1) ≡ is_some (stands jobs.slots k)
+awake_stands jobs k =
+    let same : k + 1 - 1 ≡ k = omega arith in
+    ap (λ (i : ℕ). option_map_or (λ (job : Job). not job.asleep) (slice_index_or jobs.slots i None) false) same ∙ awake_is (slice_index_or jobs.slots k None)
+
+kept_here : (began : Bool) (jobs : Jobs) (given : List ℕ) (k : ℕ) → k < 8 → slice_index (kept began jobs given) k ≡ (if began then 0 else if is_some (stands jobs.slots k) then slice_index given k else 0)
+kept_here began jobs given k lt =
+    let same : k + 1 - 1 ≡ k = omega arith in
+    get_or-map-range_with_len (kept_by began jobs given) 1 8 k (k + 1) 0 lt (omega arith)
+    ∙ rw (awake_stands jobs k, same) refl
+
+kept_past : (began : Bool) (jobs : Jobs) (given : List ℕ) (k : ℕ) → 8 ≤ k → slice_index (kept began jobs given) k ≡ 0
+kept_past began jobs given k ge = get_or_past (kept began jobs given) k 0 ge
+
+kept_counted : (costs : List Cost) (began : Bool) (old : List (Option Job)) (jobs : Jobs) (given : List ℕ) → IsEachCostSome costs → (began ≡ false → Keep old jobs.slots) → IsCounted costs old given → IsCounted costs jobs.slots (kept began jobs given)
+kept_counted costs began old jobs given some keeps counted = record {
+  less = λ k at cost stand is. let low : 1 ≤ cost.hundredths = some at cost is in elim (cases_lt k 8) [
+    | inl lt ↦ rw (kept_here began jobs given k lt, stand) (each began refl k at cost low stand is)
+    | inr ge ↦ let zero_is = kept_past began jobs given k ge in omega arith
+  ];
+  none = λ k stand. elim (cases_lt k 8) [
+    | inl lt ↦ kept_here began jobs given k lt ∙ rw stand (nobody began)
+    | inr ge ↦ kept_past began jobs given k ge
+  ];
+}
+  where
+    nobody : (b : Bool) → cond {A = ℕ} b 0 0 ≡ 0
+    nobody true = refl
+    nobody false = refl
+
+    was : (o : Option ℕ) (k at : ℕ) (cost : Cost) → stands old k ≡ o → began ≡ false → 1 ≤ cost.hundredths → stands jobs.slots k ≡ Some at → cost_at costs at ≡ Some cost → slice_index given k < cost.hundredths
+    was None k at cost before not_begun low stand is = let zero_is = counted.none k before in omega arith
+    was (Some a) k at cost before not_begun low stand is =
+        let same : at ≡ a = keeps not_begun k a at before stand in
+        counted.less k a cost before (ap (cost_at costs) (sym same) ∙ is)
+
+    each : (b : Bool) → began ≡ b → (k at : ℕ) (cost : Cost) → 1 ≤ cost.hundredths → stands jobs.slots k ≡ Some at → cost_at costs at ≡ Some cost → (if b then 0 else slice_index given k) < cost.hundredths
+    each true q k at cost low stand is = low
+    each false q k at cost low stand is = was (stands old k) k at cost refl q low stand is
+
+-- who works is awake, and stands at an address of its cost
+record IsWorking (costs : List Cost) (jobs : Jobs) (w : JobCost) : Type 0 where
+  at : ℕ
+  stand : stands jobs.slots (w.number - 1) ≡ Some at
+  cost_is : cost_at costs at ≡ Some w.cost
+
+worker_from : (costs : List Cost) (jobs : Jobs) (n : ℕ) (job : Job) → jobs.running ≡ Some n → job_in jobs.slots n ≡ Some job → worker_of costs jobs ≡ option_map (λ (cost : Cost). record { number = n; cost = cost }) (cost_at costs job.at)
+worker_from costs jobs n job runs lives = rw (runs, lives) refl
+
+nobody_works : (costs : List Cost) (jobs : Jobs) → jobs.running ≡ None → worker_of costs jobs ≡ None
+nobody_works costs jobs runs = rw runs refl
+
+working : (costs : List Cost) (jobs : Jobs) (w : JobCost) → IsRunnerAwake jobs → worker_of costs jobs ≡ Some w → IsWorking costs jobs w
+working costs jobs w awake is = go jobs.running refl where
+  paid : (n : ℕ) (job : Job) (o : Option Cost) → cost_at costs job.at ≡ o → stands jobs.slots (n - 1) ≡ Some job.at → option_map (λ (cost : Cost). record { number = n; cost = cost }) o ≡ Some w → IsWorking costs jobs w
+  paid n job None cost stand same = absurd (cc)
+  paid n job (Some c) cost stand same =
+      let this : record { number = n; cost = c } ≡ w = same_Some (record { number = n; cost = c }) w same in
+      record {
+        at = job.at;
+        stand = ap (λ (x : JobCost). stands jobs.slots (x.number - 1)) (sym this) ∙ stand;
+        cost_is = cost ∙ ap (λ (x : JobCost). Some x.cost) this;
+      }
+
+  go : (o : Option ℕ) → jobs.running ≡ o → IsWorking costs jobs w
+  go None runs = absurd (let no_one : None ≡ Some w = sym (nobody_works costs jobs runs) ∙ is in cc)
+  go (Some n) runs =
+      let (job, lives) = awake n runs in
+      let stand : stands jobs.slots (n - 1) ≡ Some job.at = ap stand_of lives.0.1 ∙ ap (λ (b : Bool). cond b None (Some job.at)) lives.1 in
+      paid n job (cost_at costs job.at) refl stand (sym (worker_from costs jobs n job runs lives.0.1) ∙ is)
+
+set_value : (given : List ℕ) (k v most : ℕ) → v < most → slice_index (slice_set given k v) k < most
+set_value given k v most lt = elim (cases_lt k (length given)) [
+  | inl within ↦ let same = get_or-set_same given k v 0 within in omega arith
+  | inr past ↦
+      let past_set : length (slice_set given k v) ≤ k = rw (length-set given k v) past in
+      let zero_is = get_or_past (slice_set given k v) k 0 past_set in
+      omega arith
+]
+
+given_counted : (costs : List Cost) (slots : List (Option Job)) (given : List ℕ) (k at v : ℕ) (cost : Cost) → IsCounted costs slots given → stands slots k ≡ Some at → cost_at costs at ≡ Some cost → v < cost.hundredths → IsCounted costs slots (slice_set given k v)
+given_counted costs slots given k at v cost counted stand is lt = record {
+  less = λ i there c stand_i is_i. elim (cases_eq i k) [
+    | inl same ↦
+        let at_is : there ≡ at = same_Some there at (sym stand_i ∙ ap (stands slots) same ∙ stand) in
+        let cost_is : c ≡ cost = same_Some c cost (sym is_i ∙ ap (cost_at costs) at_is ∙ is) in
+        let most : v < c.hundredths = rw cost_is lt in
+        rw same (set_value given k v c.hundredths most)
+    | inr ne ↦ rw (get_or-set_other given k i v 0 ne) (counted.less i there c stand_i is_i)
+  ];
+  none = λ i nobody. elim (cases_eq i k) [
+    | inl same ↦ absurd (let never : None ≡ Some at = sym nobody ∙ ap (stands slots) same ∙ stand in cc)
+    | inr ne ↦ get_or-set_other given k i v 0 ne ∙ counted.none i nobody
+  ];
+}
+
+worked_counted : (costs : List Cost) (jobs : Jobs) (given : List ℕ) → IsRunnerAwake jobs → IsCounted costs jobs.slots given → IsCounted costs jobs.slots (worked (worker_of costs jobs) given).given
+worked_counted costs jobs given awake counted = go (worker_of costs jobs) refl where
+  spent : (w : JobCost) → IsWorking costs jobs w → (b : Bool) → nat_le w.cost.hundredths (given_to w.number given + 1) ≡ b → IsCounted costs jobs.slots (worked (Some w) given).given
+  spent w is true q = rw q (
+      let less = counted.less (w.number - 1) is.at w.cost is.stand is.cost_is in
+      given_counted costs jobs.slots given (w.number - 1) is.at 0 w.cost counted is.stand is.cost_is (omega arith))
+  spent w is false q = rw q (
+      let more : given_to w.number given + 1 < w.cost.hundredths = grind (arith, common_steps) in
+      given_counted costs jobs.slots given (w.number - 1) is.at (given_to w.number given + 1) w.cost counted is.stand is.cost_is more)
+
+  go : (o : Option JobCost) → worker_of costs jobs ≡ o → IsCounted costs jobs.slots (worked o given).given
+  go None q = counted
+  go (Some w) q = spent w (working costs jobs w awake q) (nat_le w.cost.hundredths (given_to w.number given + 1)) refl
+
+abbrev jobs_of : Machined → Jobs
+jobs_of m = (plain_of m).work.jobs
+
+passed_counted : (costs : List Cost) (m : Machined) (i : Instant) (given : List ℕ) → IsCounted costs (jobs_of m).slots given → IsCounted costs (jobs_of m).slots (passed costs (jobs_of m) i given).given
+passed_counted costs m (Asks a) given counted = counted
+passed_counted costs m Looks given counted = counted
+passed_counted costs m Works given counted = worked_counted costs (jobs_of m) given (reached_runner m.plan m.base m.log) counted
+
+on_counted : (costs : List Cost) (o : Option Asked) (given : List ℕ) (at : Standing Machined) → IsEachCostSome costs → IsCounted costs (jobs_of at.state).slots given → IsCounted costs (jobs_of (goes_on by_machine o given at).state).slots (goes_on by_machine o given at).given
+on_counted costs None given at some counted = counted
+on_counted costs (Some a) given at some counted =
+    kept_counted costs (begins_with (answer_of at.state a.request)) (jobs_of at.state).slots (jobs_of (after at.state a.request)) given some (machine_keeps at.state a.request) counted
+
+all_counted : (costs : List Cost) (at : Standing Machined) (all : List Instant) → IsEachCostSome costs → IsCounted costs (jobs_of at.state).slots at.given → IsCounted costs (jobs_of (lived_all by_machine costs at all).state).slots (lived_all by_machine costs at all).given
+all_counted costs at [] some counted = counted
+all_counted costs at (i ∷ all) some counted =
+    let did = passed costs (jobs_of at.state) i at.given in
+    all_counted costs (lived by_machine costs at i) all some (on_counted costs did.asked did.given at some (passed_counted costs at.state i at.given counted))
+
+ends_here : (costs : List Cost) (jobs : Jobs) (given : List ℕ) → IsRunnerAwake jobs → IsCounted costs jobs.slots given → EndsByItsCost costs jobs given
+ends_here costs jobs given awake counted w is asked = go (nat_le w.cost.hundredths (given_to w.number given + 1)) refl (subst (λ (o : Option JobCost). IsSome (worked o given).asked) is asked) where
+  go : (b : Bool) → nat_le w.cost.hundredths (given_to w.number given + 1) ≡ b → IsSome (worked (Some w) given).asked → given_to w.number given + 1 ≡ w.cost.hundredths
+  go true q ends =
+      let its = working costs jobs w awake is in
+      let less = counted.less (w.number - 1) its.at w.cost its.stand its.cost_is in
+      let used : w.cost.hundredths ≤ given_to w.number given + 1 = grind (arith, common_steps) in
+      omega arith
+  go false q ends = absurd (let never : false ≡ true = rw q at ends in cc)
+
+pub ends_by_cost : (costs : List Cost) (m : Machined) (before : List Instant) → IsEachCostSome costs → (at : Standing Machined) → at ≡ lived_all by_machine costs (standing_at m) before → EndsByItsCost costs (by_machine.jobs at.state) at.given
+ends_by_cost costs m before some at is =
+    let there = lived_all by_machine costs (standing_at m) before in
+    subst (λ (x : Standing Machined). EndsByItsCost costs (jobs_of x.state) x.given) (sym is)
+    (ends_here costs (jobs_of there.state) there.given (reached_runner there.state.plan there.state.base there.state.log)
+    (all_counted costs (standing_at m) before some (start_counted costs (jobs_of m).slots some)))

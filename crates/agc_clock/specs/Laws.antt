@@ -1,0 +1,68 @@
+-- What is wanted of time that passes, in the field's words.
+use Rattle.std.specs.Prelude.{◌≡◌, ℕ, ◌+◌, ◌≤◌, ◌&&◌, Bool, true, false}
+use Rattle.std.specs.Prelude.{List, [], ◌∷◌, Option, Some, None, IsSome}
+use Rattle.std.specs.List.{count_by}
+use Rattle.agc_plan.specs.Jobs.{Jobs}
+use Rattle.agc_plan.specs.declared.request.Request.{Request}
+use Rattle.agc_plan.specs.declared.request.Request.TheVariants.{Tick}
+use Rattle.agc_clock.specs.declared.asked.Asked.{Asked}
+use Rattle.agc_clock.specs.declared.asked.Source.{Source}
+use Rattle.agc_clock.specs.declared.asked.Source.TheVariants as source
+use Rattle.agc_clock.specs.declared.counting.JobCost.{JobCost}
+use Rattle.agc_clock.specs.declared.timetable.Cost.{Cost}
+use Rattle.agc_clock.specs.Counts.{given_to, passed, worker_of}
+use Rattle.agc_clock.specs.Instants.{Instant, Works}
+use Rattle.agc_clock.specs.Runs.{Serving, Standing, lived}
+use Rattle.agc_clock.specs.Timetables.{cost_at}
+
+-- a tick that the clock itself asks for
+abbrev pub is_tick : Request → Bool
+is_tick Tick = true
+is_tick request = false
+
+abbrev pub is_clock : Source → Bool
+is_clock source.Clock = true
+is_clock (source.Event number) = false
+
+abbrev pub is_own_tick : Asked → Bool
+is_own_tick asked = is_tick asked.request && is_clock asked.source
+
+-- how many there are
+abbrev pub own_ticks : List Asked → ℕ
+own_ticks asked = count_by is_own_tick asked
+
+-- a hundredth, at which a job with a cost runs, or none does
+abbrev pub works_for : Instant → Option JobCost → ℕ
+works_for Works (Some worker) = 1
+works_for instant worker = 0
+
+abbrev pub works_for_nobody : Instant → Option JobCost → ℕ
+works_for_nobody Works None = 1
+works_for_nobody instant worker = 0
+
+-- how many hundredths of these instants a job with a cost was given, and how many nobody was
+abbrev pub hundredths_given : {S : Type 0} → Serving S → List Cost → Standing S → List Instant
+    → ℕ
+hundredths_given by costs at [] = 0
+hundredths_given by costs at (instant ∷ instants) =
+    works_for instant (worker_of costs (by.jobs at.state))
+    + hundredths_given by costs (lived by costs at instant) instants
+
+abbrev pub hundredths_left : {S : Type 0} → Serving S → List Cost → Standing S → List Instant
+    → ℕ
+hundredths_left by costs at [] = 0
+hundredths_left by costs at (instant ∷ instants) =
+    works_for_nobody instant (worker_of costs (by.jobs at.state))
+    + hundredths_left by costs (lived by costs at instant) instants
+
+-- each cost is something
+abbrev pub IsEachCostSome : List Cost → Type 0
+IsEachCostSome costs =
+    (at : ℕ) (cost : Cost) → cost_at costs at ≡ Some cost → 1 ≤ cost.hundredths
+
+-- where a job is asked to end or to sleep by a hundredth, it was given its cost with it, and no
+-- more
+abbrev pub EndsByItsCost : List Cost → Jobs → List ℕ → Type 0
+EndsByItsCost costs jobs given = (worker : JobCost) → worker_of costs jobs ≡ Some worker
+    → IsSome (passed costs jobs Works given).asked
+    → given_to worker.number given + 1 ≡ worker.cost.hundredths

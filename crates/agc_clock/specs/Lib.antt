@@ -1,0 +1,9 @@
+pub mod Coming
+pub mod Events
+pub mod Timetables
+pub mod Instants
+pub mod Counts
+pub mod Clocks
+pub mod Reading
+pub mod Runs
+pub mod Laws

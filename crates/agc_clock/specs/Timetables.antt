@@ -1,0 +1,46 @@
+-- What is set down for a scenario: how long it lasts, what time is stolen, what jobs cost, and
+-- which events come when.
+use Rattle.std.specs.Prelude.{ℕ, ◌-◌, ◌==◌, ◌&&◌, nat_le, nat_lt, Bool, if◌then◌else◌, List, []}
+use Rattle.std.specs.Prelude.{◌∷◌, Option, Some, None}
+use Rattle.std.specs.Option.{option_map_or}
+use Rattle.agc_plan.specs.declared.request.Request.{Request}
+use Rattle.agc_plan.specs.declared.request.Request.TheVariants.{EndOfJob, Sleep}
+use Rattle.agc_clock.specs.declared.timetable.Cost.{Cost}
+use Rattle.agc_clock.specs.declared.timetable.Stolen.{Stolen}
+use Rattle.agc_clock.specs.declared.timetable.Then.{Then}
+use Rattle.agc_clock.specs.declared.timetable.Then.TheVariants as then
+use Rattle.agc_clock.specs.Events.{Event}
+
+-- how many centiseconds it lasts, the rows of stolen time, what jobs cost, and the events
+pub record Schedule : Type 0 where
+  pub lasts : ℕ
+  pub stolen : List Stolen
+  pub costs : List Cost
+  pub events : List Event
+
+-- a row of stolen time holds from its first centisecond on, before its last
+abbrev pub holds : Stolen → ℕ → Bool
+holds row time = nat_le row.from time && nat_lt time row.to
+
+-- the percent that is stolen of a centisecond: that of the first row that holds
+abbrev pub stolen_at : List Stolen → ℕ → ℕ
+stolen_at [] time = 0
+stolen_at (row ∷ rows) time = if holds row time then row.percent else stolen_at rows time
+
+-- the computing time of a centisecond, in hundredths of it
+abbrev pub share_at : Schedule → ℕ → ℕ
+share_at table time = 100 - stolen_at table.stolen time
+
+-- what a job costs that stands at this address
+abbrev pub cost_at : List Cost → ℕ → Option Cost
+cost_at [] at = None
+cost_at (cost ∷ costs) at = if cost.at == at then Some cost else cost_at costs at
+
+-- what a job is asked that has used up its cost
+abbrev pub asked_then : Then → Request
+asked_then then.End = EndOfJob
+asked_then (then.Sleep at) = Sleep at
+
+-- what the event of a number asks for, in order
+abbrev pub requests_of : Option Event → List Request
+requests_of event = option_map_or (λ e. e.requests) event []

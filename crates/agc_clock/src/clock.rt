@@ -1,0 +1,240 @@
+// The clock.
+ghost use Rattle.std.specs.Prelude.{◌≡◌, ◌≤◌, ◌<◌, ◌+◌, ◌^◌, false, length, None, Some, slice_get};
+ghost use Rattle.std.specs.Prelude.{IfSome};
+ghost use Rattle.agc_exec.specs.Image.{IsLawfulWords, jobs_in};
+ghost use Rattle.agc_plan.specs.Jobs.{Jobs};
+ghost use Rattle.agc_clock.specs.Clocks.{AsksNext, at_start};
+ghost use Rattle.agc_clock.specs.Counts.{kept, worker_of};
+ghost use Rattle.agc_clock.specs.Reading.{AsksOrPasses, first_of};
+ghost use Rattle.agc_clock.specs.Timetables.{Schedule};
+
+use crate::asked::{Asked, Source, by_clock};
+use crate::counting::{JobCost, kept, share_at, worker};
+use crate::timetable::{Timetables, asked_then};
+use agc_exec::named_job;
+use agc_plan::Request;
+use agc_word::Erasable;
+use std::marker::Model;
+
+/// A clock that lets time pass by a timetable: it says what a machine is asked next, and counts the
+/// computing time that each job was given since it was established or roused. It takes no memory.
+/// Source: profile.
+#[repr(C)]
+#[derive(Clone, Copy)]
+pub struct Clock {
+    time: u32,
+    event: usize,
+    asked: usize,
+    looks: bool,
+    left: u32,
+    given: [u32; 8],
+}
+
+impl Model for Clock {
+    ghost use Rattle.std.specs.Prelude.{◌≡◌, length};
+    ghost use Rattle.agc_clock.specs.Clocks.{Clocked};
+
+    ghost Value = { Clocked };
+
+    ghost view = { λ c. record {
+      time = c.time;
+      event = c.event;
+      asked = c.asked;
+      looks = c.looks;
+      left = c.left;
+      given = c.given;
+    } };
+
+    ghost invariant = { λ c. length c.given ≡ 8 };
+
+    ghost inverse = { λ c. record {
+      time = c.time;
+      event = c.event;
+      asked = c.asked;
+      looks = c.looks;
+      left = c.left;
+      given = c.given;
+    } };
+}
+
+/// What an event still asks for at this time, first.
+fn request_of<T: Timetables>(table: &T, event: usize, asked: usize, time: u32) -> Option<Request>
+    ensures first { result
+        ≡ first_of time asked (slice_get (T.set_down table.now).events event) }
+    ensures room { IfSome result (λ _. asked + 1 < 2 ^ 64) }
+{
+    match table.times(event) {
+        None => None,
+        Some(times) => {
+            if times.comes(time) && asked < table.requests(event) {
+                table.request(event, asked)
+            } else {
+                None
+            }
+        }
+    }
+}
+
+impl Clock {
+    /// A clock at centisecond 0. Source: profile.
+    pub fn new() -> Clock
+        ensures { result ≡ at_start }
+    {
+        Clock {
+            time: 0,
+            event: 0,
+            asked: 0,
+            looks: false,
+            left: 0,
+            given: [0; 8],
+        }
+    }
+
+    /// The centisecond that passes, from 1; 0 before the first tick. Source: profile.
+    pub fn time(&self) -> u32
+        ensures { result ≡ self.now.time }
+    {
+        self.time
+    }
+
+    /// What the events of this time still ask for, first.
+    fn next_event<T: Timetables>(&mut self, table: &T) -> Option<Asked>
+        ensures stage { (jobs : Jobs)
+            → AsksOrPasses (T.set_down table.now) jobs self.old result self.new }
+        ensures passed { result ≡ None → length (T.set_down table.now).events ≤ self.new.event }
+    {
+        let mut asked = self.asked;
+        for event in self.event..table.events() {
+            match request_of(table, event, asked, self.time) {
+                None => asked = 0,
+                Some(request) => {
+                    self.event = event;
+                    self.asked = asked + 1;
+                    return Some(Asked {
+                        request,
+                        source: Source::Event(event),
+                    });
+                }
+            }
+        }
+        self.event = table.events();
+        self.asked = 0;
+        None
+    }
+
+    /// A change of job, if the running job has yet to look at NEWJOB, and NEWJOB names a core set.
+    fn look(&mut self, words: &Erasable) -> Option<Asked>
+        requires { IsLawfulWords words.now }
+        ensures stage { (table : Schedule) → length table.events ≤ self.old.event
+            → AsksOrPasses table (jobs_in words.now) self.old result self.new }
+        ensures looked { self.new.looks ≡ false }
+        ensures events { self.new.event ≡ self.old.event }
+    {
+        let looks = self.looks;
+        self.looks = false;
+        if looks && named_job(words).is_some() {
+            Some(by_clock(Request::Change))
+        } else {
+            None
+        }
+    }
+
+    /// Gives the computing time that is left to a job with a cost, up to its end.
+    fn give(&mut self, worker: &JobCost) -> Option<Asked>
+        requires number { (1 ≤ worker.now.number) × (worker.now.number ≤ 8) }
+        requires looked { self.old.looks ≡ false }
+        ensures stage { (table : Schedule) (jobs : Jobs) → length table.events ≤ self.old.event
+            → worker_of table.costs jobs ≡ Some worker.now
+            → AsksOrPasses table jobs self.old result self.new }
+        ensures worked { result ≡ None → self.new.left ≡ 0 }
+        ensures looked { self.new.looks ≡ false }
+        ensures events { self.new.event ≡ self.old.event }
+    {
+        let place = usize::from(worker.number) - 1;
+        let given = self.given[place];
+        let rest = worker.cost.hundredths.saturating_sub(given).max(1);
+        if rest <= self.left {
+            self.left -= rest;
+            self.given[place] = 0;
+            Some(by_clock(asked_then(worker.cost.then)))
+        } else {
+            self.given[place] = given + self.left;
+            self.left = 0;
+            None
+        }
+    }
+
+    /// Gives the running job what is left of the computing time, until its cost is used up.
+    fn work<T: Timetables>(&mut self, words: &Erasable, table: &T) -> Option<Asked>
+        requires lawful { IsLawfulWords words.now }
+        requires passed { length (T.set_down table.now).events ≤ self.old.event }
+        requires looked { self.old.looks ≡ false }
+        ensures stage { AsksOrPasses (T.set_down table.now) (jobs_in words.now) self.old result
+            self.new }
+        ensures worked { result ≡ None → self.new.left ≡ 0 }
+        ensures looked { self.new.looks ≡ false }
+        ensures events { self.new.event ≡ self.old.event }
+    {
+        match worker(table, words) {
+            Some(worker) => self.give(&worker),
+            None => {
+                self.left = 0;
+                None
+            }
+        }
+    }
+
+    /// The next centisecond's tick, if there is one.
+    fn tick<T: Timetables>(&mut self, table: &T) -> Option<Asked>
+        requires passed { length (T.set_down table.now).events ≤ self.old.event }
+        requires looked { self.old.looks ≡ false }
+        requires worked { self.old.left ≡ 0 }
+        ensures { (jobs : Jobs) → AsksNext (T.set_down table.now) jobs self.old result self.new }
+    {
+        if self.time >= table.lasts() {
+            return None;
+        }
+        self.time += 1;
+        self.event = 0;
+        self.asked = 0;
+        self.looks = true;
+        self.left = share_at(table, self.time);
+        Some(by_clock(Request::Tick))
+    }
+
+    /// The next request, and who asks for it, with these words of the machine, which were not
+    /// changed since the last [`served`](Clock::served) was told of them; None when the time is
+    /// over. Each centisecond: a tick; the events of its time; where NEWJOB names a set, a change
+    /// of job; then the running job's end or sleep, each time its cost is used up. Source: profile.
+    pub fn next<T: Timetables>(&mut self, words: &Erasable, table: &T) -> Option<Asked>
+        requires { IsLawfulWords words.now }
+        ensures { AsksNext (T.set_down table.now) (jobs_in words.now) self.old result self.new }
+    {
+        let asked = self.next_event(table);
+        if asked.is_some() {
+            return asked;
+        }
+        let asked = self.look(words);
+        if asked.is_some() {
+            return asked;
+        }
+        let asked = self.work(words, table);
+        if asked.is_some() {
+            return asked;
+        }
+        self.tick(table)
+    }
+
+    /// Takes what came of a request: the machine's words after it, and whether an era began with
+    /// it, as with every alarm, restart and fresh start. Who ended, who sleeps, and with a new era
+    /// everybody, begins anew: it is tried for each request, also for one that somebody else asked.
+    /// A request that was refused changes nothing, and need not be told. Source: profile.
+    pub fn served(&mut self, words: &Erasable, began: bool)
+        requires { IsLawfulWords words.now }
+        ensures { self.new ≡ record self.old {
+          given = kept began (jobs_in words.now) self.old.given;
+        } }
+    {
+        self.given = kept(words, began, &self.given);
+    }
+}

@@ -1,0 +1,152 @@
+// Who is given computing time.
+ghost use Rattle.std.specs.Prelude.{◌≡◌, ◌≤◌, IfSome, ◌-◌, length, if◌then◌else◌, ◌||◌, not};
+ghost use Rattle.agc_exec.specs.Image.{IsLawfulWords, jobs_in};
+ghost use Rattle.agc_clock.specs.Counts.{is_awake, kept, kept_by, runner_of, worker_of};
+ghost use Rattle.agc_clock.specs.Reading.{awake_at};
+ghost use Rattle.agc_clock.specs.Timetables.{cost_at, share_at, stolen_at};
+
+use crate::timetable::{Cost, Stolen, Timetables};
+use agc_exec::{Seat, job_at};
+use agc_word::Erasable;
+
+/// A job's number, and the address at which it stands.
+#[derive(Clone, Copy)]
+pub(crate) struct JobAt {
+    pub number: u16,
+    pub at: u16,
+}
+
+/// A job's number, and what it costs.
+#[derive(Clone, Copy)]
+pub(crate) struct JobCost {
+    pub number: u16,
+    pub cost: Cost,
+}
+
+/// The job of core set 0, if it is awake.
+fn runner_in(seat: Option<Seat>) -> Option<JobAt>
+    ensures { result ≡ awake_at seat }
+{
+    match seat {
+        None => None,
+        Some(seat) => {
+            if seat.asleep {
+                None
+            } else {
+                Some(JobAt {
+                    number: seat.number,
+                    at: seat.at,
+                })
+            }
+        }
+    }
+}
+
+/// The running job.
+fn runner(words: &Erasable) -> Option<JobAt>
+    requires { IsLawfulWords words.now }
+    ensures runner { result ≡ runner_of (jobs_in words.now) }
+    ensures number { IfSome result (λ job. (1 ≤ job.number) × (job.number ≤ 8)) }
+{
+    runner_in(job_at(words, 0))
+}
+
+/// What a job costs that stands at this address.
+fn cost_at<T: Timetables>(table: &T, at: u16) -> Option<Cost>
+    ensures { result ≡ cost_at (T.set_down table.now).costs at }
+{
+    for row in 0..table.costs() {
+        match table.cost(row) {
+            None => {}
+            Some(cost) => {
+                if cost.at.get() == at {
+                    return Some(cost);
+                }
+            }
+        }
+    }
+    None
+}
+
+/// Who is given computing time: the running job, if its address has a cost.
+pub(crate) fn worker<T: Timetables>(table: &T, words: &Erasable) -> Option<JobCost>
+    requires { IsLawfulWords words.now }
+    ensures worker { result ≡ worker_of (T.set_down table.now).costs (jobs_in words.now) }
+    ensures number { IfSome result (λ job. (1 ≤ job.number) × (job.number ≤ 8)) }
+{
+    match runner(words) {
+        None => None,
+        Some(runner) => match cost_at(table, runner.at) {
+            None => None,
+            Some(cost) => Some(JobCost {
+                number: runner.number,
+                cost,
+            }),
+        },
+    }
+}
+
+/// The percent that is stolen of a centisecond.
+fn stolen_at(rows: &[Stolen], time: u32) -> u32
+    ensures { result ≡ stolen_at rows.now time }
+{
+    for row in rows {
+        if row.from <= time && time < row.to {
+            return row.percent;
+        }
+    }
+    0
+}
+
+/// The computing time of a centisecond, in hundredths of it.
+pub(crate) fn share_at<T: Timetables>(table: &T, time: u32) -> u32
+    ensures { result ≡ share_at (T.set_down table.now) time }
+{
+    100_u32.saturating_sub(stolen_at(table.stolen(), time))
+}
+
+/// Whether the job of this number, 1 to 8, lives and is awake.
+fn is_awake(words: &Erasable, number: u16) -> bool
+    requires lawful { IsLawfulWords words.now }
+    requires number { 1 ≤ number }
+    ensures { result ≡ is_awake (jobs_in words.now) number }
+{
+    for k in 0..words.sets().count() {
+        match job_at(words, k) {
+            None => {}
+            Some(seat) => {
+                if seat.number == number {
+                    return !seat.asleep;
+                }
+            }
+        }
+    }
+    false
+}
+
+/// What a job, 1 to 8, keeps of what it was given.
+fn kept_by(words: &Erasable, began: bool, number: u16, given: u32) -> u32
+    requires lawful { IsLawfulWords words.now }
+    requires number { 1 ≤ number }
+    ensures { result
+        ≡ (if began then 0 else if is_awake (jobs_in words.now) number then given else 0) }
+{
+    if began || given == 0 || !is_awake(words, number) {
+        0
+    } else {
+        given
+    }
+}
+
+/// What all jobs keep of what they were given.
+pub(crate) fn kept(words: &Erasable, began: bool, given: &[u32; 8]) -> [u32; 8]
+    requires lawful { IsLawfulWords words.now }
+    requires eight { length given.now ≡ 8 }
+    ensures { result ≡ kept began (jobs_in words.now) given.now }
+{
+    let mut all = [0; 8];
+    for place in 0..8 {
+        all[place] = kept_by(words, began, place as u16 + 1, given[place]);
+    }
+    all
+}

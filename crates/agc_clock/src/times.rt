@@ -1,0 +1,83 @@
+// When an event comes.
+ghost use Rattle.std.specs.Prelude.{◌≡◌, ◌<◌, ◌↔◌, IsSome, IfSome};
+ghost use Rattle.agc_clock.specs.Coming.{comes};
+
+use std::marker::Model;
+
+/// When an event comes, in centiseconds since the start: at a time, and again each so many
+/// centiseconds, up to a last time and at that too. Source: profile.
+#[derive(Clone, Copy, PartialEq, Eq, Debug)]
+pub struct Times {
+    at: u32,
+    every: u32,
+    until: u32,
+}
+
+impl Model for Times {
+    ghost use Rattle.std.specs.Prelude.{◌<◌};
+    ghost use Rattle.agc_clock.specs.Coming.{Coming};
+
+    ghost Value = { Coming };
+
+    ghost view = { λ t. record { at = t.at; every = t.every; until = t.until } };
+
+    ghost invariant = { λ t. 0 < t.every };
+
+    ghost inverse = { λ t. record { at = t.at; every = t.every; until = t.until } };
+}
+
+impl Times {
+    /// At this time alone. Source: profile.
+    pub fn once(at: u32) -> Times
+        ensures { result ≡ record { at = at; every = 1; until = at } }
+    {
+        Times {
+            at,
+            every: 1,
+            until: at,
+        }
+    }
+
+    /// At this time, and again each so many centiseconds, up to `until` and at that too. None where
+    /// `every` is 0. Source: profile.
+    pub fn repeated(at: u32, every: u32, until: u32) -> Option<Times>
+        ensures valid { IsSome result ↔ (0 < every) }
+        ensures value { IfSome result (λ t. t
+            ≡ record { at = at; every = every; until = until }) }
+    {
+        if every == 0 {
+            None
+        } else {
+            Some(Times { at, every, until })
+        }
+    }
+
+    /// The first time.
+    pub fn at(&self) -> u32
+        ensures { result ≡ self.now.at }
+    {
+        self.at
+    }
+
+    /// After how many centiseconds it comes again, at least 1; 1 where it comes once.
+    pub fn every(&self) -> u32
+        ensures value { result ≡ self.now.every }
+        ensures some { 0 < result }
+    {
+        self.every
+    }
+
+    /// The last time at which it may come; the first where it comes once.
+    pub fn until(&self) -> u32
+        ensures { result ≡ self.now.until }
+    {
+        self.until
+    }
+
+    /// Whether it comes at this time. Source: profile.
+    pub fn comes(&self, time: u32) -> bool
+        ensures { result ≡ comes self.now time }
+    {
+        self.at <= time && time <= self.until && (time - self.at) % self.every == 0
+    }
+}

@@ -1,0 +1,169 @@
+// What is set down for a scenario, wherever it lies.
+ghost use Rattle.std.specs.Prelude.{◌≡◌, length, slice_get, option_map};
+ghost use Rattle.agc_clock.specs.Timetables.{Schedule, asked_then, requests_of};
+
+use crate::times::Times;
+use agc_plan::{Address, Request};
+use std::marker::Model;
+
+/// From centisecond `from` on, before `to`, something else takes `percent` of each centisecond; all
+/// of it where that is above 100. Source: profile.
+#[repr(C)]
+#[derive(Clone, Copy, PartialEq, Eq, Debug)]
+pub struct Stolen {
+    pub from: u32,
+    pub to: u32,
+    pub percent: u32,
+}
+
+/// What a job does that has used up its cost: it ends, or sleeps until this address is called.
+/// Source: profile.
+#[derive(Clone, Copy, PartialEq, Eq, Debug)]
+pub enum Then {
+    End,
+    Sleep(Address),
+}
+
+/// The request of a job that has used up its cost.
+pub(crate) fn asked_then(then: Then) -> Request
+    ensures { result ≡ asked_then then }
+{
+    match then {
+        Then::End => Request::EndOfJob,
+        Then::Sleep(at) => Request::Sleep(at),
+    }
+}
+
+/// What a job costs that stands at an address, in hundredths of a centisecond of computing, from 1
+/// on (0 costs as much as 1), and what it does then. Source: profile.
+#[derive(Clone, Copy, PartialEq, Eq, Debug)]
+pub struct Cost {
+    pub at: Address,
+    pub hundredths: u32,
+    pub then: Then,
+}
+
+/// When an event comes, and what it then asks for, in order. Source: profile.
+#[derive(Drop)]
+pub struct Event {
+    pub times: Times,
+    pub requests: Vec<Request>,
+}
+
+impl Model for Event {
+    ghost use Rattle.agc_clock.specs.Events as told;
+
+    ghost Value = { told.Event };
+
+    ghost view = { λ e. record { times = e.times; requests = e.requests.items } };
+}
+
+/// What is set down for a scenario, wherever it lies: how many centiseconds it lasts, rows of
+/// stolen time, what jobs cost, and events. Each is handed out by its number, from 0; None behind
+/// the last. Of two rows that hold at one time, and of two costs of one address, the first counts.
+/// Source: profile.
+pub trait Timetables {
+    ghost set_down: { Self → Schedule };
+
+    /// How many centiseconds it lasts.
+    fn lasts(&self) -> u32
+        ensures { result ≡ (set_down self.now).lasts };
+
+    /// The rows of stolen time.
+    fn stolen(&self) -> &[Stolen]
+        ensures { result.now ≡ (set_down self.now).stolen };
+
+    /// How many addresses have a cost.
+    fn costs(&self) -> usize
+        ensures { result ≡ length (set_down self.now).costs };
+
+    /// What a job costs that stands at an address.
+    fn cost(&self, row: usize) -> Option<Cost>
+        ensures { result ≡ slice_get (set_down self.now).costs row };
+
+    /// How many events there are.
+    fn events(&self) -> usize
+        ensures { result ≡ length (set_down self.now).events };
+
+    /// When an event comes.
+    fn times(&self, event: usize) -> Option<Times>
+        ensures { result
+            ≡ option_map (λ e. e.times) (slice_get (set_down self.now).events event) };
+
+    /// For how many requests an event asks each time.
+    fn requests(&self, event: usize) -> usize
+        ensures { result
+            ≡ length (requests_of (slice_get (set_down self.now).events event)) };
+
+    /// One of these requests.
+    fn request(&self, event: usize, index: usize) -> Option<Request>
+        ensures { result
+            ≡ slice_get (requests_of (slice_get (set_down self.now).events event)) index };
+}
+
+/// What is set down for a scenario, in memory of its own. Source: profile.
+#[derive(Drop)]
+pub struct Timetable {
+    pub lasts: u32,
+    pub stolen: Vec<Stolen>,
+    pub costs: Vec<Cost>,
+    pub events: Vec<Event>,
+}
+
+impl Model for Timetable {
+    ghost use Rattle.agc_clock.specs.Timetables.{Schedule};
+
+    ghost Value = { Schedule };
+
+    ghost view = { λ t. record {
+      lasts = t.lasts;
+      stolen = t.stolen.items;
+      costs = t.costs.items;
+      events = t.events.items;
+    } };
+}
+
+impl Timetables for Timetable {
+    ghost set_down = { λ t. t };
+
+    fn lasts(&self) -> u32 {
+        self.lasts
+    }
+
+    fn stolen(&self) -> &[Stolen] {
+        self.stolen.as_slice()
+    }
+
+    fn costs(&self) -> usize {
+        self.costs.len()
+    }
+
+    fn cost(&self, row: usize) -> Option<Cost> {
+        self.costs.get(row).copied()
+    }
+
+    fn events(&self) -> usize {
+        self.events.len()
+    }
+
+    fn times(&self, event: usize) -> Option<Times> {
+        match self.events.get(event) {
+            None => None,
+            Some(event) => Some(event.times),
+        }
+    }
+
+    fn requests(&self, event: usize) -> usize {
+        match self.events.get(event) {
+            None => 0,
+            Some(event) => event.requests.len(),
+        }
+    }
+
+    fn request(&self, event: usize, index: usize) -> Option<Request> {
+        match self.events.get(event) {
+            None => None,
+            Some(event) => event.requests.get(index).copied(),
+        }
+    }
+}

@@ -1,0 +1,24 @@
+//! What is wrong with a key.
+ghost use Rattle.std.specs.Prelude.{◌≡◌};
+
+use crate::key::{Key, Level};
+
+/// What is wrong with a key. Source: profile.
+#[derive(Clone, Copy, PartialEq, Eq, Debug)]
+pub enum KeyFault {
+    /// The finding's text is no key of a table of this level.
+    Unknown(Level),
+    /// It is required, and missing.
+    Missing(Key),
+    /// Its value is of another kind, out of range, or of another length. The finding's text is the
+    /// digits that stand where a text is expected.
+    Value(Key),
+    /// So is an item of its array.
+    Item(Key),
+    /// The row of stolen time ends before it begins, or as it does.
+    Backward,
+    /// The row of stolen time begins before an earlier one ends.
+    Overlap,
+    /// An earlier job has the same address.
+    JobTwice,
+}

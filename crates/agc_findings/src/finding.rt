@@ -1,0 +1,208 @@
+//! What is found wrong with a document, and where.
+ghost use Rattle.std.specs.Prelude.{◌≡◌, ◌≤◌, length, IfOk, OnOk};
+ghost use Rattle.std.specs.List.{All};
+ghost use Rattle.std.specs.List.Sorted.{IsNonDecreasingBy, IsPermutation};
+ghost use Rattle.agc_findings.specs.Findings.{line_ends, line_of, StandsIn, refusal_of};
+ghost use Rattle.agc_findings.specs.Findings.{IsFound, AreFound};
+ghost use Rattle.agc_document.specs.declared.fault.BenchFault.TheVariants as refusal;
+
+use crate::locate::{Spot, Way, locate_all};
+use crate::wrong::Wrong;
+use agc_document::{Form, KeyFault, KeyNote, Place, TextNote};
+use std::alloc::{AllocError, Global};
+use std::marker::Model;
+
+/// Why a document is no bench: the byte at which that is, the number of its line, from 1, where in
+/// the bench that is, the text that is told, and what is wrong. Source: profile.
+#[derive(Drop)]
+pub struct Finding {
+    pub at: usize,
+    pub line: u64,
+    pub place: Place,
+    pub text: String,
+    pub wrong: Wrong,
+}
+
+impl Model for Finding {
+    ghost use Rattle.std.specs.Prelude.{string_bytes};
+    ghost use Rattle.agc_findings.specs.Findings.{Found};
+
+    ghost Value = { Found };
+
+    ghost view = { λ f. record {
+      at = f.at;
+      line = f.line;
+      place = f.place;
+      text = string_bytes f.text;
+      wrong = f.wrong;
+    } };
+}
+
+/// How many lines end in a text.
+fn line_ends(text: &[u8]) -> u64
+    ensures value { result ≡ line_ends text.now }
+    ensures few { result ≤ length text.now }
+{
+    let mut count = 0;
+    for byte in text {
+        if *byte == b'\n' {
+            count += 1;
+        }
+    }
+    count
+}
+
+/// The number of the line of a document in which this byte stands: the last, where the document
+/// ends before it. Source: profile.
+#[tactic(auto, using(crate::proofs::Lines::ends_before))]
+pub fn line_at(document: &str, at: usize) -> u64
+    ensures line { result ≡ line_of document.now at }
+    ensures stands { StandsIn document.now result }
+{
+    let bytes = document.as_bytes();
+    line_ends(&bytes[..at.min(bytes.len())]) + 1
+}
+
+/// What is found at one byte of a document.
+pub(crate) fn make_finding(
+    alloc: Global,
+    document: &str,
+    at: usize,
+    place: Place,
+    text: &str,
+    wrong: Wrong,
+) -> Result<Finding, AllocError>
+    ensures { IfOk result (λ f. IsFound document.now (refusal_of wrong) f) }
+{
+    let at = at.min(document.len());
+    Ok(Finding {
+        at,
+        line: line_at(document, at),
+        place,
+        text: String::from_str(alloc, text)?,
+        wrong,
+    })
+}
+
+/// Brings findings in the order of the document.
+fn put_in_order(findings: &mut Vec<Finding>) -> Result<(), AllocError>
+    ensures order { OnOk result (IsNonDecreasingBy (λ f. f.at) findings.new.items) }
+    ensures same { IsPermutation findings.old.items findings.new.items }
+    ensures length { length findings.new.items ≡ length findings.old.items }
+{
+    findings.sort_by_key(|finding| finding.at)?;
+    Ok(())
+}
+
+/// The digits that stand at a byte of a document.
+fn digits_at(document: &str, at: usize) -> &str {
+    let rest = document.get(at..).unwrap_or("");
+    let count = rest
+        .as_bytes()
+        .iter()
+        .take_while(|byte| byte.is_ascii_digit())
+        .count();
+    rest.get(..count).unwrap_or("")
+}
+
+/// The text that is told of what is wrong with a key.
+fn told_text<'a>(document: &'a str, note: &KeyNote<'a>, spot: Spot) -> &'a str {
+    match note.fault {
+        KeyFault::Unknown(_level) => note.text,
+        KeyFault::Missing(_key) => "",
+        KeyFault::Backward | KeyFault::Overlap | KeyFault::JobTwice => "",
+        KeyFault::Value(key) | KeyFault::Item(key) => match key.form() {
+            Some(Form::Address) | Some(Form::Word) => digits_at(document, spot.value),
+            _ => "",
+        },
+    }
+}
+
+/// What is found of a document's keys at these spots.
+fn found_keys<'a>(
+    alloc: Global,
+    document: &'a str,
+    notes: &[KeyNote<'a>],
+    spots: &[Spot],
+) -> Result<Vec<Finding>, AllocError>
+    ensures all { IfOk result (λ v. All (IsFound document.now refusal.Key) v.items) }
+    ensures length { IfOk result (λ v. length v.items ≡ length notes.now) }
+{
+    let mut found: Vec<Finding> = Vec::new(alloc);
+    for (k, note) in notes.iter().enumerate() {
+        let spot = spot_at(spots, k);
+        let text = told_text(document, note, spot);
+        let wrong = Wrong::Key(note.fault);
+        let one = make_finding(alloc, document, spot.at, note.place, text, wrong)?;
+        found.push(one)?;
+    }
+    Ok(found)
+}
+
+/// What is found of a document's texts at these spots.
+fn found_texts<'a>(
+    alloc: Global,
+    document: &'a str,
+    notes: &[TextNote<'a>],
+    spots: &[Spot],
+) -> Result<Vec<Finding>, AllocError>
+    ensures all { IfOk result (λ v. All (IsFound document.now refusal.Line) v.items) }
+    ensures length { IfOk result (λ v. length v.items ≡ length notes.now) }
+{
+    let mut found: Vec<Finding> = Vec::new(alloc);
+    for (k, note) in notes.iter().enumerate() {
+        let spot = spot_at(spots, k);
+        let wrong = Wrong::Text(note.form);
+        let one = make_finding(alloc, document, spot.at, note.place, note.text, wrong)?;
+        found.push(one)?;
+    }
+    Ok(found)
+}
+
+/// What is found of a document's keys.
+#[tactic(auto, using(crate::proofs::Found::in_order))]
+pub(crate) fn key_findings<'a>(
+    alloc: Global,
+    document: &'a str,
+    notes: &[KeyNote<'a>],
+) -> Result<Vec<Finding>, AllocError>
+    ensures are { IfOk result (λ v. AreFound document.now refusal.Key v.items) }
+    ensures length { IfOk result (λ v. length v.items ≡ length notes.now) }
+{
+    let mut ways: Vec<Way<'a>> = Vec::new(alloc);
+    for note in notes {
+        ways.push(Way::to_key(note))?;
+    }
+    let spots = locate_all(alloc, document, ways.as_slice())?;
+    let mut found = found_keys(alloc, document, notes, spots.as_slice())?;
+    put_in_order(&mut found)?;
+    Ok(found)
+}
+
+/// What is found of a document's texts.
+#[tactic(auto, using(crate::proofs::Found::in_order))]
+pub(crate) fn text_findings<'a>(
+    alloc: Global,
+    document: &'a str,
+    notes: &[TextNote<'a>],
+) -> Result<Vec<Finding>, AllocError>
+    ensures are { IfOk result (λ v. AreFound document.now refusal.Line v.items) }
+    ensures length { IfOk result (λ v. length v.items ≡ length notes.now) }
+{
+    let mut ways: Vec<Way<'a>> = Vec::new(alloc);
+    for note in notes {
+        ways.push(Way::to(note.place))?;
+    }
+    let spots = locate_all(alloc, document, ways.as_slice())?;
+    let mut found = found_texts(alloc, document, notes, spots.as_slice())?;
+    put_in_order(&mut found)?;
+    Ok(found)
+}
+
+/// One of these spots, or the begin where there are fewer.
+fn spot_at(spots: &[Spot], k: usize) -> Spot {
+    match spots.get(k) {
+        Some(spot) => *spot,
+        None => Spot { at: 0, value: 0 },
+    }
+}

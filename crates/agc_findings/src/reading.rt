@@ -1,0 +1,206 @@
+//! A bench, or what is wrong with the document that should be one.
+ghost use Rattle.std.specs.Prelude.{◌≡◌, Some, IfOk};
+ghost use Rattle.toml.specs.Parse.{parse_document};
+ghost use Rattle.toml.specs.View.{table_view};
+ghost use Rattle.agc_document.specs.Gives.{AreNoted, IsNotedFor};
+ghost use Rattle.agc_findings.specs.Findings.{AreFindings, ChecksAs, refusal_of};
+ghost use Rattle.agc_document.specs.declared.fault.BenchFault.TheVariants as refusal;
+
+use crate::finding::{Finding, key_findings, make_finding, text_findings};
+use crate::locate::{Way, locate_all};
+use crate::wrong::Wrong;
+use agc_document::{Bench, BenchFault, Notes, Place, bench_of};
+use std::alloc::{AllocError, Global};
+use toml::Table;
+use toml::de::Error;
+
+/// The bench that a text is, or else what is wrong with it.
+#[derive(Drop)]
+pub struct Checked {
+    pub bench: Option<Bench>,
+    pub findings: Vec<Finding>,
+}
+
+/// What is found at one byte, and nothing else.
+#[tactic(auto, using(crate::proofs::Found::found_alone))]
+fn found_only(
+    alloc: Global,
+    document: &str,
+    at: usize,
+    place: Place,
+    text: &str,
+    wrong: Wrong,
+) -> Result<Vec<Finding>, AllocError>
+    ensures { IfOk result (λ v. AreFindings document.now (refusal_of wrong) v.items) }
+{
+    let mut findings: Vec<Finding> = Vec::new(alloc);
+    let one = make_finding(alloc, document, at, place, text, wrong)?;
+    findings.push(one)?;
+    Ok(findings)
+}
+
+/// What is wrong at a place, and nothing else.
+fn found_at(
+    alloc: Global,
+    document: &str,
+    place: Place,
+    wrong: Wrong,
+) -> Result<Vec<Finding>, AllocError>
+    ensures { IfOk result (λ v. AreFindings document.now (refusal_of wrong) v.items) }
+{
+    let spots = locate_all(alloc, document, &[Way::to(place)])?;
+    let at = match spots.as_slice().first() {
+        Some(spot) => spot.at,
+        None => 0,
+    };
+    found_only(alloc, document, at, place, "", wrong)
+}
+
+/// Whether a text is five octal digits.
+fn is_octal_five(text: &str) -> bool {
+    text.len() == 5
+        && text
+            .as_bytes()
+            .iter()
+            .all(|byte| b'0' <= *byte && *byte < b'8')
+}
+
+/// Why a text is no TOML document. Source: profile.
+///
+/// # Errors
+///
+/// Where there is no memory.
+pub fn found_no_document(
+    alloc: Global,
+    text: &str,
+    error: &Error,
+) -> Result<Vec<Finding>, AllocError>
+    ensures { IfOk result (λ v. AreFindings text.now refusal.NotToml v.items) }
+{
+    if !text.contains('=') {
+        return found_only(alloc, text, 0, Place::Whole, "", Wrong::NoKeys);
+    }
+    let Some(span) = error.span() else {
+        return found_only(
+            alloc,
+            text,
+            0,
+            Place::Whole,
+            error.message(),
+            Wrong::NotToml,
+        );
+    };
+    let word = text.get(span.start..span.end).unwrap_or("");
+    if is_octal_five(word) {
+        return found_only(alloc, text, span.start, Place::Whole, word, Wrong::NoQuotes);
+    }
+    found_only(
+        alloc,
+        text,
+        span.start,
+        Place::Whole,
+        error.message(),
+        Wrong::NotToml,
+    )
+}
+
+/// What is wrong with keys first, then with texts.
+#[tactic(auto, using(crate::proofs::Found::found_both))]
+fn keys_and_texts(
+    alloc: Global,
+    document: &str,
+    notes: &Notes<'_>,
+) -> Result<Vec<Finding>, AllocError>
+    requires { AreNoted notes.now.keys.items }
+    ensures { IfOk result (λ v. AreFindings document.now refusal.Key v.items) }
+{
+    let mut found = key_findings(alloc, document, notes.keys.as_slice())?;
+    let mut texts = text_findings(alloc, document, notes.texts.as_slice())?;
+    found.append(&mut texts)?;
+    Ok(found)
+}
+
+/// What is wrong with texts alone.
+#[tactic(auto, using(crate::proofs::Found::found_front))]
+fn texts_alone(alloc: Global, document: &str, notes: &Notes<'_>) -> Result<Vec<Finding>, AllocError>
+    requires { AreNoted notes.now.texts.items }
+    ensures { IfOk result (λ v. AreFindings document.now refusal.Line v.items) }
+{
+    let found = text_findings(alloc, document, notes.texts.as_slice())?;
+    Ok(found)
+}
+
+/// What is wrong with a document that is refused for this, which was noted. Source: profile.
+///
+/// # Errors
+///
+/// Where there is no memory.
+pub fn found_in(
+    alloc: Global,
+    document: &str,
+    notes: &Notes<'_>,
+    fault: BenchFault,
+) -> Result<Vec<Finding>, AllocError>
+    requires { IsNotedFor notes.now.keys.items notes.now.texts.items fault }
+    ensures { IfOk result (λ v. AreFindings document.now fault v.items) }
+{
+    match fault {
+        BenchFault::NoMemory => Err(AllocError),
+        BenchFault::NotToml => found_at(alloc, document, Place::Whole, Wrong::NotToml),
+        BenchFault::Key => keys_and_texts(alloc, document, notes),
+        BenchFault::Line => texts_alone(alloc, document, notes),
+        BenchFault::TaskTwice => found_at(alloc, document, notes.plan, Wrong::TaskTwice),
+        BenchFault::PhaseTwice => found_at(alloc, document, notes.plan, Wrong::PhaseTwice),
+        BenchFault::TooManyAreas => found_at(alloc, document, notes.plan, Wrong::TooManyAreas),
+    }
+}
+
+/// The bench that the table of a text is, or why it is none.
+#[tactic(auto, using(crate::proofs::Found::checks_refused, crate::proofs::Found::checks_bench))]
+fn checked_table(alloc: Global, text: &str, table: &Table) -> Result<Checked, AllocError>
+    requires { parse_document text.now ≡ Some (table_view table.now) }
+    ensures { IfOk result (λ c. ChecksAs text.now c.bench c.findings.items) }
+{
+    let mut notes = Notes::new(true);
+    match bench_of(alloc, table, &mut notes) {
+        Ok(bench) => Ok(Checked {
+            bench: Some(bench),
+            findings: Vec::new(alloc),
+        }),
+        Err(fault) => {
+            let findings = found_in(alloc, text, &notes, fault)?;
+            Ok(Checked {
+                bench: None,
+                findings,
+            })
+        }
+    }
+}
+
+/// The bench that a text is, or why it is none: the same that `read_bench` says of it. Nothing is
+/// found in a bench. What is found first has the fault that `read_bench` returns; what is wrong
+/// with keys comes before what is wrong with texts, each in the order of the document, and of
+/// either at most twenty. Source: profile.
+///
+/// # Errors
+///
+/// Where there is no memory.
+#[tactic(auto, using(crate::proofs::Found::checks_none))]
+pub fn findings(alloc: Global, text: &str) -> Result<Checked, AllocError>
+    ensures { IfOk result (λ c. ChecksAs text.now c.bench c.findings.items) }
+{
+    let table = match toml::table_from_str(alloc, text) {
+        Ok(table) => table,
+        Err(error) => {
+            if error.is_memory() {
+                return Err(AllocError);
+            }
+            let findings = found_no_document(alloc, text, &error)?;
+            return Ok(Checked {
+                bench: None,
+                findings,
+            });
+        }
+    };
+    checked_table(alloc, text, &table)
+}

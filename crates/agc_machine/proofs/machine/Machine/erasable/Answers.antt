@@ -1,0 +1,9 @@
+use Rattle.std.proofs.Common.{subst}
+use Rattle.agc_machine.specs.Image.{IsImage}
+use Rattle.agc_machine.specs.Machines.{Machined}
+use Rattle.agc_machine.proofs.machine.Machine.erasable.Goals as goal
+
+pub returns : goal.returns
+returns c =
+    subst (λ (m : Machined). IsImage m c.self.inside.erasable) c.self.view_is
+    c.self.invariant.image

@@ -1,0 +1,41 @@
+//! How full the tables are.
+ghost use Rattle.agc_word.specs.Layout.{IsSized};
+ghost use Rattle.agc_exec.specs.Image.{IsLawfulWords};
+ghost use Rattle.agc_wait.specs.Table.{IsLawfulTable};
+
+use agc_exec::{job_at, running};
+use agc_wait::tasks_waiting;
+use agc_word::Erasable;
+
+/// How many core sets, areas and places of the Waitlist are taken, and whether somebody runs.
+#[derive(Clone, Copy, Debug, Default)]
+pub(crate) struct Counts {
+    pub(crate) sets: u64,
+    pub(crate) areas: u64,
+    pub(crate) tasks: u64,
+    pub(crate) runs: bool,
+}
+
+/// How full these words are.
+pub(crate) fn counts_of(e: &Erasable) -> Counts
+    requires sized { IsSized e.now }
+    requires cores { IsLawfulWords e.now }
+    requires waits { IsLawfulTable e.now }
+{
+    let mut sets: u64 = 0;
+    let mut areas: u64 = 0;
+    for k in 0..e.sets().count() {
+        if let Some(seat) = job_at(e, k) {
+            sets = sets.saturating_add(1);
+            if seat.area > 0 {
+                areas = areas.saturating_add(1);
+            }
+        }
+    }
+    Counts {
+        sets,
+        areas,
+        tasks: tasks_waiting(e).as_slice().len() as u64,
+        runs: running(e).is_some(),
+    }
+}

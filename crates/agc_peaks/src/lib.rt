@@ -1,0 +1,16 @@
+//! What runs come to: of each era how full the tables were, of many scenarios the first alarm, and
+//! the bench that a scenario is. Source: profile.
+#![tactic(auto)]
+
+mod counting;
+mod era;
+mod machine;
+mod peaks;
+mod running;
+mod spelling;
+mod sweep;
+mod writing;
+
+pub use peaks::{bench_peaks, scenario_peaks};
+pub use sweep::{Column, Sweep, Watches, run_sweep};
+pub use writing::scenario_bench;

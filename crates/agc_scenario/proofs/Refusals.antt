@@ -1,0 +1,36 @@
+-- Why a scenario is refused, from why its bench is.
+use Rattle.std.proofs.Common.{◌≡◌, true, refl, ap, subst}
+use Rattle.std.specs.List.{list_all}
+use Rattle.agc_plan.specs.declared.plan.PlanFault.{PlanFault}
+use Rattle.agc_plan.specs.declared.plan.PlanFault.TheVariants as plan
+use Rattle.agc_document.specs.declared.fault.BenchFault.{BenchFault}
+use Rattle.agc_document.specs.declared.fault.BenchFault.TheVariants.{NoMemory, NotToml, Key, Line, TaskTwice, PhaseTwice, TooManyAreas}
+use Rattle.agc_document.specs.Texts.{Texts}
+use Rattle.agc_document.specs.Benches.{bench_texts}
+use Rattle.agc_document.specs.Faults as bench
+use Rattle.agc_scenario.specs.Texts.{ScenarioTexts, TimingTexts}
+use Rattle.agc_scenario.specs.Scenarios.{Timed, IsTimed, can_be_shown, scenario_texts, timing_texts}
+use Rattle.agc_scenario.specs.Faults.{SpellPlanFault, RefusesTexts}
+
+-- texts, with others of their parts
+with_parts : (texts : ScenarioTexts) (b : Texts) (t : TimingTexts) → texts.bench ≡ b → texts.timing ≡ t → texts ≡ record { bench = b; row_names = texts.row_names; entry_names = texts.entry_names; timing = t }
+with_parts texts b t p q =
+    subst (λ x. texts ≡ record { bench = x; row_names = texts.row_names; entry_names = texts.entry_names; timing = t }) p
+    (subst (λ y. texts ≡ record { bench = texts.bench; row_names = texts.row_names; entry_names = texts.entry_names; timing = y }) q refl)
+
+spells : (texts : ScenarioTexts) (t : Timed) (f : PlanFault) → list_all can_be_shown texts.row_names ≡ true → list_all can_be_shown texts.entry_names ≡ true → IsTimed t → texts.timing ≡ timing_texts t → bench.SpellPlanFault texts.bench f → SpellPlanFault texts f
+spells texts t f rows entries timed is h = (
+  record { bench = h.0; row_names = texts.row_names; entry_names = texts.entry_names; timing = t },
+  record { bench = h.1; row_names = rows; entry_names = entries; timing = timed },
+  with_parts texts (bench_texts h.0) (timing_texts t) h.2 is,
+  h.3,
+)
+
+pub refused_bench : (texts : ScenarioTexts) (t : Timed) (fault : BenchFault) → list_all can_be_shown texts.row_names ≡ true → list_all can_be_shown texts.entry_names ≡ true → IsTimed t → texts.timing ≡ timing_texts t → bench.RefusesTexts texts.bench fault → RefusesTexts texts fault
+refused_bench texts t NoMemory rows entries timed is h = tt
+refused_bench texts t NotToml rows entries timed is h = absurd h
+refused_bench texts t Key rows entries timed is h = absurd h
+refused_bench texts t Line rows entries timed is h = λ s r e. h s.bench r.bench (ap (λ x. x.bench) e)
+refused_bench texts t TaskTwice rows entries timed is h = spells texts t plan.TaskTwice rows entries timed is h
+refused_bench texts t PhaseTwice rows entries timed is h = spells texts t plan.PhaseTwice rows entries timed is h
+refused_bench texts t TooManyAreas rows entries timed is h = spells texts t plan.TooManyAreas rows entries timed is h

@@ -1,0 +1,6 @@
+pub mod Texts
+pub mod Keys
+pub mod Scenarios
+pub mod Faults
+pub mod Leaving
+pub mod Checks

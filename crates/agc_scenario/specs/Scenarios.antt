@@ -1,0 +1,152 @@
+-- A scenario: its values, their ranges and their texts.
+use Rattle.std.specs.Prelude.{◌≡◌, ◌≤◌, ℕ, ◌*◌, Bool, true, List, map, Option, Some, None}
+use Rattle.std.specs.Option.{option_map}
+use Rattle.std.specs.List.{AllByRecursion, list_all}
+use Rattle.agc_plan.specs.declared.request.Request.{Request}
+use Rattle.agc_plan.specs.Ranges.{IsAddress, IsRequest}
+use Rattle.agc_plan.specs.Plans.{fault_of}
+use Rattle.agc_text.specs.Numbers.{octal}
+use Rattle.agc_text.specs.Lines.{line_of}
+use Rattle.agc_document.specs.Kinds.{is_name}
+use Rattle.agc_document.specs.Benches as bench
+use Rattle.agc_document.specs.Benches.{Benched, IsBench, bench_texts}
+use Rattle.agc_clock.specs.Coming.{Coming}
+use Rattle.agc_clock.specs.Events.{Event}
+use Rattle.agc_clock.specs.Timetables.{Schedule, asked_then}
+use Rattle.agc_clock.specs.declared.timetable.Cost.{Cost}
+use Rattle.agc_clock.specs.declared.timetable.Stolen.{Stolen}
+use Rattle.agc_clock.specs.declared.timetable.Then.{Then}
+use Rattle.agc_scenario.specs.Texts.{JobTexts, EventTexts, TimingTexts, ScenarioTexts}
+
+-- what a job costs, in centiseconds of computing, that stands at an address, what it is asked then,
+-- and its name
+pub record TimedJob : Type 0 where
+  pub at : ℕ
+  pub cost : ℕ
+  pub leaves : Then
+  pub name : Option (List ℕ)
+
+-- an event: its first centisecond, what it asks for, after how many centiseconds it comes again,
+-- the last centisecond at which it may, and its name
+pub record TimedEvent : Type 0 where
+  pub at : ℕ
+  pub requests : List Request
+  pub every : Option ℕ
+  pub until : Option ℕ
+  pub name : Option (List ℕ)
+
+-- how time passes: the seconds that a scenario lasts, its title, the rows of stolen time, what jobs
+-- cost, and the events
+pub record Timed : Type 0 where
+  pub seconds : ℕ
+  pub title : Option (List ℕ)
+  pub stolen : List Stolen
+  pub jobs : List TimedJob
+  pub events : List TimedEvent
+
+-- the values of a scenario: a bench that asks for nothing by itself, the names of its rows and
+-- entries, and how time passes
+pub record Scenarioed : Type 0 where
+  pub bench : Benched
+  pub row_names : List (Option (List ℕ))
+  pub entry_names : List (Option (List ℕ))
+  pub timing : Timed
+
+-- when an event comes, of a scenario that lasts so many centiseconds: once, or again and again, to
+-- its last time or the scenario's
+abbrev pub comes_by : ℕ → Option ℕ → Option ℕ → ℕ → Coming
+comes_by at None until lasts = record { at = at; every = 1; until = at }
+comes_by at (Some every) None lasts = record { at = at; every = every; until = lasts }
+comes_by at (Some every) (Some until) lasts = record { at = at; every = every; until = until }
+
+-- an event of a scenario that lasts so many centiseconds
+abbrev pub event_of : ℕ → TimedEvent → Event
+event_of lasts e =
+    record { times = comes_by e.at e.every e.until lasts; requests = e.requests }
+
+-- what a job costs, in hundredths of a centisecond
+abbrev pub cost_of : TimedJob → Cost
+cost_of j = record { at = j.at; hundredths = j.cost * 100; then = j.leaves }
+
+-- what is set down for a clock
+abbrev pub schedule_of : Timed → Schedule
+schedule_of t =
+    record {
+      lasts = t.seconds * 100;
+      stolen = t.stolen;
+      costs = map cost_of t.jobs;
+      events = map (event_of (t.seconds * 100)) t.events;
+    }
+
+-- the texts of what a job costs
+abbrev pub job_texts : TimedJob → JobTexts
+job_texts j =
+    record {
+      at = octal 5 j.at;
+      cost = j.cost;
+      leaving = line_of (asked_then j.leaves);
+      name = j.name;
+    }
+
+-- the texts of an event
+abbrev pub event_texts : TimedEvent → EventTexts
+event_texts e =
+    record {
+      at = e.at;
+      requests = map line_of e.requests;
+      every = e.every;
+      until = e.until;
+      name = e.name;
+    }
+
+-- the texts of how time passes
+abbrev pub timing_texts : Timed → TimingTexts
+timing_texts t =
+    record {
+      seconds = t.seconds;
+      title = t.title;
+      stolen = t.stolen;
+      jobs = map job_texts t.jobs;
+      events = map event_texts t.events;
+    }
+
+-- the numbers and texts of a scenario
+abbrev pub scenario_texts : Scenarioed → ScenarioTexts
+scenario_texts s =
+    record {
+      bench = bench_texts s.bench;
+      row_names = s.row_names;
+      entry_names = s.entry_names;
+      timing = timing_texts s.timing;
+    }
+
+-- whether a name can be shown, if it is there
+abbrev pub can_be_shown : Option (List ℕ) → Bool
+can_be_shown None = true
+can_be_shown (Some name) = is_name name
+
+-- the ranges of what a job costs
+abbrev pub IsTimedJob : TimedJob → Type 0
+IsTimedJob j = IsAddress j.at × IsRequest (asked_then j.leaves) × (can_be_shown j.name ≡ true)
+
+-- the ranges of an event
+abbrev pub IsTimedEvent : TimedEvent → Type 0
+IsTimedEvent e = AllByRecursion IsRequest e.requests × (can_be_shown e.name ≡ true)
+
+-- the ranges of how time passes
+pub record IsTimed (t : Timed) : Type 0 where
+  pub title : can_be_shown t.title ≡ true
+  pub jobs : AllByRecursion IsTimedJob t.jobs
+  pub events : AllByRecursion IsTimedEvent t.events
+
+-- the ranges of a scenario
+pub record IsInRange (s : Scenarioed) : Type 0 where
+  pub bench : bench.IsInRange s.bench
+  pub row_names : list_all can_be_shown s.row_names ≡ true
+  pub entry_names : list_all can_be_shown s.entry_names ≡ true
+  pub timing : IsTimed s.timing
+
+-- a scenario: in its ranges, and with rows and entries that make a plan
+pub record IsScenario (s : Scenarioed) : Type 0 where
+  pub in_range : IsInRange s
+  pub planned : fault_of s.bench.rows s.bench.entries ≡ None

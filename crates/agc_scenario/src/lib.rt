@@ -1,0 +1,17 @@
+//! Scenarios: benches in which time passes by itself, jobs cost computing time, something else
+//! steals it, and events come. Source: profile.
+#![tactic(auto)]
+
+mod apart;
+mod changing;
+mod checks;
+mod keys;
+mod scenario;
+mod texts;
+mod timing;
+mod values;
+
+pub use changing::Number;
+pub use checks::{CheckedScenario, scenario_findings};
+pub use scenario::{Scenario, is_scenario, read_scenario, scenario_of};
+pub use timing::{Name, TimedEvent, TimedJob, Timing};

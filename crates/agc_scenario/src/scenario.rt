@@ -1,0 +1,181 @@
+//! A scenario, read from a document.
+ghost use Rattle.std.specs.Prelude.{◌≡◌, ◌≢◌, true, Some, IfOk, IfErr};
+ghost use Rattle.std.specs.List.{list_all};
+ghost use Rattle.toml.specs.Parse.{parse_document};
+ghost use Rattle.toml.specs.View.{table_view};
+ghost use Rattle.agc_document.specs.Gives.{AreNoted, IsNotedFor, RefusedLine};
+ghost use Rattle.agc_scenario.specs.Faults.{HasTexts, RefusesTexts, RefusesScenario};
+ghost use Rattle.agc_scenario.specs.Scenarios.{IsScenario, IsTimed, Timed, can_be_shown};
+ghost use Rattle.agc_scenario.specs.Scenarios.{scenario_texts, timing_texts};
+
+use crate::keys::scenario_in;
+use crate::texts::{NameText, ScenarioTexts, TimingTexts};
+use crate::timing::{Name, Timing};
+use crate::values::{all_copied, can_all_be_shown, timing_of};
+use agc_document::{Bench, BenchFault, Form, Notes, Place, bench_from};
+use std::alloc::{AllocError, Global};
+use std::marker::Model;
+use toml::Table;
+
+/// A scenario: a bench that asks for nothing by itself, with names for its tasks and phases, and
+/// how time passes. Contracts see its values. Source: profile.
+#[derive(Drop)]
+pub struct Scenario {
+    pub(crate) bench: Bench,
+    pub(crate) row_names: Vec<Name>,
+    pub(crate) entry_names: Vec<Name>,
+    pub(crate) timing: Timing,
+}
+
+impl Model for Scenario {
+    ghost use Rattle.agc_scenario.specs.Scenarios.{Scenarioed};
+
+    ghost Value = { Scenarioed };
+
+    ghost view = { λ s. record {
+      bench = s.bench;
+      row_names = s.row_names.items;
+      entry_names = s.entry_names.items;
+      timing = s.timing;
+    } };
+}
+
+impl Scenario {
+    /// Its bench, whose script is empty. Source: profile.
+    pub fn bench(&self) -> &Bench
+        ensures { result.now ≡ self.now.bench }
+    {
+        &self.bench
+    }
+
+    /// How time passes. Source: profile.
+    pub fn timing(&self) -> &Timing
+        ensures { result.now ≡ self.now.timing }
+    {
+        &self.timing
+    }
+
+    /// The name of each task's row, in order. Source: profile.
+    pub fn row_names(&self) -> &[Name]
+        ensures { result.now ≡ self.now.row_names }
+    {
+        self.row_names.as_slice()
+    }
+
+    /// The name of each phase entry, in order. Source: profile.
+    pub fn entry_names(&self) -> &[Name]
+        ensures { result.now ≡ self.now.entry_names }
+    {
+        self.entry_names.as_slice()
+    }
+}
+
+/// Copies names. A fault `Line` where one can't be shown.
+fn names_of(alloc: Global, names: &[NameText<'_>]) -> Result<Vec<Name>, BenchFault>
+    ensures found { IfOk result (λ v. (v.items ≡ names.now)
+        × (list_all can_be_shown names.now ≡ true)) }
+    ensures refused { IfErr result (RefusedLine (list_all can_be_shown names.now ≢ true)) }
+{
+    if !can_all_be_shown(names) {
+        return Err(BenchFault::Line);
+    }
+    let copied = all_copied(alloc, names)?;
+    Ok(copied)
+}
+
+/// The scenario that numbers and texts spell.
+#[tactic(auto, using(crate::proofs::Refusals::refused_bench))]
+fn spelled(
+    alloc: Global,
+    texts: ScenarioTexts<'_>,
+    notes: &mut Notes<'_>,
+) -> Result<Scenario, BenchFault>
+    ensures found { IfOk result (λ s. IsScenario s × (texts.entry ≡ scenario_texts s)) }
+    ensures refused { IfErr result (RefusesTexts texts.entry) }
+{
+    let row_names = names_of(alloc, texts.row_names.as_slice())?;
+    let entry_names = names_of(alloc, texts.entry_names.as_slice())?;
+    let timing = timing_of(alloc, texts.timing)?;
+    match bench_from(alloc, &texts.bench, notes) {
+        Ok(bench) => Ok(Scenario {
+            bench,
+            row_names,
+            entry_names,
+            timing,
+        }),
+        Err(fault) => Err(fault),
+    }
+}
+
+/// The scenario that a document's table is. What is wrong is noted. Source: profile.
+///
+/// # Errors
+///
+/// As those of [`read_scenario`], of a text that is a document.
+pub fn scenario_of<'a>(
+    alloc: Global,
+    table: &'a Table,
+    notes: &mut Notes<'a>,
+) -> Result<Scenario, BenchFault>
+    ensures found { IfOk result (λ s. IsScenario s
+        × HasTexts (Some (table_view table.now)) (scenario_texts s)) }
+    ensures refused { IfErr result (RefusesScenario (Some (table_view table.now))) }
+    ensures noted { IfErr result (IsNotedFor notes.new.keys.items notes.new.texts.items) }
+{
+    let texts = scenario_in(alloc, table, notes)?;
+    match spelled(alloc, texts, notes) {
+        Ok(scenario) => Ok(scenario),
+        Err(fault) => {
+            // For the proof: each text was looked at when it was read.
+            if notes.texts.is_empty() {
+                notes.text(Place::Whole, "", Form::Name);
+            }
+            Err(fault)
+        }
+    }
+}
+
+/// The scenario that a TOML document is: its values, and for each key that is missing the value
+/// that stands for it. Source: profile.
+///
+/// # Errors
+///
+/// The first that applies: `NotToml`; `Key`, an unknown key at any level, a missing required key, a
+/// value of another kind, an integer out of range, an array of another length, a row of stolen time
+/// that ends before it begins, two that overlap, two jobs of one address; `Line`, a text that is
+/// not of its form; `TaskTwice`, `PhaseTwice` and `TooManyAreas`, rows and entries that make no
+/// plan. `NoMemory` may come in place of any.
+pub fn read_scenario(alloc: Global, text: &str) -> Result<Scenario, BenchFault>
+    ensures found { IfOk result (λ s. IsScenario s
+        × HasTexts (parse_document text.now) (scenario_texts s)) }
+    ensures refused { IfErr result (RefusesScenario (parse_document text.now)) }
+{
+    let table = match toml::table_from_str(alloc, text) {
+        Ok(table) => table,
+        Err(error) => {
+            if error.is_memory() {
+                return Err(BenchFault::NoMemory);
+            }
+            return Err(BenchFault::NotToml);
+        }
+    };
+    let mut notes = Notes::new(false);
+    match scenario_of(alloc, &table, &mut notes) {
+        Ok(scenario) => Ok(scenario),
+        Err(fault) => Err(fault),
+    }
+}
+
+/// Whether a text is a document that has the key `seconds`, and so should be a scenario. Source:
+/// profile.
+///
+/// # Errors
+///
+/// Where there is no memory.
+pub fn is_scenario(alloc: Global, text: &str) -> Result<bool, AllocError> {
+    match toml::table_from_str(alloc, text) {
+        Ok(table) => Ok(table.get("seconds").is_some()),
+        Err(error) if error.is_memory() => Err(AllocError),
+        Err(_error) => Ok(false),
+    }
+}

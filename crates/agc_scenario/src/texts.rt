@@ -1,0 +1,180 @@
+//! The numbers and texts of a scenario, which borrow from its document.
+use agc_clock::Stolen;
+use agc_document::{EntryTexts, RowTexts, Text, Texts};
+use std::marker::Model;
+
+/// The text of a name, if it is there.
+#[derive(Drop)]
+pub(crate) struct NameText<'a> {
+    pub(crate) text: Option<&'a str>,
+}
+
+impl<'a> Model for NameText<'a> {
+    ghost use Rattle.std.specs.Prelude.{ℕ, List, Option};
+    ghost use Rattle.std.specs.Option.{option_map};
+
+    ghost Value = { Option (List ℕ) };
+
+    ghost view = { λ n. option_map (λ s. s.now) n.text };
+}
+
+/// A task's row and its name.
+#[derive(Drop)]
+pub(crate) struct NamedRow<'a> {
+    pub(crate) row: RowTexts<'a>,
+    pub(crate) name: NameText<'a>,
+}
+
+impl<'a> Model for NamedRow<'a> {
+    ghost use Rattle.agc_scenario.specs.Texts.{NamedRow as Named};
+
+    ghost Value = { Named };
+
+    ghost view = { λ n. record { row = n.row; name = n.name } };
+}
+
+/// A phase entry and its name.
+#[derive(Drop)]
+pub(crate) struct NamedEntry<'a> {
+    pub(crate) entry: EntryTexts<'a>,
+    pub(crate) name: NameText<'a>,
+}
+
+impl<'a> Model for NamedEntry<'a> {
+    ghost use Rattle.agc_scenario.specs.Texts.{NamedEntry as Named};
+
+    ghost Value = { Named };
+
+    ghost view = { λ n. record { entry = n.entry; name = n.name } };
+}
+
+/// The tasks and phases of a scenario.
+#[derive(Drop)]
+pub(crate) struct NamedTexts<'a> {
+    pub(crate) rows: Vec<NamedRow<'a>>,
+    pub(crate) entries: Vec<NamedEntry<'a>>,
+}
+
+impl<'a> Model for NamedTexts<'a> {
+    ghost use Rattle.agc_scenario.specs.Texts.{NamedTexts as Named};
+
+    ghost Value = { Named };
+
+    ghost view = { λ n. record { rows = n.rows.items; entries = n.entries.items } };
+}
+
+/// A row of stolen time.
+#[derive(Drop)]
+pub(crate) struct StolenRow {
+    pub(crate) row: Stolen,
+}
+
+impl Model for StolenRow {
+    ghost use Rattle.agc_clock.specs.declared.timetable.Stolen.{Stolen as Row};
+
+    ghost Value = { Row };
+
+    ghost view = { λ s. s.row };
+}
+
+/// A job: the texts of its address, of the request by which it leaves and of its name, and its
+/// cost.
+#[derive(Drop)]
+pub(crate) struct JobTexts<'a> {
+    pub(crate) at: &'a str,
+    pub(crate) cost: u32,
+    pub(crate) leaving: &'a str,
+    pub(crate) name: NameText<'a>,
+}
+
+impl<'a> Model for JobTexts<'a> {
+    ghost use Rattle.std.specs.Prelude.{◌≤◌};
+    ghost use Rattle.agc_scenario.specs.Texts.{JobTexts as Texts};
+
+    ghost Value = { Texts };
+
+    ghost view = { λ t. record {
+      at = t.at.now;
+      cost = t.cost;
+      leaving = t.leaving.now;
+      name = t.name;
+    } };
+
+    ghost invariant = { λ t. t.cost ≤ 1000000 };
+}
+
+/// An event: its numbers, a text for each request, and the text of its name.
+#[derive(Drop)]
+pub(crate) struct EventTexts<'a> {
+    pub(crate) at: u32,
+    pub(crate) requests: Vec<Text<'a>>,
+    pub(crate) every: Option<u32>,
+    pub(crate) until: Option<u32>,
+    pub(crate) name: NameText<'a>,
+}
+
+impl<'a> Model for EventTexts<'a> {
+    ghost use Rattle.std.specs.Prelude.{◌≤◌, IfSome};
+    ghost use Rattle.agc_scenario.specs.Texts.{EventTexts as Texts};
+
+    ghost Value = { Texts };
+
+    ghost view = { λ t. record {
+      at = t.at;
+      requests = t.requests.items;
+      every = t.every;
+      until = t.until;
+      name = t.name;
+    } };
+
+    ghost invariant = { λ t. IfSome t.every (λ n. 1 ≤ n) };
+}
+
+/// How time passes.
+#[derive(Drop)]
+pub(crate) struct TimingTexts<'a> {
+    pub(crate) seconds: u32,
+    pub(crate) title: NameText<'a>,
+    pub(crate) stolen: Vec<Stolen>,
+    pub(crate) jobs: Vec<JobTexts<'a>>,
+    pub(crate) events: Vec<EventTexts<'a>>,
+}
+
+impl<'a> Model for TimingTexts<'a> {
+    ghost use Rattle.std.specs.Prelude.{◌≤◌};
+    ghost use Rattle.agc_scenario.specs.Texts.{TimingTexts as Texts};
+
+    ghost Value = { Texts };
+
+    ghost view = { λ t. record {
+      seconds = t.seconds;
+      title = t.title;
+      stolen = t.stolen.items;
+      jobs = t.jobs.items;
+      events = t.events.items;
+    } };
+
+    ghost invariant = { λ t. t.seconds ≤ 3600 };
+}
+
+/// All of a scenario.
+#[derive(Drop)]
+pub(crate) struct ScenarioTexts<'a> {
+    pub(crate) bench: Texts<'a>,
+    pub(crate) row_names: Vec<NameText<'a>>,
+    pub(crate) entry_names: Vec<NameText<'a>>,
+    pub(crate) timing: TimingTexts<'a>,
+}
+
+impl<'a> Model for ScenarioTexts<'a> {
+    ghost use Rattle.agc_scenario.specs.Texts.{ScenarioTexts as Texts};
+
+    ghost Value = { Texts };
+
+    ghost view = { λ t. record {
+      bench = t.bench;
+      row_names = t.row_names.items;
+      entry_names = t.entry_names.items;
+      timing = t.timing;
+    } };
+}

@@ -1,0 +1,283 @@
+//! How time passes in a scenario.
+ghost use Rattle.std.specs.Prelude.{◌≡◌, ◌≤◌, option_map, string_bytes};
+ghost use Rattle.agc_scenario.specs.Scenarios.{cost_of, comes_by, schedule_of};
+
+use agc_clock::{Cost, Stolen, Then, Times, Timetables};
+use agc_plan::{Address, Request};
+use std::marker::Model;
+
+/// A name, if it is there. Source: profile.
+#[derive(Drop)]
+pub struct Name {
+    text: Option<String>,
+}
+
+impl Model for Name {
+    ghost use Rattle.std.specs.Prelude.{ℕ, List, Option, string_bytes};
+    ghost use Rattle.std.specs.Option.{option_map};
+
+    ghost Value = { Option (List ℕ) };
+
+    ghost view = { λ n. option_map (λ s. string_bytes s) n.text };
+}
+
+impl Name {
+    /// A name that is this text, or none.
+    pub(crate) fn of(text: Option<String>) -> Name
+        ensures { result ≡ option_map (λ s. string_bytes s) text }
+    {
+        Name { text }
+    }
+
+    /// The name, if it is there. Source: profile.
+    pub fn as_str(&self) -> Option<&str> {
+        match &self.text {
+            None => None,
+            Some(text) => Some(text.as_str()),
+        }
+    }
+}
+
+/// What a job costs that stands at an address, in centiseconds of computing, what it is asked then,
+/// and its name. Source: profile.
+#[derive(Drop)]
+pub struct TimedJob {
+    pub(crate) at: Address,
+    pub(crate) cost: u32,
+    pub(crate) leaves: Then,
+    pub(crate) name: Name,
+}
+
+impl Model for TimedJob {
+    ghost use Rattle.std.specs.Prelude.{◌≤◌};
+    ghost use Rattle.agc_scenario.specs.Scenarios.{TimedJob as Job};
+
+    ghost Value = { Job };
+
+    ghost view = { λ j. record { at = j.at; cost = j.cost; leaves = j.leaves; name = j.name } };
+
+    ghost invariant = { λ j. j.cost ≤ 1000000 };
+}
+
+impl TimedJob {
+    /// Its address. Source: profile.
+    pub fn at(&self) -> Address
+        ensures { result ≡ self.now.at }
+    {
+        self.at
+    }
+
+    /// What it costs, in centiseconds of computing, at most 1,000,000. Source: profile.
+    pub fn cost(&self) -> u32
+        ensures value { result ≡ self.now.cost }
+        ensures range { result ≤ 1000000 }
+    {
+        self.cost
+    }
+
+    /// What it is asked when that is used up. Source: profile.
+    pub fn leaves(&self) -> Then
+        ensures { result ≡ self.now.leaves }
+    {
+        self.leaves
+    }
+
+    /// Its name, if it has one. Source: profile.
+    pub fn name(&self) -> Option<&str> {
+        self.name.as_str()
+    }
+
+    fn hundredths(&self) -> Cost
+        ensures { result ≡ cost_of self.now }
+    {
+        Cost {
+            at: self.at,
+            hundredths: self.cost * 100,
+            then: self.leaves,
+        }
+    }
+}
+
+/// An event: when it comes, what it asks for, and its name. Source: profile.
+#[derive(Drop)]
+pub struct TimedEvent {
+    pub(crate) at: u32,
+    pub(crate) requests: Vec<Request>,
+    pub(crate) every: Option<u32>,
+    pub(crate) until: Option<u32>,
+    pub(crate) name: Name,
+}
+
+impl Model for TimedEvent {
+    ghost use Rattle.std.specs.Prelude.{◌≤◌, IfSome};
+    ghost use Rattle.agc_scenario.specs.Scenarios.{TimedEvent as Event};
+
+    ghost Value = { Event };
+
+    ghost view = { λ e. record {
+      at = e.at;
+      requests = e.requests.items;
+      every = e.every;
+      until = e.until;
+      name = e.name;
+    } };
+
+    ghost invariant = { λ e. IfSome e.every (λ n. 1 ≤ n) };
+}
+
+impl TimedEvent {
+    /// Its first centisecond. Source: profile.
+    pub fn at(&self) -> u32
+        ensures { result ≡ self.now.at }
+    {
+        self.at
+    }
+
+    /// What it asks for, in order. Source: profile.
+    pub fn requests(&self) -> &[Request]
+        ensures { result.now ≡ self.now.requests }
+    {
+        self.requests.as_slice()
+    }
+
+    /// After how many centiseconds it comes again, if it does. Source: profile.
+    pub fn every(&self) -> Option<u32>
+        ensures { result ≡ self.now.every }
+    {
+        self.every
+    }
+
+    /// The last centisecond at which it may come again, if one is told. Source: profile.
+    pub fn until(&self) -> Option<u32>
+        ensures { result ≡ self.now.until }
+    {
+        self.until
+    }
+
+    /// Its name, if it has one. Source: profile.
+    pub fn name(&self) -> Option<&str> {
+        self.name.as_str()
+    }
+
+    /// When it comes in a scenario that lasts so many centiseconds.
+    fn times(&self, lasts: u32) -> Times
+        ensures { result ≡ comes_by self.now.at self.now.every self.now.until lasts }
+    {
+        let every = match self.every {
+            None => return Times::once(self.at),
+            Some(every) => every,
+        };
+        let until = match self.until {
+            None => lasts,
+            Some(until) => until,
+        };
+        match Times::repeated(self.at, every, until) {
+            Some(times) => times,
+            None => unreachable!(),
+        }
+    }
+}
+
+/// How time passes in a scenario. Contracts see its values. Source: profile.
+#[derive(Drop)]
+pub struct Timing {
+    pub(crate) seconds: u32,
+    pub(crate) title: Name,
+    pub(crate) stolen: Vec<Stolen>,
+    pub(crate) jobs: Vec<TimedJob>,
+    pub(crate) events: Vec<TimedEvent>,
+}
+
+impl Model for Timing {
+    ghost use Rattle.std.specs.Prelude.{◌≤◌};
+    ghost use Rattle.agc_scenario.specs.Scenarios.{Timed};
+
+    ghost Value = { Timed };
+
+    ghost view = { λ t. record {
+      seconds = t.seconds;
+      title = t.title;
+      stolen = t.stolen.items;
+      jobs = t.jobs.items;
+      events = t.events.items;
+    } };
+
+    ghost invariant = { λ t. t.seconds ≤ 3600 };
+}
+
+impl Timing {
+    /// How many seconds it lasts, at most 3600. Source: profile.
+    pub fn seconds(&self) -> u32
+        ensures value { result ≡ self.now.seconds }
+        ensures range { result ≤ 3600 }
+    {
+        self.seconds
+    }
+
+    /// Its title, if it has one. Source: profile.
+    pub fn title(&self) -> Option<&str> {
+        self.title.as_str()
+    }
+
+    /// What jobs cost, by their addresses. Source: profile.
+    pub fn jobs(&self) -> &[TimedJob]
+        ensures { result.now ≡ self.now.jobs }
+    {
+        self.jobs.as_slice()
+    }
+
+    /// The events, in the order of the document. Source: profile.
+    pub fn all_events(&self) -> &[TimedEvent]
+        ensures { result.now ≡ self.now.events }
+    {
+        self.events.as_slice()
+    }
+}
+
+impl Timetables for Timing {
+    ghost set_down = { schedule_of };
+
+    fn lasts(&self) -> u32 {
+        self.seconds * 100
+    }
+
+    fn stolen(&self) -> &[Stolen] {
+        self.stolen.as_slice()
+    }
+
+    fn costs(&self) -> usize {
+        self.jobs.len()
+    }
+
+    fn cost(&self, row: usize) -> Option<Cost> {
+        match self.jobs.get(row) {
+            None => None,
+            Some(job) => Some(job.hundredths()),
+        }
+    }
+
+    fn events(&self) -> usize {
+        self.events.len()
+    }
+
+    fn times(&self, event: usize) -> Option<Times> {
+        match self.events.get(event) {
+            None => None,
+            Some(event) => Some(event.times(self.seconds * 100)),
+        }
+    }
+
+    fn requests(&self, event: usize) -> usize {
+        match self.events.get(event) {
+            None => 0,
+            Some(event) => event.requests.len(),
+        }
+    }
+
+    fn request(&self, event: usize, index: usize) -> Option<Request> {
+        match self.events.get(event) {
+            None => None,
+            Some(event) => event.requests.get(index).copied(),
+        }
+    }
+}

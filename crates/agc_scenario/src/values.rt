@@ -1,0 +1,176 @@
+//! What the texts of a scenario spell.
+ghost use Rattle.std.specs.Prelude.{◌≡◌, ◌≢◌, List, Option, true, map, Some, IfSome, IfNone, IfOk};
+ghost use Rattle.std.specs.Prelude.{IfErr};
+ghost use Rattle.std.specs.List.{AllByRecursion, list_all};
+ghost use Rattle.agc_plan.specs.Ranges.{IsRequest};
+ghost use Rattle.agc_text.specs.Lines.{line_of};
+ghost use Rattle.agc_document.specs.Gives.{RefusedLine};
+ghost use Rattle.agc_clock.specs.Timetables.{asked_then};
+ghost use Rattle.agc_clock.specs.declared.timetable.Then.{Then as Leaves};
+ghost use Rattle.agc_scenario.specs.Leaving.{then_of};
+ghost use Rattle.agc_scenario.specs.Scenarios.{Timed, TimedEvent as Event, TimedJob as Job};
+ghost use Rattle.agc_scenario.specs.Scenarios.{can_be_shown, event_texts, job_texts};
+ghost use Rattle.agc_scenario.specs.Scenarios.{timing_texts, IsTimed, IsTimedEvent, IsTimedJob};
+
+use crate::texts::{EventTexts, JobTexts, NameText, TimingTexts};
+use crate::timing::{Name, TimedEvent, TimedJob, Timing};
+use agc_clock::Then;
+use agc_document::{BenchFault, is_name, or_line, requests_of};
+use agc_plan::Request;
+use agc_text::{parse_address, parse_line};
+use std::alloc::{AllocError, Global};
+
+/// What a job does by this request, if it leaves by it.
+fn then_of(request: &Request) -> Option<Then>
+    ensures { result ≡ then_of request.now }
+{
+    match *request {
+        Request::EndOfJob => Some(Then::End),
+        Request::Sleep(at) => Some(Then::Sleep(at)),
+        _ => None,
+    }
+}
+
+/// What a job does then, as a text spells it.
+fn parse_then(text: &str) -> Option<Then>
+    ensures found { IfSome result (λ t. IsRequest (asked_then t)
+        × (text.now ≡ line_of (asked_then t))) }
+    ensures only { IfNone result ((t : Leaves) → IsRequest (asked_then t)
+        → text.now ≢ line_of (asked_then t)) }
+{
+    let request = parse_line(text)?;
+    then_of(&request)
+}
+
+/// Whether a name can be shown, if it is there.
+fn can_be_shown(name: &NameText<'_>) -> bool
+    ensures { result ≡ can_be_shown name.now }
+{
+    match name.text {
+        None => true,
+        Some(text) => is_name(text),
+    }
+}
+
+/// Whether each of these names can be shown.
+pub(crate) fn can_all_be_shown(names: &[NameText<'_>]) -> bool
+    ensures { result ≡ list_all can_be_shown names.now }
+{
+    names.iter().all(|name| can_be_shown(name))
+}
+
+/// A name in memory of its own.
+fn copied(alloc: Global, name: &NameText<'_>) -> Result<Name, AllocError>
+    ensures { IfOk result (λ n. n ≡ name.now) }
+{
+    match name.text {
+        None => Ok(Name::of(None)),
+        Some(text) => Ok(Name::of(Some(String::from_str(alloc, text)?))),
+    }
+}
+
+/// Names in memory of their own.
+pub(crate) fn all_copied(alloc: Global, names: &[NameText<'_>]) -> Result<Vec<Name>, AllocError>
+    ensures { IfOk result (λ v. v.items ≡ names.now) }
+{
+    let mut all: Vec<Name> = Vec::new(alloc);
+    for name in names {
+        let one = copied(alloc, name)?;
+        all.push(one)?;
+    }
+    Ok(all)
+}
+
+/// The name that a text is. A fault `Line` where it can't be shown.
+fn name_of(alloc: Global, name: &NameText<'_>) -> Result<Name, BenchFault>
+    ensures found { IfOk result (λ n. (n ≡ name.now) × (can_be_shown name.now ≡ true)) }
+    ensures refused { IfErr result (RefusedLine (can_be_shown name.now ≢ true)) }
+{
+    if !can_be_shown(name) {
+        return Err(BenchFault::Line);
+    }
+    let copied = copied(alloc, name)?;
+    Ok(copied)
+}
+
+/// What a job costs, as its texts spell it.
+fn job_of(alloc: Global, texts: &JobTexts<'_>) -> Result<TimedJob, BenchFault>
+    ensures found { IfOk result (λ j. IsTimedJob j × (texts.now ≡ job_texts j)) }
+    ensures refused { IfErr result (RefusedLine
+        ((j : Job) → IsTimedJob j → texts.now ≢ job_texts j)) }
+{
+    let at = or_line(parse_address(texts.at))?;
+    let leaves = or_line(parse_then(texts.leaving))?;
+    let name = name_of(alloc, &texts.name)?;
+    Ok(TimedJob {
+        at,
+        cost: texts.cost,
+        leaves,
+        name,
+    })
+}
+
+/// What jobs cost, as their texts spell it, in order.
+fn jobs_of(alloc: Global, texts: &[JobTexts<'_>]) -> Result<Vec<TimedJob>, BenchFault>
+    ensures found { IfOk result (λ v. AllByRecursion IsTimedJob v.items
+        × (texts.now ≡ map job_texts v.items)) }
+    ensures refused { IfErr result (RefusedLine
+        ((js : List Job) → AllByRecursion IsTimedJob js → texts.now ≢ map job_texts js)) }
+{
+    let mut jobs: Vec<TimedJob> = Vec::new(alloc);
+    for text in texts {
+        let job = job_of(alloc, text)?;
+        jobs.push(job)?;
+    }
+    Ok(jobs)
+}
+
+/// An event, as its texts spell it.
+fn event_of(alloc: Global, texts: &EventTexts<'_>) -> Result<TimedEvent, BenchFault>
+    ensures found { IfOk result (λ e. IsTimedEvent e × (texts.now ≡ event_texts e)) }
+    ensures refused { IfErr result (RefusedLine
+        ((e : Event) → IsTimedEvent e → texts.now ≢ event_texts e)) }
+{
+    let requests = requests_of(alloc, texts.requests.as_slice())?;
+    let name = name_of(alloc, &texts.name)?;
+    Ok(TimedEvent {
+        at: texts.at,
+        requests,
+        every: texts.every,
+        until: texts.until,
+        name,
+    })
+}
+
+/// Events, as their texts spell them, in order.
+fn events_of(alloc: Global, texts: &[EventTexts<'_>]) -> Result<Vec<TimedEvent>, BenchFault>
+    ensures found { IfOk result (λ v. AllByRecursion IsTimedEvent v.items
+        × (texts.now ≡ map event_texts v.items)) }
+    ensures refused { IfErr result (RefusedLine
+        ((es : List Event) → AllByRecursion IsTimedEvent es → texts.now ≢ map event_texts es)) }
+{
+    let mut events: Vec<TimedEvent> = Vec::new(alloc);
+    for text in texts {
+        let event = event_of(alloc, text)?;
+        events.push(event)?;
+    }
+    Ok(events)
+}
+
+/// How time passes, as its texts spell it.
+pub(crate) fn timing_of(alloc: Global, texts: TimingTexts<'_>) -> Result<Timing, BenchFault>
+    ensures found { IfOk result (λ t. IsTimed t × (texts.entry ≡ timing_texts t)) }
+    ensures refused { IfErr result (RefusedLine
+        ((t : Timed) → IsTimed t → texts.entry ≢ timing_texts t)) }
+{
+    let title = name_of(alloc, &texts.title)?;
+    let jobs = jobs_of(alloc, texts.jobs.as_slice())?;
+    let events = events_of(alloc, texts.events.as_slice())?;
+    Ok(Timing {
+        seconds: texts.seconds,
+        title,
+        stolen: texts.stolen,
+        jobs,
+        events,
+    })
+}

@@ -1,0 +1,142 @@
+// What is told of an alarm: which table was full, what raised it, who held it, and what begins
+// again.
+use crate::line::Line;
+use crate::rows::front_width;
+use crate::spelling::{code, put_action, put_since, put_task};
+use crate::tables::put_tables;
+use agc_exec::Seat;
+use agc_plan::{Alarm, Phase, Plan, Task};
+use agc_scene::{Event, Scene, Since};
+use std::io;
+use std::io::Write;
+
+/// Writes which table was full.
+fn put_full<W: Write>(writer: &mut W, alarm: Alarm, scene: &Scene) -> io::Result<()> {
+    write!(writer, "        alarm {}: ", code(alarm))?;
+    match alarm {
+        Alarm::A1201 => write!(writer, "all five VAC areas are owned\n"),
+        Alarm::A1202 if scene.seats().len() == 8 => write!(
+            writer,
+            "all eight core sets are in use\n"
+        ),
+        Alarm::A1202 => write!(writer, "all seven core sets are in use\n"),
+        Alarm::A1203 => write!(writer, "nine tasks wait\n"),
+    }
+}
+
+/// Writes the task whose action raised the alarm, and that action, by its number where the task has
+/// several.
+fn put_raiser<W: Write>(writer: &mut W, plan: &Plan, task: Task, number: usize) -> io::Result<()> {
+    let actions = plan.actions(&task);
+    write!(writer, "        raised by ")?;
+    if actions.len() > 1 {
+        write!(writer, "action {number} of ")?;
+    }
+    write!(writer, "task ")?;
+    put_task(writer, task)?;
+    write!(writer, ": ")?;
+    if let Some(action) = actions.get(number.saturating_sub(1)) {
+        put_action(writer, *action)?;
+    }
+    write!(writer, "\n")
+}
+
+/// Writes since when something is there, where that is known.
+fn put_known<W: Write>(writer: &mut W, since: Option<Since>) -> io::Result<()> {
+    match since {
+        None => Ok(()),
+        Some(since) => {
+            write!(writer, ", ")?;
+            put_since(writer, since)
+        }
+    }
+}
+
+/// Writes the line of the job in core set k.
+fn put_job<W: Write>(writer: &mut W, k: usize, seat: Seat, since: Option<Since>) -> io::Result<()> {
+    let Seat {
+        number,
+        at,
+        priority,
+        asleep,
+        area,
+    } = seat;
+    let place = if asleep { "asleep at" } else { "at" };
+    write!(
+        writer,
+        "          set {k}: job {number}, priority {priority:02o}, {place} {at:05o}"
+    )?;
+    if area > 0 {
+        write!(writer, ", area {area}")?;
+    }
+    put_known(writer, since)?;
+    write!(writer, "\n")
+}
+
+/// Writes the lines of all jobs in core sets.
+fn put_jobs<W: Write>(writer: &mut W, event: &Event) -> io::Result<()> {
+    for (k, seat) in event.scene.seats().iter().enumerate() {
+        if let Some(seat) = *seat {
+            put_job(writer, k, seat, event.jobs.of_job(seat.number))?;
+        }
+    }
+    Ok(())
+}
+
+/// Writes the lines of all tasks that wait.
+fn put_tasks<W: Write>(writer: &mut W, event: &Event) -> io::Result<()> {
+    for (k, wait) in event.scene.waits().iter().enumerate() {
+        write!(writer, "          task ")?;
+        put_task(writer, wait.task)?;
+        write!(writer, ", due in {} cs", wait.distance)?;
+        put_known(writer, event.tasks.as_slice().get(k).map(|one| one.since))?;
+        write!(writer, "\n")?;
+    }
+    Ok(())
+}
+
+/// Writes phases behind what stands before them.
+pub(crate) fn put_phases<W: Write>(writer: &mut W, phases: &[Phase]) -> io::Result<()> {
+    write!(writer, "        restart by phases")?;
+    for phase in phases {
+        write!(writer, " {}", phase.get())?;
+    }
+    Ok(())
+}
+
+/// Writes the phases with which the era begins, and its scene.
+fn put_again<W: Write>(
+    writer: &mut W,
+    has_sources: bool,
+    event: &Event,
+    era: &Scene,
+) -> io::Result<()> {
+    let mut line = Line::new(writer);
+    put_phases(&mut line, &event.scene.phases())?;
+    line.end_cell(front_width(has_sources))?;
+    put_tables(&mut line, era)
+}
+
+/// Writes what is told of an event's alarm, if it has one.
+pub(crate) fn put_account<W: Write>(
+    writer: &mut W,
+    plan: &Plan,
+    has_sources: bool,
+    event: &Event,
+) -> io::Result<()> {
+    let Some(alarm) = event.alarm() else {
+        return Ok(());
+    };
+    put_full(writer, alarm, &event.scene)?;
+    if let Some(task) = event.fired.get(event.fired.len().saturating_sub(1)) {
+        put_raiser(writer, plan, task, event.raised)?;
+    }
+    match alarm {
+        Alarm::A1201 | Alarm::A1202 => put_jobs(writer, event)?,
+        Alarm::A1203 => put_tasks(writer, event)?,
+    }
+    match &event.era {
+        None => Ok(()),
+        Some(era) => put_again(writer, has_sources, event, era),
+    }
+}

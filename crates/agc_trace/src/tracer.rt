@@ -1,0 +1,291 @@
+// A run that is traced.
+ghost use Rattle.std.specs.Prelude.{◌≡◌, OnOk};
+ghost use Rattle.std.specs.List.{fold};
+ghost use Rattle.agc_scene.specs.Events.{watched, watching_from};
+ghost use Rattle.agc_session.specs.Runs.{bench_machine, bench_requests, script_machine};
+ghost use Rattle.agc_session.specs.Shown.{EndsIn};
+
+use crate::alarms::put_account;
+use crate::brief::{Quiet, quiet_of};
+use crate::choice::Choice;
+use crate::closing::{Refused, put_idle, put_refused};
+use crate::power::put_power;
+use crate::rows::{put_heading, put_row};
+use agc_document::Bench;
+use agc_machine::{Machine, Refusal};
+use agc_plan::Request;
+use agc_scene::{Event, Scene, Watched};
+use agc_session::{
+    Follows, Progress, RunFault, Source, count_requests, follow_all, follow_bench, machine_of,
+    script_machine,
+};
+use agc_text::Output;
+use agc_word::Word;
+use std::alloc::Global;
+use std::io;
+use std::io::Write;
+use std::marker::Model;
+
+/// Quiet requests, one behind the other, which were not told yet.
+#[derive(Clone, Copy)]
+struct Left {
+    quiet: Quiet,
+    count: u64,
+}
+
+/// A run that is traced: the machine that is watched, which requests are told, whether it is told
+/// who asks, the quiet ones that were not told yet, and how many were refused. Contracts see the
+/// machine. Source: profile.
+#[derive(Drop)]
+pub struct Tracer {
+    watched: Watched,
+    choice: Choice,
+    has_sources: bool,
+    left: Option<Left>,
+    refused: Refused,
+}
+
+impl Model for Tracer {
+    ghost use Rattle.agc_scene.specs.Events.{Watching};
+
+    ghost Value = { Watching };
+
+    ghost view = { λ t. t.watched };
+}
+
+/// How many are quiet in this way, with one more.
+fn counted(left: Option<Left>, quiet: Quiet) -> u64 {
+    match left {
+        Some(left) if left.quiet == quiet => left.count.saturating_add(1),
+        _ => 1,
+    }
+}
+
+/// What stands behind a write.
+fn written(put: io::Result<()>) -> Result<(), Output> {
+    match put {
+        Ok(()) => Ok(()),
+        Err(_failed) => Err(Output),
+    }
+}
+
+impl Tracer {
+    /// Nothing was asked of this machine. The requests of this choice will be told, and who asks
+    /// for them, if that is wanted. Source: profile.
+    pub fn new(machine: Machine, choice: Choice, has_sources: bool) -> Tracer
+        ensures { result ≡ watching_from machine }
+    {
+        Tracer {
+            watched: Watched::new(machine),
+            choice,
+            has_sources,
+            left: None,
+            refused: Refused::default(),
+        }
+    }
+
+    /// The machine, after what was asked of it.
+    fn into_watched(self) -> Watched
+        ensures { result ≡ self }
+    {
+        self.watched
+    }
+
+    /// Writes the heading, and what came of power-up with these phase words, if there are any.
+    /// Source: profile.
+    ///
+    /// # Errors
+    ///
+    /// Where a write fails.
+    pub fn begin<W: Write>(&self, power: Option<[Word; 12]>, writer: &mut W) -> Result<(), Output> {
+        written(put_heading(writer, self.has_sources))?;
+        match power {
+            None => Ok(()),
+            Some(words) => {
+                let scene = self.watched.scene();
+                written(put_power(writer, self.has_sources, &words, &scene))
+            }
+        }
+    }
+
+    /// Writes what is told behind the last request, by a machine of this limit and allowance.
+    /// Source: profile.
+    ///
+    /// # Errors
+    ///
+    /// Where a write fails.
+    pub fn end<W: Write>(
+        &mut self,
+        limit: u32,
+        allowance: u64,
+        writer: &mut W,
+    ) -> Result<(), Output>
+        ensures { self.new ≡ self.old }
+    {
+        written(self.put_left(writer))?;
+        written(put_refused(writer, self.refused, limit, allowance))
+    }
+
+    /// Writes how many quiet requests were not told yet, if there are any.
+    fn put_left<W: Write>(&mut self, writer: &mut W) -> io::Result<()>
+        ensures { self.new ≡ self.old }
+    {
+        let left = self.left;
+        self.left = None;
+        match left {
+            None => Ok(()),
+            Some(Left { quiet, count }) => write!(writer, "        {quiet} x {count}\n"),
+        }
+    }
+
+    /// Counts one more quiet request, or tells of those that were quiet in another way.
+    fn put_quiet<W: Write>(&mut self, quiet: Quiet, writer: &mut W) -> io::Result<()>
+        ensures { self.new ≡ self.old }
+    {
+        let count = counted(self.left, quiet);
+        if count == 1 {
+            self.put_left(writer)?;
+        }
+        self.left = Some(Left { quiet, count });
+        Ok(())
+    }
+
+    /// Writes the row of an event, and the account of its alarm.
+    fn put_loud<W: Write>(
+        &mut self,
+        source: Source,
+        event: &Event,
+        writer: &mut W,
+    ) -> io::Result<()>
+        ensures { self.new ≡ self.old }
+    {
+        self.put_left(writer)?;
+        let source = if self.has_sources { Some(source) } else { None };
+        put_row(writer, source, event)?;
+        put_account(
+            writer,
+            self.watched.machine().plan(),
+            self.has_sources,
+            event,
+        )
+    }
+
+    /// Writes an event, or counts it: how it is quiet, is looked for only in brief.
+    fn put_event<W: Write>(
+        &mut self,
+        before: Option<Scene>,
+        source: Source,
+        event: &Event,
+        writer: &mut W,
+    ) -> io::Result<()>
+        ensures { self.new ≡ self.old }
+    {
+        match &event.answer {
+            Ok(_reply) => {}
+            Err(Refusal::Spent) => self.refused.spent = self.refused.spent.saturating_add(1),
+            Err(Refusal::LogFull) => self.refused.log_full = self
+                .refused
+                .log_full
+                .saturating_add(1),
+        }
+        if !self.choice.tells(event.number, event.alarm().is_some()) {
+            return Ok(());
+        }
+        match before.and_then(|before| quiet_of(&before, event)) {
+            None => self.put_loud(source, event, writer),
+            Some(quiet) => self.put_quiet(quiet, writer),
+        }
+    }
+}
+
+impl Follows for Tracer {
+    ghost use Rattle.agc_scene.specs.Events.{watched};
+
+    ghost next = { λ tracer request. watched tracer request };
+
+    /// Asks for one request, and writes its row and account, where it is told.
+    fn follow<W: Write>(
+        &mut self,
+        source: Source,
+        request: &Request,
+        writer: &mut W,
+    ) -> Result<(), Output> {
+        let before = if self.choice.brief {
+            Some(self.watched.scene())
+        } else {
+            None
+        };
+        let event = self.watched.ask(request);
+        written(self.put_event(before, source, &event, writer))
+    }
+}
+
+/// Traces all requests of a bench, in order.
+fn trace_asked<P: Progress, W: Write>(
+    tracer: &mut Tracer,
+    bench: &Bench,
+    progress: &mut P,
+    writer: &mut W,
+) -> Result<(), Output>
+    ensures { OnOk result (tracer.new ≡ fold watched tracer.old (bench_requests bench.now)) }
+{
+    tracer.begin(bench.power(), writer)?;
+    follow_bench(tracer, progress, bench, writer)?;
+    tracer.end(bench.limit().get(), bench.allowance(), writer)?;
+    written(put_idle(writer, bench))
+}
+
+/// Writes the trace of a bench: the heading, and what came of power-up, where it has phase words;
+/// then its machine is asked for the requests in the order of `serial`, and for each that is chosen
+/// a row is written, with the scene of its event and the account of its alarm; and last how many
+/// requests were refused, and the devices whose pulses asked for nothing. Returns the machine after
+/// the last request. The writer is not flushed. Source: profile.
+///
+/// # Errors
+///
+/// `NoMemory`, and nothing was written. `Output`, where a write failed, or took nothing of what was
+/// left.
+pub fn trace<P: Progress, W: Write>(
+    alloc: Global,
+    bench: &Bench,
+    choice: Choice,
+    progress: &mut P,
+    writer: &mut W,
+) -> Result<Watched, RunFault>
+    ensures { EndsIn
+        (fold watched (watching_from (bench_machine bench.now)) (bench_requests bench.now))
+        (W.contents writer.old) (W.contents writer.new) result }
+{
+    let machine = machine_of(alloc, bench)?;
+    let counts = count_requests(bench);
+    progress.expect(counts.requests);
+    let mut tracer = Tracer::new(machine, choice, counts.is_shared);
+    trace_asked(&mut tracer, bench, progress, writer)?;
+    Ok(tracer.into_watched())
+}
+
+/// Writes the trace of a script in the same way: the machine is that of `run_script`. Source:
+/// profile.
+///
+/// # Errors
+///
+/// `NoMemory`, and nothing was written. `Output`, where a write failed, or took nothing of what was
+/// left.
+pub fn trace_script<P: Progress, W: Write>(
+    alloc: Global,
+    requests: &[Request],
+    choice: Choice,
+    progress: &mut P,
+    writer: &mut W,
+) -> Result<Watched, RunFault>
+    ensures { EndsIn (fold watched (watching_from script_machine) requests.now)
+        (W.contents writer.old) (W.contents writer.new) result }
+{
+    let machine = script_machine(alloc)?;
+    progress.expect(requests.len() as u64);
+    let mut tracer = Tracer::new(machine, choice, false);
+    tracer.begin(None, writer)?;
+    follow_all(&mut tracer, progress, Source::Script, requests, writer)?;
+    tracer.end(1000, 1_000_000, writer)?;
+    Ok(tracer.into_watched())
+}

@@ -1,0 +1,67 @@
+//! How far a run has come, in a line a second.
+use agc_session::Progress;
+use std::io::Eprint;
+use std::time::{Clock, Instant};
+
+/// Of how many requests one looks at the clock.
+const STEP: u64 = 1024;
+
+/// One who says on standard error, each second, how many requests were asked; who says nothing
+/// where no time is known at which the run began.
+#[derive(Drop)]
+pub(crate) struct Teller<'a, H> {
+    rt: &'a H,
+    begun: Option<Instant>,
+    seconds: u64,
+    expected: u64,
+    asked: u64,
+}
+
+impl<'a, H: Clock> Teller<'a, H> {
+    /// A run begins now, and what comes of it is told, if that is wanted.
+    pub(crate) fn new(rt: &'a H, is_wanted: bool) -> Teller<'a, H> {
+        let begun = if is_wanted {
+            Instant::now(rt).ok()
+        } else {
+            None
+        };
+        Teller {
+            rt,
+            begun,
+            seconds: 0,
+            expected: 0,
+            asked: 0,
+        }
+    }
+}
+
+impl<H: Clock + Eprint> Teller<'_, H> {
+    /// Says how many requests were asked, where a second has passed.
+    fn tell(&mut self) {
+        let Some(begun) = self.begun else {
+            return;
+        };
+        let Ok(passed) = begun.elapsed(self.rt) else {
+            return;
+        };
+        let seconds = passed.as_secs();
+        if seconds > self.seconds {
+            self.seconds = seconds;
+            let (asked, expected) = (self.asked, self.expected);
+            let _ = eprintln!(self.rt; "agc_watch: {asked} of {expected} requests");
+        }
+    }
+}
+
+impl<H: Clock + Eprint> Progress for Teller<'_, H> {
+    fn expect(&mut self, count: u64) {
+        self.expected = self.expected.saturating_add(count);
+    }
+
+    fn asked(&mut self) {
+        self.asked = self.asked.saturating_add(1);
+        if self.asked % STEP == 0 {
+            self.tell();
+        }
+    }
+}

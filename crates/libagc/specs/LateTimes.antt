@@ -1,0 +1,90 @@
+-- What a caller's timetable lacks.
+use Rattle.std.specs.Prelude.{ℕ, ◌+◌, ◌==◌, nat_lt, nat_le, ◌&&◌, ◌||◌, not, Bool, true, false}
+use Rattle.std.specs.Prelude.{if◌then◌else◌, List, [], ◌∷◌, length, Option, Some, None}
+use Rattle.std.specs.Option.{is_some}
+use Rattle.agc_clock.specs.declared.timetable.Stolen.{Stolen}
+use Rattle.agc_image.specs.declared.asked.AgcRequest.{AgcRequest}
+use Rattle.agc_image.specs.declared.fault.Fault.{Fault}
+use Rattle.agc_image.specs.declared.fault.Fault.TheVariants.{TimeRange, StealTwice, CostTwice}
+use Rattle.agc_image.specs.Asked.{request_told}
+use Rattle.agc_image.specs.Told.{address_told}
+use Rattle.libagc.specs.declared.timetable.AgcCost.{AgcCost}
+use Rattle.libagc.specs.declared.timetable.AgcEvent.{AgcEvent}
+
+-- the last centisecond of the longest scenario, and the greatest cost in hundredths
+abbrev pub last_time : ℕ
+last_time = 360000
+
+abbrev pub most_cost : ℕ
+most_cost = 100000000
+
+-- from a time to a later one, at most all of each centisecond
+abbrev pub is_steal : Stolen → Bool
+is_steal row = nat_lt row.from row.to && nat_le row.percent 100
+
+-- a job at an address; then it ends, or sleeps at an address
+abbrev pub is_cost : AgcCost → Bool
+is_cost row =
+    is_some (address_told row.at)
+    && (nat_lt 0 row.hundredths && (nat_le row.hundredths most_cost
+    && ((row.then == 0) || is_some (address_told row.then))))
+
+-- once, or again up to a time that isn't before the first
+abbrev pub is_coming : AgcEvent → Bool
+is_coming row =
+    nat_le row.at last_time
+    && ((row.every == 0) || (nat_le row.at row.until && nat_le row.until last_time))
+
+-- an event asks for one to sixteen of so many requests
+abbrev pub is_event : ℕ → AgcEvent → Bool
+is_event requests row =
+    is_coming row && (nat_lt 0 row.count && (nat_le row.count 16
+    && nat_le (row.first + row.count) requests))
+
+abbrev pub are_steals : List Stolen → Bool
+are_steals [] = true
+are_steals (row ∷ rows) = is_steal row && are_steals rows
+
+abbrev pub are_costs : List AgcCost → Bool
+are_costs [] = true
+are_costs (row ∷ rows) = is_cost row && are_costs rows
+
+abbrev pub are_events : ℕ → List AgcEvent → Bool
+are_events requests [] = true
+are_events requests (row ∷ rows) = is_event requests row && are_events requests rows
+
+abbrev pub are_requests : List AgcRequest → Bool
+are_requests [] = true
+are_requests (r ∷ rs) = is_some (request_told r) && are_requests rs
+
+-- whether a row of stolen time holds at a time at which one of these does
+abbrev pub meets : Stolen → List Stolen → Bool
+meets row [] = false
+meets row (other ∷ others) =
+    (nat_lt row.from other.to && nat_lt other.from row.to) || meets row others
+
+-- whether two rows hold at one time
+abbrev pub steals_twice : List Stolen → Bool
+steals_twice [] = false
+steals_twice (row ∷ rows) = meets row rows || steals_twice rows
+
+-- whether an address has a cost
+abbrev pub has_cost : ℕ → List AgcCost → Bool
+has_cost at [] = false
+has_cost at (row ∷ rows) = (row.at == at) || has_cost at rows
+
+-- whether an address has two
+abbrev pub costs_twice : List AgcCost → Bool
+costs_twice [] = false
+costs_twice (row ∷ rows) = has_cost row.at rows || costs_twice rows
+
+-- the first thing that is wrong
+abbrev pub times_lack : List Stolen → List AgcCost → List AgcEvent → List AgcRequest → Option Fault
+times_lack stolen costs events requests =
+    if not (are_steals stolen) then Some TimeRange
+    else if not (are_costs costs) then Some TimeRange
+    else if not (are_events (length requests) events) then Some TimeRange
+    else if not (are_requests requests) then Some TimeRange
+    else if steals_twice stolen then Some StealTwice
+    else if costs_twice costs then Some CostTwice
+    else None

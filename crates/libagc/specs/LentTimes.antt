@@ -1,0 +1,60 @@
+-- What a caller's timetable has set down.
+use Rattle.std.specs.Prelude.{ℕ, ◌==◌, nat_lt, ◌&&◌, if◌then◌else◌, List, map, take, drop}
+use Rattle.std.specs.Option.{option_map_or}
+use Rattle.agc_plan.specs.declared.request.Request.{Request}
+use Rattle.agc_plan.specs.declared.request.Request.TheVariants.{Change}
+use Rattle.agc_clock.specs.Coming.{Coming}
+use Rattle.agc_clock.specs.declared.timetable.Cost.{Cost}
+use Rattle.agc_clock.specs.declared.timetable.Stolen.{Stolen}
+use Rattle.agc_clock.specs.declared.timetable.Then.{Then}
+use Rattle.agc_clock.specs.declared.timetable.Then.TheVariants as then
+use Rattle.agc_clock.specs.Events.{Event}
+use Rattle.agc_clock.specs.Timetables.{Schedule}
+use Rattle.agc_image.specs.declared.asked.AgcRequest.{AgcRequest}
+use Rattle.agc_image.specs.Asked.{request_told}
+use Rattle.libagc.specs.declared.timetable.AgcCost.{AgcCost}
+use Rattle.libagc.specs.declared.timetable.AgcEvent.{AgcEvent}
+
+-- an address; what is out of its range counts as the last
+abbrev pub address_for : ℕ → ℕ
+address_for n = if nat_lt 0 n && nat_lt n 16384 then n else 16383
+
+-- 0 is the end of the job, any other a sleep at that address
+abbrev pub then_told : ℕ → Then
+then_told n = if n == 0 then then.End else then.Sleep (address_for n)
+
+abbrev pub cost_told : AgcCost → Cost
+cost_told row = record {
+  at = address_for row.at;
+  hundredths = row.hundredths;
+  then = then_told row.then;
+}
+
+-- an event comes once where it comes each 0 centiseconds
+abbrev pub times_told : AgcEvent → Coming
+times_told row =
+    if row.every == 0 then record { at = row.at; every = 1; until = row.at }
+    else record { at = row.at; every = row.every; until = row.until }
+
+-- a request; numbers that are none count as a change of job
+abbrev pub request_for : AgcRequest → Request
+request_for r = option_map_or (λ q. q) (request_told r) Change
+
+-- an event asks for so many of the requests, from its first on
+abbrev pub asked_by : List AgcRequest → AgcEvent → List AgcRequest
+asked_by requests row = take row.count (drop row.first requests)
+
+abbrev pub event_told : List AgcRequest → AgcEvent → Event
+event_told requests row = record {
+  times = times_told row;
+  requests = map request_for (asked_by requests row);
+}
+
+abbrev pub timetable_told : ℕ → List Stolen → List AgcCost → List AgcEvent → List AgcRequest
+    → Schedule
+timetable_told lasts stolen costs events requests = record {
+  lasts = lasts;
+  stolen = stolen;
+  costs = map cost_told costs;
+  events = map (event_told requests) events;
+}

@@ -1,0 +1,177 @@
+// Time that passes by a caller's timetable.
+ghost use Rattle.std.specs.Prelude.{◌≡◌, ℕ};
+ghost use Rattle.agc_clock.specs.Clocks.{Clocked};
+ghost use Rattle.agc_exec.specs.Image.{jobs_in};
+ghost use Rattle.agc_image.specs.Codes.{Coded, code_for};
+ghost use Rattle.agc_image.specs.Images.{IsImage, IsLawful, image_of};
+ghost use Rattle.libagc.specs.Clocks.{ClockAsks, asker_told, source_told, began_told, clock_after};
+ghost use Rattle.libagc.specs.LateTimes.{times_lack};
+ghost use Rattle.libagc.specs.LentTimes.{timetable_told};
+ghost use Rattle.libagc.specs.Stepping.{ImageThen};
+
+use crate::lines::numbers_of;
+use crate::reply::AgcNumber;
+use crate::steps::AgcStep;
+use crate::times::times_lack;
+use crate::timetable::{AgcCost, AgcEvent, LentTimes};
+use agc_clock::{Clock, Source, Stolen};
+use agc_image::{AgcRequest, blank, image_fault, open};
+use agc_word::Erasable;
+
+/// Who asks.
+fn source_of(source: Source) -> u32
+    ensures { result ≡ source_told source }
+{
+    match source {
+        Source::Clock => 1,
+        Source::Event(number) => {
+            if number < 4294967293 {
+                number as u32 + 2
+            } else {
+                4294967295
+            }
+        }
+    }
+}
+
+/// What a clock asks of an open image.
+fn ask_clock(
+    table: &LentTimes<'_>,
+    image: &Erasable,
+    clock: &mut Clock,
+    request: &mut AgcRequest,
+) -> AgcNumber
+    requires { IsLawful image.now }
+    ensures asks { ClockAsks (timetable_told table.now.lasts table.now.stolen.now
+        table.now.costs.now table.now.events.now table.now.requests.now) (jobs_in image.now)
+        clock.old clock.new request.old request.new result.number }
+    ensures code { result.code ≡ 0 }
+{
+    match clock.next(image, table) {
+        None => AgcNumber { code: 0, number: 0 },
+        Some(asked) => {
+            *request = numbers_of(&asked.request);
+            AgcNumber {
+                code: 0,
+                number: source_of(asked.source),
+            }
+        }
+    }
+}
+
+/// The next request of a clock, which counts time since `clock` was all zeros, for a machine with
+/// these words. `request` gets its numbers. The number tells who asks: 1 the clock itself, 2 and
+/// more an event, the first being 2; 0 where the time is over, and then the request stays. Codes: 1
+/// to 3 for the image, 15 to 17 for the timetable. Source: profile.
+#[unsafe(no_mangle)]
+pub extern "C" fn agc_clock_next(
+    words: &[u16; 144],
+    sets: u32,
+    lasts: u32,
+    stolen: &[Stolen],
+    costs: &[AgcCost],
+    events: &[AgcEvent],
+    requests: &[AgcRequest],
+    clock: &mut Clock,
+    request: &mut AgcRequest,
+) -> AgcNumber
+    ensures code { ImageThen result.code sets words.now
+        (code_for (times_lack stolen.now costs.now events.now requests.now)) }
+    ensures served { result.code ≡ 0 → ClockAsks
+        (timetable_told lasts stolen.now costs.now events.now requests.now)
+        (jobs_in (image_of sets words.now)) clock.old clock.new request.old request.new
+        result.number }
+    ensures refused { ¬ (result.code ≡ 0) → (clock.new ≡ clock.old)
+        × ((request.new ≡ request.old) × (result.number ≡ 0)) }
+{
+    match image_fault(words, sets) {
+        Some(fault) => AgcNumber::refused(fault),
+        None => match times_lack(stolen, costs, events, requests) {
+            Some(fault) => AgcNumber::refused(fault),
+            None => agc_clock_next_trusted(
+                words, sets, lasts, stolen, costs, events, requests, clock, request,
+            ),
+        },
+    }
+}
+
+/// As `agc_clock_next`, for an array that is known to have an image. It doesn't look at the
+/// timetable: an address out of its range counts as 16383, numbers that are no request as a change
+/// of job, and of two rows for one time, or one address, the first counts. Source: profile.
+#[unsafe(no_mangle)]
+pub extern "C" fn agc_clock_next_trusted(
+    words: &[u16; 144],
+    sets: u32,
+    lasts: u32,
+    stolen: &[Stolen],
+    costs: &[AgcCost],
+    events: &[AgcEvent],
+    requests: &[AgcRequest],
+    clock: &mut Clock,
+    request: &mut AgcRequest,
+) -> AgcNumber
+    requires { IsImage sets words.now }
+    ensures code { result.code ≡ 0 }
+    ensures served { ClockAsks
+        (timetable_told lasts stolen.now costs.now events.now requests.now)
+        (jobs_in (image_of sets words.now)) clock.old clock.new request.old request.new
+        result.number }
+{
+    let mut image = blank(sets);
+    open(words, sets, &mut image);
+    let table = LentTimes {
+        lasts,
+        stolen,
+        costs,
+        events,
+        requests,
+    };
+    ask_clock(&table, &image, clock, request)
+}
+
+/// Whether an era began with a step.
+fn began(step: &AgcStep) -> bool
+    ensures { result ≡ began_told step.now }
+{
+    step.reply == 10 || step.reply == 13 || step.reply == 14
+}
+
+/// A clock takes what came of a request, also of one that it didn't ask for: the words that the
+/// step left, and the step. Codes: 1 to 3 for the image. Source: profile.
+#[unsafe(no_mangle)]
+pub extern "C" fn agc_clock_served(
+    words: &[u16; 144],
+    sets: u32,
+    step: &AgcStep,
+    clock: &mut Clock,
+) -> u32
+    ensures code { Coded result sets words.now (Unit {0}) (Unit {0}) (Unit {0}) }
+    ensures served { result ≡ 0
+        → clock.new ≡ clock_after step.now (jobs_in (image_of sets words.now)) clock.old }
+    ensures refused { ¬ (result ≡ 0) → clock.new ≡ clock.old }
+{
+    match image_fault(words, sets) {
+        Some(fault) => fault.code(),
+        None => agc_clock_served_trusted(words, sets, step, clock),
+    }
+}
+
+/// As `agc_clock_served`, for an array that is known to have an image. Code 0 alone. Source:
+/// profile.
+#[unsafe(no_mangle)]
+pub extern "C" fn agc_clock_served_trusted(
+    words: &[u16; 144],
+    sets: u32,
+    step: &AgcStep,
+    clock: &mut Clock,
+) -> u32
+    requires { IsImage sets words.now }
+    ensures code { result ≡ 0 }
+    ensures served { clock.new ≡ clock_after step.now (jobs_in (image_of sets words.now))
+        clock.old }
+{
+    let mut image = blank(sets);
+    open(words, sets, &mut image);
+    clock.served(&image, began(step));
+    0
+}

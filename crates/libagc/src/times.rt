@@ -1,0 +1,189 @@
+// What a caller's timetable lacks.
+ghost use Rattle.std.specs.Prelude.{◌≡◌};
+ghost use Rattle.agc_image.specs.Codes.{code_for};
+ghost use Rattle.libagc.specs.LateTimes.{is_steal, is_cost, is_coming, is_event};
+ghost use Rattle.libagc.specs.LateTimes.{are_steals, are_costs, are_events, are_requests, meets};
+ghost use Rattle.libagc.specs.LateTimes.{steals_twice, has_cost, costs_twice, times_lack};
+
+use crate::timetable::{AgcCost, AgcEvent};
+use agc_clock::Stolen;
+use agc_image::{AgcRequest, Fault, address, request_of};
+
+/// The last centisecond of the longest scenario.
+const LAST_TIME: u32 = 360000;
+
+/// The greatest cost, in hundredths of a centisecond.
+const MOST_COST: u32 = 100000000;
+
+/// Whether numbers are a row of stolen time.
+fn is_steal(row: &Stolen) -> bool
+    ensures { result ≡ is_steal row.now }
+{
+    row.from < row.to && row.percent <= 100
+}
+
+/// Whether numbers are a cost.
+fn is_cost(row: &AgcCost) -> bool
+    ensures { result ≡ is_cost row.now }
+{
+    address(row.at).is_some()
+        && 0 < row.hundredths
+        && row.hundredths <= MOST_COST
+        && (row.then == 0 || address(row.then).is_some())
+}
+
+/// Whether an event's times are in range.
+fn is_coming(row: &AgcEvent) -> bool
+    ensures { result ≡ is_coming row.now }
+{
+    row.at <= LAST_TIME && (row.every == 0 || (row.at <= row.until && row.until <= LAST_TIME))
+}
+
+/// Whether numbers are an event's, which asks for some of so many requests.
+fn is_event(row: &AgcEvent, requests: usize) -> bool
+    ensures { result ≡ is_event requests row.now }
+{
+    is_coming(row)
+        && 0 < row.count
+        && row.count <= 16
+        && row.first as usize + row.count as usize <= requests
+}
+
+/// Whether all rows of stolen time are in range.
+fn are_steals(rows: &[Stolen]) -> bool
+    ensures { result ≡ are_steals rows.now }
+{
+    for row in rows {
+        if !is_steal(row) {
+            return false;
+        }
+    }
+    true
+}
+
+/// Whether all costs are.
+fn are_costs(rows: &[AgcCost]) -> bool
+    ensures { result ≡ are_costs rows.now }
+{
+    for row in rows {
+        if !is_cost(row) {
+            return false;
+        }
+    }
+    true
+}
+
+/// Whether all events are.
+fn are_events(rows: &[AgcEvent], requests: usize) -> bool
+    ensures { result ≡ are_events requests rows.now }
+{
+    for row in rows {
+        if !is_event(row, requests) {
+            return false;
+        }
+    }
+    true
+}
+
+/// Whether all requests are.
+fn are_requests(requests: &[AgcRequest]) -> bool
+    ensures { result ≡ are_requests requests.now }
+{
+    for request in requests {
+        if request_of(request).is_none() {
+            return false;
+        }
+    }
+    true
+}
+
+/// Whether a row of stolen time holds at a time at which one of these does.
+fn meets(row: &Stolen, others: &[Stolen]) -> bool
+    ensures { result ≡ meets row.now others.now }
+{
+    for other in others {
+        if row.from < other.to && other.from < row.to {
+            return true;
+        }
+    }
+    false
+}
+
+/// Whether two rows hold at one time.
+fn steals_twice(rows: &[Stolen]) -> bool
+    ensures { result ≡ steals_twice rows.now }
+{
+    for (k, row) in rows.iter().enumerate() {
+        if meets(row, &rows[k + 1..]) {
+            return true;
+        }
+    }
+    false
+}
+
+/// Whether an address has a cost.
+fn has_cost(at: u32, rows: &[AgcCost]) -> bool
+    ensures { result ≡ has_cost at rows.now }
+{
+    for row in rows {
+        if row.at == at {
+            return true;
+        }
+    }
+    false
+}
+
+/// Whether an address has two.
+fn costs_twice(rows: &[AgcCost]) -> bool
+    ensures { result ≡ costs_twice rows.now }
+{
+    for (k, row) in rows.iter().enumerate() {
+        if has_cost(row.at, &rows[k + 1..]) {
+            return true;
+        }
+    }
+    false
+}
+
+/// What rows lack to be a timetable: the first thing that is wrong.
+pub(crate) fn times_lack(
+    stolen: &[Stolen],
+    costs: &[AgcCost],
+    events: &[AgcEvent],
+    requests: &[AgcRequest],
+) -> Option<Fault>
+    ensures { result ≡ times_lack stolen.now costs.now events.now requests.now }
+{
+    if !are_steals(stolen) {
+        Some(Fault::TimeRange)
+    } else if !are_costs(costs) {
+        Some(Fault::TimeRange)
+    } else if !are_events(events, requests.len()) {
+        Some(Fault::TimeRange)
+    } else if !are_requests(requests) {
+        Some(Fault::TimeRange)
+    } else if steals_twice(stolen) {
+        Some(Fault::StealTwice)
+    } else if costs_twice(costs) {
+        Some(Fault::CostTwice)
+    } else {
+        None
+    }
+}
+
+/// Whether rows make a timetable: 0, or the first of 15, a number of them is out of its range, 16,
+/// two rows of stolen time hold at one time, and 17, an address has two costs. Source: profile.
+#[unsafe(no_mangle)]
+pub extern "C" fn agc_clock_check(
+    stolen: &[Stolen],
+    costs: &[AgcCost],
+    events: &[AgcEvent],
+    requests: &[AgcRequest],
+) -> u32
+    ensures { result ≡ code_for (times_lack stolen.now costs.now events.now requests.now) }
+{
+    match times_lack(stolen, costs, events, requests) {
+        None => 0,
+        Some(fault) => fault.code(),
+    }
+}

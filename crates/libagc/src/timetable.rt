@@ -1,0 +1,177 @@
+// A timetable in memory of a caller's own.
+ghost use Rattle.std.specs.Prelude.{◌≡◌};
+ghost use Rattle.libagc.specs.LentTimes.{address_for, then_told, cost_told, times_told};
+ghost use Rattle.libagc.specs.LentTimes.{request_for, asked_by, timetable_told};
+
+use agc_clock::{Cost, Stolen, Then, Times, Timetables};
+use agc_image::{AgcRequest, address, request_of};
+use agc_plan::{Address, Request};
+
+/// What a job costs that stands at an address, and what it does then. Source: profile.
+#[repr(C)]
+#[derive(Clone, Copy)]
+pub struct AgcCost {
+    /// The address, 1 to 16383.
+    pub at: u32,
+    /// The cost in hundredths of a centisecond of computing, 1 to 100,000,000.
+    pub hundredths: u32,
+    /// 0 where the job then ends; else the address at which it sleeps, 1 to 16383.
+    pub then: u32,
+}
+
+/// When an event comes, in centiseconds since the start, 0 to 360,000, and what it then asks for.
+/// Source: profile.
+#[repr(C)]
+#[derive(Clone, Copy)]
+pub struct AgcEvent {
+    /// The first time.
+    pub at: u32,
+    /// After how many centiseconds it comes again; 0 where it comes once.
+    pub every: u32,
+    /// Where it comes again, the last time at which it may.
+    pub until: u32,
+    /// The place of its first request among those of all events, from 0.
+    pub first: u32,
+    /// How many requests it has, 1 to 16.
+    pub count: u32,
+}
+
+/// A timetable whose rows lie in memory of a caller's own: an address out of its range counts as
+/// 16383, numbers that are no request as a change of job. Source: profile.
+#[derive(Clone, Copy)]
+pub(crate) struct LentTimes<'a> {
+    /// How many centiseconds it lasts.
+    pub(crate) lasts: u32,
+    /// Stolen time.
+    pub(crate) stolen: &'a [Stolen],
+    /// What jobs cost.
+    pub(crate) costs: &'a [AgcCost],
+    /// The events.
+    pub(crate) events: &'a [AgcEvent],
+    /// What the events ask for.
+    pub(crate) requests: &'a [AgcRequest],
+}
+
+/// The last address.
+fn last_address() -> Address
+    ensures { result ≡ 16383 }
+{
+    match Address::new(16383) {
+        Some(at) => at,
+        None => unreachable!(),
+    }
+}
+
+/// An address.
+fn address_for(number: u32) -> Address
+    ensures { result ≡ address_for number }
+{
+    match address(number) {
+        Some(at) => at,
+        None => last_address(),
+    }
+}
+
+/// What a job does then.
+fn then_of(number: u32) -> Then
+    ensures { result ≡ then_told number }
+{
+    if number == 0 {
+        Then::End
+    } else {
+        Then::Sleep(address_for(number))
+    }
+}
+
+/// What a job costs.
+fn cost_of(row: &AgcCost) -> Cost
+    ensures { result ≡ cost_told row.now }
+{
+    Cost {
+        at: address_for(row.at),
+        hundredths: row.hundredths,
+        then: then_of(row.then),
+    }
+}
+
+/// When an event comes.
+fn times_of(row: &AgcEvent) -> Times
+    ensures { result ≡ times_told row.now }
+{
+    match Times::repeated(row.at, row.every, row.until) {
+        Some(times) => times,
+        None => Times::once(row.at),
+    }
+}
+
+/// A request.
+fn request_for(numbers: &AgcRequest) -> Request
+    ensures { result ≡ request_for numbers.now }
+{
+    match request_of(numbers) {
+        Some(request) => request,
+        None => Request::Change,
+    }
+}
+
+/// The numbers of what an event asks for.
+fn asked_by<'a>(requests: &'a [AgcRequest], row: &AgcEvent) -> &'a [AgcRequest]
+    ensures { result.now ≡ asked_by requests.now row.now }
+{
+    let first = (row.first as usize).min(requests.len());
+    let rest = &requests[first..];
+    let count = (row.count as usize).min(rest.len());
+    &rest[..count]
+}
+
+impl<'a> Timetables for LentTimes<'a> {
+    ghost set_down = { λ t. timetable_told t.lasts t.stolen.now t.costs.now t.events.now
+        t.requests.now };
+
+    fn lasts(&self) -> u32 {
+        self.lasts
+    }
+
+    fn stolen(&self) -> &[Stolen] {
+        self.stolen
+    }
+
+    fn costs(&self) -> usize {
+        self.costs.len()
+    }
+
+    fn cost(&self, row: usize) -> Option<Cost> {
+        match self.costs.get(row) {
+            None => None,
+            Some(row) => Some(cost_of(row)),
+        }
+    }
+
+    fn events(&self) -> usize {
+        self.events.len()
+    }
+
+    fn times(&self, event: usize) -> Option<Times> {
+        match self.events.get(event) {
+            None => None,
+            Some(row) => Some(times_of(row)),
+        }
+    }
+
+    fn requests(&self, event: usize) -> usize {
+        match self.events.get(event) {
+            None => 0,
+            Some(row) => asked_by(self.requests, row).len(),
+        }
+    }
+
+    fn request(&self, event: usize, index: usize) -> Option<Request> {
+        match self.events.get(event) {
+            None => None,
+            Some(row) => match asked_by(self.requests, row).get(index) {
+                None => None,
+                Some(numbers) => Some(request_for(numbers)),
+            },
+        }
+    }
+}

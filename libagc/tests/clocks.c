@@ -1,0 +1,144 @@
+/* Reads the scenarios that clocks.py makes, lets time pass by agc_clock_next, and writes what clocks.py writes of them.
+   clocks checked|trusted */
+#include "agc.h"
+
+#include <stdio.h>
+#include <stdlib.h>
+#include <string.h>
+
+enum { MOST = 64 };
+
+static uint16_t words[AGC_WORDS], moment[AGC_WORDS];
+static uint32_t sets, lasts;
+static bool trusted;
+static AgcRow rows[MOST];
+static AgcPhaseEntry entries[MOST];
+static AgcStolen stolen[MOST];
+static AgcCost costs[MOST];
+static AgcEvent events[MOST];
+static AgcRequest requests[MOST];
+static size_t row_count, entry_count, stolen_count, cost_count, event_count, request_count;
+static AgcClock timer;
+
+static void want(bool holds, const char *what) {
+    if (!holds) {
+        fprintf(stderr, "clocks: it doesn't hold: %s\n", what);
+        exit(1);
+    }
+}
+
+static AgcRequest read(const char *line, bool of_plan) {
+    AgcRequest it = {0, 0, 0, 0};
+    uint32_t code = of_plan ? agc_read_action(line, strlen(line), &it) : agc_read_request(line, strlen(line), &it);
+    want(code == AGC_OK, line);
+    return it;
+}
+
+/* Asks, tells the clock, and writes a line. */
+static void ask(uint32_t source, AgcRequest it) {
+    AgcFired fired[AGC_FIRED];
+    char text[AGC_LINE];
+    AgcStep step = agc_step(words, sets, rows, row_count, entries, entry_count, &it, fired, moment);
+    want(step.code == AGC_OK, "a step");
+    want((trusted ? agc_clock_served_trusted : agc_clock_served)(words, sets, &step, &timer) == AGC_OK, "served");
+    AgcNumber length = agc_write_reply(&step, fired, text, sizeof text);
+    printf("%u %u %u %u %u %u %.*s", timer.time, source, it.kind, it.first, it.second, it.third, (int)length.number, text);
+}
+
+static void run(uint32_t centiseconds) {
+    AgcRequest it = {0, 0, 0, 0};
+    uint32_t end = timer.time + centiseconds < lasts ? timer.time + centiseconds : lasts;
+    for (;;) {
+        AgcNumber asked = (trusted ? agc_clock_next_trusted : agc_clock_next)(words, sets, end, stolen, stolen_count, costs,
+            cost_count, events, event_count, requests, request_count, &timer, &it);
+        want(asked.code == AGC_OK, "the next request");
+        if (asked.number == 0) return;
+        ask(asked.number, it);
+    }
+}
+
+/* The parts of a line between bars, each with its own end. */
+static char *part(char **rest) {
+    char *from = *rest, *bar = strchr(from, '|');
+    *rest = bar ? bar + 1 : from + strlen(from);
+    if (bar) *bar = 0;
+    return from;
+}
+
+static void take(char *line) {
+    char *rest = strchr(line, ' ') + 1;
+    if (!strncmp(line, "scenario ", 9)) {
+        puts(line);
+        want(sscanf(rest, "%u %u", &sets, &lasts) == 2, line);
+        lasts *= 100;
+        agc_clear(words, sets);
+        memset(&timer, 0, sizeof timer);
+        memset(entries, 0, sizeof entries);
+        memset(rows, 0, sizeof rows);
+        row_count = entry_count = stolen_count = cost_count = event_count = request_count = 0;
+    } else if (!strncmp(line, "task ", 5)) {
+        AgcRow *row = &rows[row_count++];
+        want(sscanf(part(&rest), "%o %o", &row->at, &row->bank) == 2, line);
+        for (int k = 0; *rest; k++) row->actions[k] = read(part(&rest), true);
+    } else if (!strncmp(line, "phase ", 6)) {
+        AgcPhaseEntry *it = &entries[entry_count++];
+        want(sscanf(part(&rest), "%u %u", &it->group, &it->phase) == 2, line);
+        char *job = part(&rest);
+        AgcRequest found = {0, 0, 0, 0}, task = found;
+        if (*job) found = read(job, true);
+        if (*rest) task = read(rest, true);
+        it->job = found.kind, it->priority = found.first, it->job_at = found.second, it->job_bank = found.third;
+        it->delay = task.first, it->task_at = task.second, it->task_bank = task.third;
+    } else if (!strncmp(line, "steal ", 6)) {
+        AgcStolen *it = &stolen[stolen_count++];
+        want(sscanf(rest, "%u %u %u", &it->from, &it->to, &it->percent) == 3, line);
+    } else if (!strncmp(line, "job ", 4)) {
+        AgcCost *it = &costs[cost_count++];
+        want(sscanf(part(&rest), "%o %u", &it->at, &it->hundredths) == 2, line);
+        it->hundredths *= 100;
+        it->then = read(rest, false).first;
+    } else if (!strncmp(line, "event ", 6)) {
+        AgcEvent *it = &events[event_count++];
+        want(sscanf(part(&rest), "%u %u %u", &it->at, &it->every, &it->until) == 3, line);
+        it->first = (uint32_t)request_count;
+        while (*rest) requests[request_count++] = read(part(&rest), false);
+        it->count = (uint32_t)request_count - it->first;
+    } else if (!strncmp(line, "run ", 4)) {
+        run((uint32_t)strtoul(rest, NULL, 10));
+    } else {
+        ask(0, read(rest, false));
+    }
+}
+
+/* Whatever a call lacks, clock and request stay. */
+static void refuses(void) {
+    AgcClock clock = {7, 1, 2, true, 50, {1, 2, 3, 4, 5, 6, 7, 8}}, was;
+    AgcRequest it = {1, 2, 3, 4}, same = it;
+    AgcStep step = {0, AGC_TICKED, 0, 0, 0};
+    AgcStolen twice[2] = {{0, 10, 5}, {9, 20, 5}};
+    AgcCost cost[2] = {{1, 1, 0}, {1, 2, 0}}, bad = {1, 1, 16384};
+    AgcEvent event = {0, 0, 0, 1, 1};
+    memcpy(&was, &clock, sizeof clock);
+    agc_clear(words, 7);
+    want(agc_clock_next(words, 6, 10, NULL, 0, NULL, 0, NULL, 0, NULL, 0, &clock, &it).code == AGC_NO_SUCH_SETS, "6 sets");
+    want(agc_clock_next(words, 7, 10, twice, 2, NULL, 0, NULL, 0, NULL, 0, &clock, &it).code == AGC_STEAL_TWICE, "two rows");
+    want(agc_clock_next(words, 7, 10, NULL, 0, cost, 2, NULL, 0, NULL, 0, &clock, &it).code == AGC_COST_TWICE, "two costs");
+    want(agc_clock_next(words, 7, 10, NULL, 0, &bad, 1, NULL, 0, NULL, 0, &clock, &it).code == AGC_TIME_RANGE, "a bad cost");
+    want(agc_clock_next(words, 7, 10, NULL, 0, NULL, 0, &event, 1, &it, 1, &clock, &it).code == AGC_TIME_RANGE, "a bad event");
+    words[89] = 12;
+    want(agc_clock_next(words, 7, 10, NULL, 0, NULL, 0, NULL, 0, NULL, 0, &clock, &it).code == AGC_UNLAWFUL, "no image");
+    want(agc_clock_served(words, 7, &step, &clock) == AGC_UNLAWFUL, "no image");
+    want(!memcmp(&was, &clock, sizeof clock) && !memcmp(&same, &it, sizeof it), "a refusal changes nothing");
+    want(agc_clock_check(NULL, 0, NULL, 0, NULL, 0, NULL, 0) == AGC_OK, "a timetable of nothing");
+}
+
+int main(int argc, char **argv) {
+    char line[1024];
+    trusted = argc > 1 && !strcmp(argv[1], "trusted");
+    refuses();
+    while (fgets(line, sizeof line, stdin)) {
+        line[strcspn(line, "\n")] = 0;
+        take(line);
+    }
+    return 0;
+}

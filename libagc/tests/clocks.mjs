@@ -1,0 +1,105 @@
+// Reads the scenarios that clocks.py makes, lets time pass by a `Clock`, and writes what clocks.py writes of them. Each
+// centisecond of a run is asked by `run`, and of a copy request by request, which has to leave the same.
+//
+//     node clocks.mjs AGC_JS
+
+const { Clock, Code, Lacking, Machine } = await import(new URL(process.argv[2], `file://${process.cwd()}/`));
+const KINDS = ["", "novac", "findvac", "end", "sleep", "rouse", "prio", "change", "store", "list", "tick", "phase", "restart", "fresh"];
+const BASES = {
+  novac: [8, 8, 8], findvac: [8, 8, 8], sleep: [8], rouse: [8], prio: [8], store: [10, 8], list: [10, 8, 8], phase: [10, 10],
+};
+const out = [];
+
+function want(holds, what) {
+  if (!holds) throw new Error(`it doesn't hold: ${what}`);
+}
+
+const same = (one, other) => JSON.stringify(one) === JSON.stringify(other);
+
+function told(time, source, name, numbers, step) {
+  out.push([time, source, KINDS.indexOf(name), ...numbers, ...Array(3 - numbers.length).fill(0), step.text].join(" "));
+}
+
+class Scenario {
+  constructor(sets, seconds) {
+    Object.assign(this, { sets, plan: { task: [], phase: [] }, time: { seconds, steal: [], job: [], event: [] } });
+  }
+
+  take(name, rest) {
+    const [first, ...parts] = rest.split("|");
+    const words = first.split(" ");
+    const numbers = words.map(Number);
+    if (name === "task") this.plan.task.push({ at: words[0], bank: words[1], action: parts });
+    else if (name === "phase") {
+      const [job, task] = parts.map((it) => it || undefined);
+      this.plan.phase.push({ group: numbers[0], phase: numbers[1], job, task });
+    } else if (name === "steal") this.time.steal.push({ from: numbers[0], to: numbers[1], percent: numbers[2] });
+    else if (name === "job") this.time.job.push({ at: words[0], cost: numbers[1], then: parts[0] });
+    else if (name === "event") {
+      const again = numbers[1] ? { every: numbers[1], until: numbers[2] } : {};
+      this.time.event.push({ at: numbers[0], do: parts, ...again });
+    } else this.go(name, rest);
+  }
+
+  go(name, rest) {
+    this.machine ??= new Machine({ sets: this.sets, plan: this.plan });
+    this.clock ??= new Clock(this.time);
+    if (name === "run") this.run(Number(rest));
+    else this.hand(rest);
+  }
+
+  hand(line) {
+    const [name, ...texts] = line.split(" ");
+    const step = this.machine.ask(line);
+    this.clock.served(this.machine, step);
+    told(this.clock.time, 0, name, texts.map((it, k) => parseInt(it, BASES[name][k])), step);
+  }
+
+  run(centiseconds) {
+    const [machine, clock] = [this.machine.copy(), this.clock.copy()];
+    const count = this.machine.run(this.clock, centiseconds, (asked, step, time) => {
+      told(time, asked.event === null ? 1 : asked.event + 2, asked.name, asked.numbers, step);
+      const next = clock.next(machine);
+      const other = next && machine.ask(next);
+      if (next) clock.served(machine, other);
+      want(same(next, asked) && next.text === asked.text && same(other, step), asked.text);
+    });
+    want(same([machine.words, machine.totals, clock.time], [this.machine.words, this.machine.totals, this.clock.time]), "a run");
+    want(count > 0 || centiseconds === 0 || this.clock.time === this.clock.lasts, "a run that asks for nothing");
+    want(this.clock.given.length === 8, "what was given");
+  }
+}
+
+function refuses() {
+  const job = { at: "04000", cost: 1 };
+  const faults = [
+    [Code.TIME_RANGE, { steal: 101 }], [Code.STEAL_TWICE, { steal: [{ from: 0, to: 9, percent: 1 }, { from: 8, to: 9, percent: 1 }] }],
+    [Code.COST_TWICE, { job: [job, job] }], [Code.NOT_SPELLED, { job: [{ ...job, then: "tick" }] }],
+    [Code.TIME_RANGE, { event: [{ at: 0, do: "tick" }, { at: 5, do: "tick", every: 1, until: 4 }] }],
+  ];
+  for (const [code, timetable] of faults) {
+    let found = null;
+    try { new Clock(timetable); } catch (fault) { found = fault; }
+    want(found instanceof Lacking && found.code === code, JSON.stringify(timetable));
+    if (code === Code.TIME_RANGE && timetable.event) want(found.message.startsWith("event 2: "), found.message);
+  }
+  const [machine, clock] = [new Machine(), new Clock({ job: [job] })];
+  machine.run(clock, 10);
+  want(clock.time === 10 && machine.totals.served === 10, "ten ticks");
+  const other = clock.copy();
+  clock.change({ event: [{ at: 12, do: "novac 20 04000 00005" }] });
+  machine.run(clock, 5, (asked, step, time) => time < 12);
+  want(clock.time === 12 && other.time === 10, "a run that stops");
+}
+
+refuses();
+let scenario = null;
+for (const line of (await new Response(process.stdin).text()).split("\n").slice(0, -1)) {
+  const [name, rest] = [line.slice(0, line.indexOf(" ")), line.slice(line.indexOf(" ") + 1)];
+  if (name === "scenario") {
+    const [sets, seconds] = rest.split(" ").map(Number);
+    scenario = new Scenario(sets, seconds);
+    out.push(line);
+  } else scenario.take(name, rest);
+}
+process.stdout.write(`${out.join("\n")}\n`);

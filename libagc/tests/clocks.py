@@ -1,0 +1,204 @@
+"""Scenarios for the callers of a clock, and what they have to write, by a rule of its own.
+
+    clocks.py make SEED COUNT     prints random scenarios, a line each part
+    clocks.py plain               reads them, and writes what is asked and replied: time passes by the plain rule below,
+                                  hundredth by hundredth, over `Machine` alone
+    clocks.py clock               the same by `Clock`
+
+Lines are `scenario SETS SECONDS`, `task AT BANK|ACTION|..`, `phase GROUP PHASE|JOB|TASK`, `steal FROM TO PERCENT`,
+`job AT COST|THEN`, `event AT EVERY UNTIL|LINE|..`, `run CENTISECONDS`, `hand LINE`. Each request that is asked gets a line:
+the centisecond, who asks (0 a person, 1 the clock, from 2 on the events), its kind and numbers, and the reply.
+"""
+import random
+import sys
+
+from agc import Clock, Lacking, Machine
+
+KINDS = ["", "novac", "findvac", "end", "sleep", "rouse", "prio", "change", "store", "list", "tick", "phase", "restart", "fresh"]
+BASES = {"novac": (8, 8, 8), "findvac": (8, 8, 8), "sleep": (8,), "rouse": (8,), "prio": (8,), "store": (10, 8)}
+BASES |= {"list": (10, 8, 8), "phase": (10, 10)}
+TASKS, JOBS = ["02000", "02100", "02200"], ["04000", "04100", "04200", "04300"]
+
+
+def a_request(pick, of_plan=False):
+    job = f"{pick.choice(['novac', 'findvac'])} {pick.randint(1, 31):02o} {pick.choice(JOBS)} 00005"
+    listing = f"list {pick.randint(1, 40)} {pick.choice(TASKS)} 00005"
+    rouse = f"rouse {pick.choice(JOBS)}"
+    if of_plan:
+        return pick.choice([job, job, listing, listing, rouse, "nothing"])
+    others = ["end", f"sleep {pick.choice(JOBS)}", f"prio {pick.randint(1, 31):02o}", "change", "store 3 12345", "restart", "tick"]
+    return pick.choice([job, job, job, listing, listing, rouse, f"phase {pick.randint(1, 6)} {pick.randint(0, 2)}", *others])
+
+
+def make(seed, count):
+    for number in range(count):
+        pick = random.Random(f"{seed} {number}")
+        print(f"scenario {pick.choice([7, 8])} {pick.randint(1, 4)}")
+        for at in pick.sample(TASKS, pick.randint(0, 3)):
+            print(f"task {at} 00005|" + "|".join(a_request(pick, True) for _ in range(pick.randint(1, 4))))
+        for group in pick.sample(range(1, 7), pick.randint(0, 3)):
+            job = f"novac {pick.randint(1, 31):02o} {pick.choice(JOBS)} 00005"
+            print(f"phase {group} {pick.randint(1, 2)}|{pick.choice(['', job])}|{pick.choice(['', 'list 7 02000 00005'])}")
+        edges = sorted(pick.sample(range(0, 400), 6))
+        for k in range(pick.randint(0, 3)):
+            print(f"steal {edges[2 * k]} {edges[2 * k + 1]} {pick.choice([0, 1, 33, 50, 99, 100])}")
+        for at in pick.sample(JOBS, pick.randint(0, 4)):
+            print(f"job {at} {pick.choice([1, 1, 2, 5, 17, 60])}|{pick.choice(['end', 'end', f'sleep {pick.choice(JOBS)}'])}")
+        for _ in range(pick.randint(0, 5)):
+            at, every = pick.randint(0, 200), pick.choice([0, 0, 1, 7, 25])
+            print(f"event {at} {every} {pick.randint(at, 400)}|" + "|".join(a_request(pick) for _ in range(pick.randint(1, 3))))
+        for _ in range(pick.randint(1, 4)):
+            print(f"run {pick.randint(0, 200)}")
+            if pick.randint(0, 1):
+                print(f"hand {a_request(pick)}")
+        print("run 1000")
+
+
+def numbers_of(line):
+    """A request's kind and its three numbers."""
+    name, *texts = line.split(" ")
+    found = [int(it, base) for it, base in zip(texts, BASES.get(name, ()))]
+    return [KINDS.index(name), *found, *[0] * (3 - len(found))]
+
+
+class Scenario:
+    def __init__(self, sets, seconds):
+        self.sets, self.plan, self.machine = int(sets), {"task": [], "phase": []}, None
+        self.time = {"seconds": int(seconds), "steal": [], "job": [], "event": []}
+
+    def take(self, name, rest):
+        first, *parts = rest.split("|")
+        words = first.split(" ")
+        if name == "task":
+            self.plan["task"].append({"at": words[0], "bank": words[1], "action": parts})
+        elif name == "phase":
+            kept = {key: it for key, it in zip(("job", "task"), parts) if it}
+            self.plan["phase"].append({"group": int(words[0]), "phase": int(words[1]), **kept})
+        elif name == "steal":
+            self.time["steal"].append(dict(zip(("from", "to", "percent"), map(int, words))))
+        elif name == "job":
+            self.time["job"].append({"at": words[0], "cost": int(words[1]), "then": parts[0]})
+        elif name == "event":
+            at, every, until = map(int, words)
+            again = {"every": every, "until": until} if every else {}
+            self.time["event"].append({"at": at, "do": parts, **again})
+        else:
+            self.begin()
+            if name == "run":
+                self.run(int(rest))
+            else:
+                self.served(0, rest)
+
+    def begin(self):
+        if self.machine is None:
+            self.machine = Machine(sets=self.sets, plan=self.plan)
+            self.start()
+
+    def told(self, time, source, numbers, step):
+        print(time, source, *numbers, step.text)
+
+
+class ByClock(Scenario):
+    def start(self):
+        self.clock = Clock(self.time)
+
+    def run(self, centiseconds):
+        for asked, step in self.machine.run(self.clock, centiseconds):
+            found = [*asked.numbers, *[0] * (3 - len(asked.numbers))]
+            self.told(self.clock.time, 1 if asked.event is None else asked.event + 2, [KINDS.index(asked.name), *found], step)
+
+    def served(self, source, line):
+        step = self.machine.ask(line)
+        self.clock.served(self.machine, step)
+        self.told(self.clock.time, source, numbers_of(line), step)
+
+
+class Plainly(Scenario):
+    """The plain rule: what is left to do is a list, which a centisecond makes anew."""
+
+    def start(self):
+        self.now, self.given, self.left = 0, {}, self.events()
+
+    def events(self):
+        for number, event in enumerate(self.time["event"]):
+            if self.now == event["at"] or (
+                "every" in event and event["at"] < self.now <= event["until"] and (self.now - event["at"]) % event["every"] == 0
+            ):
+                yield from ((number + 2, line) for line in event["do"])
+
+    def running(self):
+        job = self.machine.scene().sets[0]
+        return None if job is None or job.asleep else job
+
+    def centisecond(self):
+        yield 1, "tick"
+        yield from self.events()
+        if self.machine.scene().next:
+            yield 1, "change"
+        stolen = sum(it["percent"] for it in self.time["steal"] if it["from"] <= self.now < it["to"])
+        for _ in range(100 - stolen):
+            job = self.running()
+            cost = job and next((it for it in self.time["job"] if int(it["at"], 8) == job.at), None)
+            if cost is None:
+                continue
+            self.given[job.number] = self.given.get(job.number, 0) + 1
+            if self.given[job.number] >= 100 * cost["cost"]:
+                self.given[job.number] = 0
+                yield 1, cost["then"]
+
+    def served(self, source, line):
+        step = self.machine.ask(line)
+        awake = {it.number for it in self.machine.scene().sets if it and not it.asleep}
+        self.given = {} if step.begins_era else {number: it for number, it in self.given.items() if number in awake}
+        self.told(self.now, source, numbers_of(line), step)
+
+    def run(self, centiseconds):
+        end = min(self.now + centiseconds, 100 * self.time["seconds"])
+        while True:
+            for source, line in self.left:
+                self.served(source, line)
+            if self.now >= end:
+                return
+            self.now += 1
+            self.left = self.centisecond()
+
+
+def written(kind):
+    found = None
+    for line in sys.stdin.read().splitlines():
+        name, rest = line.split(" ", 1)
+        if name == "scenario":
+            found = kind(*rest.split(" "))
+            print(line)
+        else:
+            found.take(name, rest)
+
+
+def refuses():
+    """Each code of a timetable; and then there is no clock."""
+    row = {"from": 0, "to": 10, "percent": 5}
+    job, event = {"at": "04000", "cost": 1}, {"at": 0, "do": "tick"}
+    wrong = [
+        (15, {"steal": 101}), (15, {"steal": [{**row, "to": 0}]}), (16, {"steal": [row, {**row, "from": 9, "to": 11}]}),
+        (0, {"steal": [row, {**row, "from": 10, "to": 11}]}), (15, {"job": [{**job, "cost": 0}]}), (0, {"job": [{**job, "cost": 1000000}]}),
+        (15, {"job": [{**job, "cost": 1000001}]}), (15, {"job": [{**job, "at": "00000"}]}), (17, {"job": [job, job]}),
+        (13, {"job": [{**job, "then": "tick"}]}), (15, {"event": [{**event, "at": 360001}]}), (15, {"event": [{**event, "do": []}]}),
+        (15, {"event": [{**event, "do": ["tick"] * 17}]}), (0, {"event": [{**event, "do": ["tick"] * 16}]}),
+        (15, {"event": [{**event, "at": 5, "every": 1, "until": 4}]}), (15, {"event": [{**event, "every": 0}]}),
+        (13, {"event": [{**event, "do": "wait"}]}), (0, {}),
+    ]
+    for code, timetable in wrong:
+        try:
+            Clock(timetable)
+            found = 0
+        except Lacking as lacking:
+            found = int(lacking.code)
+        if found != code:
+            sys.exit(f"clocks: {timetable} lacks {found}, and not {code}")
+
+
+if sys.argv[1] == "make":
+    make(sys.argv[2], int(sys.argv[3]))
+else:
+    refuses()
+    written(ByClock if sys.argv[1] == "clock" else Plainly)

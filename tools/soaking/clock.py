@@ -1,0 +1,254 @@
+"""How time passes in a scenario, plain and slow: which requests come of it, from docs/MODEL.md ("How time passes") and
+docs/FORMATS.md. Nothing here was taken from the code. The machine that is asked is libagc's, by its Python module, or the one
+of model.py.
+
+    tools/soaking/clock.py SCENARIO              prints the requests, a line each, with centisecond and who asks
+    tools/soaking/clock.py --runs N [--seed S] COMMAND ..
+                                                 makes N scenarios from this seed on (0), gives each to the command on standard
+                                                 input, and compares the script of the bench that it writes with the requests;
+                                                 --library PATH asks libagc.so in place of model.py's machine
+"""
+import argparse
+import os
+import random
+import subprocess
+import sys
+import tomllib
+
+sys.dont_write_bytecode = True
+sys.path.insert(0, os.path.dirname(os.path.realpath(__file__)))
+
+import model
+
+CLOCK = "clock"
+
+
+class Plain:
+    """The machine of model.py."""
+
+    def __init__(self, scenario):
+        bench = model.Bench()
+        bench.sets, bench.limit, bench.allowance = scenario.get("sets", 7), 10**9, 10**9
+        bench.rows = dict(model.row_of(it) for it in scenario.get("task", []))
+        bench.entries = dict(model.entry_of(it) for it in scenario.get("phase", []))
+        if "power" in scenario:
+            bench.power = [model.number_of(it, model.WORD) for it in scenario["power"]]
+        self.machine = model.Machine(bench)
+
+    def ask(self, line):
+        """Whether an era began with the request."""
+        before = self.machine.restarts
+        self.machine.ask(model.request_of(line))
+        return self.machine.restarts > before
+
+    def running(self):
+        """The number and the address of the running job, or None."""
+        number = self.machine.running
+        return None if number is None else (number, self.machine.jobs[number][0])
+
+    def looks(self):
+        """Whether NEWJOB names a set: somebody awake is more urgent than who runs."""
+        jobs, number = self.machine.jobs, self.machine.running
+        return number is not None and jobs[self.machine.best()][2] > jobs[number][2]
+
+    def awake(self):
+        return {number for number, job in self.machine.jobs.items() if not job[3]}
+
+
+class Library:
+    """libagc's machine."""
+
+    def __init__(self, scenario):
+        import agc
+
+        self.machine = agc.Machine(scenario.get("sets", 7), scenario, scenario.get("power"))
+
+    def ask(self, line):
+        return self.machine.ask(line).begins_era
+
+    def running(self):
+        first = self.machine.scene().sets[0]
+        return (first.number, first.at) if first and not first.asleep else None
+
+    def looks(self):
+        return self.machine.scene().next != 0
+
+    def awake(self):
+        return {job.number for job in self.machine.scene().sets if job and not job.asleep}
+
+
+def stolen(scenario, time):
+    """The percent that is stolen of a centisecond."""
+    steal = scenario.get("steal", 0)
+    if isinstance(steal, int):
+        return steal
+    return next((row["percent"] for row in steal if row["from"] <= time < row["to"]), 0)
+
+
+def comes(event, time):
+    if "every" not in event:
+        return time == event["at"]
+    return event["at"] <= time <= event.get("until", time) and (time - event["at"]) % event["every"] == 0
+
+
+def lines_of(event):
+    return [event["do"]] if isinstance(event["do"], str) else event["do"]
+
+
+class Passing:
+    """Time that passes over a machine."""
+
+    def __init__(self, scenario, machine):
+        self.scenario, self.machine = scenario, machine
+        self.given, self.asked, self.time = {}, [], 0
+        self.costs = {}
+        for job in scenario.get("job", []):
+            self.costs.setdefault(int(job["at"], 8), (100 * job["cost"], job.get("then", "end")))
+
+    def ask(self, who, line):
+        self.asked.append((self.time, who, line))
+        began = self.machine.ask(line)
+        awake = set() if began else self.machine.awake()
+        self.given = {number: given for number, given in self.given.items() if number in awake}
+
+    def events(self):
+        for number, event in enumerate(self.scenario.get("event", [])):
+            if comes(event, self.time):
+                for line in lines_of(event):
+                    self.ask(number, line)
+
+    def compute(self):
+        share = 100 - stolen(self.scenario, self.time)
+        while share and (runner := self.machine.running()) and runner[1] in self.costs:
+            number, at = runner
+            cost, then = self.costs[at]
+            least = min(share, cost - self.given.get(number, 0))
+            share -= least
+            self.given[number] = self.given.get(number, 0) + least
+            if self.given[number] == cost:
+                del self.given[number]
+                self.ask(CLOCK, then)
+
+    def run(self):
+        self.events()
+        for self.time in range(1, 100 * self.scenario["seconds"] + 1):
+            self.ask(CLOCK, "tick")
+            self.events()
+            if self.machine.looks():
+                self.ask(CLOCK, "change")
+            self.compute()
+        return self.asked
+
+
+class Dice(random.Random):
+    """What one scenario is made of: few addresses, so that jobs, costs, sleepers and rows meet."""
+
+    def address(self):
+        return f"{0o2000 + self.randrange(5):05o}"
+
+    def start(self):
+        return f"{self.choice(model.JOBS)} {self.randint(1, 5):02o} {self.address()} 00005"
+
+    def action(self):
+        kind = self.choice(["job", "job", "rouse", "list", "list"])
+        if kind == "job":
+            return self.start()
+        return f"rouse {self.address()}" if kind == "rouse" else f"list {self.randint(1, 40)} {self.address()} 00005"
+
+    def request(self):
+        odd = ["end", "change", "restart", "fresh", f"sleep {self.address()}", f"prio {self.randint(1, 5):02o}",
+               f"phase {self.randint(1, 6)} {self.randint(0, 2)}", "tick", "store 1 00001"]
+        return self.choice(odd) if self.random() < 0.25 else self.action()
+
+    def steal(self):
+        if self.random() < 0.5:
+            return self.choice([0, 1, 15, 50, 99, 100, self.randint(0, 100)])
+        ends = sorted(self.sample(range(0, 300), 2 * self.randint(1, 3)))
+        return [{"from": a, "to": b, "percent": self.randint(0, 100)} for a, b in zip(ends[::2], ends[1::2])]
+
+    def job(self, at):
+        job = {"at": at, "cost": self.choice([1, 1, 2, 3, 7, 40])}
+        if self.random() < 0.7:
+            job["then"] = self.choice(["end", f"sleep {self.address()}"])
+        return job
+
+    def event(self):
+        event = {"at": self.choice([0, 0, self.randint(0, 200)])}
+        requests = [self.request() for _ in range(self.randint(1, 3))]
+        event["do"] = requests[0] if len(requests) == 1 and self.random() < 0.5 else requests
+        if self.random() < 0.5:
+            event["every"] = self.choice([1, 2, 3, 10, 37])
+            if self.random() < 0.5:
+                event["until"] = event["at"] + self.randint(0, 100)
+        return event
+
+    def scenario(self):
+        found = {"sets": self.choice([7, 8]), "seconds": self.randint(1, 2), "steal": self.steal()}
+        rows = self.sample(range(5), self.randint(0, 4))
+        found["task"] = [{"at": f"{0o2000 + k:05o}", "bank": "00005", "action": [self.action() for _ in range(self.randint(1, 3))]}
+                         for k in rows]
+        places = self.sample([(g, p) for g in range(1, 6) for p in (1, 2)], self.randint(0, 4))
+        found["phase"] = [{"group": g, "phase": p, "job": self.start(), "task": f"list 9 {self.address()} 00005"} for g, p in places]
+        found["job"] = [self.job(f"{0o2000 + k:05o}") for k in self.sample(range(5), self.randint(1, 4))]
+        found["event"] = [self.event() for _ in range(self.randint(1, 5))]
+        return found
+
+
+def value_text(value):
+    if isinstance(value, list):
+        return "[" + ", ".join(map(value_text, value)) + "]"
+    return str(value) if isinstance(value, int) else f'"{value}"'
+
+
+def text_of(scenario):
+    """A scenario as a TOML document."""
+    tables = {key: value for key, value in scenario.items() if isinstance(value, list) and value and isinstance(value[0], dict)}
+    lines = [f"{key} = {value_text(value)}" for key, value in scenario.items() if not isinstance(value, list)]
+    for key, rows in tables.items():
+        for row in rows:
+            lines += ["", f"[[{key}]]", *(f"{name} = {value_text(value)}" for name, value in row.items())]
+    return "\n".join(lines) + "\n"
+
+
+def compare(command, seed, machine):
+    """What is wrong with the bench that a command makes of a scenario, or None."""
+    scenario = Dice(seed).scenario()
+    ran = subprocess.run(command, input=text_of(scenario), capture_output=True, text=True, check=False)
+    if ran.returncode:
+        return f"status {ran.returncode}: {ran.stderr.strip()}"
+    found = tomllib.loads(ran.stdout).get("script", [])
+    wanted = [line for _, _, line in Passing(scenario, machine(scenario)).run()]
+    if found == wanted:
+        return None
+    same = next((k for k, pair in enumerate(zip(found, wanted)) if pair[0] != pair[1]), min(len(found), len(wanted)))
+    return f"request {same + 1}: {found[same:same + 1]} in place of {wanted[same:same + 1]}"
+
+
+def main():
+    words = argparse.ArgumentParser(description=__doc__, formatter_class=argparse.RawDescriptionHelpFormatter)
+    words.add_argument("--runs", type=int, default=0)
+    words.add_argument("--seed", type=int, default=0)
+    words.add_argument("--library")
+    words.add_argument("rest", nargs="+")
+    given = words.parse_args()
+    if given.library:
+        os.environ["AGC_LIBRARY"] = given.library
+        sys.path.insert(0, os.path.join(os.path.dirname(os.path.realpath(__file__)), "../../libagc/python"))
+    machine = Library if given.library else Plain
+    if not given.runs:
+        with open(given.rest[0], "rb") as file:
+            scenario = tomllib.load(file)
+        for time, who, line in Passing(scenario, machine(scenario)).run():
+            print(time, who, line)
+        return 0
+    wrong = 0
+    for seed in range(given.seed, given.seed + given.runs):
+        if (said := compare(given.rest, seed, machine)) is not None:
+            wrong += 1
+            print(f"seed {seed}: {said}")
+    print(f"{given.runs} scenarios, {wrong} disagreements")
+    return 1 if wrong else 0
+
+
+if __name__ == "__main__":
+    sys.exit(main())

@@ -1,0 +1,261 @@
+/**
+ * What a row tells in sentences: at an alarm which table was full, who holds it since when, and
+ * what begins again; else what changed. A sentence is a list of pieces, texts and links.
+ *
+ * @typedef {{ text: string, row?: number, part?: string }} Link
+ * @typedef {string | Link} Piece
+ * @typedef {{ heading: string, lines: Piece[][], isAlarm: boolean }} Account
+ * @typedef {import("./run.js").Shown} Shown
+ */
+import { Kind } from "../libagc/js/machine.js";
+import { LOG_FULL, SPENT } from "./run.js";
+import { octal, seconds } from "./words.js";
+
+/** What is full at each alarm, and where that table stands. */
+const TABLES = {
+  0o1201: { text: "all five VAC areas are owned", part: "areas" },
+  0o1202: { text: "a job is in each core set", part: "sets" },
+  0o1203: { text: "nine tasks wait", part: "tasks" },
+};
+
+/** What names a bench has for its addresses. */
+export class Names {
+  /** @param {import("./bench.js").Bench} bench */
+  constructor(bench) {
+    /** @type {Map<string, string>} */
+    this.all = new Map();
+    for (const it of [...bench.task, ...bench.job]) {
+      if (it.name !== undefined) this.all.set(it.at, it.name);
+    }
+  }
+
+  /**
+   * An address by its name, if it has one.
+   * @param {number | string} at
+   */
+  of(at) {
+    const digits = typeof at === "string" ? at : octal(at, 5);
+    const name = this.all.get(digits);
+    return name === undefined ? digits : `${name} (${digits})`;
+  }
+
+  /**
+   * The shortest that an address is called by.
+   * @param {number} at
+   */
+  short(at) {
+    return this.all.get(octal(at, 5)) ?? octal(at, 5);
+  }
+}
+
+/**
+ * Since when something is there: a link to its request, with the time of that.
+ * @param {import("./run.js").Run} run
+ * @param {number} since twice the row, and 1 more where an era began with it
+ * @returns {Piece[]}
+ */
+export function sinceOf(run, since) {
+  const row = Math.floor(since / 2);
+  const beginning = run.bench.power === undefined ? "the beginning" : "power-up";
+  if (row === 0) return [", since ", { text: beginning, row }];
+  const time = run.ticksAt(row) > 0 ? ` (${seconds(run.ticksAt(row))})` : "";
+  const words = since % 2 === 1 ? ", since the restart of " : ", since ";
+  return [words, { text: `request ${row}`, row }, time];
+}
+
+/**
+ * The action of a task that raised an alarm in a tick.
+ * @param {import("./run.js").Run} run
+ * @param {Shown} shown
+ * @param {Names} names
+ * @returns {Piece[][]}
+ */
+function raisedBy(run, { step, row }, names) {
+  const last = step?.fired.at(-1);
+  if (step === null || last === undefined || step.action === 0) return [];
+  const [at, bank] = [octal(last.at, 5), octal(last.bank, 5)];
+  const task = run.bench.task.find((it) => it.at === at && it.bank === bank);
+  const which = task === undefined || task.action.length === 1 ? "" : `action ${step.action} of `;
+  const line = task === undefined ? "" : `: ${task.action[step.action - 1]}`;
+  const told = `${which}the task ${names.of(at)}${line}`;
+  return [[`It was asked in the tick of request ${row}, by ${told}.`]];
+}
+
+/**
+ * Who holds the table that was full.
+ * @param {import("./run.js").Run} run
+ * @param {Shown} shown
+ * @param {Names} names
+ * @returns {Piece[][]}
+ */
+function holders(run, { step, scene, jobsSince, tasksSince }, names) {
+  if (step === null) return [];
+  if (step.number === 0o1203) {
+    return scene.tasks.map((it, k) =>
+      [`place ${k + 1}: task ${names.of(it.at)}, in ${it.left} cs`,
+        ...sinceOf(run, tasksSince[k])]);
+  }
+  const lines = scene.sets.map((job, k) => {
+    if (job === null) return [];
+    const area = job.area === 0 ? "" : `, area ${job.area}`;
+    const at = job.asleep ? `, asleep at ${names.of(job.at)}` : `, at ${names.of(job.at)}`;
+    const told = `set ${k}: job ${job.number}, priority ${octal(job.priority, 2)}${at}${area}`;
+    return [told, ...sinceOf(run, jobsSince[k])];
+  });
+  const isHolder = scene.sets.map((job) => step.number === 0o1202 || (job?.area ?? 0) > 0);
+  return lines.filter((it, k) => it.length > 0 && isHolder[k]);
+}
+
+/**
+ * What begins again with an era.
+ * @param {import("./run.js").Scene} after
+ * @param {Names} names
+ * @returns {Piece[][]}
+ */
+function beginsAgain(after, names) {
+  const jobs = after.sets.filter((it) => it !== null)
+    .map((job) => `job ${job.number}, priority ${octal(job.priority, 2)}, at ${names.of(job.at)}`);
+  const tasks = after.tasks.map((it) => `task ${names.of(it.at)} in ${it.left} cs`);
+  const phases = after.phases.join(" ");
+  if (jobs.length + tasks.length === 0) {
+    return [[`All jobs and tasks are gone. By the phases ${phases} nothing begins again.`]];
+  }
+  return [[`All jobs and tasks are gone. By the phases ${phases} these begin again: `
+    + `${[...jobs, ...tasks].join("; ")}.`]];
+}
+
+/**
+ * Why the phase words that were found as power came back can't be trusted.
+ * @param {string[]} power
+ * @returns {Piece[][]}
+ */
+function brokenPairs(power) {
+  const lines = [];
+  for (let k = 0; k < 6; k++) {
+    const [turned, plain] = power.slice(2 * k, 2 * k + 2).map((it) => parseInt(it, 8));
+    if (turned !== 0o77777 - plain) {
+      const pair = `${octal(turned, 5)} is not the complement of ${octal(plain, 5)}`;
+      lines.push([`group ${k + 1}: ${pair}`]);
+    } else if (plain > 127) {
+      lines.push([`group ${k + 1}: phase ${plain} is above 127`]);
+    }
+  }
+  return lines;
+}
+
+/**
+ * @param {import("./run.js").Run} run
+ * @param {Shown} shown
+ * @param {Names} names
+ * @returns {Account}
+ */
+function accountOfBeginning(run, shown, names) {
+  const { power } = run.bench;
+  if (power === undefined) {
+    const lines = [["Nothing has been asked. No job lives, no task waits, all phases are 0."]];
+    return { heading: "The beginning", lines, isAlarm: false };
+  }
+  const isBroken = shown.reply.startsWith("alarm");
+  const lines = isBroken
+    ? [["No phase can be trusted, and nothing begins again."], ...brokenPairs(power)]
+    : beginsAgain(shown.scene, names);
+  return { heading: isBroken ? "Alarm 1107: why" : "Power is back", lines, isAlarm: isBroken };
+}
+
+/**
+ * @param {import("./run.js").Run} run
+ * @param {Shown} shown
+ * @param {Names} names
+ * @returns {Account}
+ */
+function accountOfAlarm(run, shown, names) {
+  const number = /** @type {1} */ (shown.step?.number ?? 0);
+  const table = TABLES[/** @type {keyof typeof TABLES} */ (/** @type {unknown} */ (number))];
+  const lines = [
+    [{ text: `${table.text[0].toUpperCase()}${table.text.slice(1)}`, part: table.part }, ":"],
+    ...holders(run, shown, names),
+    ...raisedBy(run, shown, names),
+    ...(shown.after === null ? [] : beginsAgain(shown.after, names)),
+  ];
+  return { heading: `Alarm ${octal(number, 4)}: why`, lines, isAlarm: true };
+}
+
+/**
+ * What else a reply says.
+ * @param {import("./run.js").Run} run
+ * @param {Shown} shown
+ * @param {Names} names
+ * @returns {Piece[][]}
+ */
+function replySentence(run, shown, names) {
+  const { step, kind, scene } = shown;
+  const runner = scene.sets[0];
+  switch (kind) {
+    case SPENT: return [["The machine serves no more: its allowance is used up."]];
+    case LOG_FULL:
+      return [[`The log holds ${run.bench.limit} requests since this era began, and no more: only `
+        + "restart and fresh are served now. A greater limit stands in the plan."]];
+    case Kind.ESTABLISHED: {
+      const k = scene.sets.findIndex((it) => it?.number === step?.number);
+      const job = scene.sets[k];
+      return [[`Job ${step?.number} begins at ${names.of(job?.at ?? 0)}, in core set ${k}`
+        + `${job?.area ? ` with VAC area ${job.area}` : ""}. `
+        + (scene.running === step?.number ? "It runs." : "It waits.")]];
+    }
+    case Kind.NO_JOB: return [["Nobody runs, so there is no job to act on."]];
+    case Kind.NO_SLEEPER: return [["No job sleeps at that address."]];
+    case Kind.ROUSED: return [[`Job ${step?.number} is awake.`]];
+    case Kind.IDLE: return [["Nobody is left who is awake."]];
+    case Kind.LEFT: case Kind.RUNS:
+      return [[`Job ${step?.number} runs${runner ? `, at ${names.of(runner.at)}` : ""}.`]];
+    default: return [];
+  }
+}
+
+/**
+ * What fired, and what came of it.
+ * @param {Shown} shown
+ * @param {Names} names
+ * @returns {Piece[][]}
+ */
+function firedSentences({ step, scene, before }, names) {
+  if (step === null || step.fired.length === 0) return [];
+  const had = new Set(before?.sets.map((it) => it?.number ?? 0));
+  const jobs = scene.sets.filter((it) => it !== null && !had.has(it.number))
+    .map((it) => `Job ${it?.number} begins at ${names.of(it?.at ?? 0)}.`);
+  return [[`Due: the task ${step.fired.map((it) => names.of(it.at)).join(", then ")}.`],
+    ...jobs.map((it) => [it])];
+}
+
+/**
+ * The account of a row.
+ * @param {import("./run.js").Run} run
+ * @param {Shown} shown
+ * @param {Names} names
+ * @returns {Account}
+ */
+export function accountOf(run, shown, names) {
+  if (shown.row === 0) return accountOfBeginning(run, shown, names);
+  if (shown.step !== null && shown.step.alarm !== 0) return accountOfAlarm(run, shown, names);
+  const lines = [...replySentence(run, shown, names), ...firedSentences(shown, names)];
+  if (shown.after !== null) lines.push(...beginsAgain(shown.after, names));
+  const quiet = shown.kind === Kind.TICKED ? "A centisecond passes." : "Done.";
+  if (lines.length === 0) lines.push([quiet]);
+  return { heading: "What happens", lines, isAlarm: false };
+}
+
+/**
+ * A row in a sentence, as the live region says it.
+ * @param {Shown} shown
+ * @param {number} count
+ * @param {Names} names
+ */
+export function sentenceOf(shown, count, names) {
+  const { running, sets } = shown.scene;
+  const where = shown.row === 0 ? "The beginning" : `Request ${shown.row} of ${count}`;
+  const at = `at ${seconds(shown.ticks)}`;
+  const job = sets[0];
+  const runs = running === 0 || job === null ? "Nobody runs."
+    : `Job ${running} runs${names.all.has(octal(job.at, 5)) ? `: ${names.short(job.at)}` : ""}.`;
+  return `${where}, ${at}: ${shown.line}. Reply: ${shown.reply}. ${runs}`;
+}

@@ -1,0 +1,360 @@
+/**
+ * A bench or a scenario: the table of its keys, how it is read from a document, and how it is
+ * written as one. `docs/FORMATS.md` says what each key means.
+ *
+ * @typedef {{ at: string, bank: string, action: string[], name?: string }} TaskRow
+ * @typedef {{ group: number, phase: number, job?: string, task?: string, name?: string }} PhaseRow
+ * @typedef {{ at: string, cost: number, name?: string, then?: string }} JobRow
+ * @typedef {{ at: number, do: string[], every?: number, until?: number, name?: string }} EventRow
+ * @typedef {{ from: number, to: number, percent: number }} StealRow
+ * @typedef {{ title?: string, sets?: number, limit: number, allowance: bigint, attends?: number,
+ *   key: string[], radar: string[], power?: string[], script: string[], task: TaskRow[],
+ *   phase: PhaseRow[], worker: { script: string[] }[],
+ *   device: { line: string, pulses: number }[], seconds?: number, steal: number | StealRow[],
+ *   job: JobRow[], event: EventRow[] }} Bench
+ */
+import { Unread, readToml } from "./toml.js";
+import { ACTIONS, JOBS, LISTS, PARTS, REQUESTS, lineFault, nearest } from "./words.js";
+
+/** The longest document that is taken, in bytes, as by `agc`. */
+export const MOST_BYTES = 1_048_576;
+
+/**
+ * @typedef {{ kind: string, low: number, high: bigint, form: string, required: boolean }} Key
+ * @param {string} kind
+ * @param {{ low?: number, high?: bigint, form?: string, required?: boolean }} more
+ * @returns {Key}
+ */
+function key(kind, { low = 0, high = 2n ** 63n - 1n, form = "", required = false } = {}) {
+  return { kind, low, high, form, required };
+}
+
+const integer = (/** @type {number} */ low, /** @type {bigint} */ high, required = false) =>
+  key("integer", { low, high, required });
+const text = (/** @type {string} */ form, required = false) => key("text", { form, required });
+const some = (/** @type {string} */ form, high = 4n, required = false) =>
+  key("oneOrMore", { low: 1, high, form, required });
+const tables = (/** @type {string} */ form, high = 2n ** 63n - 1n) => key("tables", { form, high });
+const requests = key("texts", { form: "request" });
+const named = { name: text("name") };
+
+const TASK = {
+  ...{ at: text("address", true), bank: text("word", true) },
+  action: some("action", 4n, true),
+};
+const PHASE = {
+  ...{ group: integer(1, 6n, true), phase: integer(1, 127n, true) },
+  ...{ job: text("job"), task: text("listing") },
+};
+const SHARED = {
+  ...{ sets: integer(7, 8n), limit: integer(1, 1_000_000n), allowance: integer(0, 2n ** 63n - 1n) },
+  ...{ key: some("action"), radar: some("action") },
+  power: key("texts", { low: 12, high: 12n, form: "word" }),
+};
+
+/** The keys of each kind of table. */
+export const LEVELS = {
+  bench: {
+    ...{ ...SHARED, attends: integer(0, 1000n), script: requests, task: tables("task") },
+    ...{ phase: tables("phase"), worker: tables("worker", 32n), device: tables("device", 32n) },
+  },
+  scenario: {
+    ...{ seconds: integer(1, 3600n, true), title: text("name"), ...SHARED, steal: key("steal") },
+    ...{ job: tables("job"), event: tables("event") },
+    ...{ task: tables("namedTask"), phase: tables("namedPhase") },
+  },
+  task: TASK,
+  phase: PHASE,
+  namedTask: { ...named, ...TASK },
+  namedPhase: { ...named, ...PHASE },
+  worker: { script: key("texts", { form: "request", required: true }) },
+  device: { line: text("device", true), pulses: integer(0, 1_000_000n, true) },
+  job: {
+    ...{ ...named, at: text("address", true), cost: integer(1, 1_000_000n, true) },
+    then: text("then"),
+  },
+  event: {
+    ...{ ...named, at: integer(0, 360_000n, true), do: some("request", 16n, true) },
+    ...{ every: integer(1, 360_000n), until: integer(0, 360_000n) },
+  },
+  steal: {
+    ...{ from: integer(0, 360_000n, true), to: integer(0, 360_000n, true) },
+    percent: integer(0, 100n, true),
+  },
+};
+
+/**
+ * What is wrong with a text of this form; nothing where it is one.
+ * @param {string} form
+ * @param {string} given
+ * @returns {string | null}
+ */
+export function textFault(form, given) {
+  const lines = { request: REQUESTS, action: ACTIONS, job: JOBS, listing: LISTS };
+  if (form in lines) return lineFault(given, lines[/** @type {keyof typeof lines} */ (form)]);
+  if (form === "address") return PARTS.A.is(given) ? null : PARTS.A.sentence;
+  if (form === "word") return PARTS.W.is(given) ? null : PARTS.W.sentence;
+  if (form === "device") {
+    return /^(timer|key|radar)$/.test(given) ? null : "a line is timer, key or radar";
+  }
+  if (form === "then") {
+    const isThen = given === "end" || (given.startsWith("sleep ") && PARTS.A.is(given.slice(6)));
+    return isThen ? null : 'it is "end", or "sleep" and an address';
+  }
+  return /^[^\u0000-\u001f\u007f]*$/.test(given) ? null : "it stands on one line";
+}
+
+/** Where something stands in a document. */
+class Place {
+  /**
+   * @param {number} line
+   * @param {string} path
+   */
+  constructor(line, path) {
+    this.line = line;
+    this.path = path;
+  }
+
+  /**
+   * @param {string} reason
+   * @returns {never}
+   */
+  refuse(reason) {
+    throw new Unread(this.line, this.path === "" ? reason : `${this.path}: ${reason}`);
+  }
+
+  /** @param {string} step */
+  below(step) {
+    return new Place(this.line, this.path === "" ? step : `${this.path}, ${step}`);
+  }
+}
+
+/**
+ * @param {any} given
+ * @param {Key} row
+ * @param {Place} place
+ */
+function integerOf(given, row, place) {
+  const between = `${row.low} ${row.high === BigInt(row.low) + 1n ? "or" : "to"} ${row.high}`;
+  if (typeof given !== "bigint" || given < BigInt(row.low) || given > row.high) {
+    place.refuse(`expected an integer, ${between}`);
+  }
+  return row.high > 2n ** 53n ? given : Number(given);
+}
+
+/**
+ * @param {any} given
+ * @param {Key} row
+ * @param {Place} place
+ * @returns {string}
+ */
+function textOf(given, row, place) {
+  if (typeof given !== "string") place.refuse("expected a string");
+  const fault = textFault(row.form, given);
+  if (fault !== null) place.refuse(`${JSON.stringify(given)}: ${fault}`);
+  return given;
+}
+
+/**
+ * @param {any} given
+ * @param {Key} row
+ * @param {Place} place
+ */
+function textsOf(given, row, place) {
+  const items = row.kind === "oneOrMore" && typeof given === "string" ? [given] : given;
+  if (!Array.isArray(items)) place.refuse("expected an array of strings");
+  if (items.length < row.low || BigInt(items.length) > row.high) {
+    const many = row.low === Number(row.high) ? row.low : `${row.low} to ${row.high}`;
+    place.refuse(`expected ${many} strings`);
+  }
+  const isOne = row.kind === "oneOrMore" && items.length === 1;
+  return items.map((/** @type {any} */ it, /** @type {number} */ k) =>
+    textOf(it, row, isOne ? place : place.below(`${row.form} ${k + 1}`)));
+}
+
+/**
+ * @param {any} given
+ * @param {Key} row
+ * @param {Place} place
+ */
+function tablesOf(given, row, place) {
+  const isTables = Array.isArray(given) && given.every((it) => it.keys instanceof Map);
+  if (!isTables) place.refuse(`expected an array of tables, each below its line [[${place.path}]]`);
+  if (BigInt(given.length) > row.high) place.refuse(`expected at most ${row.high} tables`);
+  return given.map((/** @type {any} */ it, /** @type {number} */ k) =>
+    tableOf(it, row.form, new Place(it.line, `${place.path} ${k + 1}`)));
+}
+
+/**
+ * The value of a key.
+ * @param {any} given
+ * @param {Key} row
+ * @param {Place} place
+ */
+function valueOf(given, row, place) {
+  switch (row.kind) {
+    case "integer": return integerOf(given, row, place);
+    case "text": return textOf(given, row, place);
+    case "tables": return tablesOf(given, row, place);
+    case "steal":
+      return typeof given === "bigint" ? integerOf(given, integer(0, 100n), place)
+        : tablesOf(given, tables("steal"), place);
+    default: return textsOf(given, row, place);
+  }
+}
+
+/**
+ * The values of a table of this level.
+ * @param {import("./toml.js").Table} table
+ * @param {string} level
+ * @param {Place} place
+ */
+function tableOf(table, level, place) {
+  /** @type {Record<string, Key>} */
+  const rows = LEVELS[/** @type {keyof typeof LEVELS} */ (level)];
+  /** @type {any} */
+  const values = {};
+  for (const [name, given] of table.keys) {
+    const line = table.lines.get(name) ?? place.line;
+    const here = new Place(line, place.path === "" ? name : `${place.path}, ${name}`);
+    if (!Object.hasOwn(rows, name)) {
+      const meant = nearest(name, Object.keys(rows));
+      const more = meant === undefined ? "" : `; did you mean "${meant}"?`;
+      new Place(line, place.path).refuse(`unknown key ${JSON.stringify(name)}${more}`);
+    }
+    values[name] = valueOf(given, rows[name], here);
+  }
+  const missing = Object.keys(rows).find((it) => rows[it].required && !(it in values));
+  if (missing !== undefined) place.refuse(`the key "${missing}" is missing`);
+  return values;
+}
+
+/** A bench that asks for nothing. */
+export function emptyBench() {
+  /** @type {Bench} */
+  const bench = {
+    ...{ limit: 1000, allowance: 1_000_000n, key: ["nothing"], radar: ["nothing"], script: [] },
+    ...{ task: [], phase: [], worker: [], device: [], steal: 0, job: [], event: [] },
+  };
+  return bench;
+}
+
+/**
+ * Steal rows may not overlap, and each ends after it begins.
+ * @param {Bench} bench
+ */
+function checkSteal({ steal }) {
+  if (typeof steal === "number") return;
+  const rows = [...steal].sort((a, b) => a.from - b.from);
+  rows.forEach((it, k) => {
+    if (it.to <= it.from) new Place(1, "steal").refuse("a row ends after it begins");
+    if (k > 0 && it.from < rows[k - 1].to) new Place(1, "steal").refuse("two rows overlap");
+  });
+}
+
+/**
+ * The bench or scenario of a document.
+ * @param {string} document
+ * @returns {Bench}
+ */
+export function readBench(document) {
+  if (new TextEncoder().encode(document).length > MOST_BYTES) {
+    throw new Unread(1, `the document has more than ${MOST_BYTES} bytes`);
+  }
+  const table = readToml(document);
+  const level = table.keys.has("seconds") ? "scenario" : "bench";
+  const bench = { ...emptyBench(), ...tableOf(table, level, new Place(1, "")) };
+  if (level === "scenario") bench.limit = 1_000_000;
+  checkSteal(bench);
+  return bench;
+}
+
+/**
+ * Each request of a bench, in the order of `serial`, and who asks for it.
+ * @param {Bench} bench
+ * @returns {Generator<[string, string]>}
+ */
+export function* requestsOf(bench) {
+  for (const line of bench.script) yield [line, "the script"];
+  for (const [k, { script }] of bench.worker.entries()) {
+    for (const line of script) yield [line, `worker ${k + 1}`];
+  }
+  for (const [k, { line, pulses }] of bench.device.entries()) {
+    const asked = line === "timer" ? ["tick"] : line === "key" ? bench.key : bench.radar;
+    const lines = asked.filter((it) => it !== "nothing");
+    for (let n = 0; n < pulses && lines.length > 0; n++) {
+      for (const one of lines) yield [one, `device ${k + 1}, ${line}`];
+    }
+  }
+}
+
+/** @param {string} given */
+function quoted(given) {
+  return `"${given.replace(/[\\"]/g, "\\$&")}"`;
+}
+
+/**
+ * Texts as an array, several in a line.
+ * @param {string[]} items
+ */
+function arrayText(items) {
+  const lines = [];
+  let line = "   ";
+  for (const it of items.map(quoted)) {
+    if (line.length + it.length > 96) {
+      lines.push(line);
+      line = "   ";
+    }
+    line += ` ${it},`;
+  }
+  if (items.length < 5) return `[${items.map(quoted).join(", ")}]`;
+  return `[\n${[...lines, line].join("\n")}\n]`;
+}
+
+/**
+ * A value as a document has it.
+ * @param {any} value
+ */
+function valueText(value) {
+  if (typeof value === "number" || typeof value === "bigint") return String(value);
+  if (typeof value === "string") return quoted(value);
+  if (value.length > 0 && typeof value[0] === "object") {
+    const rows = value.map((/** @type {any} */ it) =>
+      `{ ${Object.entries(it).map(([name, one]) => `${name} = ${valueText(one)}`).join(", ")} }`);
+    return `[${rows.join(", ")}]`;
+  }
+  return arrayText(value);
+}
+
+/**
+ * The document of a bench: keys that are as if they were missing are left out.
+ * @param {Bench} bench
+ */
+export function writeBench(bench) {
+  const level = bench.seconds === undefined ? LEVELS.bench : LEVELS.scenario;
+  const plain = /** @type {any} */ (emptyBench());
+  /** @type {any} */
+  const given = bench;
+  const lines = [];
+  const tableLines = [];
+  for (const [name, row] of Object.entries(level)) {
+    const value = given[name];
+    if (value === undefined) continue;
+    if (row.kind !== "tables") {
+      const isPlain = plain[name] !== undefined && valueText(value) === valueText(plain[name]);
+      if (isPlain) continue;
+      const isOne = row.kind === "oneOrMore" && value.length === 1;
+      lines.push(`${name} = ${valueText(isOne ? value[0] : value)}`);
+      continue;
+    }
+    for (const it of value) {
+      tableLines.push("", `[[${name}]]`);
+      for (const [field, one] of Object.entries(it)) {
+        if (one === undefined || one === "") continue;
+        const single = Array.isArray(one) && one.length === 1 && field !== "script";
+        tableLines.push(`${field} = ${valueText(single ? one[0] : one)}`);
+      }
+    }
+  }
+  return [...lines, ...tableLines, ""].join("\n");
+}

@@ -1,0 +1,171 @@
+/**
+ * The strip along the top: how many core sets, areas and places of the Waitlist are used, how much
+ * of the time nobody runs, and each alarm as a marked line. Across goes time in seconds, or the
+ * requests' numbers where hardly any time goes by.
+ */
+import { by, fill, make } from "./dom.js";
+import { counted, octal, seconds } from "./words.js";
+
+const LANES = [
+  ...[{ name: "core sets", light: "#0072b2", dark: "#56b4e9" }],
+  ...[{ name: "VAC areas", light: "#009e73", dark: "#2fd3a3" }],
+  ...[{ name: "tasks", light: "#b35c00", dark: "#e69f00" }],
+  ...[{ name: "idle time", light: "#767676", dark: "#9a9a9a" }],
+];
+
+/** How wide a picture of the used tables is at most, in points. */
+const MOST_WIDE = 2400;
+
+/** What each point across has: the most that is used, and the part of the ticks that was idle. */
+export class Strip {
+  /**
+   * @param {import("./run.js").Run} run
+   * @param {number} count
+   * @param {number} wide
+   */
+  constructor(run, count, wide) {
+    this.run = run;
+    this.count = count;
+    this.wide = Math.max(1, Math.min(MOST_WIDE, wide));
+    this.isTime = run.ticksAt(count) >= 20;
+    this.end = Math.max(1, this.isTime ? run.ticksAt(count) : count);
+    this.most = LANES.map(() => new Float32Array(this.wide));
+    this.ticks = new Float32Array(this.wide);
+    for (let row = 0; row <= count; row++) this.add(row);
+    this.spread();
+  }
+
+  /** @param {number} row */
+  xOf(row) {
+    const place = this.isTime ? this.run.ticksAt(row) : row;
+    return Math.min(this.wide - 1, Math.floor((place * this.wide) / this.end));
+  }
+
+  /** @param {number} row */
+  add(row) {
+    const x = this.xOf(row);
+    const use = this.run.columns.uses.items[row];
+    const [sets, areas, tasks, idle] = this.most;
+    sets[x] = Math.max(sets[x], (use & 15) / this.run.sets);
+    areas[x] = Math.max(areas[x], ((use >> 4) & 15) / 5);
+    tasks[x] = Math.max(tasks[x], ((use >> 8) & 15) / 9);
+    idle[x] += use >> 12;
+    this.ticks[x] += 1;
+  }
+
+  /** A point in which no request fell is as the one before it. */
+  spread() {
+    for (let x = 0; x < this.wide; x++) {
+      if (this.ticks[x] > 0) this.most[3][x] /= this.ticks[x];
+      else if (x > 0) for (const lane of this.most) lane[x] = lane[x - 1];
+    }
+  }
+
+  /**
+   * The row at a part of the width.
+   * @param {number} part
+   */
+  rowAt(part) {
+    const place = Math.round(part * this.end);
+    return this.isTime ? this.run.rowAtTime(place, this.count) : Math.min(this.count, place);
+  }
+
+  /** What the strip shows, in words. */
+  get text() {
+    const most = [0, 0, 0];
+    for (let row = 0; row <= this.count; row++) {
+      const use = this.run.columns.uses.items[row];
+      for (let k = 0; k < 3; k++) most[k] = Math.max(most[k], (use >> (4 * k)) & 15);
+    }
+    const alarms = this.run.alarms.filter((row) => row <= this.count);
+    const first = alarms.length === 0 ? "no alarm"
+      : `${counted(alarms.length, "alarm")}, the first, ${alarmAt(this.run, alarms[0])}`;
+    return `Over ${this.isTime ? seconds(this.end) : counted(this.count, "request")}: at most `
+      + `${most[0]} of ${this.run.sets} core sets, ${most[1]} of 5 areas and ${most[2]} of 9 tasks `
+      + `at once; ${first}.`;
+  }
+}
+
+/**
+ * An alarm with its request and time.
+ * @param {import("./run.js").Run} run
+ * @param {number} row
+ */
+export function alarmAt(run, row) {
+  const code = octal(run.columns.numbers.items[row], 4);
+  const time = run.ticksAt(row) > 0 ? ` at ${seconds(run.ticksAt(row))}` : "";
+  return `${code}, in request ${row}${time}`;
+}
+
+/**
+ * Draws a strip, and where the row stands that is shown.
+ * @param {Strip} strip
+ * @param {number} at
+ */
+export function drawStrip(strip, at) {
+  const canvas = by("chart");
+  const scale = window.devicePixelRatio || 1;
+  const [wide, high] = [canvas.clientWidth, canvas.clientHeight];
+  [canvas.width, canvas.height] = [Math.max(1, wide * scale), Math.max(1, high * scale)];
+  const pen = canvas.getContext("2d");
+  const isDark = matchMedia("(prefers-color-scheme: dark)").matches;
+  const ink = isDark ? "#eee" : "#111";
+  pen.scale(scale, scale);
+  const lane = high / LANES.length;
+  LANES.forEach((it, k) => {
+    pen.fillStyle = isDark ? it.dark : it.light;
+    for (let x = 0; x < strip.wide; x++) {
+      const tall = strip.most[k][x] * (lane - 3);
+      const left = Math.floor((x * wide) / strip.wide);
+      pen.fillRect(left, (k + 1) * lane - tall, Math.ceil(wide / strip.wide), tall);
+    }
+    pen.fillStyle = isDark ? "#444" : "#ccc";
+    pen.fillRect(0, (k + 1) * lane - 1, wide, 1);
+  });
+  drawAlarms(pen, strip, wide, high, isDark ? "#ff6b5b" : "#c00");
+  const x = (strip.xOf(at) * wide) / strip.wide;
+  pen.fillStyle = ink;
+  pen.fillRect(Math.min(wide - 2, x), 0, 2, high);
+  pen.beginPath();
+  pen.moveTo(x - 5, 0);
+  pen.lineTo(x + 7, 0);
+  pen.lineTo(x + 1, 8);
+  pen.fill();
+}
+
+/**
+ * @param {CanvasRenderingContext2D} pen
+ * @param {Strip} strip
+ * @param {number} wide
+ * @param {number} high
+ * @param {string} colour
+ */
+function drawAlarms(pen, strip, wide, high, colour) {
+  pen.fillStyle = colour;
+  pen.font = "bold 11px system-ui, sans-serif";
+  let free = -99;
+  for (const row of strip.run.alarms) {
+    if (row > strip.count) break;
+    const x = (strip.xOf(row) * wide) / strip.wide;
+    pen.fillRect(x, 0, 1.5, high);
+    if (x > free) {
+      const text = octal(strip.run.columns.numbers.items[row], 4);
+      pen.fillText(text, Math.min(x + 3, wide - 30), 11);
+      free = x + 34;
+    }
+  }
+}
+
+/**
+ * The names of the lanes, from the top, and what the strip shows in words.
+ * @param {Strip} strip
+ */
+export function drawLegend(strip) {
+  const isDark = matchMedia("(prefers-color-scheme: dark)").matches;
+  by("chart").setAttribute("aria-label", strip.text);
+  fill("legend", [...LANES.map((it) => {
+    const swatch = make("span", { class: "swatch" });
+    swatch.style.background = isDark ? it.dark : it.light;
+    return make("span", {}, swatch, it.name);
+  }), make("span", { id: "summary" }, strip.text)]);
+}

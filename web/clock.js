@@ -1,0 +1,352 @@
+/**
+ * The clock: how time passes is the rule of the module's own clock, which says which request comes
+ * next. Here are its controls: run and pause, single centiseconds, speed, stolen time and costs.
+ */
+import { Clock } from "../libagc/js/machine.js";
+import { writeBench } from "./bench.js";
+import { button, by, fill, make } from "./dom.js";
+import { MOST_ROWS, Run } from "./run.js";
+import { seconds } from "./words.js";
+
+/** How many times real time, and which is chosen first. */
+const SPEEDS = [0.1, 0.2, 0.5, 1, 2, 5, 10, 20, 50, 100];
+
+/** How many requests are asked at a stretch, so that the page goes on answering. */
+const STRETCH = 60_000;
+
+/** How often the strip is drawn anew while the clock runs, in milliseconds. */
+const DRAWN_EACH = 300;
+
+/** The longest time that a run has, in seconds, where no scenario says it. */
+const LONGEST = 3600;
+
+/**
+ * The clock of a bench.
+ * @param {import("./bench.js").Bench} bench
+ */
+function clockOf({ seconds: length, steal, job, event }) {
+  return new Clock({ seconds: length ?? LONGEST, steal, job, event });
+}
+
+export class ClockPanel {
+  /** @param {any} workbench */
+  constructor(workbench) {
+    this.workbench = workbench;
+    this.isRunning = false;
+    this.target = 0;
+    /** The run that is being filled up to its end, a stretch at a time. */
+    this.filled = null;
+    fill("speed", SPEEDS.map((it) => make("option", { value: String(it) }, `${it} ×`)));
+    by("speed").value = "1";
+  }
+
+  /**
+   * A run of a bench, with a clock, in which these requests were asked. A scenario's time passes to
+   * its end.
+   * @param {import("./bench.js").Bench} bench
+   * @param {Iterable<[string, string]>} requests each line, and who asks it
+   */
+  runOf(bench, requests) {
+    this.pause();
+    const run = new Run(bench);
+    run.head.clock = clockOf(bench);
+    run.checkpoints = [run.head.copy()];
+    for (const [line, who] of requests) {
+      if (run.count >= MOST_ROWS) break;
+      run.ask(line, who);
+    }
+    if (bench.seconds !== undefined) this.fill(run);
+    return run;
+  }
+
+  /**
+   * Lets time pass to the end of a scenario: what is left after a stretch comes in the background.
+   * @param {Run} run
+   */
+  fill(run) {
+    this.filled = null;
+    for (let k = 0; k < STRETCH; k++) {
+      if (!this.step(run)) return;
+    }
+    this.filled = run;
+    setTimeout(() => this.fillOn(run), 0);
+  }
+
+  /** @param {Run} run */
+  fillOn(run) {
+    const { history } = this.workbench;
+    if (this.filled !== run || history.now.run !== run) return;
+    const isWhole = history.now.count === run.count;
+    this.fill(run);
+    if (isWhole) {
+      history.now = { ...history.now, count: run.count };
+      this.workbench.drawAll();
+    }
+  }
+
+  /**
+   * Asks what the clock asks for next. False where its time is over.
+   * @param {Run} run
+   */
+  step(run) {
+    if (run.count >= MOST_ROWS) return false;
+    const request = run.head.clock.next(run.head.machine);
+    if (request === null) return false;
+    const event = request.event === null ? undefined : run.bench.event[request.event];
+    const who = event === undefined ? "the clock" : `event ${event.name ?? request.event + 1}`;
+    return run.ask(request.text, who) !== null;
+  }
+
+  /**
+   * What the clock would ask for next, of which it doesn't know.
+   * @param {Run} run
+   * @returns {string | undefined}
+   */
+  nextText(run) {
+    return run.head.clock.copy().next(run.head.machine)?.text;
+  }
+
+  /**
+   * Asks a request by hand.
+   * @param {Run} run
+   * @param {string} line
+   * @param {string} who
+   */
+  ask(run, line, who) {
+    this.filled = null;
+    run.ask(line, who);
+  }
+
+  /**
+   * The document of a scenario, as it was opened or planned.
+   * @param {Run} run
+   */
+  document(run) {
+    return run.bench.seconds === undefined ? null : writeBench(run.bench);
+  }
+
+  actions() {
+    return {
+      run: () => (this.isRunning ? this.pause() : this.run()),
+      tick: () => this.tick(),
+      event: () => this.nextEvent(),
+    };
+  }
+
+  /** The run to which requests are added, behind the row that is shown. */
+  runToAddTo() {
+    const { history } = this.workbench;
+    const run = history.runToGoOn();
+    history.show({ run, count: run.count, at: run.count });
+    return run;
+  }
+
+  /** Whether rows that are there already stand behind the one that is shown. */
+  get hasMore() {
+    const { at, count } = this.workbench.view;
+    return at < count;
+  }
+
+  /** A centisecond: the rows up to the next tick. */
+  tick() {
+    this.pause();
+    const { workbench } = this;
+    if (this.hasMore) {
+      const { run, at, count } = workbench.view;
+      const after = run.rowAtTime(run.ticksAt(at) + 2, count);
+      const isLast = run.ticksAt(after) < run.ticksAt(at) + 2;
+      workbench.go(isLast ? count : after - 1);
+      return;
+    }
+    const run = this.runToAddTo();
+    do {
+      if (!this.step(run)) break;
+    } while (this.nextText(run) !== "tick");
+    this.showEnd(run);
+  }
+
+  /** To the next row that changes more than the time. */
+  nextEvent() {
+    this.pause();
+    if (this.hasMore) {
+      this.workbench.actions()["change-next"]();
+      return;
+    }
+    const run = this.runToAddTo();
+    for (let k = 0; k < STRETCH && this.step(run) && !run.isChange(run.count); k++);
+    this.showEnd(run);
+  }
+
+  /** @param {Run} run */
+  showEnd(run) {
+    const { workbench } = this;
+    workbench.history.now = { run, count: run.count, at: run.count };
+    workbench.drawAll();
+    if (this.nextText(run) === undefined) workbench.say("The time of this run is over.");
+  }
+
+  run() {
+    const { workbench } = this;
+    const { run, at } = workbench.view;
+    if (!this.hasMore && this.nextText(run) === undefined) {
+      workbench.say("The time of this run is over: go to an earlier row, or change the plan.");
+      return;
+    }
+    this.isRunning = true;
+    this.filled = null;
+    this.target = run.ticksAt(at);
+    this.last = performance.now();
+    this.drawn = 0;
+    if (!this.hasMore) this.runToAddTo();
+    by("sentence").setAttribute("aria-live", "off");
+    this.drawButtons();
+    requestAnimationFrame((now) => this.frame(now));
+  }
+
+  pause() {
+    if (!this.isRunning) return;
+    this.isRunning = false;
+    by("sentence").setAttribute("aria-live", "polite");
+    this.drawButtons();
+    this.workbench.drawAll();
+  }
+
+  drawButtons() {
+    by("run").textContent = this.isRunning ? "Pause" : "Run";
+    by("run").setAttribute("aria-pressed", String(this.isRunning));
+  }
+
+  /**
+   * What is shown after some time: rows that are there already, and then new ones.
+   * @param {number} now
+   */
+  frame(now) {
+    if (!this.isRunning) return;
+    const isCalm = matchMedia("(prefers-reduced-motion: reduce)").matches;
+    if (isCalm && now - this.last < 250) {
+      requestAnimationFrame((next) => this.frame(next));
+      return;
+    }
+    const passed = Math.min(500, Math.max(0, now - this.last));
+    this.target += (passed / 10) * Number(by("speed").value);
+    this.last = now;
+    if (this.advance(Math.floor(this.target))) this.pause();
+    else requestAnimationFrame((next) => this.frame(next));
+  }
+
+  /**
+   * Goes on to a time. True where an alarm or the end came first.
+   * @param {number} ticks
+   */
+  advance(ticks) {
+    const { workbench } = this;
+    const { run, at, count } = workbench.view;
+    if (this.hasMore) {
+      const after = run.rowAtTime(ticks + 1, count);
+      const to = run.ticksAt(after) > ticks ? after - 1 : after;
+      const alarm = run.alarms.find((row) => row > at && row <= to);
+      workbench.go(Math.max(at, alarm ?? to));
+      const isEnd = workbench.view.at === count && this.nextText(run) === undefined;
+      return alarm !== undefined || isEnd;
+    }
+    let isOver = false;
+    let isAlarm = false;
+    while (!isOver && !isAlarm && (run.head.now < ticks || this.nextText(run) !== "tick")) {
+      isOver = !this.step(run);
+      isAlarm = !isOver && run.isAlarm(run.count);
+    }
+    workbench.history.now = { run, count: run.count, at: run.count };
+    const isDue = performance.now() - (this.drawn ?? 0) > DRAWN_EACH;
+    if (isDue) this.drawn = performance.now();
+    if (isDue) workbench.drawAll();
+    else workbench.drawRow();
+    return isOver || isAlarm;
+  }
+
+  /**
+   * Goes on from the row that is shown with other numbers.
+   * @param {any} given
+   */
+  change(given) {
+    this.pause();
+    const { workbench } = this;
+    const { history } = workbench;
+    const { at, count, run: old } = workbench.view;
+    history.keep(`as ${Object.keys(given)[0] === "steal" ? "stolen time" : "a cost"} was changed`);
+    const run = old.fork(at);
+    run.change(this.sinceThen(run, at, given), given);
+    if (run.bench.seconds !== undefined) this.fill(run);
+    history.show({ run, count: run.count, at });
+    if (count === 0 || at === 0) history.now.at = 0;
+    workbench.drawAll();
+  }
+
+  /**
+   * Stolen time that is changed later on is told with its times.
+   * @param {Run} run
+   * @param {number} at
+   * @param {any} given
+   */
+  sinceThen(run, at, given) {
+    const now = run.ticksAt(at);
+    if (given.steal === undefined || now === 0) return given;
+    const { steal } = run.bench;
+    const before = typeof steal === "number" ? [{ from: 0, to: now, percent: steal }]
+      : steal.filter((it) => it.from < now).map((it) => ({ ...it, to: Math.min(it.to, now) }));
+    const end = (run.bench.seconds ?? LONGEST) * 100;
+    return now >= end ? {} : { steal: [...before, { from: now, to: end, percent: given.steal }] };
+  }
+
+  /**
+   * Draws the sliders and the events of a run.
+   * @param {Run} run
+   */
+  draw(run) {
+    const { steal, job, event } = run.bench;
+    const now = typeof steal === "number" ? steal : steal.at(-1)?.percent ?? 0;
+    const costs = job.map((it, k) => {
+      const most = Math.max(400, 2 * it.cost);
+      return this.slider(it.name ?? it.at, it.cost, 1, most, "cs", (cost) =>
+        ({ job: job.map((one, n) => (n === k ? { ...one, cost } : one)) }));
+    });
+    const stolen = this.slider("Stolen time", now, 0, 100, "%", (value) => ({ steal: value }));
+    const rows = [stolen, ...costs];
+    if (!this.isRunning || this.drawnFor !== run) fill("sliders", rows);
+    this.drawnFor = run;
+    const named = event.filter((it) => it.name !== undefined);
+    by("events").hidden = named.length === 0;
+    fill("events", named.map((it) => button(it.name ?? "", () => {
+      for (const line of it.do) this.workbench.ask(line, `you: ${it.name}`);
+    }, { title: it.do.join(", ") })));
+  }
+
+  /**
+   * @param {string} name
+   * @param {number} value
+   * @param {number} min
+   * @param {number} max
+   * @param {string} unit
+   * @param {(value: number) => any} given
+   */
+  slider(name, value, min, max, unit, given) {
+    const output = make("output", {}, `${value} ${unit}`);
+    const field = make("input", { type: "range", min, max, step: 1, "aria-label": name });
+    field.value = String(value);
+    field.setAttribute("aria-valuetext", `${value} ${unit}`);
+    field.addEventListener("input", () => {
+      output.textContent = `${field.value} ${unit}`;
+      field.setAttribute("aria-valuetext", `${field.value} ${unit}`);
+    });
+    field.addEventListener("change", () => this.change(given(Number(field.value))));
+    return make("label", {}, name, field, output);
+  }
+}
+
+/**
+ * How long a run is, in words.
+ * @param {Run} run
+ * @param {number} count
+ */
+export function lengthOf(run, count) {
+  return seconds(run.ticksAt(count));
+}

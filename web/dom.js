@@ -1,0 +1,77 @@
+/** Elements of the page: finding, making and filling them. All text is set as text. */
+
+/**
+ * The element of this name.
+ * @param {string} id
+ * @returns {any}
+ */
+export function by(id) {
+  const found = document.getElementById(id);
+  if (found === null) throw new Error(`the page has no ${id}`);
+  return found;
+}
+
+/**
+ * A new element. What isn't a property is an attribute.
+ * @param {string} name
+ * @param {Record<string, any>} given
+ * @param {...(Node | string)} children
+ * @returns {any}
+ */
+export function make(name, given = {}, ...children) {
+  const made = document.createElement(name);
+  for (const [key, value] of Object.entries(given)) {
+    if (value === undefined || value === null) continue;
+    if (key === "class") made.className = value;
+    else if (key.startsWith("on")) made.addEventListener(key.slice(2), value);
+    else if (key.includes("-") || key === "role" || key === "for") made.setAttribute(key, value);
+    else Object.assign(made, { [key]: value });
+  }
+  made.append(...children);
+  return made;
+}
+
+/**
+ * Gives an element just these children.
+ * @param {string | HTMLElement} where
+ * @param {(Node | string)[]} children
+ */
+export function fill(where, children) {
+  const parent = typeof where === "string" ? by(where) : where;
+  parent.replaceChildren(...children);
+}
+
+/**
+ * A button that does something.
+ * @param {string} text
+ * @param {() => void} run
+ * @param {Record<string, any>} given
+ */
+export function button(text, run, given = {}) {
+  return make("button", { type: "button", onclick: run, ...given }, text);
+}
+
+/**
+ * A field with its label before it.
+ * @param {string} text
+ * @param {HTMLElement} field
+ */
+export function labelled(text, field) {
+  return make("label", {}, text, field);
+}
+
+/**
+ * Opens the dialog with a heading and these children.
+ * @param {string} heading
+ * @param {(Node | string)[]} children
+ */
+export function openDialog(heading, children) {
+  by("dialog-name").textContent = heading;
+  fill("dialog-body", children);
+  if (!by("dialog").open) by("dialog").showModal();
+  by("dialog").scrollTop = 0;
+}
+
+export function closeDialog() {
+  if (by("dialog").open) by("dialog").close();
+}

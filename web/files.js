@@ -1,0 +1,180 @@
+/**
+ * Opening and saving: a bench or a scenario by file, by paste, by drag, from the examples, from the
+ * address; and a bench that comes to the same tables.
+ */
+import { emptyBench, writeBench } from "./bench.js";
+import { button, by, make, openDialog } from "./dom.js";
+
+/**
+ * The text of a document within the page: `\l` stands for what would begin markup, and a backslash
+ * at a line's end for a line that goes on.
+ * @param {string} data
+ */
+export function textOfData(data) {
+  /** @type {Record<string, string>} */
+  const signs = { "\\l": "<", "\\\\": "\\", "\\\n": "" };
+  return data.replace(/\\[l\\\n]/g, (it) => signs[it]);
+}
+
+/**
+ * Kept texts of the page: each begins with a line `@ KIND NAME`, and has data behind it.
+ * @param {string} data
+ * @returns {{ kind: string, name: string, text: string }[]}
+ */
+export function keptTexts(data) {
+  return data.split(/^@ /m).slice(1).map((it) => {
+    const end = it.indexOf("\n");
+    const [kind, ...name] = it.slice(0, end).split(" ");
+    return { kind, name: name.join(" "), text: textOfData(it.slice(end + 1)) };
+  });
+}
+
+/**
+ * What the comment at a document's head says, up to its first point.
+ * @param {string} document
+ */
+export function firstSentence(document) {
+  const lines = document.split("\n");
+  const end = lines.findIndex((it) => !it.startsWith("#"));
+  const head = lines.slice(0, end < 0 ? lines.length : end);
+  const text = head.map((it) => it.slice(1).trim()).join(" ");
+  return /^.*?[.!?](?= |$)/.exec(text)?.[0] ?? text;
+}
+
+/** @param {Uint8Array} bytes */
+function base64url(bytes) {
+  let text = "";
+  for (const byte of bytes) text += String.fromCharCode(byte);
+  return btoa(text).replaceAll("+", "-").replaceAll("/", "_").replaceAll("=", "");
+}
+
+/**
+ * Bytes through a stream that packs or unpacks them.
+ * @param {Uint8Array} bytes
+ * @param {any} stream
+ */
+async function through(bytes, stream) {
+  const packed = new Blob([/** @type {any} */ (bytes)]).stream().pipeThrough(stream);
+  return new Uint8Array(await new Response(packed).arrayBuffer());
+}
+
+/**
+ * What stands behind `#` for a document.
+ * @param {string} document
+ */
+export async function markOf(document) {
+  const bytes = new TextEncoder().encode(document);
+  return `#bench=${base64url(await through(bytes, new CompressionStream("deflate-raw")))}`;
+}
+
+/**
+ * The document behind `#`, or null where there is none.
+ * @param {string} mark
+ */
+export async function documentOf(mark) {
+  const found = /^#bench=([A-Za-z0-9_-]+)$/.exec(mark);
+  if (found === null) return null;
+  const packed = atob(found[1].replaceAll("-", "+").replaceAll("_", "/"));
+  const bytes = Uint8Array.from(packed, (it) => it.charCodeAt(0));
+  return new TextDecoder().decode(await through(bytes, new DecompressionStream("deflate-raw")));
+}
+
+/**
+ * The bench that asks for the first rows of a run, and comes to the same tables.
+ * @param {import("./run.js").Run} run
+ * @param {number} count
+ */
+export function benchOf(run, count) {
+  const { sets, limit, allowance, power, task, phase, key, radar } = run.bench;
+  /** @type {(rows: any[]) => any[]} */
+  const unnamed = (rows) => rows.map(({ name: _name, ...rest }) => rest);
+  return writeBench({
+    ...{ ...emptyBench(), sets, limit, allowance, power, key, radar },
+    ...{ task: unnamed(task), phase: unnamed(phase), script: run.lines.slice(1, count + 1) },
+  });
+}
+
+/**
+ * Hands a text out as a file.
+ * @param {string} name
+ * @param {string} text
+ */
+export function download(name, text) {
+  const address = URL.createObjectURL(new Blob([text], { type: "text/plain" }));
+  const link = make("a", { href: address, download: name });
+  document.body.append(link);
+  link.click();
+  link.remove();
+  setTimeout(() => URL.revokeObjectURL(address), 1000);
+}
+
+/**
+ * Opens the dialog in which a document is chosen or pasted.
+ * @param {(text: string, name: string) => void} open
+ */
+export function openOpening(open) {
+  const file = make("input", { type: "file", accept: ".toml,.txt", id: "file" });
+  file.addEventListener("change", async () => {
+    if (file.files.length === 1) open(await file.files[0].text(), file.files[0].name);
+  });
+  const area = make("textarea", { id: "pasted", spellcheck: false, "aria-label": "A document" });
+  const paste = () => open(area.value, "what was pasted");
+  const pasted = button("Open it", paste, { id: "open-pasted" });
+  const begin = () => open("", "an empty bench");
+  openDialog("Open a bench or a scenario", [
+    make("p", {}, make("label", {}, "A file: ", file)),
+    make("p", {}, "Or paste a document here. A file may also be dropped on the page."), area,
+    make("p", {}, pasted, " ", button("Begin with an empty bench", begin, { id: "open-empty" })),
+    make("p", { class: "wrong", id: "open-fault", role: "status" }),
+  ]);
+  file.focus();
+}
+
+/**
+ * Files that are dropped on the page are opened.
+ * @param {(text: string, name: string) => void} open
+ */
+export function hearDrops(open) {
+  const { body } = document;
+  body.addEventListener("dragover", (event) => {
+    event.preventDefault();
+    body.classList.add("drop");
+  });
+  body.addEventListener("dragleave", () => body.classList.remove("drop"));
+  body.addEventListener("drop", async (event) => {
+    event.preventDefault();
+    body.classList.remove("drop");
+    const file = event.dataTransfer?.files[0];
+    const text = event.dataTransfer?.getData("text/plain") ?? "";
+    if (file !== undefined) open(await file.text(), file.name);
+    else if (text !== "") open(text, "what was dropped");
+  });
+}
+
+/**
+ * What the comment at a document's head asks, line by line.
+ * @param {string} document
+ */
+export function questionOf(document) {
+  const lines = document.split("\n");
+  const end = lines.findIndex((it) => !it.startsWith("#"));
+  return lines.slice(0, end < 0 ? lines.length : end).map((it) => it.slice(1).trim()).join("\n");
+}
+
+/**
+ * Opens the dialog of the examples and exercises.
+ * @param {{ kind: string, name: string, text: string }[]} kept
+ * @param {(text: string, name: string, question: string) => void} open
+ */
+export function openExamples(kept, open) {
+  const listOf = (/** @type {string} */ kind) => {
+    const choices = kept.filter((it) => it.kind === kind).map((it) => {
+      const question = kind === "exercise" ? questionOf(it.text) : "";
+      const told = question === "" ? firstSentence(it.text) : question.split("\n")[0];
+      return make("li", {}, button(it.name, () => open(it.text, it.name, question)), " ", told);
+    });
+    return make("ul", { class: "choices", "aria-label": `${kind}s` }, ...choices);
+  };
+  openDialog("Examples", [listOf("example"), make("h3", {}, "Exercises"), listOf("exercise")]);
+  by("dialog-body").querySelector("button")?.focus();
+}

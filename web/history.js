@@ -1,0 +1,101 @@
+/**
+ * What was done on the workbench: the run that is shown and how much of it, undo, redo, and the
+ * branches that were left behind.
+ *
+ * @typedef {import("./run.js").Run} Run
+ * @typedef {{ run: Run, count: number, at: number }} View
+ */
+
+/** The most steps that are kept to be undone. */
+const MOST_KEPT = 200;
+
+export class History {
+  /** @param {View} view */
+  constructor(view) {
+    this.now = view;
+    /** @type {View[]} */
+    this.undone = [];
+    /** @type {View[]} */
+    this.done = [];
+    /** @type {(View & { name: string })[]} */
+    this.branches = [];
+    this.named = 0;
+  }
+
+  /**
+   * Shows something else, which can be undone.
+   * @param {View} view
+   */
+  show(view) {
+    this.done.push(this.now);
+    if (this.done.length > MOST_KEPT) this.done.shift();
+    this.undone = [];
+    this.now = view;
+  }
+
+  /** Whether something was undone. */
+  undo() {
+    const before = this.done.pop();
+    if (before === undefined) return false;
+    this.undone.push(this.now);
+    this.now = before;
+    return true;
+  }
+
+  redo() {
+    const next = this.undone.pop();
+    if (next === undefined) return false;
+    this.done.push(this.now);
+    this.now = next;
+    return true;
+  }
+
+  /**
+   * Keeps what is shown as a branch, under a name that says where it was left.
+   * @param {string} why
+   */
+  keep(why) {
+    const { run, count, at } = this.now;
+    this.named += 1;
+    const name = `branch ${this.named}, left at request ${at} ${why}`;
+    this.branches.push({ run, count, at, name });
+  }
+
+  /**
+   * Exchanges what is shown with a branch.
+   * @param {number} k
+   * @param {number} at
+   */
+  exchange(k, at) {
+    const [branch] = this.branches.splice(k, 1);
+    this.keep("for another");
+    this.show({ run: branch.run, count: branch.count, at: Math.min(at, branch.count) });
+  }
+
+  /**
+   * A run whose next row may be asked behind the row that is shown: the same, where that is its
+   * last row, and else one of its own. The other is kept as a branch.
+   */
+  runToGoOn() {
+    const { run, count, at } = this.now;
+    if (at === count && count === run.count) return run;
+    if (at < count) this.keep("to go on otherwise");
+    return run.fork(at);
+  }
+}
+
+/**
+ * The first row in which two runs differ, up to the end of the shorter one.
+ * @param {View} one
+ * @param {View} other
+ */
+export function parting(one, other) {
+  const most = Math.min(one.count, other.count);
+  for (let row = 1; row <= most; row++) {
+    const same = one.run.lines[row] === other.run.lines[row]
+      && one.run.columns.uses.items[row] === other.run.columns.uses.items[row]
+      && one.run.columns.numbers.items[row] === other.run.columns.numbers.items[row];
+    if (!same) return row;
+  }
+  return most + 1;
+}

@@ -1,0 +1,409 @@
+/** The workbench: what its controls do. */
+import { start } from "../libagc/js/machine.js";
+import { Names, accountOf, sentenceOf } from "./account.js";
+import { emptyBench, readBench, requestsOf } from "./bench.js";
+import { Strip, drawLegend, drawStrip } from "./chart.js";
+import { ClockPanel } from "./clock.js";
+import { button, by, closeDialog, fill, make, openDialog } from "./dom.js";
+import * as files from "./files.js";
+import { drawCommon } from "./forms.js";
+import { History, parting } from "./history.js";
+import { drawList, drawPrinted } from "./list.js";
+import { openPlan } from "./plan.js";
+import { Run } from "./run.js";
+import { HELP } from "./help.js";
+import { drawSets, drawTables, drawWords } from "./tables.js";
+import { Prompt, completions } from "./typing.js";
+import { counted } from "./words.js";
+
+/** How many points wide the pictures of the strip are computed for. */
+const STRIP_WIDE = 1200;
+
+class Workbench {
+  constructor() {
+    this.clock = new ClockPanel(this);
+    this.history = new History({ run: this.clock.runOf(emptyBench(), []), count: 0, at: 0 });
+    this.names = new Names(emptyBench());
+    this.document = "";
+    this.title = "AGC workbench";
+    /** The branch or the number of core sets that stands beside, if one does. */
+    this.beside = null;
+    /** Whether an exercise's answer is hidden. */
+    this.isHidden = false;
+    this.kept = files.keptTexts(by("kept").textContent.trim());
+    this.prompt = new Prompt((line) => this.ask(line, "you"), (typed) =>
+      completions(typed, this.view.run.bench, this.scene));
+    drawCommon(by("common"), () => this.view.run.bench, () => this.scene, (line) =>
+      this.ask(line, "you"));
+    this.hear();
+  }
+
+  get view() {
+    return this.history.now;
+  }
+
+  get scene() {
+    const [shown] = this.view.run.show(this.view.at, this.view.at);
+    return shown.after ?? shown.scene;
+  }
+
+  /**
+   * Opens a document: runs what it asks for, and shows its beginning.
+   * @param {string} text
+   * @param {string} name
+   * @param {string} question of an exercise, whose answer is hidden
+   */
+  open(text, name, question = "") {
+    let bench;
+    try {
+      bench = readBench(text);
+      this.begin(bench, name);
+    } catch (fault) {
+      this.tellFault(`${name} can't be opened. ${/** @type {Error} */ (fault).message}`);
+      return false;
+    }
+    this.document = text;
+    this.hide(question);
+    closeDialog();
+    return true;
+  }
+
+  /**
+   * Shows an exercise's question, and hides what would answer it, until it is asked for.
+   * @param {string} question
+   */
+  hide(question) {
+    this.isHidden = question !== "";
+    by("question").hidden = !this.isHidden;
+    fill("question", [make("p", {}, question), button("Show what happens", () => {
+      this.isHidden = false;
+      by("show-answer").remove();
+      this.drawAll();
+    }, { id: "show-answer" })]);
+    this.drawAll();
+  }
+
+  /** @param {string} said */
+  tellFault(said) {
+    const place = by("dialog").open ? document.getElementById("open-fault") : null;
+    if (place !== null) place.textContent = said;
+    else openDialog("This isn't a bench or a scenario", [make("p", { class: "wrong" }, said)]);
+  }
+
+  /**
+   * Begins with a bench.
+   * @param {import("./bench.js").Bench} bench
+   * @param {string} name
+   */
+  begin(bench, name) {
+    const run = this.clock.runOf(bench, requestsOf(bench));
+    this.title = bench.title ?? name;
+    this.names = new Names(bench);
+    this.beside = null;
+    this.history.show({ run, count: run.count, at: 0 });
+    this.history.branches = [];
+    this.drawAll();
+  }
+
+  /**
+   * Asks a request behind the row that is shown.
+   * @param {string} line
+   * @param {string} who
+   */
+  ask(line, who) {
+    this.clock.pause();
+    const run = this.history.runToGoOn();
+    try {
+      this.clock.ask(run, line, who);
+    } catch (fault) {
+      this.prompt.hint(/** @type {Error} */ (fault).message, true);
+      return;
+    }
+    this.history.show({ run, count: run.count, at: run.count });
+    this.drawAll();
+  }
+
+  /** @param {number} row */
+  go(row) {
+    this.history.now = { ...this.view, at: Math.max(0, Math.min(row, this.view.count)) };
+    this.drawRow();
+  }
+
+  /**
+   * To the next row of which this holds, or the one before.
+   * @param {(row: number) => boolean} holds
+   * @param {number} step
+   * @param {string} what
+   */
+  seek(holds, step, what) {
+    for (let row = this.view.at + step; row > 0 && row <= this.view.count; row += step) {
+      if (holds(row)) {
+        this.go(row);
+        return;
+      }
+    }
+    this.say(`There is no ${what} ${step > 0 ? "behind" : "before"} this row.`);
+  }
+
+  /** @param {string} text */
+  say(text) {
+    by("sentence").textContent = text;
+    by("sentence").className = "";
+  }
+
+  /** To the request or the time that is typed. */
+  goTyped() {
+    const text = by("go").value.trim();
+    const found = /^([0-9]+(?:\.[0-9]+)?) ?(s?)$/.exec(text);
+    if (found === null) this.say("Go to a request by its number, as 20, or to a time, as 38.01 s.");
+    else if (found[2] === "s" || found[1].includes(".")) {
+      this.go(this.view.run.rowAtTime(Math.round(Number(found[1]) * 100), this.view.count));
+    } else this.go(Number(found[1]));
+  }
+
+  drawAll() {
+    const { run, count } = this.view;
+    by("title").textContent = this.title;
+    document.title = `${this.title} - AGC workbench`;
+    by("slider").max = String(count);
+    by("chart-box").hidden = count === 0 || this.isHidden;
+    if (count > 0) {
+      this.strip = new Strip(run, count, STRIP_WIDE);
+      drawLegend(this.strip);
+    }
+    this.clock.draw(run);
+    this.drawBranches();
+    this.drawRow();
+  }
+
+  drawRow() {
+    const { run, count, at } = this.view;
+    const [shown] = run.show(at, at);
+    drawTables(shown, this.names);
+    this.drawAccount(shown);
+    this.drawBeside(at);
+    drawList(run, at, this.isHidden ? at : count, (row) => this.go(row));
+    by("slider").value = String(at);
+    by("slider").setAttribute("aria-valuetext", `request ${at} of ${count}`);
+    by("sentence").textContent = sentenceOf(shown, count, this.names);
+    by("sentence").className = shown.reply.includes("alarm") ? "alarm" : "";
+    by("undo").disabled = this.history.done.length === 0;
+    by("redo").disabled = this.history.undone.length === 0;
+    by("alarm-next").disabled = this.isHidden;
+    by("alarm-back").disabled = this.isHidden;
+    if (count > 0 && this.strip !== undefined && !this.isHidden) drawStrip(this.strip, at);
+  }
+
+  /** @param {import("./run.js").Shown} shown */
+  drawAccount(shown) {
+    const account = accountOf(this.view.run, shown, this.names);
+    by("told").classList.toggle("alarm", account.isAlarm);
+    by("told-name").textContent = account.heading;
+    const who = shown.who === "nobody" ? [] : [[`Asked by ${shown.who}.`]];
+    fill("account", [...account.lines, ...who].map((line) =>
+      make("li", {}, ...line.map((it) => this.piece(it)))));
+    by("told").scrollTop = 0;
+  }
+
+  /** @param {import("./account.js").Piece} piece */
+  piece(piece) {
+    if (typeof piece === "string") return piece;
+    const href = piece.part ? `#${piece.part}-name` : `#${piece.row}`;
+    const link = make("a", { href }, piece.text);
+    link.addEventListener("click", (/** @type {Event} */ event) => {
+      event.preventDefault();
+      if (piece.row !== undefined) this.go(piece.row);
+      else by(`${piece.part}-name`).scrollIntoView({ block: "center" });
+    });
+    return link;
+  }
+
+  /** @param {number} at */
+  drawBeside(at) {
+    const other = this.beside;
+    by("beside").hidden = other === null;
+    if (other === null) return;
+    const row = Math.min(at, other.count);
+    const [shown] = other.run.show(row, row);
+    by("beside-name").textContent = `Beside it, ${other.name}: request ${row}, ${shown.reply}`;
+    drawSets("beside-sets", shown.scene, shown.before, this.names);
+  }
+
+  drawBranches() {
+    const { branches } = this.history;
+    by("branches-box").hidden = branches.length === 0;
+    fill("branches", branches.map((it, k) => make("li", {},
+      `${it.name}: ${counted(it.count, "request")}, ${counted(it.run.alarms.filter((row) =>
+        row <= it.count).length, "alarm")}; differs from request ${parting(this.view, it)} on. `,
+      button("Show it", () => {
+        this.history.exchange(k, this.view.at);
+        this.names = new Names(this.view.run.bench);
+        this.drawAll();
+      }), " ", button("Beside", () => this.compare(it)))));
+  }
+
+  /** @param {{ run: Run, count: number, name: string }} other */
+  compare(other) {
+    this.beside = this.beside?.run === other.run ? null : other;
+    this.drawRow();
+  }
+
+  /** The same requests on the other number of core sets, beside. */
+  compareSets() {
+    const { run, count } = this.view;
+    const sets = run.sets === 7 ? 8 : 7;
+    const other = new Run({ ...run.bench, sets });
+    for (const [line, who] of run.requests(count)) other.ask(line, who);
+    this.compare({ run: other, count, name: `with ${sets} core sets` });
+  }
+
+  openPlan() {
+    openPlan(this.view.run.bench, (bench) => {
+      const { run, count, at } = this.view;
+      const asked = bench.seconds === undefined ? run.requests(count) : [];
+      const made = this.clock.runOf(bench, asked);
+      this.history.keep("as the plan was changed");
+      this.names = new Names(bench);
+      this.history.show({ run: made, count: made.count, at: Math.min(at, made.count) });
+      closeDialog();
+      this.drawAll();
+    });
+    const other = this.view.run.sets === 7 ? "Eight core sets beside" : "Seven core sets beside";
+    const name = this.beside === null ? other : "Nothing beside";
+    by("dialog-body").prepend(make("p", {}, button(name, () => {
+      if (this.beside === null) this.compareSets();
+      else this.compare(this.beside);
+      closeDialog();
+    }, { id: "beside-sets-button" })));
+  }
+
+  async openSave() {
+    const { run, count } = this.view;
+    const bench = files.benchOf(run, count);
+    const whole = this.clock.document(run) ?? bench;
+    const mark = await files.markOf(whole).catch(() => "");
+    const area = make("textarea", { readOnly: true, value: bench, "aria-label": "The bench" });
+    const link = make("input", { type: "text", readOnly: true, "aria-label": "The link",
+      value: mark.length > 8000 ? "" : `${location.href.split("#")[0]}${mark}` });
+    openDialog("Save", [
+      make("p", {}, "This bench asks for what was asked up to the last row, and agc serial comes "
+        + "to the same tables."), area,
+      make("p", {}, button("Save the bench", () => files.download("bench.toml", bench)), " ",
+        ...(whole === bench ? [] : [button("Save the scenario", () =>
+          files.download("scenario.toml", whole))])),
+      make("p", {}, link.value === "" ? "It is too long for a link." : "A link that carries it: ",
+        link),
+    ]);
+  }
+
+  print() {
+    const { run, count } = this.view;
+    const plan = this.clock.document(run) ?? files.benchOf(run, 0);
+    drawPrinted(run, count, this.title, plan, (shown) =>
+      accountOf(run, shown, this.names).lines.map((line) =>
+        line.map((it) => (typeof it === "string" ? it : it.text)).join("")).join("\n"));
+  }
+
+  undo() {
+    this.clock.pause();
+    if (this.history.undo()) this.drawAll();
+  }
+
+  redo() {
+    this.clock.pause();
+    if (this.history.redo()) this.drawAll();
+  }
+
+  /** What each control does. */
+  actions() {
+    const { run } = this.view;
+    return {
+      ...{ first: () => this.go(0), last: () => this.go(this.view.count) },
+      ...{ back: () => this.go(this.view.at - 1), next: () => this.go(this.view.at + 1) },
+      "alarm-next": () => this.seek((row) => run.isAlarm(row), 1, "alarm"),
+      "alarm-back": () => this.seek((row) => run.isAlarm(row), -1, "alarm"),
+      "change-next": () => this.seek((row) => run.isChange(row), 1, "change"),
+      "change-back": () => this.seek((row) => run.isChange(row), -1, "change"),
+      ...{ undo: () => this.undo(), redo: () => this.redo(), plan: () => this.openPlan() },
+      save: () => this.openSave(),
+      open: () => files.openOpening((text, name) => this.open(text, name)),
+      examples: () => files.openExamples(this.kept, (text, name, question) =>
+        this.open(text, name, question)),
+      help: () => openDialog("Help", HELP()),
+      ...this.clock.actions(),
+    };
+  }
+
+  hear() {
+    for (const id of Object.keys(this.actions())) {
+      by(id).addEventListener("click", () =>
+        /** @type {Record<string, () => void>} */ (this.actions())[id]());
+    }
+    by("close").addEventListener("click", closeDialog);
+    by("dialog").addEventListener("close", () => fill("dialog-body", []));
+    by("slider").addEventListener("input", () => this.go(Number(by("slider").value)));
+    by("go").addEventListener("keydown", (/** @type {KeyboardEvent} */ event) => {
+      if (event.key === "Enter") this.goTyped();
+    });
+    by("chart").addEventListener("click", (/** @type {MouseEvent} */ event) => {
+      const box = by("chart").getBoundingClientRect();
+      if (this.strip) this.go(this.strip.rowAt((event.clientX - box.left) / box.width));
+    });
+    by("words-box").addEventListener("toggle", () => {
+      const [shown] = this.view.run.show(this.view.at, this.view.at);
+      drawWords(shown.words);
+    });
+    document.addEventListener("keydown", (event) => this.key(event));
+    window.addEventListener("resize", () => this.drawRow());
+    window.addEventListener("beforeprint", () => this.print());
+    window.addEventListener("hashchange", () => this.fromAddress());
+    matchMedia("(prefers-color-scheme: dark)").addEventListener("change", () => this.drawAll());
+    files.hearDrops((text, name) => this.open(text, name));
+  }
+
+  /** @param {KeyboardEvent} event */
+  key(event) {
+    const on = /** @type {HTMLElement} */ (event.target);
+    if (by("dialog").open) return;
+    const isTyped = on.matches("input:not([type=range]), textarea, select");
+    const isPressed = on.matches("button, a, summary") && [" ", "Enter"].includes(event.key);
+    const isControl = event.ctrlKey || event.metaKey;
+    if (isTyped || isPressed || event.altKey || (isControl && event.key !== "z")) return;
+    const ids = {
+      ...{ ArrowLeft: "back", ArrowRight: "next", Home: "first", End: "last", a: "alarm-next" },
+      ...{ A: "alarm-back", c: "change-next", C: "change-back", u: "undo", z: "undo", r: "redo" },
+      ...{ " ": "run", ".": "tick", n: "event", "?": "help", p: "plan", s: "save", o: "open" },
+      e: "examples",
+    };
+    const id = ids[/** @type {keyof typeof ids} */ (event.key)];
+    if (event.key === "i" || event.key === "/") by("line").focus();
+    else if (event.key === "g") by("go").focus();
+    else if (id in this.actions() && !by(id).disabled) by(id).click();
+    else return;
+    event.preventDefault();
+  }
+
+  /** What stands behind `#`: a request's number, or a document. */
+  async fromAddress() {
+    const mark = location.hash;
+    if (/^#[0-9]+$/.test(mark)) this.go(Number(mark.slice(1)));
+    else if (mark.startsWith("#bench=")) {
+      const text = await files.documentOf(mark).catch(() => null);
+      if (text === null) this.say("What stands behind # can't be read.");
+      else this.open(text, "the link");
+    }
+  }
+}
+
+/** @param {string} text */
+function bytesOf(text) {
+  return Uint8Array.from(atob(text.replace(/\s/g, "")), (it) => it.charCodeAt(0));
+}
+
+await start(bytesOf(by("module").textContent));
+const workbench = new Workbench();
+const given = files.textOfData(by("document").textContent.replace(/^\n/, ""));
+if (given !== "") workbench.open(given, files.firstSentence(given) || "A run");
+else workbench.drawAll();
+await workbench.fromAddress();
+document.documentElement.dataset.ready = "yes";

@@ -1,0 +1,189 @@
+/**
+ * The plan editor: every key of a bench or a scenario as a field, its tables as rows. What is
+ * applied is the whole document, read by the reader of documents.
+ */
+import { LEVELS, readBench, writeBench } from "./bench.js";
+import { button, by, fill, labelled, make, openDialog } from "./dom.js";
+import { Unread } from "./toml.js";
+
+/** What a field is called, and what it is for. */
+const LABELS = {
+  ...{ sets: "Core sets", limit: "Log's limit", allowance: "Allowance" },
+  ...{ key: "A key pulse asks for", radar: "A radar pulse asks for" },
+  ...{ seconds: "Seconds", title: "Title", steal: "Stolen percent" },
+  ...{ at: "At", bank: "Bank", action: "Actions", group: "Group", phase: "Phase", job: "Job" },
+  ...{ task: "Task", name: "Name", cost: "Cost, cs", then: "Then", do: "Asks for" },
+  ...{ every: "Every, cs", until: "Until, cs" },
+};
+
+const HEADINGS = {
+  ...{ task: "Tasks: what is done when they fire", job: "Jobs: what they cost" },
+  ...{ phase: "Phases: what begins again while a group stands in one" },
+  ...{ event: "Events: what is asked when" },
+};
+
+/** Fields with several lines. */
+const LONG = new Set(["action", "do", "key", "radar"]);
+
+/**
+ * What is typed for a key, of a value.
+ * @param {any} value
+ */
+function typed(value) {
+  if (value === undefined) return "";
+  return Array.isArray(value) ? value.join("\n") : String(value);
+}
+
+/**
+ * A field for a key.
+ * @param {string} name
+ * @param {any} value
+ */
+function field(name, value) {
+  const text = typed(value);
+  if (name === "sets") {
+    const made = make("select", { name }, make("option", {}, "7"), make("option", {}, "8"));
+    made.value = text === "" ? "7" : text;
+    return made;
+  }
+  if (LONG.has(name)) {
+    const rows = Math.max(2, text.split("\n").length);
+    const made = make("textarea", { name, rows, cols: 26, spellcheck: false, value: text });
+    made.style.minHeight = "0";
+    return made;
+  }
+  const size = name === "title" ? 40 : name === "job" || name === "task" ? 22 : 9;
+  const more = { spellcheck: false, autocomplete: "off", value: text };
+  return make("input", { type: "text", name, size, ...more });
+}
+
+/**
+ * The value that a field has been given, of a key of this kind.
+ * @param {string} text
+ * @param {import("./bench.js").Key} row
+ */
+function valueOf(text, row) {
+  const lines = text.split("\n").map((it) => it.trim()).filter((it) => it !== "");
+  if (lines.length === 0) return undefined;
+  if (row.kind === "oneOrMore") return lines;
+  const isNumber = (row.kind === "integer" || row.kind === "steal") && /^[0-9]+$/.test(lines[0]);
+  return isNumber ? BigInt(lines[0]) : text.trim();
+}
+
+/**
+ * @param {HTMLElement} where
+ * @param {Record<string, import("./bench.js").Key>} level
+ */
+function valuesIn(where, level) {
+  /** @type {Record<string, any>} */
+  const values = {};
+  for (const it of where.querySelectorAll(":scope > label > [name]")) {
+    const one = /** @type {HTMLInputElement} */ (it);
+    values[one.name] = valueOf(one.value, level[one.name]);
+  }
+  return values;
+}
+
+/**
+ * A row of a table.
+ * @param {Record<string, import("./bench.js").Key>} level
+ * @param {any} values
+ */
+function rowOf(level, values) {
+  const row = make("div", { class: "fields" }, ...Object.keys(level).map((name) =>
+    labelled(LABELS[/** @type {keyof typeof LABELS} */ (name)], field(name, values[name]))));
+  row.append(button("Remove", () => row.remove()));
+  return row;
+}
+
+/**
+ * A table with its rows, and a button that adds one.
+ * @param {string} name
+ * @param {Record<string, import("./bench.js").Key>} level
+ * @param {any[]} rows
+ */
+function tableOf(name, level, rows) {
+  const heading = HEADINGS[/** @type {keyof typeof HEADINGS} */ (name)];
+  const body = make("div", { id: `plan-${name}` }, ...rows.map((it) => rowOf(level, it)));
+  const add = button(`Add ${name === "event" ? "an event" : `a ${name}`}`, () => {
+    const made = rowOf(level, {});
+    body.append(made);
+    made.querySelector("input")?.focus();
+  });
+  return make("fieldset", {}, make("legend", {}, heading), body, add);
+}
+
+/**
+ * Which keys are fields, and which are tables, of a bench or a scenario.
+ * @param {boolean} isScenario
+ */
+function partsOf(isScenario) {
+  /** @type {Record<string, any>} */
+  const level = isScenario ? LEVELS.scenario : LEVELS.bench;
+  const single = Object.keys(level).filter((it) => it in LABELS && !(it in HEADINGS));
+  const tables = ["task", "job", "phase", "event"].filter((it) => it in level);
+  return { level, single, tables };
+}
+
+/**
+ * Opens the editor. What is applied is handed on as a bench.
+ * @param {import("./bench.js").Bench} bench
+ * @param {(bench: import("./bench.js").Bench) => void} apply
+ */
+export function openPlan(bench, apply) {
+  const said = make("p", { class: "wrong", id: "plan-fault", role: "status" });
+  const body = make("div", { id: "plan-body" });
+  let isScenario = bench.seconds !== undefined;
+  const draw = (/** @type {any} */ values) => {
+    const { level, single, tables } = partsOf(isScenario);
+    const fields = make("div", { class: "fields", id: "plan-fields" }, ...single.map((name) =>
+      labelled(LABELS[/** @type {keyof typeof LABELS} */ (name)], field(name, values[name]))));
+    fill(body, [fields, ...tables.map((name) => {
+      const below = /** @type {any} */ (LEVELS)[level[name].form];
+      return tableOf(name, below, values[name] ?? []);
+    })]);
+  };
+  const read = () => {
+    const { level, single, tables } = partsOf(isScenario);
+    /** @type {any} */
+    const values = { ...bench, ...valuesIn(by("plan-fields"), level) };
+    for (const name of tables) {
+      const below = /** @type {any} */ (LEVELS)[level[name].form];
+      values[name] = [...body.querySelectorAll(`#plan-${name} > .fields`)]
+        .map((it) => valuesIn(/** @type {any} */ (it), below));
+    }
+    for (const name of single) if (values[name] === undefined) delete values[name];
+    return values;
+  };
+  const timed = make("input", { type: "checkbox", id: "plan-timed", checked: isScenario });
+  timed.addEventListener("change", () => {
+    const values = read();
+    isScenario = timed.checked;
+    draw({ ...values, seconds: isScenario ? values.seconds ?? 60 : undefined });
+  });
+  draw(bench);
+  openDialog("Plan", [make("p", {}, make("label", {}, timed,
+    " Jobs take time (a scenario: seconds, stolen time, costs, events)")), body, said,
+  make("p", {}, button("Apply, and run anew", () => {
+    try {
+      apply(checked(read(), isScenario));
+    } catch (fault) {
+      said.textContent = /** @type {Error} */ (fault).message;
+    }
+  }, { id: "plan-apply" }))]);
+}
+
+/**
+ * A bench of typed values, as its document is read.
+ * @param {any} values
+ * @param {boolean} isScenario
+ */
+function checked(values, isScenario) {
+  const seconds = isScenario ? values.seconds ?? "" : undefined;
+  try {
+    return readBench(writeBench({ ...values, seconds }));
+  } catch (fault) {
+    if (fault instanceof Unread) throw new Error(fault.reason);
+    throw fault;
+  }
+}

@@ -1,0 +1,450 @@
+/**
+ * A run: the requests that were asked of a machine, what came of each, and checkpoints from which
+ * each state in between is computed anew. Row n is request n, and row 0 the beginning.
+ *
+ * @typedef {import("../libagc/js/machine.js").Machine} MachineType
+ * @typedef {import("../libagc/js/machine.js").Step} StepType
+ * @typedef {import("../libagc/js/machine.js").Scene} Scene
+ * @typedef {{ at: number, bank: number, left: number, due: number, since: number }} HeldTask
+ * @typedef {{ row: number, line: string, who: string, reply: string, kind: number,
+ *   step: StepType | null, scene: Scene, words: Uint16Array, jobsSince: number[],
+ *   tasksSince: number[], before: Scene | null, after: Scene | null, ticks: number, time: number,
+ *   afterSince: number[] }} Shown
+ */
+import { Kind, Machine, sceneOf } from "../libagc/js/machine.js";
+
+/** How many rows lie between two checkpoints. */
+const APART = 256;
+
+/** How many rows a run has at most. */
+export const MOST_ROWS = 8_000_000;
+
+/** What came of a request that was not served. */
+export const SPENT = 100;
+export const LOG_FULL = 101;
+
+// What is kept of each row: bits of `marks`.
+const ALARM = 1;
+const CHANGE = 2;
+
+const FREE = 0o77777;
+const MOST_RUNNING = 0o37777;
+
+/**
+ * The tasks that wait by these words, as `sceneOf` has them, which takes several times as long.
+ * @param {Uint16Array} words
+ */
+function waiting(words) {
+  const found = [];
+  let left = words[90] === 0 ? 0 : 16384 - words[90];
+  for (let k = 0; k < 9 && words[99 + 2 * k] !== 0; k++) {
+    const gap = k === 0 ? 1 : words[90 + k];
+    left += 1 - (gap <= MOST_RUNNING ? gap : gap - FREE);
+    found.push({ at: words[99 + 2 * k], bank: words[100 + 2 * k], left });
+  }
+  return found;
+}
+
+/** A machine, and since which request each of its jobs and tasks is there. */
+class Witness {
+  /** @param {MachineType} machine */
+  constructor(machine) {
+    this.machine = machine;
+    /** Since which row each job is there, by number: twice it, and 1 more where an era began so. */
+    this.born = new Float64Array(9);
+    /** @type {HeldTask[]} */
+    this.tasks = [];
+    this.living = 0;
+    this.running = 0;
+    /** How many sets, areas and tasks are used, and whether nobody runs: four bits each. */
+    this.use = 0;
+    /** How many ticks were served, requests served, and requests in the log. */
+    this.now = 0;
+    this.served = 0;
+    this.log = 0;
+    /** The row and the ticks with which the era began. */
+    this.era = 0;
+    this.eraTicks = 0;
+    /** The clock that says which request comes next, where there is one. */
+    this.clock = /** @type {any} */ (null);
+  }
+
+  copy() {
+    const made = Object.assign(Object.create(Witness.prototype), this);
+    made.machine = this.machine.copy();
+    made.born = this.born.slice();
+    made.clock = this.clock === null ? null : this.clock.copy();
+    return /** @type {Witness} */ (made);
+  }
+
+  /**
+   * Looks at the words as they are behind a row.
+   * @param {number} row
+   * @param {boolean} beginsEra
+   * @param {boolean} movesTasks
+   */
+  look(row, beginsEra, movesTasks) {
+    const { words } = this.machine;
+    let living = 0;
+    let used = 0;
+    for (let k = 0; k < words.length - 11; k += k === 72 ? 60 : 12) {
+      if (words[k + 11] !== FREE) {
+        living |= 1 << words[k];
+        used += 1;
+      }
+    }
+    const fresh = beginsEra ? living : living & ~this.living;
+    for (let job = 1; fresh !== 0 && job <= 8; job++) {
+      if ((fresh >> job) & 1) this.born[job] = 2 * row + (beginsEra ? 1 : 0);
+    }
+    if (movesTasks) this.tasks = this.tasksIn(waiting(words), row, beginsEra);
+    this.living = living;
+    this.running = words[11] <= MOST_RUNNING ? words[0] : 0;
+    let areas = 0;
+    for (let k = 84; k < 89; k++) if (words[k] === 0) areas += 1;
+    this.use = used | (areas << 4) | (this.tasks.length << 8) | (this.running === 0 ? 1 << 12 : 0);
+  }
+
+  /**
+   * These tasks, each with its row: that of a task which waited before, or else this.
+   * @param {{ at: number, bank: number, left: number }[]} tasks
+   * @param {number} row
+   * @param {boolean} beginsEra
+   * @returns {HeldTask[]}
+   */
+  tasksIn(tasks, row, beginsEra) {
+    const older = beginsEra ? [] : [...this.tasks];
+    return tasks.map((it) => {
+      const due = this.now + it.left;
+      const isIt = (/** @type {HeldTask} */ one) =>
+        one.at === it.at && one.bank === it.bank && one.due === due;
+      const k = older.findIndex(isIt);
+      return k < 0 ? { ...it, due, since: 2 * row + (beginsEra ? 1 : 0) } : older.splice(k, 1)[0];
+    });
+  }
+
+  /**
+   * Asks a request that is served, and looks at what came of it.
+   * @param {string} line
+   * @param {number} row
+   */
+  ask(line, row) {
+    const step = this.machine.ask(line);
+    this.served += 1;
+    this.log += 1;
+    if (step.kind === Kind.TICKED || step.kind === Kind.TICK_ALARMED) this.now += 1;
+    const beginsEra = step.beginsEra;
+    this.look(row, beginsEra, beginsEra || step.kind === Kind.LISTED || step.fired.length > 0);
+    if (beginsEra) [this.log, this.era, this.eraTicks] = [0, row, this.now];
+    return step;
+  }
+}
+
+/**
+ * An array of numbers that grows.
+ * @template {Uint8Array | Uint16Array | Uint32Array} T
+ */
+class Column {
+  /** @param {new (count: number) => T} kind */
+  constructor(kind) {
+    this.kind = kind;
+    this.items = new kind(1024);
+  }
+
+  /**
+   * @param {number} at
+   * @param {number} value
+   */
+  set(at, value) {
+    if (at >= this.items.length) {
+      const longer = new this.kind(2 * this.items.length);
+      longer.set(this.items);
+      this.items = longer;
+    }
+    this.items[at] = value;
+  }
+
+  /** @param {number} count */
+  front(count) {
+    const made = new Column(this.kind);
+    made.items = /** @type {T} */ (this.items.slice(0, Math.max(1024, count)));
+    return made;
+  }
+}
+
+/**
+ * Whether a request changed more than the time.
+ * @param {StepType} step
+ * @param {string} line
+ * @param {number} before
+ * @param {number} after
+ */
+function isChange(step, line, before, after) {
+  if (step.kind === Kind.RUNS) return before !== after || line.startsWith("prio");
+  if (step.kind === Kind.TICKED) return step.fired.length > 0;
+  return step.kind !== Kind.NO_JOB && step.kind !== Kind.NO_SLEEPER;
+}
+
+export class Run {
+  /** @param {import("./bench.js").Bench} bench */
+  constructor(bench) {
+    this.bench = bench;
+    this.sets = bench.sets ?? 7;
+    /** @type {string[]} */
+    this.lines = [""];
+    /** Who asked, by number. */
+    this.who = ["nobody"];
+    this.count = 0;
+    this.columns = {
+      ...{ kinds: new Column(Uint8Array), numbers: new Column(Uint16Array) },
+      ...{ by: new Column(Uint16Array), marks: new Column(Uint8Array) },
+      ...{ ticks: new Column(Uint32Array), uses: new Column(Uint16Array) },
+    };
+    /** @type {number[]} */
+    this.alarms = [];
+    /** Behind which rows the clock was given another timetable, and the bench before that. */
+    /** @type {{ row: number, given: any, before: import("./bench.js").Bench }[]} */
+    this.changes = [];
+    const plan = { task: bench.task, phase: bench.phase };
+    this.head = new Witness(new Machine({ sets: this.sets, plan, power: bench.power }));
+    this.head.look(0, true, true);
+    this.columns.uses.set(0, this.head.use);
+    this.checkpoints = [this.head.copy()];
+  }
+
+  /**
+   * Why a request isn't served as the next one: `SPENT`, `LOG_FULL`, or 0.
+   * @param {string} line
+   */
+  refusal(line) {
+    if (BigInt(this.head.served) >= this.bench.allowance) return SPENT;
+    const isBound = line !== "restart" && line !== "fresh";
+    return isBound && this.head.log >= this.bench.limit ? LOG_FULL : 0;
+  }
+
+  /** @param {string} who */
+  asker(who) {
+    const k = this.who.lastIndexOf(who);
+    return k >= 0 ? k : this.who.push(who) - 1;
+  }
+
+  /**
+   * Asks a request, as the next row. A line that spells none is thrown, and nothing is changed.
+   * @param {string} line
+   * @param {string} who
+   * @returns {StepType | null} what came of it; nothing where it was refused
+   */
+  ask(line, who) {
+    const row = this.count + 1;
+    const { kinds, numbers, by, marks, ticks, uses } = this.columns;
+    const before = this.head.running;
+    const refused = this.refusal(line);
+    const step = refused === 0 ? this.head.ask(line, row) : null;
+    if (step !== null) this.head.clock?.served(this.head.machine, step);
+    this.count = row;
+    this.lines.push(line);
+    by.set(row, this.asker(who));
+    kinds.set(row, step === null ? refused : step.kind);
+    numbers.set(row, step === null ? 0 : step.number);
+    ticks.set(row, this.head.now);
+    uses.set(row, this.head.use);
+    const changes = step !== null && isChange(step, line, before, this.head.running);
+    marks.set(row, (changes ? CHANGE : 0) | (step !== null && step.alarm !== 0 ? ALARM : 0));
+    if (step !== null && step.alarm !== 0) this.alarms.push(row);
+    if (row % APART === 0) this.checkpoints.push(this.head.copy());
+    return step;
+  }
+
+  /**
+   * The witness as it was behind a row: to show it, or with its clock, to go on from there.
+   * @param {number} row
+   * @param {boolean} goesOn
+   */
+  stateAt(row, goesOn = false) {
+    const k = Math.floor(row / APART);
+    const state = this.checkpoints[k].copy();
+    if (!goesOn) state.clock = null;
+    this.changeAt(state, k * APART);
+    for (let at = k * APART + 1; at <= row; at++) {
+      if (this.columns.kinds.items[at] >= SPENT) continue;
+      if (state.clock !== null && this.isByClock(at)) state.clock.next(state.machine);
+      const step = state.ask(this.lines[at], at);
+      state.clock?.served(state.machine, step);
+      this.changeAt(state, at);
+    }
+    return state;
+  }
+
+  /**
+   * Gives a state's clock the timetable that it was given behind a row.
+   * @param {Witness} state
+   * @param {number} row
+   */
+  changeAt(state, row) {
+    if (state.clock === null) return;
+    for (const it of this.changes) if (it.row === row) state.clock.change(it.given);
+  }
+
+  /**
+   * Gives the clock another timetable, from the last row on.
+   * @param {any} bench what that makes of the bench
+   * @param {any} given
+   */
+  change(bench, given) {
+    this.changes.push({ row: this.count, given, before: this.bench });
+    this.bench = { ...this.bench, ...bench };
+    this.head.clock.change(given);
+  }
+
+  /**
+   * Whether a row was asked by the clock, or by an event of its.
+   * @param {number} row
+   */
+  isByClock(row) {
+    return /^the clock|^event/.test(this.whoAsked(row));
+  }
+
+  /**
+   * A run of its own with the rows up to this one.
+   * @param {number} row
+   */
+  fork(row) {
+    const made = Object.create(Run.prototype);
+    Object.assign(made, this);
+    made.lines = this.lines.slice(0, row + 1);
+    made.who = [...this.who];
+    made.count = row;
+    made.columns = Object.fromEntries(
+      Object.entries(this.columns).map(([name, it]) => [name, it.front(row + 1)]),
+    );
+    made.bench = this.changes.find((it) => it.row > row)?.before ?? this.bench;
+    made.changes = this.changes.filter((it) => it.row <= row);
+    made.alarms = this.alarms.filter((it) => it <= row);
+    made.head = this.stateAt(row, true);
+    made.checkpoints = this.checkpoints.slice(0, Math.floor(row / APART) + 1);
+    return /** @type {Run} */ (made);
+  }
+
+  /**
+   * The requests of the first rows, and who asked each.
+   * @param {number} count
+   * @returns {Generator<[string, string]>}
+   */
+  *requests(count) {
+    for (let row = 1; row <= count; row++) yield [this.lines[row], this.whoAsked(row)];
+  }
+
+  /** @param {number} row */
+  whoAsked(row) {
+    return this.who[this.columns.by.items[row]];
+  }
+
+  /** @param {number} row */
+  isAlarm(row) {
+    return (this.columns.marks.items[row] & ALARM) !== 0;
+  }
+
+  /** @param {number} row */
+  isChange(row) {
+    return (this.columns.marks.items[row] & CHANGE) !== 0;
+  }
+
+  /** @param {number} row */
+  isRefused(row) {
+    return row > 0 && this.columns.kinds.items[row] >= SPENT;
+  }
+
+  /** @param {number} row */
+  ticksAt(row) {
+    return this.columns.ticks.items[row];
+  }
+
+  /**
+   * How much of each table is used behind a row.
+   * @param {number} row
+   */
+  useAt(row) {
+    const use = this.columns.uses.items[row];
+    return { sets: use & 15, areas: (use >> 4) & 15, tasks: (use >> 8) & 15, idle: use >> 12 };
+  }
+
+  /**
+   * The first row from which on so many ticks were served.
+   * @param {number} ticks
+   * @param {number} count how many rows there are to look at
+   */
+  rowAtTime(ticks, count) {
+    let [low, high] = [0, count];
+    while (low < high) {
+      const middle = (low + high) >> 1;
+      if (this.columns.ticks.items[middle] < ticks) low = middle + 1;
+      else high = middle;
+    }
+    return low;
+  }
+
+  /**
+   * The rows from one to another, with all that is told of them.
+   * @param {number} from
+   * @param {number} to
+   * @returns {Shown[]}
+   */
+  show(from, to) {
+    const found = [];
+    const state = this.stateAt(Math.max(from - 1, 0));
+    if (from === 0) found.push(this.showFirst(state));
+    for (let row = Math.max(from, 1); row <= to; row++) found.push(this.showNext(state, row));
+    return found;
+  }
+
+  /**
+   * @param {Witness} state
+   * @returns {Shown}
+   */
+  showFirst(state) {
+    const scene = state.machine.scene();
+    const isBroken = scene.codes[0] !== 0;
+    return {
+      row: 0,
+      line: this.bench.power === undefined ? "fresh start" : "power-up",
+      who: "nobody",
+      reply: isBroken ? "alarm 1107" : "restarted",
+      ...{ kind: Kind.RESTARTED, step: null, scene, words: state.machine.words },
+      ...{ jobsSince: scene.sets.map(() => 1), tasksSince: scene.tasks.map(() => 1) },
+      ...{ before: null, after: null, ticks: 0, time: 0, afterSince: [] },
+    };
+  }
+
+  /**
+   * Asks the next request of a state, and tells of it: as it was when it was answered.
+   * @param {Witness} state
+   * @param {number} row
+   * @returns {Shown}
+   */
+  showNext(state, row) {
+    const line = this.lines[row];
+    const kind = this.columns.kinds.items[row];
+    const before = state.machine.scene();
+    const { living, eraTicks } = state;
+    const born = state.born.slice();
+    const isServed = kind < SPENT;
+    const older = isServed ? Object.assign(Object.create(Witness.prototype), state) : state;
+    const step = isServed ? state.ask(line, row) : null;
+    older.now = state.now;
+    const words = isServed ? state.machine.moment : state.machine.words;
+    const scene = sceneOf(words);
+    const tasks = older.tasksIn(scene.tasks, row, false);
+    const after = step !== null && step.beginsEra ? state.machine.scene() : null;
+    return {
+      ...{ row, line, kind, step, scene, words, before, after },
+      who: this.whoAsked(row),
+      reply: step !== null ? step.text : kind === SPENT ? "refused spent" : "refused log full",
+      jobsSince: scene.sets.map((job) =>
+        job === null ? 0 : (living >> job.number) & 1 ? born[job.number] : 2 * row),
+      tasksSince: tasks.map((it) => it.since),
+      ticks: state.now,
+      time: state.now - eraTicks,
+      afterSince: after === null ? [] : after.sets.map(() => 2 * row + 1),
+    };
+  }
+}
