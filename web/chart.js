@@ -1,7 +1,7 @@
 /**
- * The strip along the top: how many core sets, areas and places of the Waitlist are used, how much
- * of the time nobody runs, and each alarm as a marked line. Across goes time in seconds, or the
- * requests' numbers where hardly any time goes by.
+ * The strip along the top: how many core sets, areas and places of the Waitlist are used, for how
+ * much of the time no job is running, and each alarm as a marked line. Across goes time in seconds,
+ * or the requests' numbers where hardly any time goes by.
  */
 import { by, fill, make } from "./dom.js";
 import { counted, octal, seconds } from "./words.js";

@@ -56,7 +56,7 @@ class Witness {
     this.tasks = [];
     this.living = 0;
     this.running = 0;
-    /** How many sets, areas and tasks are used, and whether nobody runs: four bits each. */
+    /** How many sets, areas and tasks are used, and whether no job is running: four bits each. */
     this.use = 0;
     /** How many ticks were served, requests served, and requests in the log. */
     this.now = 0;

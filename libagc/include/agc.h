@@ -90,10 +90,10 @@ enum {
 enum {
     AGC_ESTABLISHED = 1, /* a job was established: its number */
     AGC_LEFT = 2,        /* the running job ended or sleeps: who runs now */
-    AGC_IDLE = 3,        /* the running job ended or sleeps, and nobody runs now */
+    AGC_IDLE = 3,        /* the running job ended or sleeps, and no job is running now */
     AGC_ROUSED = 4,      /* a sleeper was awakened: its number */
     AGC_NO_SLEEPER = 5,  /* no job sleeps at that address */
-    AGC_NO_JOB = 6,      /* nobody runs, so there is no job to act on */
+    AGC_NO_JOB = 6,      /* no job is running, so there is none to act on */
     AGC_RUNS = 7,        /* who runs now */
     AGC_STORED = 8,      /* a work word was set */
     AGC_LISTED = 9,      /* a task was listed */
@@ -252,10 +252,10 @@ AGC_INLINE const char *agc_reply_text(uint32_t reply) {
     switch (reply) {
     case AGC_ESTABLISHED: return "a job was established";
     case AGC_LEFT: return "the running job ended or sleeps, and another runs";
-    case AGC_IDLE: return "the running job ended or sleeps, and nobody runs";
+    case AGC_IDLE: return "the running job ended or sleeps, and no job is running";
     case AGC_ROUSED: return "a sleeper was awakened";
     case AGC_NO_SLEEPER: return "no job sleeps at that address";
-    case AGC_NO_JOB: return "nobody runs, so there is no job to act on";
+    case AGC_NO_JOB: return "no job is running, so there is none to act on";
     case AGC_RUNS: return "a job runs";
     case AGC_STORED: return "a work word was set";
     case AGC_LISTED: return "a task was listed";
@@ -401,7 +401,7 @@ AgcReply agc_change_job_trusted(uint16_t words[AGC_WORDS], uint32_t sets);
 AgcReply agc_store(uint16_t words[AGC_WORDS], uint32_t sets, uint32_t place, uint32_t word);
 AgcReply agc_store_trusted(uint16_t words[AGC_WORDS], uint32_t sets, uint32_t place, uint32_t word);
 
-/* The number of the running job, 0 where nobody runs. */
+/* The number of the running job, 0 where no job is running. */
 AgcNumber agc_running(const uint16_t words[AGC_WORDS], uint32_t sets);
 AgcNumber agc_running_trusted(const uint16_t words[AGC_WORDS], uint32_t sets);
 

@@ -94,10 +94,10 @@ const CODE_TEXTS = {
 const REPLY_TEXTS = {
   [Kind.ESTABLISHED]: "a job was established",
   [Kind.LEFT]: "the running job ended or sleeps, and another runs",
-  [Kind.IDLE]: "the running job ended or sleeps, and nobody runs",
+  [Kind.IDLE]: "the running job ended or sleeps, and no job is running",
   [Kind.ROUSED]: "a sleeper was awakened",
   [Kind.NO_SLEEPER]: "no job sleeps at that address",
-  [Kind.NO_JOB]: "nobody runs, so there is no job to act on",
+  [Kind.NO_JOB]: "no job is running, so there is none to act on",
   [Kind.RUNS]: "a job runs",
   [Kind.STORED]: "a work word was set",
   [Kind.LISTED]: "a task was listed",

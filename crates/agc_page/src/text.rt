@@ -7,7 +7,7 @@ pub(crate) const PART_1: &str = r##"<!DOCTYPE html>
 <meta charset="utf-8">
 <meta http-equiv="Content-Security-Policy" content="default-src 'none';
 base-uri 'none'; form-action 'none';
-script-src 'sha256-PmGB58yV3m/eAk4/AnyDpfPFlAbkCo9bd9ZqQm9ojw0=' 'wasm-unsafe-eval';
+script-src 'sha256-56NyuNPHMcs/yQD8a1u3o1br+PW79xdaHTsAC6sCdDc=' 'wasm-unsafe-eval';
 style-src 'sha256-cORSFEDPV8DIaBsdJHXC2ZkLwoShLaNfK3rLzHvsBPw='">
 <meta name="viewport" content="width=device-width, initial-scale=1">
 <meta name="color-scheme" content="light dark">
@@ -675,12 +675,12 @@ Qf8BcUEITw0CIAlFDQUMBAsgBKdBADsBwgEgBKctABAiB0EBa0H/AXFBCE8N
 AUEHIQMMBAsgBKdB//8BOwHCAUKqFSEFIASnLQCYAiIHQQFrQf8BcUEISQ0C
 CwALIACnQQA2AAggAKdCBDcAAAwCCyAEQg58IAUQCyAEp0EAOwHCAUEHIQMg
 BKctAA4hCAtCoAJCiAIgCBsiBVBFBEAgAacgBqcgBaf8CgAACyAApyAHQf8B
+cUEAIAJBgIABSRs2AAggAKcgAzYABCAAp0EANgAACyAEQrACfCQAC90HAgd/
+AX4CQAJAAn8CQAJ/AkACQCMAQhB9IglCEFkEQCAJp0EAOwEMIAmnQQA2Aggg
 "##;
 
 /// Part 2 of what stands before the data.
-pub(crate) const PART_2: &str = r##"cUEAIAJBgIABSRs2AAggAKcgAzYABCAAp0EANgAACyAEQrACfCQAC90HAgd/
-AX4CQAJAAn8CQAJ/AkACQCMAQhB9IglCEFkEQCAJp0EAOwEMIAmnQQA2Aggg
-CadBADYCACAJp0EAOwEEAkACQAJAAkACQAJAAkACQAJAAkACQAJAAkAgAaco
+pub(crate) const PART_2: &str = r##"CadBADYCACAJp0EAOwEEAkACQAJAAkACQAJAAkACQAJAAkACQAJAAkAgAaco
 AgBBAWsODQABAgMEBQYHCAkKCwwUCyABQgR8pygCACIEQf8BSwRADBMLAn9B
 ACAEQQFrQf8BcUEeSw0AGiABQgx8pygCACIIQf//AUsNEyABQgh8pygCACIH
 Qf//A0sNE0EAIAdBAWtB//8DcUH+/wBLDQAaIAhBEHQgB3IhBUEBIQIgBAsh
@@ -1338,13 +1338,13 @@ IARCAXw3A+gXIABC4BV8pyAAQugWfKdBiAH8CgAAIABC2BR8pyAAQuAVfKdB
 iAH8CgAAAkAgAKcpA9gVIgRQDQAgBEKAECAApykDoBIiDH0iASABIARWGyID
 UEUEQCAAQqACfCAMfKcgAELYFHynIAOn/AoAAAsgAKcgAyAMfDcDoBIgASAE
 Wg0AIAxCgBBRDQUgAEKgAnwgAELYFHwgA3wgBCADfRAMQf8BcQ0FCyANQgF8
+Ig1CClINAAtBDiEGIACnKQOgEiIEIBJYBEAgBFBFBEAgE6cgAEKgAnynIASn
+/AoAAAtBACEGCyAEQoCAgIAQIARCgICAgBBUG6chBwwFCwALQQEMAgtBAiEG
+DAILQQQLIQZBACEHCyAQQgR8pyAHNgAAIBCnIAY2AAAgAEKQGHwkAEEAJAEL
 "##;
 
 /// Part 3 of what stands before the data.
-pub(crate) const PART_3: &str = r##"Ig1CClINAAtBDiEGIACnKQOgEiIEIBJYBEAgBFBFBEAgE6cgAEKgAnynIASn
-/AoAAAtBACEGCyAEQoCAgIAQIARCgICAgBBUG6chBwwFCwALQQEMAgtBAiEG
-DAILQQQLIQZBACEHCyAQQgR8pyAHNgAAIBCnIAY2AAAgAEKQGHwkAEEAJAEL
-rgMCB34DfxAABEAACyMAQqACfSIDJAACQAJAIANCEFMNAEKIAkKgAiACQQdG
+pub(crate) const PART_3: &str = r##"rgMCB34DfxAABEAACyMAQqACfSIDJAACQAJAIANCEFMNAEKIAkKgAiACQQdG
 IgIbIQVCGEIAIAIbIgRQRQRAIAMgBXynQQAgBKf8CwALIAVQIgtFBEAgA6cg
 AacgBaf8CgAACwJAAkAgA6cvAcYBIgIEQCADpy8BtAFFDQELIACnQQA2AAgg
 AKdCBjcAAAwBCyACQYCAAU8NASADQsYBfCEEIAOnLwHKAQRAQYCAAUEAQYCA
@@ -1876,6 +1876,21 @@ power = [
 group = 3
 phase = 5
 job = "novac 20 04000 00007"
+@ example race-order
+# The order of examples/race.toml that `agc_watch explore --bench 1201` finds: six FINDVACs befo\
+re any job ends.
+limit = 1000
+allowance = 1000000
+key = ["nothing"]
+radar = ["nothing"]
+script = [
+    "findvac 20 02000 00005", # worker 1
+    "findvac 20 02000 00005", # worker 1
+    "findvac 20 02000 00005", # worker 1
+    "findvac 20 03000 00006", # worker 2
+    "findvac 20 03000 00006", # worker 2
+    "findvac 20 03000 00006", # worker 2
+]
 @ example race
 # Alarm 1201 in some orders alone: each worker establishes three jobs with a VAC area and then e\
 nds three. There are five
@@ -2297,10 +2312,10 @@ const CODE_TEXTS = {
 const REPLY_TEXTS = {
   [Kind.ESTABLISHED]: "a job was established",
   [Kind.LEFT]: "the running job ended or sleeps, and another runs",
-  [Kind.IDLE]: "the running job ended or sleeps, and nobody runs",
+  [Kind.IDLE]: "the running job ended or sleeps, and no job is running",
   [Kind.ROUSED]: "a sleeper was awakened",
   [Kind.NO_SLEEPER]: "no job sleeps at that address",
-  [Kind.NO_JOB]: "nobody runs, so there is no job to act on",
+  [Kind.NO_JOB]: "no job is running, so there is none to act on",
   [Kind.RUNS]: "a job runs",
   [Kind.STORED]: "a work word was set",
   [Kind.LISTED]: "a task was listed",
@@ -4656,12 +4671,12 @@ function download(name, text) {
 
 function openOpening(open) {
   const file = make("input", { type: "file", accept: ".toml,.txt", id: "file" });
+  file.addEventListener("change", async () => {
+    if (file.files.length === 1) open(await file.files[0].text(), file.files[0].name);
 "##;
 
 /// Part 6 of what stands before the data.
-pub(crate) const PART_6: &str = r##"  file.addEventListener("change", async () => {
-    if (file.files.length === 1) open(await file.files[0].text(), file.files[0].name);
-  });
+pub(crate) const PART_6: &str = r##"  });
   const area = make("textarea", { id: "pasted", spellcheck: false, "aria-label": "A document" });
   const paste = () => open(area.value, "what was pasted");
   const pasted = button("Open it", paste, { id: "open-pasted" });

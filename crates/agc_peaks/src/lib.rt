@@ -7,7 +7,6 @@ mod era;
 mod machine;
 mod peaks;
 mod running;
-mod spelling;
 mod sweep;
 mod writing;
 

@@ -99,7 +99,7 @@ fn put_runs<W: Write>(writer: &mut W, column: Column, running: Option<u16>) -> i
     match running {
         None => {
             put_open(writer, Look::Free)?;
-            write!(writer, "nobody runs")?;
+            write!(writer, "no job is running")?;
         }
         Some(number) => {
             put_open(writer, Look::Runs)?;

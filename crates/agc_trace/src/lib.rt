@@ -16,5 +16,5 @@ mod tracer;
 
 pub use choice::Choice;
 pub use laws::quiet_request_changes_the_time_alone;
-pub use spelling::{put_answer, put_request, put_since};
+pub use spelling::{put_action, put_answer, put_request, put_since};
 pub use tracer::{Tracer, trace, trace_script};

@@ -45,8 +45,12 @@ pub fn put_request<W: Write>(writer: &mut W, request: &Request) -> io::Result<()
     }
 }
 
-/// Writes an action as a bench has it.
-pub(crate) fn put_action<W: Write>(writer: &mut W, action: Action) -> io::Result<()> {
+/// Writes an action as a bench has it. Source: profile.
+///
+/// # Errors
+///
+/// Where a write fails.
+pub fn put_action<W: Write>(writer: &mut W, action: Action) -> io::Result<()> {
     match action {
         Action::Nothing => write!(writer, "nothing"),
         Action::Novac(priority, entry) => put_job(writer, "novac", priority, entry),

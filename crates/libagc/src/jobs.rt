@@ -133,8 +133,8 @@ pub extern "C" fn agc_findvac_trusted(
 }
 
 /// End of job: frees the running job's core set and area, and the best job takes set 0. Replies
-/// `Left` with who runs then, `Idle` where nobody does, or `NoJob` where nobody ran, and then
-/// nothing changes. Source: the listings' EXECUTIVE section.
+/// `Left` with the job that runs then, `Idle` where none does, or `NoJob` where no job was running,
+/// and then nothing changes. Source: the listings' EXECUTIVE section.
 #[unsafe(no_mangle)]
 pub extern "C" fn agc_end_of_job(words: &mut [u16; 144], sets: u32) -> AgcReply
     ensures code { Coded result.code sets words.old (Unit {0}) (Unit {0}) (Unit {0}) }
@@ -237,8 +237,8 @@ pub extern "C" fn agc_job_wake_trusted(words: &mut [u16; 144], sets: u32, at: u3
 }
 
 /// PRIOCHNG: sets the running job's priority, 1 to 31; a job that is then strictly more urgent
-/// takes set 0. Replies `Runs` with who runs then, or `NoJob` where nobody ran, and then nothing
-/// changes. Source: the listings' EXECUTIVE section.
+/// takes set 0. Replies `Runs` with the job that runs then, or `NoJob` where no job was running,
+/// and then nothing changes. Source: the listings' EXECUTIVE section.
 #[unsafe(no_mangle)]
 pub extern "C" fn agc_prio_change(words: &mut [u16; 144], sets: u32, priority: u32) -> AgcReply
     ensures code { Coded result.code sets words.old (IsPriority priority) (Unit {0}) (Unit {0}) }
@@ -309,7 +309,7 @@ pub extern "C" fn agc_change_job_trusted(words: &mut [u16; 144], sets: u32) -> A
 }
 
 /// Sets a work word of the running job, at place 1 to 6 for MPAC+1 to MPAC+6. Replies `Stored`, or
-/// `NoJob` where nobody runs, and then nothing changes. Source: profile.
+/// `NoJob` where no job is running, and then nothing changes. Source: profile.
 #[unsafe(no_mangle)]
 pub extern "C" fn agc_store(words: &mut [u16; 144], sets: u32, place: u32, word: u32) -> AgcReply
     ensures code { Coded result.code sets words.old (IsSix place) (word < 32768) (Unit {0}) }
@@ -361,8 +361,8 @@ fn number_of(job: Option<JobNo>) -> u32
     }
 }
 
-/// The number of the running job, 0 where nobody runs. Source: the listings' EXECUTIVE section;
-/// numbers: profile.
+/// The number of the running job, 0 where no job is running. Source: the listings' EXECUTIVE
+/// section; numbers: profile.
 #[unsafe(no_mangle)]
 pub extern "C" fn agc_running(words: &[u16; 144], sets: u32) -> AgcNumber
     ensures code { Coded result.code sets words.now (Unit {0}) (Unit {0}) (Unit {0}) }
