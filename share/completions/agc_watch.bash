@@ -1,6 +1,6 @@
 # Completes agc_watch's words in bash.
 _agc_watch() {
-    local commands='trace picture page check explore'
+    local commands='trace picture page check explore bench peaks sweep'
     COMPREPLY=()
     case $COMP_CWORD:${COMP_WORDS[1]} in
         1:*) mapfile -t COMPREPLY < <(compgen -W "$commands help --help --version" -- "$2") ;;
@@ -8,6 +8,9 @@ _agc_watch() {
         2:check) mapfile -t COMPREPLY < <(compgen -W '--script --progress --help' -- "$2") ;;
         *:trace) mapfile -t COMPREPLY < <(compgen -W '--script --alarms --brief --from --to --progress --help' -- "$2") ;;
         *:explore) mapfile -t COMPREPLY < <(compgen -W '--states --alarm --through --bench --help' -- "$2") ;;
+        2:sweep) mapfile -t COMPREPLY < <(compgen -W 'steal sets seconds --csv --help' -- "$2") ;;
+        *:sweep) mapfile -t COMPREPLY < <(compgen -W '--csv --help' -- "$2") ;;
+        2:bench | 2:peaks) mapfile -t COMPREPLY < <(compgen -W '--help' -- "$2") ;;
         2:picture | 2:page) mapfile -t COMPREPLY < <(compgen -W '--progress --help' -- "$2") ;;
     esac
 }

@@ -109,10 +109,31 @@ fn found_in<W: Write>(
     Ok(found)
 }
 
+/// How wide the column of the values is, under this name.
+fn width_of(name: &str) -> usize {
+    name.chars().count().max(10).min(60)
+}
+
+/// Writes a name as a value of CSV: in quotes where it has a comma or a quote, each of these twice.
+fn put_quoted<W: Write>(name: &str, writer: &mut W) -> io::Result<()> {
+    if !name.contains(',') && !name.contains('"') {
+        return write!(writer, "{name}");
+    }
+    write!(writer, "\"")?;
+    for letter in name.chars() {
+        if letter == '"' {
+            write!(writer, "\"")?;
+        }
+        write!(writer, "{letter}")?;
+    }
+    write!(writer, "\"")
+}
+
 /// Writes the names of the columns.
 fn put_names<W: Write>(name: &str, csv: bool, writer: &mut W) -> io::Result<()> {
     if csv {
-        write!(writer, "{name},alarm,at,alarms,sets,areas,tasks\n")
+        put_quoted(name, writer)?;
+        write!(writer, ",alarm,at,alarms,sets,areas,tasks\n")
     } else {
         write!(
             writer,
@@ -139,14 +160,15 @@ fn put_csv<W: Write>(value: u64, found: &Found, writer: &mut W) -> io::Result<()
 }
 
 /// Writes a row of columns.
-fn put_row<W: Write>(value: u64, found: &Found, writer: &mut W) -> io::Result<()> {
-    write!(writer, "{value:>10}  ")?;
+fn put_row<W: Write>(name: &str, value: u64, found: &Found, writer: &mut W) -> io::Result<()> {
+    let width = width_of(name);
+    write!(writer, "{value:>width$}  ")?;
     match found.alarm {
         Some(alarm) => {
             write!(writer, "{:5}  ", code(alarm))?;
             Seconds(found.at).put(9, writer)?;
         }
-        None => write!(writer, "none          -")?,
+        None => write!(writer, "none           -")?,
     }
     write!(
         writer,
@@ -187,7 +209,7 @@ pub fn run_sweep<P: Watches, W: Write>(
         if asked.csv {
             written(put_csv(value, &found, writer))?;
         } else {
-            written(put_row(value, &found, writer))?;
+            written(put_row(name, value, &found, writer))?;
         }
         watches.ran(k.saturating_add(1), count);
     }

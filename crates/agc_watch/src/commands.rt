@@ -2,6 +2,14 @@
 use clap::{Arg, ArgAction, Command, value_parser};
 use std::alloc::{AllocError, Global};
 
+/// What stands below the help of `sweep`.
+const SWEPT: &str = "\
+KEY is sets, steal, seconds, job.NAME.cost, event.NAME.at, event.NAME.every or
+event.NAME.until. A job without a name is called by its address. The word behind
+TO is the file, if it is no number.
+
+Example: agc_watch sweep steal 0 20 5 scenario.toml";
+
 /// An option that takes no value.
 fn flag<'a>(alloc: Global, name: &'a str, help: &'a str) -> Arg<'a> {
     Arg::new(alloc, name)
@@ -125,16 +133,72 @@ fn explore_command<'a>(alloc: Global) -> Result<Command<'a>, AllocError> {
     ))
 }
 
+/// The command `bench`.
+fn bench_command<'a>(alloc: Global) -> Result<Command<'a>, AllocError> {
+    reading_command(
+        alloc,
+        "bench",
+        "Writes the bench that a scenario comes to",
+        "Example: agc_watch bench scenario.toml | agc serial",
+    )
+}
+
+/// The command `peaks`.
+fn peaks_command<'a>(alloc: Global) -> Result<Command<'a>, AllocError> {
+    reading_command(
+        alloc,
+        "peaks",
+        "Tells of each era how full the tables were, and what ended it",
+        "Example: agc_watch peaks examples/no-vac-area.toml",
+    )
+}
+
+/// A word that a command must have, here.
+fn word<'a>(alloc: Global, name: &'a str, value: &'a str, help: &'a str) -> Arg<'a> {
+    Arg::new(alloc, name)
+        .value_name(value)
+        .required(true)
+        .help(help)
+}
+
+/// The command `sweep`.
+pub(crate) fn sweep_command<'a>(alloc: Global) -> Result<Command<'a>, AllocError> {
+    let (from, to) = ("The first value", "The last value");
+    let step = Arg::new(alloc, "step")
+        .value_name("STEP")
+        .help("From one value to the next; 1 if nothing is said");
+    let file = Arg::new(alloc, "file").value_name("FILE").help(
+        "The scenario to read; standard input if none is named, or -",
+    );
+    Command::new(alloc, "sweep")
+        .about("Runs a scenario once for each value of one of its numbers")
+        .after_help(SWEPT)
+        .arg(word(
+            alloc,
+            "key",
+            "KEY",
+            "Which number: steal, sets, job.NAME.cost, ..",
+        ))?
+        .arg(word(alloc, "from", "FROM", from).value_parser(value_parser!(u64)))?
+        .arg(word(alloc, "to", "TO", to).value_parser(value_parser!(u64)))?
+        .arg(step)?
+        .arg(file)?
+        .arg(flag(alloc, "csv", "Writes comma-separated values"))
+}
+
 /// The program, with all of its commands. Without a word it prints its help.
 pub(crate) fn whole_command<'a>(alloc: Global) -> Result<Command<'a>, AllocError> {
     Command::new(alloc, "agc_watch")
         .version("1.0.0")
-        .about("Shows what the requests of a bench do to the tables")
+        .about("Shows what the requests of a bench or scenario do to the tables")
         .subcommand_required(true)
         .arg_required_else_help(true)
         .subcommand(with_progress(alloc, trace_command(alloc)?)?)?
         .subcommand(with_progress(alloc, picture_command(alloc)?)?)?
         .subcommand(with_progress(alloc, page_command(alloc)?)?)?
         .subcommand(with_progress(alloc, check_command(alloc)?)?)?
-        .subcommand(explore_command(alloc)?)
+        .subcommand(explore_command(alloc)?)?
+        .subcommand(bench_command(alloc)?)?
+        .subcommand(peaks_command(alloc)?)?
+        .subcommand(sweep_command(alloc)?)
 }

@@ -8,6 +8,7 @@ ghost use Rattle.agc_watch.specs.Program.{WorksOn, is_nothing, status_by};
 
 use crate::exploring::run_explore;
 use crate::progress::Teller;
+use crate::scenarios::run_telling;
 use crate::words::{Asked, Refused, Task, Work, asked_for};
 use agc_document::read_bench;
 use agc_findings::{Checked, findings};
@@ -33,7 +34,7 @@ const MOST_BYTES: u64 = 1_048_576;
 /// What the program is called, and which words it takes.
 const PROGRAM: Program = Program {
     name: "agc_watch",
-    usage: "use trace, picture, page or check",
+    usage: "use trace, picture, page, check, explore, bench, peaks or sweep",
 };
 
 /// How the program ends: with status 2 where its input isn't what it should be.
@@ -213,19 +214,6 @@ fn run_work<H: AllocGlobal + Clock + Eprint + Print, R: Read>(
     Ok(is_well)
 }
 
-/// Does this task on an input.
-fn run_task<H: AllocGlobal + Clock + Print + Eprint, R: Read>(
-    rt: &H,
-    task: Task,
-    has_progress: bool,
-    reader: &mut R,
-) -> ExitCode {
-    match task {
-        Task::Work(work) => ended_by(rt, run_work(rt, work, has_progress, reader)),
-        Task::Explore(options) => run_explore(rt, PROGRAM, options, reader),
-    }
-}
-
 /// The bytes of a file, as many as an input may have, and one more.
 fn read_file<H: AllocGlobal + Files>(rt: &H, name: &str) -> io::Result<Vec<u8>> {
     let mut bytes = Vec::new(rt.alloc());
@@ -243,6 +231,40 @@ fn ended_unread(rt: &impl Eprint, name: &str, error: &io::Error) -> ExitCode {
     ExitCode::from(4)
 }
 
+/// Prints the help or the version, or what is wrong with the words.
+fn printed<H: Print + Eprint>(rt: &H, text: &Error) -> ExitCode {
+    match text.print(rt) {
+        Ok(()) if text.use_stderr() => ExitCode::from(2),
+        Ok(()) => ExitCode::SUCCESS,
+        Err(_failed) => ended_by(rt, Err(Fault::Output)),
+    }
+}
+
+/// Prints what words come to that ask for nothing to be done.
+fn ended_refused<H: Print + Eprint>(rt: &H, refused: &Refused) -> ExitCode {
+    match refused {
+        Refused::Text(text) => printed(rt, text),
+        Refused::NoMemory => ended_by(rt, Err(Fault::NoMemory)),
+    }
+}
+
+/// Does this task on an input.
+fn run_task<H: AllocGlobal + Clock + Print + Eprint, R: Read>(
+    rt: &H,
+    task: Task<'_>,
+    has_progress: bool,
+    reader: &mut R,
+) -> ExitCode {
+    match task {
+        Task::Work(work) => ended_by(rt, run_work(rt, work, has_progress, reader)),
+        Task::Explore(options) => run_explore(rt, PROGRAM, options, reader),
+        Task::Tell(telling) => match run_telling(rt, PROGRAM, telling, reader) {
+            Ok(code) => code,
+            Err(refused) => ended_refused(rt, &refused),
+        },
+    }
+}
+
 /// Does what is asked for, of the file that is named or of standard input.
 fn run_asked<H: AllocGlobal + Clock + Files + Input + Print + Eprint>(
     rt: &H,
@@ -258,15 +280,6 @@ fn run_asked<H: AllocGlobal + Clock + Files + Input + Print + Eprint>(
     }
 }
 
-/// Prints the help or the version, or what is wrong with the words.
-fn printed<H: Print + Eprint>(rt: &H, text: &Error) -> ExitCode {
-    match text.print(rt) {
-        Ok(()) if text.use_stderr() => ExitCode::from(2),
-        Ok(()) => ExitCode::SUCCESS,
-        Err(_failed) => ended_by(rt, Err(Fault::Output)),
-    }
-}
-
 /// Does what these words ask for, of which the first is the program's own name.
 fn run_words<H: AllocGlobal + Clock + Files + Input + Print + Eprint>(
     rt: &H,
@@ -274,8 +287,7 @@ fn run_words<H: AllocGlobal + Clock + Files + Input + Print + Eprint>(
 ) -> ExitCode {
     match asked_for(rt.alloc(), words) {
         Ok(asked) => run_asked(rt, &asked),
-        Err(Refused::Text(text)) => printed(rt, &text),
-        Err(Refused::NoMemory) => ended_by(rt, Err(Fault::NoMemory)),
+        Err(refused) => ended_refused(rt, &refused),
     }
 }
 

@@ -1,4 +1,5 @@
 //! How far a run has come, in a line a second.
+use agc_peaks::Watches;
 use agc_session::Progress;
 use std::io::Eprint;
 use std::time::{Clock, Instant};
@@ -62,6 +63,41 @@ impl<H: Clock + Eprint> Progress for Teller<'_, H> {
         self.asked = self.asked.saturating_add(1);
         if self.asked % STEP == 0 {
             self.tell();
+        }
+    }
+}
+
+/// One who says on standard error, each second, how many runs of a sweep are done.
+#[derive(Drop)]
+pub(crate) struct SweepTeller<'a, H> {
+    rt: &'a H,
+    begun: Option<Instant>,
+    seconds: u64,
+}
+
+impl<'a, H: Clock> SweepTeller<'a, H> {
+    /// A sweep begins now.
+    pub(crate) fn new(rt: &'a H) -> SweepTeller<'a, H> {
+        SweepTeller {
+            rt,
+            begun: Instant::now(rt).ok(),
+            seconds: 0,
+        }
+    }
+}
+
+impl<H: Clock + Eprint> Watches for SweepTeller<'_, H> {
+    fn ran(&mut self, done: u64, of: u64) {
+        let Some(begun) = self.begun else {
+            return;
+        };
+        let Ok(passed) = begun.elapsed(self.rt) else {
+            return;
+        };
+        let seconds = passed.as_secs();
+        if seconds > self.seconds && done < of {
+            self.seconds = seconds;
+            let _ = eprintln!(self.rt; "agc_watch: {done} of {of} runs");
         }
     }
 }

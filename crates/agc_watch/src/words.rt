@@ -2,8 +2,9 @@
 ghost use Rattle.std.specs.Prelude.{◌≡◌};
 ghost use Rattle.agc_watch.specs.declared.words.Refused.TheVariants.{NoMemory};
 
-use crate::commands::{trace_command, whole_command};
+use crate::commands::{sweep_command, trace_command, whole_command};
 use agc_orders::Options;
+use agc_peaks::Sweep;
 use agc_plan::Alarm;
 use agc_trace::Choice;
 use clap::error::ErrorKind;
@@ -30,17 +31,30 @@ pub enum Work {
     CheckScript,
 }
 
-/// What the program is to do: work on its input, or tell what all orders of a bench come to.
-#[derive(Clone, Copy, Debug, PartialEq, Eq)]
-pub enum Task {
+/// What the program is to tell of a scenario, or of the eras of a bench.
+#[derive(Clone, Copy, Debug)]
+pub enum Telling<'a> {
+    /// The bench that it comes to.
+    Bench,
+    /// How full the tables were, era by era.
+    Peaks,
+    /// What comes of each value of the number that this names.
+    Sweep(&'a str, Sweep),
+}
+
+/// What the program is to do: work on its input, tell what all orders of a bench come to, or tell
+/// of a scenario.
+#[derive(Clone, Copy, Debug)]
+pub enum Task<'a> {
     Work(Work),
     Explore(Options),
+    Tell(Telling<'a>),
 }
 
 /// What the program is asked for.
 #[derive(Clone, Copy, Debug)]
 pub struct Asked<'a> {
-    pub task: Task,
+    pub task: Task<'a>,
     /// The name of the file to read; standard input without one.
     pub file: Option<&'a str>,
     /// How far it has come is told on standard error.
@@ -126,25 +140,80 @@ fn is_backwards(work: Work) -> bool {
     }
 }
 
-/// What a command line asks for that `clap` takes.
-fn asked_by<'a>(
+/// What the words behind `explore` ask for.
+fn asked_to_explore<'a>(
+    command: &mut Command<'a>,
+    given: &ArgMatches<'a>,
+) -> Result<Asked<'a>, Refused> {
+    match orders_of(given) {
+        Ok(options) => Ok(Asked {
+            task: Task::Explore(options),
+            file: file_of(given),
+            has_progress: true,
+        }),
+        Err(()) => Err(refused_as(command, "an alarm is 1201, 1202 or 1203")),
+    }
+}
+
+/// The step and the file of a sweep: the word behind its values is the file, if it is no number.
+/// Nothing, where there are two words, of which the first is no number.
+fn step_and_file<'a>(given: &ArgMatches<'a>) -> Option<(u64, Option<&'a str>)> {
+    let Some(word) = given.get_str("step") else {
+        return Some((1, None));
+    };
+    match given.get_one::<u64>("step") {
+        Some(step) => Some((step, file_of(given))),
+        None if given.get_str("file").is_some() => None,
+        None if word == "-" => Some((1, None)),
+        None => Some((1, Some(word))),
+    }
+}
+
+/// What the words behind `sweep` ask for, or why they are wrong.
+fn sweep_of<'a>(given: &ArgMatches<'a>) -> Result<Asked<'a>, &'static str> {
+    let key = given.get_str("key").unwrap_or("");
+    let from = given.get_one::<u64>("from").unwrap_or(0);
+    let to = given.get_one::<u64>("to").unwrap_or(0);
+    let csv = given.get_flag("csv");
+    match step_and_file(given) {
+        None => Err("STEP is no number"),
+        Some((0, _file)) => Err("STEP is 0"),
+        Some(_) if from > to => Err("FROM is beyond TO"),
+        Some((step, file)) => Ok(Asked {
+            task: Task::Tell(Telling::Sweep(
+                key,
+                Sweep {
+                    from,
+                    to,
+                    step,
+                    csv,
+                },
+            )),
+            file,
+            has_progress: true,
+        }),
+    }
+}
+
+/// Words behind `sweep` that are wrong for a reason that `clap` doesn't know.
+pub(crate) fn refused_sweep(alloc: Global, reason: &str) -> Refused {
+    let command = match sweep_command(alloc) {
+        Ok(command) => command.bin_name("agc_watch sweep"),
+        Err(error) => Err(error),
+    };
+    match command {
+        Ok(mut command) => refused_as(&mut command, reason),
+        Err(_no_memory) => Refused::NoMemory,
+    }
+}
+
+/// What a command asks for that works on its input.
+fn asked_to_work<'a>(
     alloc: Global,
     command: &mut Command<'a>,
-    matches: &ArgMatches<'a>,
+    name: &str,
+    given: &ArgMatches<'a>,
 ) -> Result<Asked<'a>, Refused> {
-    let Some((name, given)) = matches.subcommand() else {
-        return Err(refused_as(command, "a command is missing"));
-    };
-    if name == "explore" {
-        return match orders_of(given) {
-            Ok(options) => Ok(Asked {
-                task: Task::Explore(options),
-                file: file_of(given),
-                has_progress: true,
-            }),
-            Err(()) => Err(refused_as(command, "an alarm is 1201, 1202 or 1203")),
-        };
-    }
     match work_of(name, given) {
         Some(work) if is_backwards(work) => {
             let mut trace = trace_command(alloc)?.bin_name("agc_watch trace")?;
@@ -156,6 +225,33 @@ fn asked_by<'a>(
             has_progress: given.get_flag("progress"),
         }),
         None => Err(refused_as(command, "there is no such command")),
+    }
+}
+
+/// What these words ask to be told of an input.
+fn asked_to_tell<'a>(telling: Telling<'a>, given: &ArgMatches<'a>) -> Asked<'a> {
+    Asked {
+        task: Task::Tell(telling),
+        file: file_of(given),
+        has_progress: false,
+    }
+}
+
+/// What a command line asks for that `clap` takes.
+fn asked_by<'a>(
+    alloc: Global,
+    command: &mut Command<'a>,
+    matches: &ArgMatches<'a>,
+) -> Result<Asked<'a>, Refused> {
+    let Some((name, given)) = matches.subcommand() else {
+        return Err(refused_as(command, "a command is missing"));
+    };
+    match name {
+        "explore" => asked_to_explore(command, given),
+        "bench" => Ok(asked_to_tell(Telling::Bench, given)),
+        "peaks" => Ok(asked_to_tell(Telling::Peaks, given)),
+        "sweep" => sweep_of(given).map_err(|reason| refused_sweep(alloc, reason)),
+        _ => asked_to_work(alloc, command, name, given),
     }
 }
 

@@ -1,0 +1,252 @@
+//! What a scenario comes to: its bench, its eras, and a sweep over one of its numbers.
+ghost use Rattle.std.specs.Prelude.{◌≡◌};
+ghost use Rattle.agc_watch.specs.declared.scenarios.Stop.TheVariants as stop;
+ghost use Rattle.agc_program.specs.declared.fault.Fault.TheVariants as fault;
+
+use crate::progress::SweepTeller;
+use crate::words::{Refused, Telling, refused_sweep};
+use agc_document::{Bench, BenchFault, read_bench};
+use agc_findings::findings;
+use agc_lint::{add, add_decimal, bench_told};
+use agc_peaks::{Column, Sweep, bench_peaks, run_sweep, scenario_bench, scenario_peaks};
+use agc_program::{Fault, Program, buffered, ended, flushed};
+use agc_scenario::{Scenario, is_scenario, read_scenario, scenario_findings};
+use agc_session::RunFault;
+use agc_text::{add_word, read_all};
+use arrayvec::ArrayString;
+use std::alloc::{AllocError, Global};
+use std::io::{Eprint, Print, Read, Write};
+use std::process::ExitCode;
+use std::time::Clock;
+
+/// How many bytes `agc` takes.
+const MOST_BYTES: u64 = 1_048_576;
+
+/// How many keys are told.
+const MOST_KEYS: usize = 20;
+
+/// Why a command ends early.
+#[derive(Drop)]
+enum Stop {
+    Fault(Fault),
+    /// The document is refused for this fault, of which these lines tell.
+    Wrong(BenchFault, String),
+    /// The document is a bench.
+    IsBench,
+    /// The bench that was written has so many bytes, more than `agc` takes.
+    TooLong(u64),
+    /// The words don't suit the document.
+    Words(Refused),
+}
+
+impl From<Fault> for Stop {
+    ghost from_gives = { λ why e. e ≡ stop.Fault why };
+
+    fn from(why: Fault) -> Self {
+        Self::Fault(why)
+    }
+}
+
+impl From<AllocError> for Stop {
+    ghost from_gives = { λ _ e. e ≡ stop.Fault fault.NoMemory };
+
+    fn from(_error: AllocError) -> Self {
+        Self::Fault(Fault::NoMemory)
+    }
+}
+
+impl From<RunFault> for Stop {
+    ghost from_gives = { λ why e. e ≡ stop.Fault (fault.Run why) };
+
+    fn from(why: RunFault) -> Self {
+        Self::Fault(Fault::Run(why))
+    }
+}
+
+/// A document that is no bench, which is refused for this.
+fn wrong_bench(alloc: Global, text: &str, fault: BenchFault) -> Result<Stop, AllocError> {
+    let checked = findings(alloc, text)?;
+    let told = bench_told(alloc, checked.findings.as_slice())?;
+    Ok(Stop::Wrong(fault, told))
+}
+
+/// A document that is no scenario, which is refused for this.
+fn wrong_scenario(alloc: Global, text: &str, fault: BenchFault) -> Result<Stop, AllocError> {
+    let checked = scenario_findings(alloc, text)?;
+    let told = bench_told(alloc, checked.findings.as_slice())?;
+    Ok(Stop::Wrong(fault, told))
+}
+
+/// The bench that a text is.
+fn bench_in(alloc: Global, text: &str) -> Result<Bench, Stop> {
+    match read_bench(alloc, text) {
+        Ok(bench) => Ok(bench),
+        Err(BenchFault::NoMemory) => Err(Stop::Fault(Fault::NoMemory)),
+        Err(fault) => Err(wrong_bench(alloc, text, fault)?),
+    }
+}
+
+/// The scenario that a text is. Of a document without the key `seconds` it is told whether it is a
+/// bench.
+fn scenario_in(alloc: Global, text: &str) -> Result<Scenario, Stop> {
+    match read_scenario(alloc, text) {
+        Ok(scenario) => Ok(scenario),
+        Err(BenchFault::NoMemory) => Err(Stop::Fault(Fault::NoMemory)),
+        Err(fault) => match read_bench(alloc, text) {
+            Ok(_bench) => Err(Stop::IsBench),
+            Err(BenchFault::NoMemory) => Err(Stop::Fault(Fault::NoMemory)),
+            Err(_fault) => Err(wrong_scenario(alloc, text, fault)?),
+        },
+    }
+}
+
+/// Writes the bench that a text's scenario comes to, and returns how many bytes it has.
+fn write_bench<W: Write>(alloc: Global, text: &str, writer: &mut W) -> Result<u64, Stop> {
+    let scenario = scenario_in(alloc, text)?;
+    Ok(scenario_bench(alloc, &scenario, writer)?)
+}
+
+/// Writes the peaks of a text's scenario, or of its bench.
+fn write_peaks<W: Write>(alloc: Global, text: &str, writer: &mut W) -> Result<(), Stop> {
+    if is_scenario(alloc, text)? {
+        let scenario = scenario_in(alloc, text)?;
+        Ok(scenario_peaks(alloc, &scenario, writer)?)
+    } else {
+        let bench = bench_in(alloc, text)?;
+        Ok(bench_peaks(alloc, &bench, writer)?)
+    }
+}
+
+/// Tells which keys of a scenario a sweep can take: at most so many of its jobs, and of its events.
+fn add_keys(told: &mut String, scenario: &Scenario) -> Result<(), AllocError> {
+    add(told, &["sets, steal, seconds"])?;
+    for job in scenario.timing().jobs().iter().take(MOST_KEYS) {
+        let mut address: ArrayString<32> = ArrayString::new();
+        add_word(&mut address, job.at().get());
+        let called = job.name().unwrap_or(address.as_str());
+        add(told, &[", job.", called, ".cost"])?;
+    }
+    for event in scenario.timing().all_events().iter().take(MOST_KEYS) {
+        let Some(name) = event.name() else {
+            continue;
+        };
+        add(told, &[", event.", name, ".at"])?;
+        if event.every().is_some() {
+            add(told, &[", event.", name, ".every, event.", name, ".until"])?;
+        }
+    }
+    Ok(())
+}
+
+/// Says that a key names no number of a scenario, and which do.
+fn told_unknown(alloc: Global, scenario: &Scenario, key: &str) -> Result<String, AllocError> {
+    let mut told = String::new(alloc);
+    add(
+        &mut told,
+        &["'", key, "' is no number of this scenario, which has "],
+    )?;
+    add_keys(&mut told, scenario)?;
+    Ok(told)
+}
+
+/// Says what the values of a key may be.
+fn told_range(alloc: Global, key: &str, range: (u64, u64)) -> Result<String, AllocError> {
+    let mut told = String::new(alloc);
+    add(&mut told, &["'", key, "' may be "])?;
+    add_decimal(&mut told, range.0)?;
+    add(&mut told, &[" to "])?;
+    add_decimal(&mut told, range.1)?;
+    Ok(told)
+}
+
+/// Which number of a scenario a key names, if it may have all these values.
+fn column_of(alloc: Global, scenario: &Scenario, key: &str, sweep: Sweep) -> Result<Column, Stop> {
+    let Some(column) = Column::named(scenario, key) else {
+        let told = told_unknown(alloc, scenario, key)?;
+        return Err(Stop::Words(refused_sweep(alloc, told.as_str())));
+    };
+    let (least, most) = column.range();
+    if sweep.from < least || most < sweep.to {
+        let told = told_range(alloc, key, (least, most))?;
+        return Err(Stop::Words(refused_sweep(alloc, told.as_str())));
+    }
+    Ok(column)
+}
+
+/// Writes what comes of each value of a number of a text's scenario.
+fn write_sweep<H: AllocGlobal + Clock + Eprint, W: Write>(
+    rt: &H,
+    text: &str,
+    key: &str,
+    sweep: Sweep,
+    writer: &mut W,
+) -> Result<(), Stop> {
+    let alloc = rt.alloc();
+    let mut scenario = scenario_in(alloc, text)?;
+    let column = column_of(alloc, &scenario, key, sweep)?;
+    let mut watch = SweepTeller::new(rt);
+    Ok(run_sweep(alloc, &mut scenario, key, column, sweep, &mut watch, writer)?)
+}
+
+/// Tells of an input what is asked for, through a buffer that is flushed at the end.
+fn tell_input<H: AllocGlobal + Clock + Print + Eprint, R: Read>(
+    rt: &H,
+    telling: Telling<'_>,
+    reader: &mut R,
+) -> Result<(), Stop> {
+    let alloc = rt.alloc();
+    let text = match read_all(alloc, reader) {
+        Ok(text) => text,
+        Err(fault) => return Err(Stop::Fault(Fault::Read(fault))),
+    };
+    let text = text.as_str();
+    let mut output = buffered(rt)?;
+    let mut bytes = 0;
+    match telling {
+        Telling::Bench => bytes = write_bench(alloc, text, &mut output)?,
+        Telling::Peaks => write_peaks(alloc, text, &mut output)?,
+        Telling::Sweep(key, sweep) => write_sweep(rt, text, key, sweep, &mut output)?,
+    }
+    flushed(&mut output)?;
+    if bytes > MOST_BYTES {
+        return Err(Stop::TooLong(bytes));
+    }
+    Ok(())
+}
+
+/// Says why a command ended early, and how the program then ends; or returns which words are wrong.
+fn ended_early<H: Eprint>(rt: &H, program: Program, stop: Stop) -> Result<ExitCode, Refused> {
+    match stop {
+        Stop::Fault(fault) => Ok(ended(rt, program, Err(fault))),
+        Stop::Wrong(fault, told) => {
+            for line in told.lines() {
+                let _ = eprintln!(rt; "agc_watch: {line}");
+            }
+            Ok(ended(rt, program, Err(Fault::Bench(fault))))
+        }
+        Stop::IsBench => {
+            let _ = eprintln!(rt; "agc_watch: this is a bench; a scenario has the key \"seconds\"");
+            Ok(ExitCode::from(1))
+        }
+        Stop::TooLong(bytes) => {
+            let _ = eprintln!(rt; "agc_watch: the bench has {bytes} bytes, and agc takes 1048576");
+            Ok(ExitCode::from(1))
+        }
+        Stop::Words(refused) => Err(refused),
+    }
+}
+
+/// Tells of an input what is asked for, and says how the program then ends: with status 1 where the
+/// input is refused, or where `agc` doesn't take what was written. Returns which words are wrong,
+/// if they don't suit the input.
+pub(crate) fn run_telling<H: AllocGlobal + Clock + Print + Eprint, R: Read>(
+    rt: &H,
+    program: Program,
+    telling: Telling<'_>,
+    reader: &mut R,
+) -> Result<ExitCode, Refused> {
+    match tell_input(rt, telling, reader) {
+        Ok(()) => Ok(ended(rt, program, Ok(()))),
+        Err(stop) => ended_early(rt, program, stop),
+    }
+}
