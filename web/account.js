@@ -147,19 +147,23 @@ function brokenPairs(power) {
  * @param {import("./run.js").Run} run
  * @param {Shown} shown
  * @param {Names} names
+ * @param {string} about what the document says of itself
  * @returns {Account}
  */
-function accountOfBeginning(run, shown, names) {
+function accountOfBeginning(run, shown, names, about) {
   const { power } = run.bench;
+  const said = about === "" ? [] : [[about]];
   if (power === undefined) {
-    const lines = [["Nothing has been asked. No job lives, no task waits, all phases are 0."]];
+    const lines = about !== "" ? said
+      : [["Nothing has been asked. There is no job, no task waits, and all phases are 0."]];
     return { heading: "The beginning", lines, isAlarm: false };
   }
   const isBroken = shown.reply.startsWith("alarm");
   const lines = isBroken
     ? [["No phase can be trusted, and nothing begins again."], ...brokenPairs(power)]
     : beginsAgain(shown.scene, names);
-  return { heading: isBroken ? "Alarm 1107: why" : "Power is back", lines, isAlarm: isBroken };
+  const heading = isBroken ? "Alarm 1107: why" : "Power is back";
+  return { heading, lines: [...said, ...lines], isAlarm: isBroken };
 }
 
 /**
@@ -202,10 +206,10 @@ function replySentence(run, shown, names) {
         + `${job?.area ? ` with VAC area ${job.area}` : ""}. `
         + (scene.running === step?.number ? "It runs." : "It waits.")]];
     }
-    case Kind.NO_JOB: return [["Nobody runs, so there is no job to act on."]];
+    case Kind.NO_JOB: return [["No job is running, so there is none to act on."]];
     case Kind.NO_SLEEPER: return [["No job sleeps at that address."]];
     case Kind.ROUSED: return [[`Job ${step?.number} is awake.`]];
-    case Kind.IDLE: return [["Nobody is left who is awake."]];
+    case Kind.IDLE: return [["No job is left that is awake."]];
     case Kind.LEFT: case Kind.RUNS:
       return [[`Job ${step?.number} runs${runner ? `, at ${names.of(runner.at)}` : ""}.`]];
     default: return [];
@@ -232,10 +236,11 @@ function firedSentences({ step, scene, before }, names) {
  * @param {import("./run.js").Run} run
  * @param {Shown} shown
  * @param {Names} names
+ * @param {string} [about] what the document says of itself, at its beginning
  * @returns {Account}
  */
-export function accountOf(run, shown, names) {
-  if (shown.row === 0) return accountOfBeginning(run, shown, names);
+export function accountOf(run, shown, names, about = "") {
+  if (shown.row === 0) return accountOfBeginning(run, shown, names, about);
   if (shown.step !== null && shown.step.alarm !== 0) return accountOfAlarm(run, shown, names);
   const lines = [...replySentence(run, shown, names), ...firedSentences(shown, names)];
   if (shown.after !== null) lines.push(...beginsAgain(shown.after, names));
@@ -255,7 +260,7 @@ export function sentenceOf(shown, count, names) {
   const where = shown.row === 0 ? "The beginning" : `Request ${shown.row} of ${count}`;
   const at = `at ${seconds(shown.ticks)}`;
   const job = sets[0];
-  const runs = running === 0 || job === null ? "Nobody runs."
+  const runs = running === 0 || job === null ? "No job is running."
     : `Job ${running} runs${names.all.has(octal(job.at, 5)) ? `: ${names.short(job.at)}` : ""}.`;
   return `${where}, ${at}: ${shown.line}. Reply: ${shown.reply}. ${runs}`;
 }

@@ -240,6 +240,15 @@ export function emptyBench() {
 }
 
 /**
+ * What a document has whose keys are left out: a scenario has room for all that its clock asks.
+ * @param {string} level
+ */
+export function leftOut(level) {
+  const ample = { limit: 1_000_000, allowance: 2n ** 63n - 1n };
+  return { ...emptyBench(), ...(level === "scenario" ? ample : {}) };
+}
+
+/**
  * Steal rows may not overlap, and each ends after it begins.
  * @param {Bench} bench
  */
@@ -263,8 +272,7 @@ export function readBench(document) {
   }
   const table = readToml(document);
   const level = table.keys.has("seconds") ? "scenario" : "bench";
-  const bench = { ...emptyBench(), ...tableOf(table, level, new Place(1, "")) };
-  if (level === "scenario") bench.limit = 1_000_000;
+  const bench = { ...leftOut(level), ...tableOf(table, level, new Place(1, "")) };
   checkSteal(bench);
   return bench;
 }
@@ -331,8 +339,9 @@ function valueText(value) {
  * @param {Bench} bench
  */
 export function writeBench(bench) {
-  const level = bench.seconds === undefined ? LEVELS.bench : LEVELS.scenario;
-  const plain = /** @type {any} */ (emptyBench());
+  const kind = bench.seconds === undefined ? "bench" : "scenario";
+  const level = LEVELS[kind];
+  const plain = /** @type {any} */ (leftOut(kind));
   /** @type {any} */
   const given = bench;
   const lines = [];

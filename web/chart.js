@@ -72,18 +72,45 @@ export class Strip {
 
   /** What the strip shows, in words. */
   get text() {
-    const most = [0, 0, 0];
-    for (let row = 0; row <= this.count; row++) {
-      const use = this.run.columns.uses.items[row];
-      for (let k = 0; k < 3; k++) most[k] = Math.max(most[k], (use >> (4 * k)) & 15);
-    }
-    const alarms = this.run.alarms.filter((row) => row <= this.count);
-    const first = alarms.length === 0 ? "no alarm"
-      : `${counted(alarms.length, "alarm")}, the first, ${alarmAt(this.run, alarms[0])}`;
+    const most = mostUsed(this.run, this.count);
     return `Over ${this.isTime ? seconds(this.end) : counted(this.count, "request")}: at most `
       + `${most[0]} of ${this.run.sets} core sets, ${most[1]} of 5 areas and ${most[2]} of 9 tasks `
-      + `at once; ${first}.`;
+      + `at once; ${alarmsOf(this.run, this.count)}.`;
   }
+}
+
+/**
+ * How many core sets, areas and tasks are used at most, over the first rows.
+ * @param {import("./run.js").Run} run
+ * @param {number} count
+ */
+function mostUsed(run, count) {
+  const most = [0, 0, 0];
+  for (let row = 0; row <= count; row++) {
+    const use = run.columns.uses.items[row];
+    for (let k = 0; k < 3; k++) most[k] = Math.max(most[k], (use >> (4 * k)) & 15);
+  }
+  return most;
+}
+
+/**
+ * How many alarms the first rows of a run have, and which is the first.
+ * @param {import("./run.js").Run} run
+ * @param {number} count
+ */
+function alarmsOf(run, count) {
+  const alarms = run.alarms.filter((row) => row <= count);
+  if (alarms.length === 0) return "no alarm";
+  return `${counted(alarms.length, "alarm")}, the first, ${alarmAt(run, alarms[0])}`;
+}
+
+/**
+ * What came of a run, to compare it with another: its alarms, and how full the core sets were.
+ * @param {import("./run.js").Run} run
+ * @param {number} count
+ */
+export function outcomeOf(run, count) {
+  return `${alarmsOf(run, count)}; at most ${mostUsed(run, count)[0]} of ${run.sets} core sets`;
 }
 
 /**
@@ -142,7 +169,8 @@ export function drawStrip(strip, at) {
  */
 function drawAlarms(pen, strip, wide, high, colour) {
   pen.fillStyle = colour;
-  pen.font = "bold 11px system-ui, sans-serif";
+  const tall = Math.round(0.7 * parseFloat(getComputedStyle(document.documentElement).fontSize));
+  pen.font = `bold ${tall}px system-ui, sans-serif`;
   let free = -99;
   for (const row of strip.run.alarms) {
     if (row > strip.count) break;
@@ -150,8 +178,8 @@ function drawAlarms(pen, strip, wide, high, colour) {
     pen.fillRect(x, 0, 1.5, high);
     if (x > free) {
       const text = octal(strip.run.columns.numbers.items[row], 4);
-      pen.fillText(text, Math.min(x + 3, wide - 30), 11);
-      free = x + 34;
+      pen.fillText(text, Math.min(x + 3, wide - 2.8 * tall), tall);
+      free = x + 3 * tall;
     }
   }
 }

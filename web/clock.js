@@ -72,6 +72,18 @@ export class ClockPanel {
     setTimeout(() => this.fillOn(run), 0);
   }
 
+  /**
+   * A run of this bench to its end, to stand beside.
+   * @param {import("./bench.js").Bench} bench
+   */
+  wholeRunOf(bench) {
+    const run = new Run(bench);
+    run.head.clock = clockOf(bench);
+    run.checkpoints = [run.head.copy()];
+    while (this.step(run));
+    return run;
+  }
+
   /** @param {Run} run */
   fillOn(run) {
     const { history } = this.workbench;
@@ -272,6 +284,7 @@ export class ClockPanel {
     const { workbench } = this;
     const { history } = workbench;
     const { at, count, run: old } = workbench.view;
+    workbench.keepOutcome();
     history.keep(`as ${Object.keys(given)[0] === "steal" ? "stolen time" : "a cost"} was changed`);
     const run = old.fork(at);
     run.change(this.sinceThen(run, at, given), given);

@@ -2,7 +2,7 @@
  * Opening and saving: a bench or a scenario by file, by paste, by drag, from the examples, from the
  * address; and a bench that comes to the same tables.
  */
-import { emptyBench, writeBench } from "./bench.js";
+import { MOST_BYTES, emptyBench, writeBench } from "./bench.js";
 import { button, by, make, openDialog } from "./dom.js";
 
 /**
@@ -49,13 +49,21 @@ function base64url(bytes) {
 }
 
 /**
- * Bytes through a stream that packs or unpacks them.
+ * Bytes through a stream that packs or unpacks them: as many as a document may have.
  * @param {Uint8Array} bytes
  * @param {any} stream
  */
 async function through(bytes, stream) {
-  const packed = new Blob([/** @type {any} */ (bytes)]).stream().pipeThrough(stream);
-  return new Uint8Array(await new Response(packed).arrayBuffer());
+  const reader = new Blob([/** @type {any} */ (bytes)]).stream().pipeThrough(stream).getReader();
+  /** @type {number[]} */
+  const found = [];
+  for (;;) {
+    const { done, value } = await reader.read();
+    if (done) return Uint8Array.from(found);
+    // (a few letters may stand for a text without end)
+    if (found.length + value.length > MOST_BYTES) throw new Error("the document is too long");
+    for (const byte of value) found.push(byte);
+  }
 }
 
 /**

@@ -11,7 +11,10 @@ import { octal } from "./words.js";
 /** How many rows stand before and behind the one that is shown. */
 const AROUND = 7;
 
-/** The most rows that are printed. */
+/** How many ticks in a row in which nothing changes are printed as one line. */
+const LEAST_QUIET = 3;
+
+/** The most lines that are printed. */
 const MOST_PRINTED = 5000;
 
 /**
@@ -76,23 +79,74 @@ export function drawList(run, at, count, go) {
 }
 
 /**
- * Makes the table that is printed: title, plan and all rows, with accounts below alarms.
+ * Whether nothing but a centisecond went by in a row.
+ * @param {import("./run.js").Run} run
+ * @param {number} row
+ */
+function isQuiet(run, row) {
+  return run.lines[row] === "tick" && !run.isChange(row) && !run.isAlarm(row) && !run.isRefused(row);
+}
+
+/**
+ * The rows in stretches: of many in which only time went by, or of the others.
  * @param {import("./run.js").Run} run
  * @param {number} count
- * @param {string} title
- * @param {string} plan
+ */
+function* stretches(run, count) {
+  let from = 0;
+  for (let row = 1; row <= count + 1; row++) {
+    let to = row;
+    while (to <= count && isQuiet(run, to)) to++;
+    if (to - row < LEAST_QUIET && row <= count) continue;
+    if (from < row) yield { from, to: row - 1, isQuiet: false };
+    if (to > row) yield { from: row, to: to - 1, isQuiet: true };
+    [from, row] = [to, to];
+  }
+}
+
+/**
+ * The line of a stretch in which only time went by: the tables are those at its end.
+ * @param {import("./run.js").Run} run
+ * @param {number} from
+ * @param {number} to
+ */
+function quietLine(run, from, to) {
+  const [first] = run.show(from, from);
+  const [last] = run.show(to, to);
+  const line = lineOf(last, run);
+  const told = [`${from} to ${to}`, `${first.time} to ${last.time}`, `tick, ${to - from + 1} times`];
+  told.forEach((it, k) => {
+    line.children[k].textContent = it;
+  });
+  return line;
+}
+
+/**
+ * Makes the table that is printed: title, what came of it, plan and rows, with accounts below
+ * alarms. Rows in which only time goes by are one line.
+ * @param {import("./run.js").Run} run
+ * @param {number} count
+ * @param {string[]} heads the title, what came of the run, and the plan
  * @param {(shown: Shown) => string} account
  */
-export function drawPrinted(run, count, title, plan, account) {
+export function drawPrinted(run, count, [title, outcome, plan], account) {
   const head = by("rows").querySelector("thead").cloneNode(true);
   const body = make("tbody");
-  for (const shown of run.show(0, Math.min(count, MOST_PRINTED))) {
-    body.append(lineOf(shown, run));
-    if (shown.reply.includes("alarm")) {
-      body.append(make("tr", {}, make("td", { colSpan: 9 }, make("pre", {}, account(shown)))));
+  let until = 0;
+  for (const { from, to, isQuiet: isOne } of stretches(run, count)) {
+    if (body.children.length >= MOST_PRINTED) break;
+    until = isOne ? to : Math.min(to, from + MOST_PRINTED);
+    if (isOne) body.append(quietLine(run, from, to));
+    else {
+      for (const shown of run.show(from, until)) {
+        body.append(lineOf(shown, run));
+        if (!shown.reply.includes("alarm")) continue;
+        body.append(make("tr", {}, make("td", { colSpan: 9 }, make("pre", {}, account(shown)))));
+      }
     }
   }
-  const more = count > MOST_PRINTED ? [`The first ${MOST_PRINTED} of ${count} requests.`] : [];
-  fill("printed", [make("h1", {}, title), make("pre", {}, plan), ...more,
-    make("table", {}, head, body)]);
+  const more = until < count ? [make("p", {}, `The first ${until} of ${count} requests.`)] : [];
+  const plans = plan === "" ? [] : [make("h2", {}, "Plan"), make("pre", { class: "plan" }, plan)];
+  fill("printed", [make("h1", {}, title), make("p", {}, outcome), ...plans,
+    make("h2", {}, "Requests"), ...more, make("table", {}, head, body)]);
 }

@@ -2,7 +2,7 @@
 import { start } from "../libagc/js/machine.js";
 import { Names, accountOf, sentenceOf } from "./account.js";
 import { emptyBench, readBench, requestsOf } from "./bench.js";
-import { Strip, drawLegend, drawStrip } from "./chart.js";
+import { Strip, drawLegend, drawStrip, outcomeOf } from "./chart.js";
 import { ClockPanel } from "./clock.js";
 import { button, by, closeDialog, fill, make, openDialog } from "./dom.js";
 import * as files from "./files.js";
@@ -14,7 +14,8 @@ import { Run } from "./run.js";
 import { HELP } from "./help.js";
 import { drawSets, drawTables, drawWords } from "./tables.js";
 import { Prompt, completions } from "./typing.js";
-import { counted } from "./words.js";
+import { tries } from "./tries.js";
+import { counted, seconds } from "./words.js";
 
 /** How many points wide the pictures of the strip are computed for. */
 const STRIP_WIDE = 1200;
@@ -24,8 +25,13 @@ class Workbench {
     this.clock = new ClockPanel(this);
     this.history = new History({ run: this.clock.runOf(emptyBench(), []), count: 0, at: 0 });
     this.names = new Names(emptyBench());
+    /** The document that was opened, the run that came of it, and what it says of itself. */
     this.document = "";
+    this.opened = this.view.run;
+    this.about = "";
     this.title = "AGC workbench";
+    /** What came of the run that was left by the last change, to compare. */
+    this.outcome = "";
     /** The branch or the number of core sets that stands beside, if one does. */
     this.beside = null;
     /** Whether an exercise's answer is hidden. */
@@ -63,6 +69,8 @@ class Workbench {
       return false;
     }
     this.document = text;
+    this.opened = this.view.run;
+    this.about = question === "" ? files.questionOf(text).replaceAll("\n", " ") : "";
     this.hide(question);
     closeDialog();
     return true;
@@ -100,6 +108,7 @@ class Workbench {
     this.title = bench.title ?? name;
     this.names = new Names(bench);
     this.beside = null;
+    this.outcome = "";
     this.history.show({ run, count: run.count, at: 0 });
     this.history.branches = [];
     this.drawAll();
@@ -172,6 +181,8 @@ class Workbench {
       drawLegend(this.strip);
     }
     this.clock.draw(run);
+    by("outcome").textContent = this.outcome === "" || this.isHidden ? ""
+      : `Before: ${this.outcome}. Now: ${outcomeOf(run, count)}.`;
     this.drawBranches();
     this.drawRow();
   }
@@ -187,6 +198,9 @@ class Workbench {
     by("slider").setAttribute("aria-valuetext", `request ${at} of ${count}`);
     by("sentence").textContent = sentenceOf(shown, count, this.names);
     by("sentence").className = shown.reply.includes("alarm") ? "alarm" : "";
+    const from = run.ticksAt(at) > 0 ? seconds(run.ticksAt(at)) : at > 0 ? `request ${at}`
+      : "the beginning";
+    by("since").textContent = `A change here holds from ${from} on.`;
     by("undo").disabled = this.history.done.length === 0;
     by("redo").disabled = this.history.undone.length === 0;
     by("alarm-next").disabled = this.isHidden;
@@ -196,13 +210,15 @@ class Workbench {
 
   /** @param {import("./run.js").Shown} shown */
   drawAccount(shown) {
-    const account = accountOf(this.view.run, shown, this.names);
+    const account = accountOf(this.view.run, shown, this.names, this.about);
+    fill("try", tries(this, shown).map(([text, run]) => button(text, run)));
+    by("try").hidden = by("try").children.length === 0;
     by("told").classList.toggle("alarm", account.isAlarm);
     by("told-name").textContent = account.heading;
     const who = shown.who === "nobody" ? [] : [[`Asked by ${shown.who}.`]];
     fill("account", [...account.lines, ...who].map((line) =>
       make("li", {}, ...line.map((it) => this.piece(it)))));
-    by("told").scrollTop = 0;
+    by("account").scrollTop = 0;
   }
 
   /** @param {import("./account.js").Piece} piece */
@@ -223,9 +239,12 @@ class Workbench {
     const other = this.beside;
     by("beside").hidden = other === null;
     if (other === null) return;
-    const row = Math.min(at, other.count);
+    const { run } = this.view;
+    const row = run.bench.seconds === undefined ? Math.min(at, other.count)
+      : other.run.rowAtTime(run.ticksAt(at), other.count);
     const [shown] = other.run.show(row, row);
-    by("beside-name").textContent = `Beside it, ${other.name}: request ${row}, ${shown.reply}`;
+    const said = `request ${row}, ${shown.reply}. In all ${outcomeOf(other.run, other.count)}`;
+    by("beside-name").textContent = `Beside it, ${other.name}: ${said}.`;
     drawSets("beside-sets", shown.scene, shown.before, this.names);
   }
 
@@ -248,13 +267,21 @@ class Workbench {
     this.drawRow();
   }
 
-  /** The same requests on the other number of core sets, beside. */
+  /** The same requests, or the same scenario, on the other number of core sets, beside. */
   compareSets() {
     const { run, count } = this.view;
     const sets = run.sets === 7 ? 8 : 7;
-    const other = new Run({ ...run.bench, sets });
-    for (const [line, who] of run.requests(count)) other.ask(line, who);
-    this.compare({ run: other, count, name: `with ${sets} core sets` });
+    const bench = { ...run.bench, sets };
+    const isTimed = bench.seconds !== undefined;
+    const other = isTimed ? this.clock.wholeRunOf(bench) : new Run(bench);
+    if (!isTimed) for (const [line, who] of run.requests(count)) other.ask(line, who);
+    this.compare({ run: other, count: other.count, name: `with ${sets} core sets` });
+  }
+
+  /** Keeps what came of the run that is shown, so that the next one can be compared with it. */
+  keepOutcome() {
+    const { run, count } = this.view;
+    this.outcome = outcomeOf(run, count);
   }
 
   openPlan() {
@@ -262,6 +289,7 @@ class Workbench {
       const { run, count, at } = this.view;
       const asked = bench.seconds === undefined ? run.requests(count) : [];
       const made = this.clock.runOf(bench, asked);
+      this.keepOutcome();
       this.history.keep("as the plan was changed");
       this.names = new Names(bench);
       this.history.show({ run: made, count: made.count, at: Math.min(at, made.count) });
@@ -281,7 +309,13 @@ class Workbench {
     const { run, count } = this.view;
     const bench = files.benchOf(run, count);
     const whole = this.clock.document(run) ?? bench;
-    const mark = await files.markOf(whole).catch(() => "");
+    const isTimed = run.bench.seconds !== undefined;
+    const isMore = run.changes.length > 0 || count < run.count || run.who.some((it) =>
+      it.startsWith("you") || (!isTimed && it === "the clock"));
+    const isOpened = run === this.opened && this.document !== "" && !isMore;
+    const exercise = isOpened && this.kept.find((it) => it.text === this.document);
+    const mark = exercise ? `#${exercise.name}`
+      : await files.markOf(isOpened ? this.document : whole).catch(() => "");
     const area = make("textarea", { readOnly: true, value: bench, "aria-label": "The bench" });
     const link = make("input", { type: "text", readOnly: true, "aria-label": "The link",
       value: mark.length > 8000 ? "" : `${location.href.split("#")[0]}${mark}` });
@@ -298,19 +332,22 @@ class Workbench {
 
   print() {
     const { run, count } = this.view;
-    const plan = this.clock.document(run) ?? files.benchOf(run, 0);
-    drawPrinted(run, count, this.title, plan, (shown) =>
+    const plan = (this.clock.document(run) ?? files.benchOf(run, 0)).trim();
+    const outcome = `${new Strip(run, count, 1).text} ${this.about}`;
+    drawPrinted(run, count, [this.title, outcome, plan], (shown) =>
       accountOf(run, shown, this.names).lines.map((line) =>
         line.map((it) => (typeof it === "string" ? it : it.text)).join("")).join("\n"));
   }
 
   undo() {
     this.clock.pause();
+    this.outcome = "";
     if (this.history.undo()) this.drawAll();
   }
 
   redo() {
     this.clock.pause();
+    this.outcome = "";
     if (this.history.redo()) this.drawAll();
   }
 
@@ -340,7 +377,9 @@ class Workbench {
         /** @type {Record<string, () => void>} */ (this.actions())[id]());
     }
     by("close").addEventListener("click", closeDialog);
-    by("dialog").addEventListener("close", () => fill("dialog-body", []));
+    by("dialog").addEventListener("close", () => {
+      if (!by("dialog").open) fill("dialog-body", []);
+    });
     by("slider").addEventListener("input", () => this.go(Number(by("slider").value)));
     by("go").addEventListener("keydown", (/** @type {KeyboardEvent} */ event) => {
       if (event.key === "Enter") this.goTyped();
@@ -383,14 +422,17 @@ class Workbench {
     event.preventDefault();
   }
 
-  /** What stands behind `#`: a request's number, or a document. */
+  /** What stands behind `#`: a request's number, the name of an example or exercise, a document. */
   async fromAddress() {
     const mark = location.hash;
+    const kept = this.kept.find((it) => `#${it.name}` === mark);
     if (/^#[0-9]+$/.test(mark)) this.go(Number(mark.slice(1)));
-    else if (mark.startsWith("#bench=")) {
+    else if (kept !== undefined) {
+      this.open(kept.text, kept.name, kept.kind === "exercise" ? files.questionOf(kept.text) : "");
+    } else if (mark.startsWith("#bench=")) {
       const text = await files.documentOf(mark).catch(() => null);
       if (text === null) this.say("What stands behind # can't be read.");
-      else this.open(text, "the link");
+      else this.open(text, files.firstSentence(text) || "From a link");
     }
   }
 }

@@ -2,7 +2,7 @@
  * The plan editor: every key of a bench or a scenario as a field, its tables as rows. What is
  * applied is the whole document, read by the reader of documents.
  */
-import { LEVELS, readBench, writeBench } from "./bench.js";
+import { LEVELS, leftOut, readBench, writeBench } from "./bench.js";
 import { button, by, fill, labelled, make, openDialog } from "./dom.js";
 import { Unread } from "./toml.js";
 
@@ -10,7 +10,8 @@ import { Unread } from "./toml.js";
 const LABELS = {
   ...{ sets: "Core sets", limit: "Log's limit", allowance: "Allowance" },
   ...{ key: "A key pulse asks for", radar: "A radar pulse asks for" },
-  ...{ seconds: "Seconds", title: "Title", steal: "Stolen percent" },
+  ...{ seconds: "Seconds", title: "Title" },
+  steal: "Stolen percent, or lines: from, to, percent",
   ...{ at: "At", bank: "Bank", action: "Actions", group: "Group", phase: "Phase", job: "Job" },
   ...{ task: "Task", name: "Name", cost: "Cost, cs", then: "Then", do: "Asks for" },
   ...{ every: "Every, cs", until: "Until, cs" },
@@ -23,7 +24,10 @@ const HEADINGS = {
 };
 
 /** Fields with several lines. */
-const LONG = new Set(["action", "do", "key", "radar"]);
+const LONG = new Set(["action", "do", "key", "radar", "steal"]);
+
+/** A row of stolen time as it is typed. */
+const STOLEN = /^([0-9]+)[ ,]+([0-9]+)[ ,]+([0-9]+)$/;
 
 /**
  * What is typed for a key, of a value.
@@ -31,6 +35,9 @@ const LONG = new Set(["action", "do", "key", "radar"]);
  */
 function typed(value) {
   if (value === undefined) return "";
+  if (Array.isArray(value) && value[0]?.percent !== undefined) {
+    return value.map((it) => `${it.from} ${it.to} ${it.percent}`).join("\n");
+  }
   return Array.isArray(value) ? value.join("\n") : String(value);
 }
 
@@ -66,6 +73,10 @@ function valueOf(text, row) {
   const lines = text.split("\n").map((it) => it.trim()).filter((it) => it !== "");
   if (lines.length === 0) return undefined;
   if (row.kind === "oneOrMore") return lines;
+  const stolen = lines.map((it) => STOLEN.exec(it));
+  if (row.kind === "steal" && stolen.every((it) => it !== null)) {
+    return stolen.map((it) => ({ from: BigInt(it[1]), to: BigInt(it[2]), percent: BigInt(it[3]) }));
+  }
   const isNumber = (row.kind === "integer" || row.kind === "steal") && /^[0-9]+$/.test(lines[0]);
   return isNumber ? BigInt(lines[0]) : text.trim();
 }
@@ -158,7 +169,13 @@ export function openPlan(bench, apply) {
   const timed = make("input", { type: "checkbox", id: "plan-timed", checked: isScenario });
   timed.addEventListener("change", () => {
     const values = read();
+    /** @type {any} */
+    const [before, after] = ["bench", "scenario"].map(leftOut);
     isScenario = timed.checked;
+    for (const name of ["limit", "allowance"]) {
+      const [left, given] = isScenario ? [before, after] : [after, before];
+      if (String(values[name]) === String(left[name])) values[name] = given[name];
+    }
     draw({ ...values, seconds: isScenario ? values.seconds ?? 60 : undefined });
   });
   draw(bench);

@@ -19,6 +19,24 @@ const APART = 256;
 /** How many rows a run has at most. */
 export const MOST_ROWS = 8_000_000;
 
+/**
+ * Each line that was asked, once: a run of many requests has few different lines.
+ * @type {Map<string, string>}
+ */
+const spelled = new Map();
+
+/** How many different lines are kept so. */
+const MOST_SPELLED = 10_000;
+
+/** @param {string} line */
+function once(line) {
+  const found = spelled.get(line);
+  if (found !== undefined) return found;
+  if (spelled.size >= MOST_SPELLED) spelled.clear();
+  spelled.set(line, line);
+  return line;
+}
+
 /** What came of a request that was not served. */
 export const SPENT = 100;
 export const LOG_FULL = 101;
@@ -242,7 +260,7 @@ export class Run {
     const step = refused === 0 ? this.head.ask(line, row) : null;
     if (step !== null) this.head.clock?.served(this.head.machine, step);
     this.count = row;
-    this.lines.push(line);
+    this.lines.push(once(line));
     by.set(row, this.asker(who));
     kinds.set(row, step === null ? refused : step.kind);
     numbers.set(row, step === null ? 0 : step.number);

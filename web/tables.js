@@ -39,8 +39,8 @@ function setBox(scene, k, names, isNew) {
   if (job === null) return box(`set ${k}`, "free", [], "free", isNew);
   const runs = k === 0 && scene.running === job.number;
   const isNamed = scene.next === job.number && scene.next !== scene.running;
-  const state = [runs ? "runs" : job.asleep ? "asleep" : "waits", ...(isNamed ? ["NEWJOB"] : []),
-    ...(job.area > 0 ? [`area ${job.area}`] : [])].join(", ");
+  const stands = runs ? "runs" : job.asleep ? "asleep" : isNamed ? "NEWJOB" : "waits";
+  const state = `${stands}${job.area > 0 ? `, area ${job.area}` : ""}`;
   const style = `${job.asleep ? `asleep s${job.number}` : `j${job.number}`}${runs ? " runs" : ""}`;
   const more = [`priority ${octal(job.priority, 2)}`, names.short(job.at), state];
   return box(`set ${k}`, `job ${job.number}`, more, style, isNew);
@@ -102,7 +102,7 @@ function drawBase({ phases, codes, next, running }, before) {
     it === 0 ? "none" : octal(it, 4), [], it === 0 ? "free" : "lit",
     before !== null && it !== before.codes[k])));
   const isNamed = next !== 0 && next !== running;
-  const named = isNamed ? `job ${next}` : "nobody else";
+  const named = isNamed ? `job ${next}` : "no other";
   const isNew = before !== null && next !== before.next;
   fill("newjob", [box("names", named, [], isNamed ? "lit" : "free", isNew)]);
 }

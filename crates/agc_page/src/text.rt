@@ -7,8 +7,8 @@ pub(crate) const PART_1: &str = r##"<!DOCTYPE html>
 <meta charset="utf-8">
 <meta http-equiv="Content-Security-Policy" content="default-src 'none';
 base-uri 'none'; form-action 'none';
-script-src 'sha256-56NyuNPHMcs/yQD8a1u3o1br+PW79xdaHTsAC6sCdDc=' 'wasm-unsafe-eval';
-style-src 'sha256-cORSFEDPV8DIaBsdJHXC2ZkLwoShLaNfK3rLzHvsBPw='">
+script-src 'sha256-HF+Xh1QdXFSFteZ9G321huW9Ksgq5Bhvw5bPOfbMAtQ=' 'wasm-unsafe-eval';
+style-src 'sha256-3Q0BPXWRpLjV2oueX7Ga2LPWkO8KPNHK+B/JQkOjfKU='">
 <meta name="viewport" content="width=device-width, initial-scale=1">
 <meta name="color-scheme" content="light dark">
 <title>AGC workbench</title>
@@ -42,12 +42,14 @@ input[type=range]{padding:0;border:0;min-width:6rem;flex:1;accent-color:var(--fo
 :focus-visible{outline:3px solid var(--focus);outline-offset:1px}
 .bar{position:sticky;top:0;z-index:5;background:var(--bar);border-block:1px solid var(--line);
 margin:0 -1rem;padding:.3rem 1rem .4rem}
-#sentence{margin:0 0 .3rem;font-size:1.15rem;font-weight:bold;height:1.4em;overflow:hidden;
+#sentence{margin:0;font-size:1.15rem;font-weight:bold;height:1.4em;overflow:hidden;
 border-left:.5rem solid transparent;padding-left:.4rem;margin-left:-.9rem;white-space:nowrap;
 text-overflow:ellipsis}
 #sentence.alarm{border-color:var(--edge);color:var(--alarm)}
-.where{display:flex;gap:.6rem;align-items:center;margin-top:.3rem}
-.go input{width:9.5rem;min-height:2rem}
+.bar{display:flex;flex-wrap:wrap;gap:.3rem 1rem;align-items:center}
+#sentence{flex:1 0 100%}
+.where{display:flex;flex:1 1 18rem;gap:.6rem;align-items:center}
+#slider{width:6rem}.go{white-space:nowrap}.go input{width:8.2rem;min-height:2rem}
 .question{border:2px solid var(--focus);border-radius:.3rem;padding:.5rem .8rem;
 margin:.2rem 0 .6rem;white-space:pre-wrap}
 .chart{margin:.5rem 0 0}
@@ -59,15 +61,17 @@ main{display:grid;gap:0 1.5rem;grid-template-columns:minmax(0,1fr)}
 .sets{grid-template-columns:repeat(auto-fit,minmax(5.6rem,1fr))}
 .areas{grid-template-columns:repeat(5,minmax(0,1fr))}
 .tasks{grid-template-columns:repeat(auto-fit,minmax(5.6rem,1fr))}
-.phases{grid-template-columns:repeat(6,minmax(3.7rem,1fr))}
-.codes{grid-template-columns:repeat(3,minmax(4.2rem,1fr))}
+.phases{grid-template-columns:repeat(6,minmax(4rem,1fr))}
+.codes{grid-template-columns:repeat(3,minmax(4rem,1fr))}
 .newjob{grid-template-columns:minmax(6rem,1fr)}
 .boxes li{position:relative;border:2px solid var(--line);border-radius:.3rem;padding:.15rem .4rem;
 background:var(--box);min-width:0;overflow:hidden;font-size:.85rem;line-height:1.3}
-.sets li{min-height:5.3rem}.tasks li{min-height:4.1rem}.areas li{min-height:2.9rem}
-.phases li,.codes li,.newjob li{min-height:2.9rem}
-.boxes b{display:block;font-size:1.05rem;white-space:nowrap;overflow:hidden;text-overflow:ellipsis}
+.sets li{min-height:6.5rem}.tasks li{min-height:4.75rem}
+.areas li,.phases li,.codes li,.newjob li{min-height:3rem}
+.phases li{padding:.15rem .25rem}.phases span{font-size:.78rem;white-space:nowrap}
+.boxes b{display:block;font-size:1.1rem;white-space:nowrap;overflow:hidden;text-overflow:ellipsis}
 .boxes span{display:block;overflow:hidden;text-overflow:ellipsis}
+.boxes span.hidden{position:absolute}
 .boxes li.runs{border:4px solid var(--ink);padding:calc(.15rem - 2px) calc(.4rem - 2px)}
 .boxes li.asleep{border-style:dashed}
 .boxes li.free b{font-weight:normal;color:var(--soft)}
@@ -75,8 +79,8 @@ background:var(--box);min-width:0;overflow:hidden;font-size:.85rem;line-height:1
 .boxes li.new::after{content:"";position:absolute;right:0;top:0;border:.55rem solid;
 border-color:var(--focus) var(--focus) transparent transparent}
 .full{outline:.25rem solid var(--edge);outline-offset:.12rem}
-.pair{display:flex;flex-wrap:wrap;gap:0 1.2rem}.pair>div{flex:2 1 22rem}
-.pair>div+div{flex:1 1 14rem}.pair>div+div+div{flex:1 1 7rem}
+.pair{display:flex;flex-wrap:wrap;gap:0 1rem}.pair>div{flex:2 1 25.8rem}
+.pair>div+div{flex:1 1 12.8rem}.pair>div+div+div{flex:1 1 6.2rem}
 progress{display:block;width:100%;height:.5rem;accent-color:var(--focus)}
 .j1{background:#0072b2!important;color:#fff}.j2{background:#e69f00!important;color:#000}
 .j3{background:#009e73!important;color:#000}.j4{background:#cc79a7!important;color:#000}
@@ -86,11 +90,15 @@ progress{display:block;width:100%;height:.5rem;accent-color:var(--focus)}
 .s1{background:#a6cee4!important}.s2{background:#f6dda6!important}.s3{background:#a6ddce!important}
 .s4{background:#edd0e0!important}.s5{background:#c4e5f7!important}.s6{background:#f0c7a6!important}
 .s7{background:#faf6bd!important}.s8{background:#b6b6b6!important}
-.told{border-left:.5rem solid var(--line);padding:0 .6rem;height:15rem;overflow:auto;
-margin-top:.5rem}
+.told{border-left:.5rem solid var(--line);padding:0 .6rem;height:19rem;
+margin-top:.5rem;display:flex;flex-direction:column}
+.told h2{margin-top:.2rem}.told .try{display:flex;flex-wrap:wrap;gap:.3rem;margin:.3rem 0 0}
+.told .try button{min-height:2.1rem}
+.since{margin:.3rem 0 0;font-size:.88rem;color:var(--soft);min-height:1.4em}
+#outcome{font-weight:bold;color:var(--ink)}
 .told.alarm{border-color:var(--edge)}
 .told.alarm h2{color:var(--alarm)}
-.told ul{list-style:none;margin:0;padding:0;font-size:.92rem}
+.told ul{list-style:none;margin:0;padding:0;font-size:.92rem;flex:1;overflow:auto}
 .told li{margin:.1rem 0;overflow-wrap:anywhere}
 .prompt{display:flex;gap:.3rem;position:relative}
 .prompt input{flex:1;min-width:0;font-family:ui-monospace,monospace}
@@ -109,7 +117,11 @@ align-items:center;font-size:.9rem}
 .wide{overflow-x:auto}
 table{border-collapse:collapse;font-family:ui-monospace,monospace;font-size:.9rem}
 caption{text-align:left}
-th,td{text-align:left;padding:.12rem 1rem .12rem 0;white-space:nowrap;height:1.7rem}
+th,td{text-align:left;padding:.12rem .8rem .12rem 0;white-space:nowrap;height:1.7rem}
+#rows th:nth-child(1){min-width:4em}#rows th:nth-child(2){min-width:3.6em}
+#rows th:nth-child(3){min-width:13.6em}#rows th:nth-child(4){min-width:9em}
+#rows th:nth-child(6){min-width:17em}#rows th:nth-child(7){min-width:6em}
+#rows th:nth-child(8){min-width:6em}
 #lines tr{cursor:pointer}
 tr[aria-current]{background:var(--row);font-weight:bold}
 tr.refused td{color:var(--soft);text-decoration:line-through}
@@ -125,7 +137,9 @@ dialog::backdrop{background:rgb(0 0 0/.5)}
 .dialog-top h2{font-size:1.15rem;margin:0;color:var(--ink)}
 textarea{width:100%;min-height:14rem;font-family:ui-monospace,monospace;padding:.5rem}
 .choices{list-style:none;padding:0;margin:0}
-.choices li{margin:.5rem 0}
+.choices li{display:grid;grid-template-columns:minmax(8rem,17rem) 1fr;gap:.8rem;
+align-items:center;margin:.4rem 0}
+.choices button{text-align:left;overflow:hidden;text-overflow:ellipsis}
 .choices button{font-weight:bold}
 .fields{display:flex;flex-wrap:wrap;gap:.5rem .8rem;align-items:end;margin:.4rem 0}
 .fields label{display:grid;font-size:.9rem}
@@ -138,34 +152,53 @@ kbd{font-family:ui-monospace,monospace;border:1px solid var(--line);border-radiu
 padding:0 .3rem}
 .drop{outline:.4rem dashed var(--focus);outline-offset:-.6rem}
 .print-only{display:none}
-@media (max-width:75rem){.steps .word{display:none}.bar .steps button{flex:1 1 2rem;min-width:0;
-padding:0 .2rem}}
+@media (max-width:75rem){.bar .steps{flex:1 1 24rem}.steps .word{display:none}
+.bar .steps button{flex:1 1 2rem;min-width:0;padding:0 .2rem}}
 @media (max-width:40rem){#summary{display:none}
+body{padding:0 .6rem 1rem}.bar{margin:0 -.6rem;padding:.15rem .6rem .25rem;gap:.2rem .6rem}
+.top{gap:.2rem;flex-wrap:wrap;padding:.15rem 0}h1{font-size:.95rem}.menu{width:100%}
+.menu button{flex:1;padding:0 .2rem;min-height:2rem}
+#sentence{font-size:.85rem;height:2.7em;white-space:normal;line-height:1.35}
+.bar .steps{gap:.15rem;flex-wrap:nowrap}.bar .steps button{min-height:2.3rem}
+.where{flex-basis:100%}.go input{width:7.6rem}h2{margin:.2rem 0 .05rem;font-size:.82rem}
+.chart{margin-top:.3rem}.chart canvas{height:4rem}figcaption{font-size:.72rem;gap:0 .7rem}
+.boxes{gap:.2rem}
+.sets{grid-template-columns:repeat(4,minmax(0,1fr))}.sets li{min-height:5.9rem}
+.tasks{grid-template-columns:repeat(5,minmax(0,1fr))}.tasks li{min-height:3.95rem}
+.areas li,.phases li,.codes li,.newjob li{min-height:2.6rem}
 .phases{grid-template-columns:repeat(6,minmax(0,1fr))}
-body{padding:0 .6rem 1rem}.bar{margin:0 -.6rem;padding:.2rem .6rem .3rem}
-.top{gap:.3rem;flex-wrap:wrap;padding:.2rem 0}h1{font-size:1rem}.menu{width:100%}
-.menu button{flex:1;padding:0 .2rem;min-height:2.2rem}
-#sentence{font-size:.92rem;height:2.7em;white-space:normal;line-height:1.35}
-.bar .steps{gap:.15rem;flex-wrap:nowrap}.bar .steps button{min-height:2.5rem}
-.go input{width:7rem}h2{margin:.35rem 0 .1rem;font-size:.85rem}
-.sets{grid-template-columns:repeat(4,minmax(0,1fr))}.sets li{min-height:4.6rem}
-.tasks{grid-template-columns:repeat(3,minmax(0,1fr))}
-.boxes li{font-size:.75rem;padding:.1rem .25rem}.boxes b{font-size:.92rem}
-.boxes li.runs{padding:calc(.1rem - 2px) calc(.25rem - 2px)}
-.pair{gap:0 .5rem}.chart canvas{height:5rem}table{font-size:.8rem}.told{height:13rem}
+.boxes li{font-size:.75rem;padding:.05rem .25rem;line-height:1.25}.boxes b{font-size:.9rem}
+.boxes li.runs{padding:calc(.05rem - 2px) calc(.25rem - 2px)}
+.phases span{font-size:.7rem}.phases li{padding:.05rem .2rem}
+.pair{gap:0 .5rem}table{font-size:.8rem}
+.choices li{grid-template-columns:1fr;gap:.1rem}
 th,td{padding-right:.6rem}}
 @media (min-width:60rem){main{grid-template-columns:minmax(0,1fr) 27rem;
 grid-template-rows:auto auto 1fr}.state,.list,.branches{grid-column:1}
 .side{grid-column:2;grid-row:1/4}.tasks{grid-template-columns:repeat(9,minmax(0,1fr))}}
-@media (min-width:110rem){html{font-size:112%}main{grid-template-columns:minmax(0,1fr) 36rem}}
+@media (min-width:60rem) and (max-width:110rem){table{font-size:.8rem}th,td{padding-right:.5rem}
+.tasks li{padding:.15rem .25rem}}
+@media (min-width:110rem){html{font-size:125%}body{max-width:none}
+.boxes li{font-size:.95rem}.boxes b{font-size:1.35rem}.sets li{min-height:7.2rem}
+.tasks li{min-height:5.3rem}.areas li,.phases li,.codes li,.newjob li{min-height:3.4rem}
+.phases span{font-size:.85rem}#sentence{font-size:1.4rem}.told ul{font-size:1rem}
+main{grid-template-columns:minmax(0,1fr) 30rem}}
+@media (min-width:140rem){html{font-size:165%}}
 @media (prefers-reduced-motion:reduce){*{transition:none!important;animation:none!important;
 scroll-behavior:auto!important}}
 @media print{
-:root{--ink:#000;--paper:#fff;--soft:#333;--box:#fff;--bar:#fff}
-body>*{display:none}.print-only{display:block!important}body{max-width:none;padding:0}
+:root{--ink:#000;--paper:#fff;--soft:#333;--box:#fff;--bar:#fff;--alarm:#a00;--row:#fff}
+html{font-size:100%;color-scheme:light}body{max-width:none;padding:0}
+body>*{display:none!important}body>.print-only{display:block!important}
+.print-only h1{white-space:normal;margin:0 0 .4rem}.print-only h2{break-after:avoid;color:#000}
+.print-only p{font-size:9pt;margin:.2rem 0}
+.print-only .plan{columns:3;font-size:7.5pt;margin:.2rem 0}
 .print-only table{font-size:7pt}.print-only thead{display:table-header-group}
-.print-only td,.print-only th{padding:.1rem .4rem;border-left:1px solid #bbb;white-space:normal;
-height:auto;vertical-align:top}.print-only pre{font-size:8pt;white-space:pre-wrap}}
+.print-only tr{break-inside:avoid}
+.print-only td,.print-only th{padding:.1rem .4rem;border:0 solid #bbb;border-left-width:1px;
+white-space:normal;height:auto;vertical-align:top}
+.print-only td[colspan]{border:1px solid #a00;padding:.2rem .6rem}
+.print-only td pre{margin:0}.print-only pre{font-size:7.5pt;white-space:pre-wrap}}
 @page{size:landscape;margin:1cm}
 </style>
 </head>
@@ -196,15 +229,14 @@ given stands at the end of its source.</p></noscript>
 <span aria-hidden="true">&#8594;</span></button>
 <button type="button" id="last" title="Last row (End)"><span class="word">Last</span>
 <span aria-hidden="true">&#8677;</span></button>
-<button type="button" id="alarm-back" title="Alarm before (A)">
-<span aria-hidden="true">&#8592;!</span>
-<span class="word">Alarm before</span></button>
-<button type="button" id="alarm-next" title="Next alarm (a)"><span class="word">Next alarm</span>
-<span aria-hidden="true">!&#8594;</span></button>
-<button type="button" id="change-back" title="Change before (C)">
-<span aria-hidden="true">&#8592;&#916;</span><span class="word">Change before</span></button>
-<button type="button" id="change-next" title="Next change (c)"><span class="word">Next change</span>
-<span aria-hidden="true">&#916;&#8594;</span></button>
+<button type="button" id="alarm-back" title="Alarm before (A)" aria-label="Alarm before">
+<span aria-hidden="true">&#8592;!</span> <span class="word">Alarm</span></button>
+<button type="button" id="alarm-next" title="Next alarm (a)" aria-label="Alarm after">
+<span class="word">Alarm</span> <span aria-hidden="true">!&#8594;</span></button>
+<button type="button" id="change-back" title="Change before (C)" aria-label="Change before">
+<span aria-hidden="true">&#8592;&#916;</span> <span class="word">Change</span></button>
+<button type="button" id="change-next" title="Next change (c)" aria-label="Change after">
+<span class="word">Change</span> <span aria-hidden="true">&#916;&#8594;</span></button>
 <button type="button" id="undo" title="Undo (u)"><span aria-hidden="true">&#8630;</span>
 <span class="word">Undo</span></button>
 <button type="button" id="redo" title="Redo (r)"><span aria-hidden="true">&#8631;</span>
@@ -245,8 +277,9 @@ placeholder="20 or 38.01 s"></label>
 <tbody id="words-rows"></tbody></table></div></details>
 </section>
 <div class="side">
-<section class="told" id="told" aria-labelledby="told-name" tabindex="0">
-<h2 id="told-name"></h2><ul id="account"></ul></section>
+<section class="told" id="told" aria-labelledby="told-name">
+<h2 id="told-name"></h2><ul id="account" aria-labelledby="told-name" tabindex="0"></ul>
+<div class="try" id="try" role="group" aria-label="What to try"></div></section>
 <section class="ask" aria-labelledby="ask-name">
 <h2 id="ask-name">Ask</h2>
 <div class="prompt"><input type="text" id="line" role="combobox" aria-label="A request"
@@ -265,7 +298,9 @@ autocapitalize="off" spellcheck="false" placeholder="findvac 20 02000 00005" max
 <button type="button" id="tick" title="One centisecond (.)">1 cs</button>
 <button type="button" id="event" title="To the next event or change (n)">Next event</button>
 <label>Speed <select id="speed"></select></label></div>
+<p class="since" id="since"></p>
 <div class="sliders" id="sliders"></div>
+<p class="since" id="outcome" role="status" aria-live="polite"></p>
 </section>
 </div>
 <section class="list" aria-labelledby="list-name">
@@ -662,7 +697,10 @@ Rg0AIAJB//8DcSICQcwAIABC4gB8py8AAEEDdGtB/P8DcSIEIAIgBEsbIQIL
 AkAgAEKKAXynLwAAIANHDQAgAEKQAXynLwAAIgNBgIABSQ0AIANB//8BRg0A
 IAJB//8DcSICQc0AIABC+gB8py8AAEEDdGtB/f8DcSIDIAIgA0sbIQILAkAg
 AEKiAXynLwAAIAFB//8DcUcNACAAQqgBfKcvAAAiA0GAgAFJDQAgA0H//wFG
-DQAgAkH//wNxIgJBzgAgAEKSAXynLwAAQQN0a0H+/wNxIgMgAiADSxshAgsC
+"##;
+
+/// Part 2 of what stands before the data.
+pub(crate) const PART_2: &str = r##"DQAgAkH//wNxIgJBzgAgAEKSAXynLwAAQQN0a0H+/wNxIgMgAiADSxshAgsC
 QCAApy0AAEUNACAAQpoCfKcvAAAgAUH//wNxRw0AIABCoAJ8py8AACIBQYCA
 AUkNACABQf//AUYNACACQf//A3EiAUHPACAAQooCfKcvAABBA3RrQf//A3Ei
 AiABIAJLGyECCyACDwsAC9gDAgN+A38jAEKwAn0iBCQAAkACQAJAAkACQCAE
@@ -677,10 +715,7 @@ CwALIACnQQA2AAggAKdCBDcAAAwCCyAEQg58IAUQCyAEp0EAOwHCAUEHIQMg
 BKctAA4hCAtCoAJCiAIgCBsiBVBFBEAgAacgBqcgBaf8CgAACyAApyAHQf8B
 cUEAIAJBgIABSRs2AAggAKcgAzYABCAAp0EANgAACyAEQrACfCQAC90HAgd/
 AX4CQAJAAn8CQAJ/AkACQCMAQhB9IglCEFkEQCAJp0EAOwEMIAmnQQA2Aggg
-"##;
-
-/// Part 2 of what stands before the data.
-pub(crate) const PART_2: &str = r##"CadBADYCACAJp0EAOwEEAkACQAJAAkACQAJAAkACQAJAAkACQAJAAkAgAaco
+CadBADYCACAJp0EAOwEEAkACQAJAAkACQAJAAkACQAJAAkACQAJAAkAgAaco
 AgBBAWsODQABAgMEBQYHCAkKCwwUCyABQgR8pygCACIEQf8BSwRADBMLAn9B
 ACAEQQFrQf8BcUEeSw0AGiABQgx8pygCACIIQf//AUsNEyABQgh8pygCACIH
 Qf//A0sNE0EAIAdBAWtB//8DcUH+/wBLDQAaIAhBEHQgB3IhBUEBIQIgBAsh
@@ -1341,10 +1376,7 @@ Wg0AIAxCgBBRDQUgAEKgAnwgAELYFHwgA3wgBCADfRAMQf8BcQ0FCyANQgF8
 Ig1CClINAAtBDiEGIACnKQOgEiIEIBJYBEAgBFBFBEAgE6cgAEKgAnynIASn
 /AoAAAtBACEGCyAEQoCAgIAQIARCgICAgBBUG6chBwwFCwALQQEMAgtBAiEG
 DAILQQQLIQZBACEHCyAQQgR8pyAHNgAAIBCnIAY2AAAgAEKQGHwkAEEAJAEL
-"##;
-
-/// Part 3 of what stands before the data.
-pub(crate) const PART_3: &str = r##"rgMCB34DfxAABEAACyMAQqACfSIDJAACQAJAIANCEFMNAEKIAkKgAiACQQdG
+rgMCB34DfxAABEAACyMAQqACfSIDJAACQAJAIANCEFMNAEKIAkKgAiACQQdG
 IgIbIQVCGEIAIAIbIgRQRQRAIAMgBXynQQAgBKf8CwALIAVQIgtFBEAgA6cg
 AacgBaf8CgAACwJAAkAgA6cvAcYBIgIEQCADpy8BtAFFDQELIACnQQA2AAgg
 AKdCBjcAAAwBCyACQYCAAU8NASADQsYBfCEEIAOnLwHKAQRAQYCAAUEAQYCA
@@ -1355,7 +1387,10 @@ pyADpygBwAE2Ab4BIAOnIAQ3AbYBIAOnIAOnLwHEATsBwgEgA6dB/78BOwHE
 ASADp0EANgHmASALRQRAIAGnIAOnIAWn/AoAAAsgAKcgDDYACCAApyACNgAE
 IACnQQA2AAALIANCoAJ8JAAMAQsAC0EAJAELwAUCB34FfxAABEAACyMAQrAC
 fSIFJAACQAJAAkAgBSIDQhBTDQBChAEhBwJAAkACQAJAIAJBB2sOAgEAAgtB
-ASELQpABIQcLIAOnIAs6AA4gA0IOfEIBhKdBAEGhAvwLACAHQgGGIQYDQCAB
+"##;
+
+/// Part 3 of what stands before the data.
+pub(crate) const PART_3: &str = r##"ASELQpABIQcLIAOnIAs6AA4gA0IOfEIBhKdBAEGhAvwLACAHQgGGIQYDQCAB
 IAR8IgVCBnynLwEAIgsgBUIEfKcvAQAiDCAFQgJ8py8BACINIAWnLwEAIg4g
 CkH//wNxIgogCiAOSRsiCiAKIA1JGyIKIAogDEkbIgogCiALSRvBIQogBiAE
 Qgh8IgRSDQALQQAhCyAKQQBIDQEgB0IBhiIFUEUEQCADQhB8pyABpyAFp/wK
@@ -2222,10 +2257,7 @@ script = [
     "tick", "tick", "end", "tick", "tick", "end", "tick", "tick", "end", "tick", "tick", "end",
     "tick", "tick", "end", "tick", "tick", "end", "tick", "tick", "end", "tick", "tick", "end",
     "tick", "tick", "end", "tick", "tick", "end", "tick", "tick", "end", "tick", "tick", "end",
-"##;
-
-/// Part 4 of what stands before the data.
-pub(crate) const PART_4: &str = r##"]
+]
 
 [[task]]
 at = "02000"
@@ -2306,7 +2338,10 @@ const CODE_TEXTS = {
   [Code.NO_ROOM]: "the text doesn't fit into the room that is lent",
   [Code.TIME_RANGE]: "a number of the timetable is out of its range",
   [Code.STEAL_TWICE]: "two rows of stolen time hold at one time",
-  [Code.COST_TWICE]: "one address has two costs",
+"##;
+
+/// Part 4 of what stands before the data.
+pub(crate) const PART_4: &str = r##"  [Code.COST_TWICE]: "one address has two costs",
 };
 
 const REPLY_TEXTS = {
@@ -2987,6 +3022,18 @@ const APART = 256;
 
 const MOST_ROWS = 8_000_000;
 
+const spelled = new Map();
+
+const MOST_SPELLED = 10_000;
+
+function once(line) {
+  const found = spelled.get(line);
+  if (found !== undefined) return found;
+  if (spelled.size >= MOST_SPELLED) spelled.clear();
+  spelled.set(line, line);
+  return line;
+}
+
 const SPENT = 100;
 const LOG_FULL = 101;
 
@@ -3144,7 +3191,7 @@ class Run {
     const step = refused === 0 ? this.head.ask(line, row) : null;
     if (step !== null) this.head.clock?.served(this.head.machine, step);
     this.count = row;
-    this.lines.push(line);
+    this.lines.push(once(line));
     by.set(row, this.asker(who));
     kinds.set(row, step === null ? refused : step.kind);
     numbers.set(row, step === null ? 0 : step.number);
@@ -3513,10 +3560,7 @@ function holders(run, { step, scene, jobsSince, tasksSince }, names) {
     const area = job.area === 0 ? "" : `, area ${job.area}`;
     const at = job.asleep ? `, asleep at ${names.of(job.at)}` : `, at ${names.of(job.at)}`;
     const told = `set ${k}: job ${job.number}, priority ${octal(job.priority, 2)}${at}${area}`;
-"##;
-
-/// Part 5 of what stands before the data.
-pub(crate) const PART_5: &str = r##"    return [told, ...sinceOf(run, jobsSince[k])];
+    return [told, ...sinceOf(run, jobsSince[k])];
   });
   const isHolder = scene.sets.map((job) => step.number === 0o1202 || (job?.area ?? 0) > 0);
   return lines.filter((it, k) => it.length > 0 && isHolder[k]);
@@ -3548,17 +3592,20 @@ function brokenPairs(power) {
   return lines;
 }
 
-function accountOfBeginning(run, shown, names) {
+function accountOfBeginning(run, shown, names, about) {
   const { power } = run.bench;
+  const said = about === "" ? [] : [[about]];
   if (power === undefined) {
-    const lines = [["Nothing has been asked. No job lives, no task waits, all phases are 0."]];
+    const lines = about !== "" ? said
+      : [["Nothing has been asked. There is no job, no task waits, and all phases are 0."]];
     return { heading: "The beginning", lines, isAlarm: false };
   }
   const isBroken = shown.reply.startsWith("alarm");
   const lines = isBroken
     ? [["No phase can be trusted, and nothing begins again."], ...brokenPairs(power)]
     : beginsAgain(shown.scene, names);
-  return { heading: isBroken ? "Alarm 1107: why" : "Power is back", lines, isAlarm: isBroken };
+  const heading = isBroken ? "Alarm 1107: why" : "Power is back";
+  return { heading, lines: [...said, ...lines], isAlarm: isBroken };
 }
 
 function accountOfAlarm(run, shown, names) {
@@ -3587,11 +3634,14 @@ function replySentence(run, shown, names) {
       return [[`Job ${step?.number} begins at ${names.of(job?.at ?? 0)}, in core set ${k}`
         + `${job?.area ? ` with VAC area ${job.area}` : ""}. `
         + (scene.running === step?.number ? "It runs." : "It waits.")]];
-    }
-    case Kind.NO_JOB: return [["Nobody runs, so there is no job to act on."]];
+"##;
+
+/// Part 5 of what stands before the data.
+pub(crate) const PART_5: &str = r##"    }
+    case Kind.NO_JOB: return [["No job is running, so there is none to act on."]];
     case Kind.NO_SLEEPER: return [["No job sleeps at that address."]];
     case Kind.ROUSED: return [[`Job ${step?.number} is awake.`]];
-    case Kind.IDLE: return [["Nobody is left who is awake."]];
+    case Kind.IDLE: return [["No job is left that is awake."]];
     case Kind.LEFT: case Kind.RUNS:
       return [[`Job ${step?.number} runs${runner ? `, at ${names.of(runner.at)}` : ""}.`]];
     default: return [];
@@ -3607,8 +3657,8 @@ function firedSentences({ step, scene, before }, names) {
     ...jobs.map((it) => [it])];
 }
 
-function accountOf(run, shown, names) {
-  if (shown.row === 0) return accountOfBeginning(run, shown, names);
+function accountOf(run, shown, names, about = "") {
+  if (shown.row === 0) return accountOfBeginning(run, shown, names, about);
   if (shown.step !== null && shown.step.alarm !== 0) return accountOfAlarm(run, shown, names);
   const lines = [...replySentence(run, shown, names), ...firedSentences(shown, names)];
   if (shown.after !== null) lines.push(...beginsAgain(shown.after, names));
@@ -3622,7 +3672,7 @@ function sentenceOf(shown, count, names) {
   const where = shown.row === 0 ? "The beginning" : `Request ${shown.row} of ${count}`;
   const at = `at ${seconds(shown.ticks)}`;
   const job = sets[0];
-  const runs = running === 0 || job === null ? "Nobody runs."
+  const runs = running === 0 || job === null ? "No job is running."
     : `Job ${running} runs${names.all.has(octal(job.at, 5)) ? `: ${names.short(job.at)}` : ""}.`;
   return `${where}, ${at}: ${shown.line}. Reply: ${shown.reply}. ${runs}`;
 }
@@ -4039,6 +4089,11 @@ function emptyBench() {
   return bench;
 }
 
+function leftOut(level) {
+  const ample = { limit: 1_000_000, allowance: 2n ** 63n - 1n };
+  return { ...emptyBench(), ...(level === "scenario" ? ample : {}) };
+}
+
 function checkSteal({ steal }) {
   if (typeof steal === "number") return;
   const rows = [...steal].sort((a, b) => a.from - b.from);
@@ -4054,8 +4109,7 @@ function readBench(document) {
   }
   const table = readToml(document);
   const level = table.keys.has("seconds") ? "scenario" : "bench";
-  const bench = { ...emptyBench(), ...tableOf(table, level, new Place(1, "")) };
-  if (level === "scenario") bench.limit = 1_000_000;
+  const bench = { ...leftOut(level), ...tableOf(table, level, new Place(1, "")) };
   checkSteal(bench);
   return bench;
 }
@@ -4104,8 +4158,9 @@ function valueText(value) {
 }
 
 function writeBench(bench) {
-  const level = bench.seconds === undefined ? LEVELS.bench : LEVELS.scenario;
-  const plain = /** @type {any} */ (emptyBench());
+  const kind = bench.seconds === undefined ? "bench" : "scenario";
+  const level = LEVELS[kind];
+  const plain = /** @type {any} */ (leftOut(kind));
   const given = bench;
   const lines = [];
   const tableLines = [];
@@ -4135,6 +4190,7 @@ return {
   LEVELS,
   textFault,
   emptyBench,
+  leftOut,
   readBench,
   requestsOf,
   writeBench,
@@ -4247,18 +4303,30 @@ class Strip {
   }
 
   get text() {
-    const most = [0, 0, 0];
-    for (let row = 0; row <= this.count; row++) {
-      const use = this.run.columns.uses.items[row];
-      for (let k = 0; k < 3; k++) most[k] = Math.max(most[k], (use >> (4 * k)) & 15);
-    }
-    const alarms = this.run.alarms.filter((row) => row <= this.count);
-    const first = alarms.length === 0 ? "no alarm"
-      : `${counted(alarms.length, "alarm")}, the first, ${alarmAt(this.run, alarms[0])}`;
+    const most = mostUsed(this.run, this.count);
     return `Over ${this.isTime ? seconds(this.end) : counted(this.count, "request")}: at most `
       + `${most[0]} of ${this.run.sets} core sets, ${most[1]} of 5 areas and ${most[2]} of 9 tasks `
-      + `at once; ${first}.`;
+      + `at once; ${alarmsOf(this.run, this.count)}.`;
   }
+}
+
+function mostUsed(run, count) {
+  const most = [0, 0, 0];
+  for (let row = 0; row <= count; row++) {
+    const use = run.columns.uses.items[row];
+    for (let k = 0; k < 3; k++) most[k] = Math.max(most[k], (use >> (4 * k)) & 15);
+  }
+  return most;
+}
+
+function alarmsOf(run, count) {
+  const alarms = run.alarms.filter((row) => row <= count);
+  if (alarms.length === 0) return "no alarm";
+  return `${counted(alarms.length, "alarm")}, the first, ${alarmAt(run, alarms[0])}`;
+}
+
+function outcomeOf(run, count) {
+  return `${alarmsOf(run, count)}; at most ${mostUsed(run, count)[0]} of ${run.sets} core sets`;
 }
 
 function alarmAt(run, row) {
@@ -4300,7 +4368,8 @@ function drawStrip(strip, at) {
 
 function drawAlarms(pen, strip, wide, high, colour) {
   pen.fillStyle = colour;
-  pen.font = "bold 11px system-ui, sans-serif";
+  const tall = Math.round(0.7 * parseFloat(getComputedStyle(document.documentElement).fontSize));
+  pen.font = `bold ${tall}px system-ui, sans-serif`;
   let free = -99;
   for (const row of strip.run.alarms) {
     if (row > strip.count) break;
@@ -4308,8 +4377,8 @@ function drawAlarms(pen, strip, wide, high, colour) {
     pen.fillRect(x, 0, 1.5, high);
     if (x > free) {
       const text = octal(strip.run.columns.numbers.items[row], 4);
-      pen.fillText(text, Math.min(x + 3, wide - 30), 11);
-      free = x + 34;
+      pen.fillText(text, Math.min(x + 3, wide - 2.8 * tall), tall);
+      free = x + 3 * tall;
     }
   }
 }
@@ -4325,6 +4394,7 @@ function drawLegend(strip) {
 }
 return {
   Strip,
+  outcomeOf,
   alarmAt,
   drawStrip,
   drawLegend,
@@ -4378,6 +4448,14 @@ class ClockPanel {
     }
     this.filled = run;
     setTimeout(() => this.fillOn(run), 0);
+  }
+
+  wholeRunOf(bench) {
+    const run = new Run(bench);
+    run.head.clock = clockOf(bench);
+    run.checkpoints = [run.head.copy()];
+    while (this.step(run));
+    return run;
   }
 
   fillOn(run) {
@@ -4543,6 +4621,7 @@ class ClockPanel {
     const { workbench } = this;
     const { history } = workbench;
     const { at, count, run: old } = workbench.view;
+    workbench.keepOutcome();
     history.keep(`as ${Object.keys(given)[0] === "steal" ? "stolen time" : "a cost"} was changed`);
     const run = old.fork(at);
     run.change(this.sinceThen(run, at, given), given);
@@ -4604,7 +4683,7 @@ return {
 };
 })();
 const in_files = (() => {
-const { emptyBench, writeBench } = in_bench;
+const { MOST_BYTES, emptyBench, writeBench } = in_bench;
 const { button, by, make, openDialog } = in_dom;
 function textOfData(data) {
   const signs = { "\\l": "<", "\\\\": "\\", "\\\n": "" };
@@ -4634,8 +4713,14 @@ function base64url(bytes) {
 }
 
 async function through(bytes, stream) {
-  const packed = new Blob([/** @type {any} */ (bytes)]).stream().pipeThrough(stream);
-  return new Uint8Array(await new Response(packed).arrayBuffer());
+  const reader = new Blob([/** @type {any} */ (bytes)]).stream().pipeThrough(stream).getReader();
+  const found = [];
+  for (;;) {
+    const { done, value } = await reader.read();
+    if (done) return Uint8Array.from(found);
+    if (found.length + value.length > MOST_BYTES) throw new Error("the document is too long");
+    for (const byte of value) found.push(byte);
+  }
 }
 
 async function markOf(document) {
@@ -4673,10 +4758,7 @@ function openOpening(open) {
   const file = make("input", { type: "file", accept: ".toml,.txt", id: "file" });
   file.addEventListener("change", async () => {
     if (file.files.length === 1) open(await file.files[0].text(), file.files[0].name);
-"##;
-
-/// Part 6 of what stands before the data.
-pub(crate) const PART_6: &str = r##"  });
+  });
   const area = make("textarea", { id: "pasted", spellcheck: false, "aria-label": "A document" });
   const paste = () => open(area.value, "what was pasted");
   const pasted = button("Open it", paste, { id: "open-pasted" });
@@ -4770,7 +4852,10 @@ function fieldOf({ name, label, sentence }) {
     "aria-label": label,
   });
 }
+"##;
 
+/// Part 6 of what stands before the data.
+pub(crate) const PART_6: &str = r##"
 function openForm(word, bench, scene, ask) {
   const parts = FORMS.get(word) ?? [];
   const fields = parts.map(fieldOf);
@@ -4889,6 +4974,8 @@ const { by, fill, make } = in_dom;
 const { octal } = in_words;
 const AROUND = 7;
 
+const LEAST_QUIET = 3;
+
 const MOST_PRINTED = 5000;
 
 function setsCell(scene) {
@@ -4933,18 +5020,53 @@ function drawList(run, at, count, go) {
   fill("lines", rows);
 }
 
-function drawPrinted(run, count, title, plan, account) {
+function isQuiet(run, row) {
+  return run.lines[row] === "tick" && !run.isChange(row) && !run.isAlarm(row) && !run.isRefused(row);
+}
+
+function* stretches(run, count) {
+  let from = 0;
+  for (let row = 1; row <= count + 1; row++) {
+    let to = row;
+    while (to <= count && isQuiet(run, to)) to++;
+    if (to - row < LEAST_QUIET && row <= count) continue;
+    if (from < row) yield { from, to: row - 1, isQuiet: false };
+    if (to > row) yield { from: row, to: to - 1, isQuiet: true };
+    [from, row] = [to, to];
+  }
+}
+
+function quietLine(run, from, to) {
+  const [first] = run.show(from, from);
+  const [last] = run.show(to, to);
+  const line = lineOf(last, run);
+  const told = [`${from} to ${to}`, `${first.time} to ${last.time}`, `tick, ${to - from + 1} times`];
+  told.forEach((it, k) => {
+    line.children[k].textContent = it;
+  });
+  return line;
+}
+
+function drawPrinted(run, count, [title, outcome, plan], account) {
   const head = by("rows").querySelector("thead").cloneNode(true);
   const body = make("tbody");
-  for (const shown of run.show(0, Math.min(count, MOST_PRINTED))) {
-    body.append(lineOf(shown, run));
-    if (shown.reply.includes("alarm")) {
-      body.append(make("tr", {}, make("td", { colSpan: 9 }, make("pre", {}, account(shown)))));
+  let until = 0;
+  for (const { from, to, isQuiet: isOne } of stretches(run, count)) {
+    if (body.children.length >= MOST_PRINTED) break;
+    until = isOne ? to : Math.min(to, from + MOST_PRINTED);
+    if (isOne) body.append(quietLine(run, from, to));
+    else {
+      for (const shown of run.show(from, until)) {
+        body.append(lineOf(shown, run));
+        if (!shown.reply.includes("alarm")) continue;
+        body.append(make("tr", {}, make("td", { colSpan: 9 }, make("pre", {}, account(shown)))));
+      }
     }
   }
-  const more = count > MOST_PRINTED ? [`The first ${MOST_PRINTED} of ${count} requests.`] : [];
-  fill("printed", [make("h1", {}, title), make("pre", {}, plan), ...more,
-    make("table", {}, head, body)]);
+  const more = until < count ? [make("p", {}, `The first ${until} of ${count} requests.`)] : [];
+  const plans = plan === "" ? [] : [make("h2", {}, "Plan"), make("pre", { class: "plan" }, plan)];
+  fill("printed", [make("h1", {}, title), make("p", {}, outcome), ...plans,
+    make("h2", {}, "Requests"), ...more, make("table", {}, head, body)]);
 }
 return {
   cellsOf,
@@ -4953,13 +5075,14 @@ return {
 };
 })();
 const in_plan = (() => {
-const { LEVELS, readBench, writeBench } = in_bench;
+const { LEVELS, leftOut, readBench, writeBench } = in_bench;
 const { button, by, fill, labelled, make, openDialog } = in_dom;
 const { Unread } = in_toml;
 const LABELS = {
   ...{ sets: "Core sets", limit: "Log's limit", allowance: "Allowance" },
   ...{ key: "A key pulse asks for", radar: "A radar pulse asks for" },
-  ...{ seconds: "Seconds", title: "Title", steal: "Stolen percent" },
+  ...{ seconds: "Seconds", title: "Title" },
+  steal: "Stolen percent, or lines: from, to, percent",
   ...{ at: "At", bank: "Bank", action: "Actions", group: "Group", phase: "Phase", job: "Job" },
   ...{ task: "Task", name: "Name", cost: "Cost, cs", then: "Then", do: "Asks for" },
   ...{ every: "Every, cs", until: "Until, cs" },
@@ -4971,10 +5094,15 @@ const HEADINGS = {
   ...{ event: "Events: what is asked when" },
 };
 
-const LONG = new Set(["action", "do", "key", "radar"]);
+const LONG = new Set(["action", "do", "key", "radar", "steal"]);
+
+const STOLEN = /^([0-9]+)[ ,]+([0-9]+)[ ,]+([0-9]+)$/;
 
 function typed(value) {
   if (value === undefined) return "";
+  if (Array.isArray(value) && value[0]?.percent !== undefined) {
+    return value.map((it) => `${it.from} ${it.to} ${it.percent}`).join("\n");
+  }
   return Array.isArray(value) ? value.join("\n") : String(value);
 }
 
@@ -5000,6 +5128,10 @@ function valueOf(text, row) {
   const lines = text.split("\n").map((it) => it.trim()).filter((it) => it !== "");
   if (lines.length === 0) return undefined;
   if (row.kind === "oneOrMore") return lines;
+  const stolen = lines.map((it) => STOLEN.exec(it));
+  if (row.kind === "steal" && stolen.every((it) => it !== null)) {
+    return stolen.map((it) => ({ from: BigInt(it[1]), to: BigInt(it[2]), percent: BigInt(it[3]) }));
+  }
   const isNumber = (row.kind === "integer" || row.kind === "steal") && /^[0-9]+$/.test(lines[0]);
   return isNumber ? BigInt(lines[0]) : text.trim();
 }
@@ -5065,7 +5197,12 @@ function openPlan(bench, apply) {
   const timed = make("input", { type: "checkbox", id: "plan-timed", checked: isScenario });
   timed.addEventListener("change", () => {
     const values = read();
+    const [before, after] = ["bench", "scenario"].map(leftOut);
     isScenario = timed.checked;
+    for (const name of ["limit", "allowance"]) {
+      const [left, given] = isScenario ? [before, after] : [after, before];
+      if (String(values[name]) === String(left[name])) values[name] = given[name];
+    }
     draw({ ...values, seconds: isScenario ? values.seconds ?? 60 : undefined });
   });
   draw(bench);
@@ -5145,8 +5282,8 @@ function setBox(scene, k, names, isNew) {
   if (job === null) return box(`set ${k}`, "free", [], "free", isNew);
   const runs = k === 0 && scene.running === job.number;
   const isNamed = scene.next === job.number && scene.next !== scene.running;
-  const state = [runs ? "runs" : job.asleep ? "asleep" : "waits", ...(isNamed ? ["NEWJOB"] : []),
-    ...(job.area > 0 ? [`area ${job.area}`] : [])].join(", ");
+  const stands = runs ? "runs" : job.asleep ? "asleep" : isNamed ? "NEWJOB" : "waits";
+  const state = `${stands}${job.area > 0 ? `, area ${job.area}` : ""}`;
   const style = `${job.asleep ? `asleep s${job.number}` : `j${job.number}`}${runs ? " runs" : ""}`;
   const more = [`priority ${octal(job.priority, 2)}`, names.short(job.at), state];
   return box(`set ${k}`, `job ${job.number}`, more, style, isNew);
@@ -5187,7 +5324,7 @@ function drawBase({ phases, codes, next, running }, before) {
     it === 0 ? "none" : octal(it, 4), [], it === 0 ? "free" : "lit",
     before !== null && it !== before.codes[k])));
   const isNamed = next !== 0 && next !== running;
-  const named = isNamed ? `job ${next}` : "nobody else";
+  const named = isNamed ? `job ${next}` : "no other";
   const isNew = before !== null && next !== before.next;
   fill("newjob", [box("names", named, [], isNamed ? "lit" : "free", isNew)]);
 }
@@ -5361,10 +5498,54 @@ return {
   Prompt,
 };
 })();
+const in_tries = (() => {
+function atBeginning(workbench, shown) {
+  const { run, count } = workbench.view;
+  const actions = workbench.actions();
+  if (count === 0) return [["Open an example", actions.examples], ["Help", actions.help]];
+  const alarm = run.alarms.find((/** @type {number} */ row) => row > shown.row && row <= count);
+  return alarm === undefined ? [] : [["To the first alarm", () => workbench.go(alarm)]];
+}
+
+function fromBeginning(workbench, name, given) {
+  return [name, () => {
+    const { at } = workbench.view;
+    workbench.go(0);
+    workbench.clock.change(given);
+    workbench.go(at);
+  }];
+}
+
+function atAlarm(workbench, shown) {
+  const { run } = workbench.view;
+  const { bench } = run;
+  const found = [/** @type {Try} */ (["The row before", () => workbench.go(shown.row - 1)])];
+  if (shown.step?.number === 0o1202 && run.sets === 7) {
+    const name = workbench.beside === null ? "With eight core sets?" : "Nothing beside";
+    found.push([name, () => {
+      if (workbench.beside === null) workbench.compareSets();
+      else workbench.compare(workbench.beside);
+    }]);
+  }
+  if (bench.seconds === undefined) return found;
+  const isStolen = typeof bench.steal === "number" ? bench.steal > 0 : bench.steal.length > 0;
+  if (isStolen) found.push(fromBeginning(workbench, "Without stolen time?", { steal: 0 }));
+  return found;
+}
+
+function tries(workbench, shown) {
+  if (workbench.isHidden) return [];
+  if (shown.row === 0) return atBeginning(workbench, shown);
+  return shown.step !== null && shown.step.alarm !== 0 ? atAlarm(workbench, shown) : [];
+}
+return {
+  tries,
+};
+})();
 const { start } = in_machine;
 const { Names, accountOf, sentenceOf } = in_account;
 const { emptyBench, readBench, requestsOf } = in_bench;
-const { Strip, drawLegend, drawStrip } = in_chart;
+const { Strip, drawLegend, drawStrip, outcomeOf } = in_chart;
 const { ClockPanel } = in_clock;
 const { button, by, closeDialog, fill, make, openDialog } = in_dom;
 const files = in_files;
@@ -5376,7 +5557,8 @@ const { Run } = in_run;
 const { HELP } = in_help;
 const { drawSets, drawTables, drawWords } = in_tables;
 const { Prompt, completions } = in_typing;
-const { counted } = in_words;
+const { tries } = in_tries;
+const { counted, seconds } = in_words;
 const STRIP_WIDE = 1200;
 
 class Workbench {
@@ -5385,7 +5567,10 @@ class Workbench {
     this.history = new History({ run: this.clock.runOf(emptyBench(), []), count: 0, at: 0 });
     this.names = new Names(emptyBench());
     this.document = "";
+    this.opened = this.view.run;
+    this.about = "";
     this.title = "AGC workbench";
+    this.outcome = "";
     this.beside = null;
     this.isHidden = false;
     this.kept = files.keptTexts(by("kept").textContent.trim());
@@ -5415,6 +5600,8 @@ class Workbench {
       return false;
     }
     this.document = text;
+    this.opened = this.view.run;
+    this.about = question === "" ? files.questionOf(text).replaceAll("\n", " ") : "";
     this.hide(question);
     closeDialog();
     return true;
@@ -5442,6 +5629,7 @@ class Workbench {
     this.title = bench.title ?? name;
     this.names = new Names(bench);
     this.beside = null;
+    this.outcome = "";
     this.history.show({ run, count: run.count, at: 0 });
     this.history.branches = [];
     this.drawAll();
@@ -5500,6 +5688,8 @@ class Workbench {
       drawLegend(this.strip);
     }
     this.clock.draw(run);
+    by("outcome").textContent = this.outcome === "" || this.isHidden ? ""
+      : `Before: ${this.outcome}. Now: ${outcomeOf(run, count)}.`;
     this.drawBranches();
     this.drawRow();
   }
@@ -5515,6 +5705,9 @@ class Workbench {
     by("slider").setAttribute("aria-valuetext", `request ${at} of ${count}`);
     by("sentence").textContent = sentenceOf(shown, count, this.names);
     by("sentence").className = shown.reply.includes("alarm") ? "alarm" : "";
+    const from = run.ticksAt(at) > 0 ? seconds(run.ticksAt(at)) : at > 0 ? `request ${at}`
+      : "the beginning";
+    by("since").textContent = `A change here holds from ${from} on.`;
     by("undo").disabled = this.history.done.length === 0;
     by("redo").disabled = this.history.undone.length === 0;
     by("alarm-next").disabled = this.isHidden;
@@ -5523,13 +5716,15 @@ class Workbench {
   }
 
   drawAccount(shown) {
-    const account = accountOf(this.view.run, shown, this.names);
+    const account = accountOf(this.view.run, shown, this.names, this.about);
+    fill("try", tries(this, shown).map(([text, run]) => button(text, run)));
+    by("try").hidden = by("try").children.length === 0;
     by("told").classList.toggle("alarm", account.isAlarm);
     by("told-name").textContent = account.heading;
     const who = shown.who === "nobody" ? [] : [[`Asked by ${shown.who}.`]];
     fill("account", [...account.lines, ...who].map((line) =>
       make("li", {}, ...line.map((it) => this.piece(it)))));
-    by("told").scrollTop = 0;
+    by("account").scrollTop = 0;
   }
 
   piece(piece) {
@@ -5548,9 +5743,12 @@ class Workbench {
     const other = this.beside;
     by("beside").hidden = other === null;
     if (other === null) return;
-    const row = Math.min(at, other.count);
+    const { run } = this.view;
+    const row = run.bench.seconds === undefined ? Math.min(at, other.count)
+      : other.run.rowAtTime(run.ticksAt(at), other.count);
     const [shown] = other.run.show(row, row);
-    by("beside-name").textContent = `Beside it, ${other.name}: request ${row}, ${shown.reply}`;
+    const said = `request ${row}, ${shown.reply}. In all ${outcomeOf(other.run, other.count)}`;
+    by("beside-name").textContent = `Beside it, ${other.name}: ${said}.`;
     drawSets("beside-sets", shown.scene, shown.before, this.names);
   }
 
@@ -5575,9 +5773,16 @@ class Workbench {
   compareSets() {
     const { run, count } = this.view;
     const sets = run.sets === 7 ? 8 : 7;
-    const other = new Run({ ...run.bench, sets });
-    for (const [line, who] of run.requests(count)) other.ask(line, who);
-    this.compare({ run: other, count, name: `with ${sets} core sets` });
+    const bench = { ...run.bench, sets };
+    const isTimed = bench.seconds !== undefined;
+    const other = isTimed ? this.clock.wholeRunOf(bench) : new Run(bench);
+    if (!isTimed) for (const [line, who] of run.requests(count)) other.ask(line, who);
+    this.compare({ run: other, count: other.count, name: `with ${sets} core sets` });
+  }
+
+  keepOutcome() {
+    const { run, count } = this.view;
+    this.outcome = outcomeOf(run, count);
   }
 
   openPlan() {
@@ -5585,6 +5790,7 @@ class Workbench {
       const { run, count, at } = this.view;
       const asked = bench.seconds === undefined ? run.requests(count) : [];
       const made = this.clock.runOf(bench, asked);
+      this.keepOutcome();
       this.history.keep("as the plan was changed");
       this.names = new Names(bench);
       this.history.show({ run: made, count: made.count, at: Math.min(at, made.count) });
@@ -5604,7 +5810,13 @@ class Workbench {
     const { run, count } = this.view;
     const bench = files.benchOf(run, count);
     const whole = this.clock.document(run) ?? bench;
-    const mark = await files.markOf(whole).catch(() => "");
+    const isTimed = run.bench.seconds !== undefined;
+    const isMore = run.changes.length > 0 || count < run.count || run.who.some((it) =>
+      it.startsWith("you") || (!isTimed && it === "the clock"));
+    const isOpened = run === this.opened && this.document !== "" && !isMore;
+    const exercise = isOpened && this.kept.find((it) => it.text === this.document);
+    const mark = exercise ? `#${exercise.name}`
+      : await files.markOf(isOpened ? this.document : whole).catch(() => "");
     const area = make("textarea", { readOnly: true, value: bench, "aria-label": "The bench" });
     const link = make("input", { type: "text", readOnly: true, "aria-label": "The link",
       value: mark.length > 8000 ? "" : `${location.href.split("#")[0]}${mark}` });
@@ -5621,19 +5833,22 @@ class Workbench {
 
   print() {
     const { run, count } = this.view;
-    const plan = this.clock.document(run) ?? files.benchOf(run, 0);
-    drawPrinted(run, count, this.title, plan, (shown) =>
+    const plan = (this.clock.document(run) ?? files.benchOf(run, 0)).trim();
+    const outcome = `${new Strip(run, count, 1).text} ${this.about}`;
+    drawPrinted(run, count, [this.title, outcome, plan], (shown) =>
       accountOf(run, shown, this.names).lines.map((line) =>
         line.map((it) => (typeof it === "string" ? it : it.text)).join("")).join("\n"));
   }
 
   undo() {
     this.clock.pause();
+    this.outcome = "";
     if (this.history.undo()) this.drawAll();
   }
 
   redo() {
     this.clock.pause();
+    this.outcome = "";
     if (this.history.redo()) this.drawAll();
   }
 
@@ -5662,7 +5877,9 @@ class Workbench {
         /** @type {Record<string, () => void>} */ (this.actions())[id]());
     }
     by("close").addEventListener("click", closeDialog);
-    by("dialog").addEventListener("close", () => fill("dialog-body", []));
+    by("dialog").addEventListener("close", () => {
+      if (!by("dialog").open) fill("dialog-body", []);
+    });
     by("slider").addEventListener("input", () => this.go(Number(by("slider").value)));
     by("go").addEventListener("keydown", (/** @type {KeyboardEvent} */ event) => {
       if (event.key === "Enter") this.goTyped();
@@ -5706,11 +5923,14 @@ class Workbench {
 
   async fromAddress() {
     const mark = location.hash;
+    const kept = this.kept.find((it) => `#${it.name}` === mark);
     if (/^#[0-9]+$/.test(mark)) this.go(Number(mark.slice(1)));
-    else if (mark.startsWith("#bench=")) {
+    else if (kept !== undefined) {
+      this.open(kept.text, kept.name, kept.kind === "exercise" ? files.questionOf(kept.text) : "");
+    } else if (mark.startsWith("#bench=")) {
       const text = await files.documentOf(mark).catch(() => null);
       if (text === null) this.say("What stands behind # can't be read.");
-      else this.open(text, "the link");
+      else this.open(text, files.firstSentence(text) || "From a link");
     }
   }
 }

@@ -1,0 +1,70 @@
+/**
+ * What may be tried at a row, as buttons below its account: how one gets on from the beginning, and
+ * at an alarm what might have prevented it.
+ *
+ * @typedef {[string, () => void]} Try
+ * @typedef {import("./run.js").Shown} Shown
+ */
+
+/**
+ * @param {any} workbench
+ * @param {Shown} shown
+ * @returns {Try[]}
+ */
+function atBeginning(workbench, shown) {
+  const { run, count } = workbench.view;
+  const actions = workbench.actions();
+  if (count === 0) return [["Open an example", actions.examples], ["Help", actions.help]];
+  const alarm = run.alarms.find((/** @type {number} */ row) => row > shown.row && row <= count);
+  return alarm === undefined ? [] : [["To the first alarm", () => workbench.go(alarm)]];
+}
+
+/**
+ * What a scenario is changed to from its beginning, so that the first alarm may not come.
+ * @param {any} workbench
+ * @param {string} name
+ * @param {any} given
+ * @returns {Try}
+ */
+function fromBeginning(workbench, name, given) {
+  return [name, () => {
+    const { at } = workbench.view;
+    workbench.go(0);
+    workbench.clock.change(given);
+    workbench.go(at);
+  }];
+}
+
+/**
+ * @param {any} workbench
+ * @param {Shown} shown
+ * @returns {Try[]}
+ */
+function atAlarm(workbench, shown) {
+  const { run } = workbench.view;
+  const { bench } = run;
+  const found = [/** @type {Try} */ (["The row before", () => workbench.go(shown.row - 1)])];
+  if (shown.step?.number === 0o1202 && run.sets === 7) {
+    const name = workbench.beside === null ? "With eight core sets?" : "Nothing beside";
+    found.push([name, () => {
+      if (workbench.beside === null) workbench.compareSets();
+      else workbench.compare(workbench.beside);
+    }]);
+  }
+  if (bench.seconds === undefined) return found;
+  const isStolen = typeof bench.steal === "number" ? bench.steal > 0 : bench.steal.length > 0;
+  if (isStolen) found.push(fromBeginning(workbench, "Without stolen time?", { steal: 0 }));
+  return found;
+}
+
+/**
+ * What may be tried at a row; nothing where an exercise's answer is hidden.
+ * @param {any} workbench
+ * @param {Shown} shown
+ * @returns {Try[]}
+ */
+export function tries(workbench, shown) {
+  if (workbench.isHidden) return [];
+  if (shown.row === 0) return atBeginning(workbench, shown);
+  return shown.step !== null && shown.step.alarm !== 0 ? atAlarm(workbench, shown) : [];
+}
