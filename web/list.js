@@ -84,7 +84,8 @@ export function drawList(run, at, count, go) {
  * @param {number} row
  */
 function isQuiet(run, row) {
-  return run.lines[row] === "tick" && !run.isChange(row) && !run.isAlarm(row) && !run.isRefused(row);
+  const isMore = run.isChange(row) || run.isAlarm(row) || run.isRefused(row);
+  return run.lines[row] === "tick" && !isMore;
 }
 
 /**
@@ -114,8 +115,8 @@ function quietLine(run, from, to) {
   const [first] = run.show(from, from);
   const [last] = run.show(to, to);
   const line = lineOf(last, run);
-  const told = [`${from} to ${to}`, `${first.time} to ${last.time}`, `tick, ${to - from + 1} times`];
-  told.forEach((it, k) => {
+  const count = `tick, ${to - from + 1} times`;
+  [`${from} to ${to}`, `${first.time} to ${last.time}`, count].forEach((it, k) => {
     line.children[k].textContent = it;
   });
   return line;

@@ -42,12 +42,14 @@ function typed(value) {
 }
 
 /**
- * A field for a key.
+ * A field for a key: empty where the key may be left out, and then this is meant.
  * @param {string} name
  * @param {any} value
+ * @param {any} [left]
  */
-function field(name, value) {
-  const text = typed(value);
+function field(name, value, left) {
+  const text = typed(value) === typed(left) ? "" : typed(value);
+  const placeholder = typed(left).length > 9 ? "any" : typed(left);
   if (name === "sets") {
     const made = make("select", { name }, make("option", {}, "7"), make("option", {}, "8"));
     made.value = text === "" ? "7" : text;
@@ -55,12 +57,13 @@ function field(name, value) {
   }
   if (LONG.has(name)) {
     const rows = Math.max(2, text.split("\n").length);
-    const made = make("textarea", { name, rows, cols: 26, spellcheck: false, value: text });
+    const given = { name, rows, cols: 26, spellcheck: false, value: text, placeholder };
+    const made = make("textarea", given);
     made.style.minHeight = "0";
     return made;
   }
   const size = name === "title" ? 40 : name === "job" || name === "task" ? 22 : 9;
-  const more = { spellcheck: false, autocomplete: "off", value: text };
+  const more = { spellcheck: false, autocomplete: "off", value: text, placeholder };
   return make("input", { type: "text", name, size, ...more });
 }
 
@@ -147,8 +150,11 @@ export function openPlan(bench, apply) {
   let isScenario = bench.seconds !== undefined;
   const draw = (/** @type {any} */ values) => {
     const { level, single, tables } = partsOf(isScenario);
+    /** @type {any} */
+    const left = leftOut(isScenario ? "scenario" : "bench");
     const fields = make("div", { class: "fields", id: "plan-fields" }, ...single.map((name) =>
-      labelled(LABELS[/** @type {keyof typeof LABELS} */ (name)], field(name, values[name]))));
+      labelled(LABELS[/** @type {keyof typeof LABELS} */ (name)],
+        field(name, values[name], left[name]))));
     fill(body, [fields, ...tables.map((name) => {
       const below = /** @type {any} */ (LEVELS)[level[name].form];
       return tableOf(name, below, values[name] ?? []);
@@ -169,13 +175,7 @@ export function openPlan(bench, apply) {
   const timed = make("input", { type: "checkbox", id: "plan-timed", checked: isScenario });
   timed.addEventListener("change", () => {
     const values = read();
-    /** @type {any} */
-    const [before, after] = ["bench", "scenario"].map(leftOut);
     isScenario = timed.checked;
-    for (const name of ["limit", "allowance"]) {
-      const [left, given] = isScenario ? [before, after] : [after, before];
-      if (String(values[name]) === String(left[name])) values[name] = given[name];
-    }
     draw({ ...values, seconds: isScenario ? values.seconds ?? 60 : undefined });
   });
   draw(bench);

@@ -28,10 +28,11 @@ function atBeginning(workbench, shown) {
  */
 function fromBeginning(workbench, name, given) {
   return [name, () => {
-    const { at } = workbench.view;
+    const ticks = workbench.view.run.ticksAt(workbench.view.at);
     workbench.go(0);
     workbench.clock.change(given);
-    workbench.go(at);
+    const { run, count } = workbench.view;
+    workbench.go(run.rowAtTime(ticks, count));
   }];
 }
 

@@ -7,8 +7,8 @@ pub(crate) const PART_1: &str = r##"<!DOCTYPE html>
 <meta charset="utf-8">
 <meta http-equiv="Content-Security-Policy" content="default-src 'none';
 base-uri 'none'; form-action 'none';
-script-src 'sha256-HF+Xh1QdXFSFteZ9G321huW9Ksgq5Bhvw5bPOfbMAtQ=' 'wasm-unsafe-eval';
-style-src 'sha256-3Q0BPXWRpLjV2oueX7Ga2LPWkO8KPNHK+B/JQkOjfKU='">
+script-src 'sha256-1a+egq56m2ZjlLwZSkBQkFFjx8ByI976fQvwDKFIeBo=' 'wasm-unsafe-eval';
+style-src 'sha256-mnkQrn0/k/AWD/AFg7OGJ9L3oBPDtel/s1YelTuhTVM='">
 <meta name="viewport" content="width=device-width, initial-scale=1">
 <meta name="color-scheme" content="light dark">
 <title>AGC workbench</title>
@@ -38,6 +38,8 @@ button{background:var(--box);cursor:pointer;white-space:nowrap}
 button:hover{border-color:var(--ink)}
 button:disabled{color:var(--soft);cursor:default}
 button[aria-pressed=true]{background:var(--ink);color:var(--paper)}
+::placeholder{color:var(--soft);opacity:1}
+input[type=checkbox]{min-height:0;width:1.2rem;height:1.2rem;vertical-align:middle}
 input[type=range]{padding:0;border:0;min-width:6rem;flex:1;accent-color:var(--focus)}
 :focus-visible{outline:3px solid var(--focus);outline-offset:1px}
 .bar{position:sticky;top:0;z-index:5;background:var(--bar);border-block:1px solid var(--line);
@@ -95,7 +97,7 @@ margin-top:.5rem;display:flex;flex-direction:column}
 .told h2{margin-top:.2rem}.told .try{display:flex;flex-wrap:wrap;gap:.3rem;margin:.3rem 0 0}
 .told .try button{min-height:2.1rem}
 .since{margin:.3rem 0 0;font-size:.88rem;color:var(--soft);min-height:1.4em}
-#outcome{font-weight:bold;color:var(--ink)}
+#outcome{font-weight:bold;margin:.2rem 0 0}#outcome:empty{margin:0}
 .told.alarm{border-color:var(--edge)}
 .told.alarm h2{color:var(--alarm)}
 .told ul{list-style:none;margin:0;padding:0;font-size:.92rem;flex:1;overflow:auto}
@@ -251,6 +253,7 @@ placeholder="20 or 38.01 s"></label>
 <figure class="chart" id="chart-box" hidden>
 <canvas id="chart" role="img" aria-label="Used core sets, areas and tasks"></canvas>
 <figcaption id="legend"></figcaption>
+<p id="outcome" role="status" aria-live="polite"></p>
 </figure>
 <main>
 <section class="state" aria-label="The tables">
@@ -300,7 +303,6 @@ autocapitalize="off" spellcheck="false" placeholder="findvac 20 02000 00005" max
 <label>Speed <select id="speed"></select></label></div>
 <p class="since" id="since"></p>
 <div class="sliders" id="sliders"></div>
-<p class="since" id="outcome" role="status" aria-live="polite"></p>
 </section>
 </div>
 <section class="list" aria-labelledby="list-name">
@@ -696,11 +698,11 @@ Qf//A3EiAyAAQvIAfKcvAABHDQAgAEL4AHynLwAAIgRBgIABSQ0AIARB//8B
 Rg0AIAJB//8DcSICQcwAIABC4gB8py8AAEEDdGtB/P8DcSIEIAIgBEsbIQIL
 AkAgAEKKAXynLwAAIANHDQAgAEKQAXynLwAAIgNBgIABSQ0AIANB//8BRg0A
 IAJB//8DcSICQc0AIABC+gB8py8AAEEDdGtB/f8DcSIDIAIgA0sbIQILAkAg
-AEKiAXynLwAAIAFB//8DcUcNACAAQqgBfKcvAAAiA0GAgAFJDQAgA0H//wFG
 "##;
 
 /// Part 2 of what stands before the data.
-pub(crate) const PART_2: &str = r##"DQAgAkH//wNxIgJBzgAgAEKSAXynLwAAQQN0a0H+/wNxIgMgAiADSxshAgsC
+pub(crate) const PART_2: &str = r##"AEKiAXynLwAAIAFB//8DcUcNACAAQqgBfKcvAAAiA0GAgAFJDQAgA0H//wFG
+DQAgAkH//wNxIgJBzgAgAEKSAXynLwAAQQN0a0H+/wNxIgMgAiADSxshAgsC
 QCAApy0AAEUNACAAQpoCfKcvAAAgAUH//wNxRw0AIABCoAJ8py8AACIBQYCA
 AUkNACABQf//AUYNACACQf//A3EiAUHPACAAQooCfKcvAABBA3RrQf//A3Ei
 AiABIAJLGyECCyACDwsAC9gDAgN+A38jAEKwAn0iBCQAAkACQAJAAkACQCAE
@@ -4322,7 +4324,8 @@ function mostUsed(run, count) {
 function alarmsOf(run, count) {
   const alarms = run.alarms.filter((row) => row <= count);
   if (alarms.length === 0) return "no alarm";
-  return `${counted(alarms.length, "alarm")}, the first, ${alarmAt(run, alarms[0])}`;
+  const first = alarms.length === 1 ? "" : "the first, ";
+  return `${counted(alarms.length, "alarm")}, ${first}${alarmAt(run, alarms[0])}`;
 }
 
 function outcomeOf(run, count) {
@@ -4850,12 +4853,12 @@ function fieldOf({ name, label, sentence }) {
     ...(name === "A" ? { list: null } : {}),
     value: FIRST[/** @type {keyof typeof FIRST} */ (name)],
     "aria-label": label,
-  });
-}
 "##;
 
 /// Part 6 of what stands before the data.
-pub(crate) const PART_6: &str = r##"
+pub(crate) const PART_6: &str = r##"  });
+}
+
 function openForm(word, bench, scene, ask) {
   const parts = FORMS.get(word) ?? [];
   const fields = parts.map(fieldOf);
@@ -5021,7 +5024,8 @@ function drawList(run, at, count, go) {
 }
 
 function isQuiet(run, row) {
-  return run.lines[row] === "tick" && !run.isChange(row) && !run.isAlarm(row) && !run.isRefused(row);
+  const isMore = run.isChange(row) || run.isAlarm(row) || run.isRefused(row);
+  return run.lines[row] === "tick" && !isMore;
 }
 
 function* stretches(run, count) {
@@ -5040,8 +5044,8 @@ function quietLine(run, from, to) {
   const [first] = run.show(from, from);
   const [last] = run.show(to, to);
   const line = lineOf(last, run);
-  const told = [`${from} to ${to}`, `${first.time} to ${last.time}`, `tick, ${to - from + 1} times`];
-  told.forEach((it, k) => {
+  const count = `tick, ${to - from + 1} times`;
+  [`${from} to ${to}`, `${first.time} to ${last.time}`, count].forEach((it, k) => {
     line.children[k].textContent = it;
   });
   return line;
@@ -5106,8 +5110,9 @@ function typed(value) {
   return Array.isArray(value) ? value.join("\n") : String(value);
 }
 
-function field(name, value) {
-  const text = typed(value);
+function field(name, value, left) {
+  const text = typed(value) === typed(left) ? "" : typed(value);
+  const placeholder = typed(left).length > 9 ? "any" : typed(left);
   if (name === "sets") {
     const made = make("select", { name }, make("option", {}, "7"), make("option", {}, "8"));
     made.value = text === "" ? "7" : text;
@@ -5115,12 +5120,13 @@ function field(name, value) {
   }
   if (LONG.has(name)) {
     const rows = Math.max(2, text.split("\n").length);
-    const made = make("textarea", { name, rows, cols: 26, spellcheck: false, value: text });
+    const given = { name, rows, cols: 26, spellcheck: false, value: text, placeholder };
+    const made = make("textarea", given);
     made.style.minHeight = "0";
     return made;
   }
   const size = name === "title" ? 40 : name === "job" || name === "task" ? 22 : 9;
-  const more = { spellcheck: false, autocomplete: "off", value: text };
+  const more = { spellcheck: false, autocomplete: "off", value: text, placeholder };
   return make("input", { type: "text", name, size, ...more });
 }
 
@@ -5176,8 +5182,10 @@ function openPlan(bench, apply) {
   let isScenario = bench.seconds !== undefined;
   const draw = (/** @type {any} */ values) => {
     const { level, single, tables } = partsOf(isScenario);
+    const left = leftOut(isScenario ? "scenario" : "bench");
     const fields = make("div", { class: "fields", id: "plan-fields" }, ...single.map((name) =>
-      labelled(LABELS[/** @type {keyof typeof LABELS} */ (name)], field(name, values[name]))));
+      labelled(LABELS[/** @type {keyof typeof LABELS} */ (name)],
+        field(name, values[name], left[name]))));
     fill(body, [fields, ...tables.map((name) => {
       const below = /** @type {any} */ (LEVELS)[level[name].form];
       return tableOf(name, below, values[name] ?? []);
@@ -5197,12 +5205,7 @@ function openPlan(bench, apply) {
   const timed = make("input", { type: "checkbox", id: "plan-timed", checked: isScenario });
   timed.addEventListener("change", () => {
     const values = read();
-    const [before, after] = ["bench", "scenario"].map(leftOut);
     isScenario = timed.checked;
-    for (const name of ["limit", "allowance"]) {
-      const [left, given] = isScenario ? [before, after] : [after, before];
-      if (String(values[name]) === String(left[name])) values[name] = given[name];
-    }
     draw({ ...values, seconds: isScenario ? values.seconds ?? 60 : undefined });
   });
   draw(bench);
@@ -5509,10 +5512,11 @@ function atBeginning(workbench, shown) {
 
 function fromBeginning(workbench, name, given) {
   return [name, () => {
-    const { at } = workbench.view;
+    const ticks = workbench.view.run.ticksAt(workbench.view.at);
     workbench.go(0);
     workbench.clock.change(given);
-    workbench.go(at);
+    const { run, count } = workbench.view;
+    workbench.go(run.rowAtTime(ticks, count));
   }];
 }
 
