@@ -101,8 +101,7 @@ function mostUsed(run, count) {
 function alarmsOf(run, count) {
   const alarms = run.alarms.filter((row) => row <= count);
   if (alarms.length === 0) return "no alarm";
-  const first = alarms.length === 1 ? "" : "the first, ";
-  return `${counted(alarms.length, "alarm")}, ${first}${alarmAt(run, alarms[0])}`;
+  return `${counted(alarms.length, "alarm")}, the first, ${alarmAt(run, alarms[0])}`;
 }
 
 /**

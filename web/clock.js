@@ -285,7 +285,9 @@ export class ClockPanel {
     const { history } = workbench;
     const { at, count, run: old } = workbench.view;
     workbench.keepOutcome();
-    history.keep(`as ${Object.keys(given)[0] === "steal" ? "stolen time" : "a cost"} was changed`);
+    const what = { steal: "stolen time was changed", job: "a cost was changed",
+      event: "an event was left out" };
+    history.keep(`as ${what[/** @type {keyof typeof what} */ (Object.keys(given)[0])]}`);
     const run = old.fork(at);
     run.change(this.sinceThen(run, at, given), given);
     if (run.bench.seconds !== undefined) this.fill(run);

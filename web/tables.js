@@ -85,7 +85,14 @@ function drawTasks({ tasks }, since, row, names) {
     const task = tasks[k];
     if (task === undefined) return box(`place ${k + 1}`, "free", [], "free", false);
     const isNew = row > 0 && since[k] >> 1 === row;
-    const made = box(`place ${k + 1}`, names.short(task.at), [`in ${task.left} cs`], "lit", isNew);
+    const address = octal(task.at, 5);
+    const name = names.short(task.at);
+    const style = name === address ? "lit" : "lit named";
+    const made = box(`place ${k + 1}`, name, [`in ${task.left} cs`], style, isNew);
+    if (name !== address) {
+      made.title = `${name}, at ${address}`;
+      made.append(make("span", { class: "hidden" }, `at ${address}`));
+    }
     made.append(make("progress", { max: most, value: task.left, "aria-hidden": "true" }));
     return made;
   }));

@@ -6,6 +6,9 @@
  * @typedef {import("./run.js").Shown} Shown
  */
 
+/** How many events may be left out. */
+const MOST_EVENTS = 2;
+
 /**
  * @param {any} workbench
  * @param {Shown} shown
@@ -55,6 +58,11 @@ function atAlarm(workbench, shown) {
   if (bench.seconds === undefined) return found;
   const isStolen = typeof bench.steal === "number" ? bench.steal > 0 : bench.steal.length > 0;
   if (isStolen) found.push(fromBeginning(workbench, "Without stolen time?", { steal: 0 }));
+  const later = bench.event.filter((/** @type {any} */ it) => it.name !== undefined && it.at > 0);
+  for (const it of later.slice(0, MOST_EVENTS)) {
+    const event = bench.event.filter((/** @type {any} */ other) => other !== it);
+    found.push(fromBeginning(workbench, `Without ${it.name}?`, { event }));
+  }
   return found;
 }
 

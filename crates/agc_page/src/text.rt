@@ -7,8 +7,8 @@ pub(crate) const PART_1: &str = r##"<!DOCTYPE html>
 <meta charset="utf-8">
 <meta http-equiv="Content-Security-Policy" content="default-src 'none';
 base-uri 'none'; form-action 'none';
-script-src 'sha256-1a+egq56m2ZjlLwZSkBQkFFjx8ByI976fQvwDKFIeBo=' 'wasm-unsafe-eval';
-style-src 'sha256-mnkQrn0/k/AWD/AFg7OGJ9L3oBPDtel/s1YelTuhTVM='">
+script-src 'sha256-NRwkDyBCg31jViUZnc4u3LFoaQ4pfgA1AEPOsnEiqCY=' 'wasm-unsafe-eval';
+style-src 'sha256-ti1hHvLEljVfGhN+LO+giJthmdlbbZGNHfksOSDTxQM='">
 <meta name="viewport" content="width=device-width, initial-scale=1">
 <meta name="color-scheme" content="light dark">
 <title>AGC workbench</title>
@@ -83,6 +83,7 @@ border-color:var(--focus) var(--focus) transparent transparent}
 .full{outline:.25rem solid var(--edge);outline-offset:.12rem}
 .pair{display:flex;flex-wrap:wrap;gap:0 1rem}.pair>div{flex:2 1 25.8rem}
 .pair>div+div{flex:1 1 12.8rem}.pair>div+div+div{flex:1 1 6.2rem}
+.tasks .named b{font-size:.78rem;line-height:1.82}
 progress{display:block;width:100%;height:.5rem;accent-color:var(--focus)}
 .j1{background:#0072b2!important;color:#fff}.j2{background:#e69f00!important;color:#000}
 .j3{background:#009e73!important;color:#000}.j4{background:#cc79a7!important;color:#000}
@@ -171,7 +172,7 @@ body{padding:0 .6rem 1rem}.bar{margin:0 -.6rem;padding:.15rem .6rem .25rem;gap:.
 .phases{grid-template-columns:repeat(6,minmax(0,1fr))}
 .boxes li{font-size:.75rem;padding:.05rem .25rem;line-height:1.25}.boxes b{font-size:.9rem}
 .boxes li.runs{padding:calc(.05rem - 2px) calc(.25rem - 2px)}
-.phases span{font-size:.7rem}.phases li{padding:.05rem .2rem}
+.tasks .named b{font-size:.66rem;line-height:1.7}.phases span{font-size:.7rem}.phases li{padding:.05rem .2rem}
 .pair{gap:0 .5rem}table{font-size:.8rem}
 .choices li{grid-template-columns:1fr;gap:.1rem}
 th,td{padding-right:.6rem}}
@@ -183,7 +184,7 @@ grid-template-rows:auto auto 1fr}.state,.list,.branches{grid-column:1}
 @media (min-width:110rem){html{font-size:125%}body{max-width:none}
 .boxes li{font-size:.95rem}.boxes b{font-size:1.35rem}.sets li{min-height:7.2rem}
 .tasks li{min-height:5.3rem}.areas li,.phases li,.codes li,.newjob li{min-height:3.4rem}
-.phases span{font-size:.85rem}#sentence{font-size:1.4rem}.told ul{font-size:1rem}
+.tasks .named b{font-size:1.15rem;line-height:1.52}.phases span{font-size:.85rem}#sentence{font-size:1.4rem}.told ul{font-size:1rem}
 main{grid-template-columns:minmax(0,1fr) 30rem}}
 @media (min-width:140rem){html{font-size:165%}}
 @media (prefers-reduced-motion:reduce){*{transition:none!important;animation:none!important;
@@ -1389,12 +1390,12 @@ pyADpygBwAE2Ab4BIAOnIAQ3AbYBIAOnIAOnLwHEATsBwgEgA6dB/78BOwHE
 ASADp0EANgHmASALRQRAIAGnIAOnIAWn/AoAAAsgAKcgDDYACCAApyACNgAE
 IACnQQA2AAALIANCoAJ8JAAMAQsAC0EAJAELwAUCB34FfxAABEAACyMAQrAC
 fSIFJAACQAJAAkAgBSIDQhBTDQBChAEhBwJAAkACQAJAIAJBB2sOAgEAAgtB
+ASELQpABIQcLIAOnIAs6AA4gA0IOfEIBhKdBAEGhAvwLACAHQgGGIQYDQCAB
+IAR8IgVCBnynLwEAIgsgBUIEfKcvAQAiDCAFQgJ8py8BACINIAWnLwEAIg4g
 "##;
 
 /// Part 3 of what stands before the data.
-pub(crate) const PART_3: &str = r##"ASELQpABIQcLIAOnIAs6AA4gA0IOfEIBhKdBAEGhAvwLACAHQgGGIQYDQCAB
-IAR8IgVCBnynLwEAIgsgBUIEfKcvAQAiDCAFQgJ8py8BACINIAWnLwEAIg4g
-CkH//wNxIgogCiAOSRsiCiAKIA1JGyIKIAogDEkbIgogCiALSRvBIQogBiAE
+pub(crate) const PART_3: &str = r##"CkH//wNxIgogCiAOSRsiCiAKIA1JGyIKIAogDEkbIgogCiALSRvBIQogBiAE
 Qgh8IgRSDQALQQAhCyAKQQBIDQEgB0IBhiIFUEUEQCADQhB8pyABpyAFp/wK
 AAALAkACQCADQg58EAFFDQAgA0IOfBADRQ0AIANCDnwQBA0BC0EDIQoMBAtC
 iAJCoAIgAkEHRiIKGyEFQhhCACAKGyIEUEUEQCADQg58IAV8p0EAIASn/AsA
@@ -2340,17 +2341,17 @@ const CODE_TEXTS = {
   [Code.NO_ROOM]: "the text doesn't fit into the room that is lent",
   [Code.TIME_RANGE]: "a number of the timetable is out of its range",
   [Code.STEAL_TWICE]: "two rows of stolen time hold at one time",
-"##;
-
-/// Part 4 of what stands before the data.
-pub(crate) const PART_4: &str = r##"  [Code.COST_TWICE]: "one address has two costs",
+  [Code.COST_TWICE]: "one address has two costs",
 };
 
 const REPLY_TEXTS = {
   [Kind.ESTABLISHED]: "a job was established",
   [Kind.LEFT]: "the running job ended or sleeps, and another runs",
   [Kind.IDLE]: "the running job ended or sleeps, and no job is running",
-  [Kind.ROUSED]: "a sleeper was awakened",
+"##;
+
+/// Part 4 of what stands before the data.
+pub(crate) const PART_4: &str = r##"  [Kind.ROUSED]: "a sleeper was awakened",
   [Kind.NO_SLEEPER]: "no job sleeps at that address",
   [Kind.NO_JOB]: "no job is running, so there is none to act on",
   [Kind.RUNS]: "a job runs",
@@ -3636,17 +3637,17 @@ function replySentence(run, shown, names) {
       return [[`Job ${step?.number} begins at ${names.of(job?.at ?? 0)}, in core set ${k}`
         + `${job?.area ? ` with VAC area ${job.area}` : ""}. `
         + (scene.running === step?.number ? "It runs." : "It waits.")]];
-"##;
-
-/// Part 5 of what stands before the data.
-pub(crate) const PART_5: &str = r##"    }
+    }
     case Kind.NO_JOB: return [["No job is running, so there is none to act on."]];
     case Kind.NO_SLEEPER: return [["No job sleeps at that address."]];
     case Kind.ROUSED: return [[`Job ${step?.number} is awake.`]];
     case Kind.IDLE: return [["No job is left that is awake."]];
     case Kind.LEFT: case Kind.RUNS:
       return [[`Job ${step?.number} runs${runner ? `, at ${names.of(runner.at)}` : ""}.`]];
-    default: return [];
+"##;
+
+/// Part 5 of what stands before the data.
+pub(crate) const PART_5: &str = r##"    default: return [];
   }
 }
 
@@ -4324,8 +4325,7 @@ function mostUsed(run, count) {
 function alarmsOf(run, count) {
   const alarms = run.alarms.filter((row) => row <= count);
   if (alarms.length === 0) return "no alarm";
-  const first = alarms.length === 1 ? "" : "the first, ";
-  return `${counted(alarms.length, "alarm")}, ${first}${alarmAt(run, alarms[0])}`;
+  return `${counted(alarms.length, "alarm")}, the first, ${alarmAt(run, alarms[0])}`;
 }
 
 function outcomeOf(run, count) {
@@ -4625,7 +4625,9 @@ class ClockPanel {
     const { history } = workbench;
     const { at, count, run: old } = workbench.view;
     workbench.keepOutcome();
-    history.keep(`as ${Object.keys(given)[0] === "steal" ? "stolen time" : "a cost"} was changed`);
+    const what = { steal: "stolen time was changed", job: "a cost was changed",
+      event: "an event was left out" };
+    history.keep(`as ${what[/** @type {keyof typeof what} */ (Object.keys(given)[0])]}`);
     const run = old.fork(at);
     run.change(this.sinceThen(run, at, given), given);
     if (run.bench.seconds !== undefined) this.fill(run);
@@ -4853,10 +4855,7 @@ function fieldOf({ name, label, sentence }) {
     ...(name === "A" ? { list: null } : {}),
     value: FIRST[/** @type {keyof typeof FIRST} */ (name)],
     "aria-label": label,
-"##;
-
-/// Part 6 of what stands before the data.
-pub(crate) const PART_6: &str = r##"  });
+  });
 }
 
 function openForm(word, bench, scene, ask) {
@@ -4870,7 +4869,10 @@ function openForm(word, bench, scene, ask) {
   const enter = () => {
     const wrong = parts.findIndex((part, k) => !part.is(fields[k].value.trim()));
     said.textContent = wrong < 0 ? "" : parts[wrong].sentence;
-    if (wrong >= 0) {
+"##;
+
+/// Part 6 of what stands before the data.
+pub(crate) const PART_6: &str = r##"    if (wrong >= 0) {
       fields[wrong].focus();
       return;
     }
@@ -5314,7 +5316,14 @@ function drawTasks({ tasks }, since, row, names) {
     const task = tasks[k];
     if (task === undefined) return box(`place ${k + 1}`, "free", [], "free", false);
     const isNew = row > 0 && since[k] >> 1 === row;
-    const made = box(`place ${k + 1}`, names.short(task.at), [`in ${task.left} cs`], "lit", isNew);
+    const address = octal(task.at, 5);
+    const name = names.short(task.at);
+    const style = name === address ? "lit" : "lit named";
+    const made = box(`place ${k + 1}`, name, [`in ${task.left} cs`], style, isNew);
+    if (name !== address) {
+      made.title = `${name}, at ${address}`;
+      made.append(make("span", { class: "hidden" }, `at ${address}`));
+    }
     made.append(make("progress", { max: most, value: task.left, "aria-hidden": "true" }));
     return made;
   }));
@@ -5502,6 +5511,8 @@ return {
 };
 })();
 const in_tries = (() => {
+const MOST_EVENTS = 2;
+
 function atBeginning(workbench, shown) {
   const { run, count } = workbench.view;
   const actions = workbench.actions();
@@ -5534,6 +5545,11 @@ function atAlarm(workbench, shown) {
   if (bench.seconds === undefined) return found;
   const isStolen = typeof bench.steal === "number" ? bench.steal > 0 : bench.steal.length > 0;
   if (isStolen) found.push(fromBeginning(workbench, "Without stolen time?", { steal: 0 }));
+  const later = bench.event.filter((/** @type {any} */ it) => it.name !== undefined && it.at > 0);
+  for (const it of later.slice(0, MOST_EVENTS)) {
+    const event = bench.event.filter((/** @type {any} */ other) => other !== it);
+    found.push(fromBeginning(workbench, `Without ${it.name}?`, { event }));
+  }
   return found;
 }
 
