@@ -8,7 +8,7 @@ pub(crate) const PART_1: &str = r##"<!DOCTYPE html>
 <meta http-equiv="Content-Security-Policy" content="default-src 'none';
 base-uri 'none'; form-action 'none';
 script-src 'sha256-NRwkDyBCg31jViUZnc4u3LFoaQ4pfgA1AEPOsnEiqCY=' 'wasm-unsafe-eval';
-style-src 'sha256-ti1hHvLEljVfGhN+LO+giJthmdlbbZGNHfksOSDTxQM='">
+style-src 'sha256-fg28iUFHxrtJH0xP0lwIbhYOEs0od5nCUJdWFEiv2j8='">
 <meta name="viewport" content="width=device-width, initial-scale=1">
 <meta name="color-scheme" content="light dark">
 <title>AGC workbench</title>
@@ -172,7 +172,8 @@ body{padding:0 .6rem 1rem}.bar{margin:0 -.6rem;padding:.15rem .6rem .25rem;gap:.
 .phases{grid-template-columns:repeat(6,minmax(0,1fr))}
 .boxes li{font-size:.75rem;padding:.05rem .25rem;line-height:1.25}.boxes b{font-size:.9rem}
 .boxes li.runs{padding:calc(.05rem - 2px) calc(.25rem - 2px)}
-.tasks .named b{font-size:.66rem;line-height:1.7}.phases span{font-size:.7rem}.phases li{padding:.05rem .2rem}
+.tasks .named b{font-size:.66rem;line-height:1.7}
+.phases span{font-size:.7rem}.phases li{padding:.05rem .2rem}
 .pair{gap:0 .5rem}table{font-size:.8rem}
 .choices li{grid-template-columns:1fr;gap:.1rem}
 th,td{padding-right:.6rem}}
@@ -184,7 +185,8 @@ grid-template-rows:auto auto 1fr}.state,.list,.branches{grid-column:1}
 @media (min-width:110rem){html{font-size:125%}body{max-width:none}
 .boxes li{font-size:.95rem}.boxes b{font-size:1.35rem}.sets li{min-height:7.2rem}
 .tasks li{min-height:5.3rem}.areas li,.phases li,.codes li,.newjob li{min-height:3.4rem}
-.tasks .named b{font-size:1.15rem;line-height:1.52}.phases span{font-size:.85rem}#sentence{font-size:1.4rem}.told ul{font-size:1rem}
+.tasks .named b{font-size:1.15rem;line-height:1.52}
+.phases span{font-size:.85rem}#sentence{font-size:1.4rem}.told ul{font-size:1rem}
 main{grid-template-columns:minmax(0,1fr) 30rem}}
 @media (min-width:140rem){html{font-size:165%}}
 @media (prefers-reduced-motion:reduce){*{transition:none!important;animation:none!important;
