@@ -68,7 +68,8 @@ def run_many(hostile, *words, **settings):
 def many(hostile):
     """What one bench or run does wrong costs tools/many that row; an output's fault ends it."""
     with tempfile.TemporaryDirectory() as room:
-        for it in (rows_of_faults, rows_of_runs, tables_left, tables_that_are_none, outputs, wrong_words):
+        for it in (rows_of_faults, rows_of_runs, rows_of_orders, tables_left, tables_that_are_none, outputs,
+                   wrong_words):
             it(hostile, os.path.join(room, it.__name__))
 
 
@@ -110,6 +111,29 @@ def rows_of_runs(hostile, room):
     hostile.expect(f"many, of runs: status {status}, {text}", (status, text) == (1, wanted))
     hostile.expect("many ends what is too long", time.monotonic() - began < 15)
     hostile.expect("many keeps what was written", read(f"{room}/kept/e-other.out") == "SET\n")
+
+
+def rows_of_orders(hostile, room):
+    """With --mode explore: an alarm of some orders, of the script, or of none; and what is undecided."""
+    worker = '[[worker]]\nscript = [%s]\n'
+    write(f"{room}/a-calm.toml", (worker % '"novac 20 02000 00005"') * 2)
+    write(f"{room}/b-key.toml", "no = 1\n")
+    write(f"{room}/c-race.toml", (worker % ('"findvac 20 02000 00005", ' * 3 + '"end"')) * 2)
+    write(f"{room}/d-script.toml", EIGHT_JOBS)
+    status, text, _ = run_many(hostile, room, "--mode", "explore")
+    head = "bench,status,a1201,a1202,a1203,jobs,areas,tasks,fault\n"
+    wanted = (f"{head}a-calm,0,never,never,never,2,0,0,\nb-key,1,,,,,,,agc_watch: key\n"
+              "c-race,1,6,never,never,5,5,0,\nd-script,1,never,8,never,,,,\n")
+    hostile.expect(f"many, of orders: status {status}, {text}", (status, text) == (1, wanted))
+    write(f"{room}/told/obeying", OBEYING, 0o755)
+    told = "alarm 1201: by 1,000 requests:\nalarm 1202: undecided, 11 states seen\nalarm 1203: never"
+    write(f"{room}/told/a-some.toml", f"echo '{told}'; exit 1")
+    write(f"{room}/told/b-long.toml", "echo undecided: one caller has more; exit 3")
+    write(f"{room}/told/c-other.toml", "echo alarm 1201: never")
+    status, text, _ = run_many(hostile, f"{room}/told", "--mode", "explore", "--program", f"{room}/told/obeying")
+    wanted = (f"{head}a-some,1,1000,undecided,never,,,,\nb-long,3,undecided,undecided,undecided,,,,\n"
+              "c-other,0,,,,,,,it wrote no report\n")
+    hostile.expect(f"many, of told orders: status {status}, {text}", (status, text) == (1, wanted))
 
 
 def tables_left(hostile, room):
