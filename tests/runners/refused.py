@@ -1,11 +1,12 @@
-"""Tries what must not compile: each file tests/refused/NAME.case, and those of examples/embedding.
+"""Tries what must not compile: each case of tests/refused/desk.cases, and the files of examples/embedding.
 
     tests/run refused             all
     tests/run refused NAME ..     those named, with .case or without
 
 Each is a library on the desk's crates, or on those that its line '// crates: ' names. Its first lines
 say what comes of it: '// refused: ' and what the compiler says, a line for each error, or
-'// compiles'; the tests of one that compiles are run.
+'// compiles'; the tests of one that compiles are run. In tests/refused/desk.cases a line
+'=== case NAME' stands above each; of examples/embedding each file NAME.case is one.
 Nothing is proved; all is done in folders that are removed at the end.
 """
 import concurrent.futures
@@ -18,7 +19,9 @@ import counting
 import repository
 from repository import TOP
 
-FOLDERS = ["tests/refused", "examples/embedding"]
+TOGETHER = "tests/refused/desk.cases"
+FOLDER = "examples/embedding"
+HEADING = re.compile(r"=== case ([a-z0-9]+(?:-[a-z0-9]+)*)\n")
 HIGHEST = "agc_desk"
 
 # A test that does nothing, so that what compiles is run.
@@ -26,11 +29,10 @@ PASSES = "\n#[test]\nfn compiles(rt: HostRuntime) {\n    assert!(rt; true);\n}\n
 
 
 class Attempt:
-    """A file, and what its first lines say: the compiler's errors, in their order, or that it compiles."""
+    """A library, and what its first lines say: the compiler's errors, in their order, or that it compiles."""
 
-    def __init__(self, path):
-        self.path = path
-        self.text = repository.text_of(f"{TOP}/{path}")
+    def __init__(self, place, text):
+        self.place, self.text = place, text
         self.errors = re.findall(r"(?m)^// refused: (.+)$", self.text)
         self.compiles = self.text.startswith("// compiles\n")
         named = re.search(r"(?m)^// crates: (.+)$", self.text)
@@ -40,7 +42,7 @@ class Attempt:
         """Returns why it cannot be tried, or ""."""
         if self.compiles or self.errors and self.text.startswith("// refused: "):
             return ""
-        return f"{self.path}:1: it is no line '// refused: ..' or '// compiles'"
+        return f"{self.place}: it is no line '// refused: ..' or '// compiles'"
 
     def tried(self):
         """Compiles it, and runs its tests. Returns what is wrong, and what was said, or nothing."""
@@ -53,7 +55,7 @@ class Attempt:
                 ["rt", "try", "--test"], cwd=folder, env={**os.environ, "PATH": path}, stdin=subprocess.DEVNULL,
                 stdout=subprocess.PIPE, stderr=subprocess.STDOUT, text=True, errors="replace", check=False)
         why = self.differs(ran.returncode, ran.stdout)
-        return f"{self.path}: {why}\n" + re.sub("(?m)^", "    ", ran.stdout.rstrip("\n")) if why else ""
+        return f"{self.place}: {why}\n" + re.sub("(?m)^", "    ", ran.stdout.rstrip("\n")) if why else ""
 
     def differs(self, status, said):
         """Returns in what that which came of it isn't what its first lines say, or ""."""
@@ -67,22 +69,28 @@ class Attempt:
         return "" if is_so else "the compiler has to say what its first lines do, and no more"
 
 
-def paths():
-    """Returns the file of each name; one that is none is a line of the second result."""
-    found, wrong = {}, []
-    for folder in FOLDERS:
-        for it in sorted(os.listdir(f"{TOP}/{folder}")):
-            if it.endswith(".case"):
-                found[it.removesuffix(".case")] = f"{folder}/{it}"
-            elif folder == FOLDERS[0]:
-                wrong.append(f"{folder}/{it}: it is no NAME.case")
+def attempts():
+    """Returns each by its name; what can't be read is a line of the second result."""
+    found, wrong, line = {}, [], 1
+    begun, *parts = HEADING.split(repository.text_of(f"{TOP}/{TOGETHER}"))
+    if begun:
+        wrong.append(f"{TOGETHER}:1: it doesn't begin with a line '=== case NAME'")
+    for name, text in zip(parts[::2], parts[1::2]):
+        line += 1
+        if name in found:
+            wrong.append(f"{TOGETHER}:{line - 1}: there is a case {name} already")
+        found[name] = Attempt(f"{TOGETHER}:{line}", text)
+        line += text.count("\n")
+    for it in sorted(os.listdir(f"{TOP}/{FOLDER}")):
+        if it.endswith(".case"):
+            found[it.removesuffix(".case")] = Attempt(f"{FOLDER}/{it}:1", repository.text_of(f"{TOP}/{FOLDER}/{it}"))
     return found, wrong
 
 
 def read(names=()):
-    known, wrong = paths()
+    known, wrong = attempts()
     names = [os.path.basename(it).removesuffix(".case") for it in names]
-    found = [Attempt(known[it]) for it in counting.chosen("refused", names, known)]
+    found = [known[it] for it in counting.chosen("refused", names, known)]
     return found, wrong + [it.fault() for it in found if it.fault()]
 
 
