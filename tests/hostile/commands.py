@@ -307,7 +307,7 @@ def starter_on_a_terminal(clone):
 def progress(hostile):
     """Long work tells each second how many requests were asked, and only where that is asked for."""
     with tempfile.TemporaryDirectory() as room:
-        write(f"{room}/bench.toml", 'script = []\n[[device]]\nline = "timer"\npulses = 40000000\n')
+        write(f"{room}/bench.toml", "script = []\n" + 32 * '[[device]]\nline = "timer"\npulses = 1000000\n')
         program = f"{TOP}/crates/agc_watch/out/agc_watch"
         ran = subprocess.Popen([program, "trace", "--alarms", "--progress", f"{room}/bench.toml"],
                                stdout=subprocess.DEVNULL, stderr=subprocess.PIPE)
@@ -316,7 +316,7 @@ def progress(hostile):
         ran.wait()
         ran.stderr.close()
         hostile.runs += 1
-        found = [re.fullmatch(r"agc_watch: (\d+) of 40000000 requests\n", it) for it in said]
+        found = [re.fullmatch(r"agc_watch: (\d+) of 32000000 requests\n", it) for it in said]
         is_right = all(found) and 0 < int(found[0][1]) < int(found[1][1])
         hostile.expect(f"agc_watch trace --progress: {said}", is_right)
 
