@@ -41,6 +41,11 @@ def files_below(folder, ending):
         yield from (os.path.join(at, it) for it in sorted(names) if it.endswith(ending))
 
 
+def is_scenario(text):
+    """Whether a document is a scenario: the key `seconds` stands above its tables."""
+    return re.search(r"^seconds *=", re.split(r"^\[", text, maxsplit=1, flags=re.M)[0], re.M) is not None
+
+
 # Crates
 
 ROW = re.compile(r"(\w*)((?: [\w=+]+)*) ?:(.*)")

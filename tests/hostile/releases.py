@@ -8,6 +8,8 @@ import sys
 import tarfile
 import tempfile
 
+from repository import is_scenario
+
 TOP = os.path.realpath(os.path.join(os.path.dirname(os.path.realpath(__file__)), "../.."))
 LEFT_OUT = [f":!{it}" for it in ("crates/*/src", "crates/*/specs", "crates/*/proofs", "tests")]
 COMMANDS = "crates/agc_watch/src/commands.rt"
@@ -146,7 +148,8 @@ def unpacked(hostile, room, place):
     printed(["make", "-s", "uninstall", f"PREFIX={place}/usr"], top)
     left = [f"{at}/{it}" for at, _, names in os.walk(f"{place}/usr") for it in names]
     hostile.expect(f"make uninstall from a release leaves {left}", not left)
-    benches = [it.removesuffix("toml") for it in names if "/examples/" in it and it.endswith(".toml")]
+    benches = [it.removesuffix("toml") for it in names
+               if "/examples/" in it and it.endswith(".toml") and not is_scenario(read(f"{place}/{it}"))]
     lacking = [f"{it}{end}" for it in benches for end in WATCHED.values() if f"{it}{end}" not in names]
     hostile.expect(f"a release of {len(benches)} examples has no {lacking}", len(benches) > 10 and not lacking)
     for what, end in WATCHED.items():

@@ -19,7 +19,7 @@ import counting
 from commands import many, progress, starter
 from orders import orders
 from releases import release
-from repository import TOP
+from repository import TOP, is_scenario
 
 FAILING = f"{TOP}/tests/hostile/failing.c"
 PROGRAMS = {name: f"{TOP}/crates/{name}/out/{name}" for name in ("agc", "agc_watch")}
@@ -225,7 +225,7 @@ def said_by(hostile, word, text, **settings):
 def benches(hostile):
     """Each of 500 benches, made of the examples by seeded changes, is run or has one of the six faults of a bench."""
     examples = sorted(name for name in os.listdir(f"{TOP}/examples") if name.endswith(".toml"))
-    texts = [read(f"{TOP}/examples/{name}") for name in examples][:5]
+    texts = [it for it in (read(f"{TOP}/examples/{name}") for name in examples) if not is_scenario(it)][:5]
     dice = random.Random(1202)
     wanted = {DONE} | {(1, f"agc: {fault}\n".encode()) for fault in FAULTS}
     seen = {}

@@ -18,12 +18,13 @@ import tempfile
 
 import cases
 import counting
-from repository import TOP
+from repository import TOP, is_scenario, text_of
 
 PARTS = ("cases", "examples", "crates")
 PROGRAMS = ("agc", "agc_watch")
-# Of an example's bench: the program and its word, and the ending of the file that has the output.
+# Of an example's bench, and of a scenario: the program and its word, and the ending of the file that has the output.
 SHOWN = (("agc", "", "out"), ("agc_watch", "trace", "trace"), ("agc_watch", "picture", "svg"), ("agc_watch", "page", "html"))
+SHOWN_OF_SCENARIO = (("agc_watch", "peaks", "out"),)
 # Longer outputs rt try doesn't compare, and longer inputs take long without optimization; so do many pulses.
 MOST_WRITTEN, MOST_READ = 1 << 20, 1 << 16
 LONG = re.compile(rb"pulses *= *[\d_]{5,}")
@@ -82,7 +83,8 @@ class Unproved:
         for bench in sorted(it for it in os.listdir(folder) if it.endswith(".toml")):
             name = bench.removesuffix(".toml")
             mode = "threads" if name.startswith("threads-") else "serial"
-            for program, word, ending in SHOWN:
+            is_timed = is_scenario(text_of(f"{folder}/{bench}"))
+            for program, word, ending in SHOWN_OF_SCENARIO if is_timed else SHOWN:
                 path = f"{folder}/{name}.{ending}"
                 if program == self.program and os.path.isfile(path):
                     texts = [open(it, "rb").read() for it in (f"{folder}/{bench}", path)]

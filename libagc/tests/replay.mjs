@@ -1,6 +1,6 @@
 // Replays a bench, of which standard input has the script and the plan as JSON, and writes what `agc serial` writes of it.
 //
-//     node landing.mjs < BENCH.json
+//     node replay.mjs < BENCH.json
 
 import { readFileSync } from "node:fs";
 import { Machine } from "../js/agc.js";
