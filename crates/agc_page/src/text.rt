@@ -701,11 +701,11 @@ Qf//A3EiAyAAQvIAfKcvAABHDQAgAEL4AHynLwAAIgRBgIABSQ0AIARB//8B
 Rg0AIAJB//8DcSICQcwAIABC4gB8py8AAEEDdGtB/P8DcSIEIAIgBEsbIQIL
 AkAgAEKKAXynLwAAIANHDQAgAEKQAXynLwAAIgNBgIABSQ0AIANB//8BRg0A
 IAJB//8DcSICQc0AIABC+gB8py8AAEEDdGtB/f8DcSIDIAIgA0sbIQILAkAg
+AEKiAXynLwAAIAFB//8DcUcNACAAQqgBfKcvAAAiA0GAgAFJDQAgA0H//wFG
 "##;
 
 /// Part 2 of what stands before the data.
-pub(crate) const PART_2: &str = r##"AEKiAXynLwAAIAFB//8DcUcNACAAQqgBfKcvAAAiA0GAgAFJDQAgA0H//wFG
-DQAgAkH//wNxIgJBzgAgAEKSAXynLwAAQQN0a0H+/wNxIgMgAiADSxshAgsC
+pub(crate) const PART_2: &str = r##"DQAgAkH//wNxIgJBzgAgAEKSAXynLwAAQQN0a0H+/wNxIgMgAiADSxshAgsC
 QCAApy0AAEUNACAAQpoCfKcvAAAgAUH//wNxRw0AIABCoAJ8py8AACIBQYCA
 AUkNACABQf//AUYNACACQf//A3EiAUHPACAAQooCfKcvAABBA3RrQf//A3Ei
 AiABIAJLGyECCyACDwsAC9gDAgN+A38jAEKwAn0iBCQAAkACQAJAAkACQCAE
@@ -1394,13 +1394,13 @@ IACnQQA2AAALIANCoAJ8JAAMAQsAC0EAJAELwAUCB34FfxAABEAACyMAQrAC
 fSIFJAACQAJAAkAgBSIDQhBTDQBChAEhBwJAAkACQAJAIAJBB2sOAgEAAgtB
 ASELQpABIQcLIAOnIAs6AA4gA0IOfEIBhKdBAEGhAvwLACAHQgGGIQYDQCAB
 IAR8IgVCBnynLwEAIgsgBUIEfKcvAQAiDCAFQgJ8py8BACINIAWnLwEAIg4g
+CkH//wNxIgogCiAOSRsiCiAKIA1JGyIKIAogDEkbIgogCiALSRvBIQogBiAE
+Qgh8IgRSDQALQQAhCyAKQQBIDQEgB0IBhiIFUEUEQCADQhB8pyABpyAFp/wK
+AAALAkACQCADQg58EAFFDQAgA0IOfBADRQ0AIANCDnwQBA0BC0EDIQoMBAtC
 "##;
 
 /// Part 3 of what stands before the data.
-pub(crate) const PART_3: &str = r##"CkH//wNxIgogCiAOSRsiCiAKIA1JGyIKIAogDEkbIgogCiALSRvBIQogBiAE
-Qgh8IgRSDQALQQAhCyAKQQBIDQEgB0IBhiIFUEUEQCADQhB8pyABpyAFp/wK
-AAALAkACQCADQg58EAFFDQAgA0IOfBADRQ0AIANCDnwQBA0BC0EDIQoMBAtC
-iAJCoAIgAkEHRiIKGyEFQhhCACAKGyIEUEUEQCADQg58IAV8p0EAIASn/AsA
+pub(crate) const PART_3: &str = r##"iAJCoAIgAkEHRiIKGyEFQhhCACAKGyIEUEUEQCADQg58IAV8p0EAIASn/AsA
 CyAFUCIORQRAIANCDnynIAGnIAWn/AoAAAtBBiEKIAOnLwHUASINRQ0DQQAh
 DCADpy8BwgENBCANQYCAAU8NAiADQtQBfCEEIANC2AF8IQZBACEKIAOnLwHY
 AQRAQYCAAUEAQYCAfiADpy8BxAEiC2sgC0GAgAFJG0EBIAsbIgtrQQAgC0H/
@@ -1848,44 +1848,52 @@ script = [
     "novac 20 02000 00005", "novac 20 02100 00005", "end",
 ]
 @ example landing
-# Alarms 1202 and 1201 that nobody asks for, as in the landing. Let a tick stand for a second. E\
-ach two seconds the task at
-# 02000, the pass, establishes a job with a VAC area and lists itself again. Each such job shoul\
-d end before the next pass,
-# but something takes the computer's time, and each four seconds just one ends. Three other jobs\
- sleep, each in a core set of
-# its own. So the core sets run full, alarm 1202, while an area is free. Group 5 stands in phase\
- 1: the restart brings the
-# pass back with a job, but not the three sleepers. Now there are sets enough, and the areas run\
- full: alarm 1201.
-script = [
-    "phase 5 1",
-    "novac 15 06000 00011", "sleep 06000",
-    "novac 15 06100 00011", "sleep 06100",
-    "novac 15 06200 00011", "sleep 06200",
-    "list 1 02000 00005",
-    "tick", "tick", "tick", "tick", "end",
-    "tick", "tick", "tick", "tick", "end",
-    "tick", "tick", "tick", "tick", "end",
-    "tick", "tick", "tick", "tick", "end",
-    "tick", "tick", "tick", "tick", "end",
-    "tick", "tick", "tick", "tick", "end",
-    "tick", "tick", "tick", "tick", "end",
-    "tick", "tick", "tick", "tick", "end",
-    "tick", "tick", "tick", "tick", "end",
-    "tick", "tick", "tick", "tick", "end",
-]
+# A landing in one file: jobs take time, a radar steals some of it, and a display takes some mor\
+e.
+# When does the first alarm come? Change `steal`, or remove the last table, and try it again, by
+# `agc_watch peaks` or the workbench. docs/LANDING.md has the answers, and what the model leaves\
+ out.
+title = "A landing: a radar steals time, and a display takes some more"
+seconds = 600
+steal = 15 # percent of the computing time: the radar's pulses
 
-[[task]]
+[[task]] # every two seconds: a SERVICER, and this task again
+name = "READACCS"
 at = "02000"
 bank = "00005"
-action = ["findvac 20 04000 00007", "list 2 02000 00005"]
+action = ["findvac 20 04000 00007", "list 200 02000 00005"]
 
-[[phase]]
+[[task]] # every second: a display, which is more urgent and needs no VAC area
+name = "MONITOR"
+at = "02100"
+bank = "00005"
+action = ["novac 30 05000 00007", "list 100 02100 00005"]
+
+[[job]] # the guidance: 1.7 seconds of computing time, 85 % of what there is
+name = "SERVICER"
+at = "04000"
+cost = 170
+
+[[job]] # 0.12 seconds in each second: another 12 %
+name = "display"
+at = "05000"
+cost = 12
+
+[[phase]] # what begins again after an alarm: the guidance does, the display does not
 group = 5
 phase = 1
 job = "findvac 20 04000 00007"
-task = "list 2 02000 00005"
+task = "list 200 02000 00005"
+
+[[event]]
+name = "descent"
+at = 0
+do = ["phase 5 1", "list 1 02000 00005"]
+
+[[event]] # half a second later somebody asks for the display
+name = "monitor"
+at = 49
+do = "list 1 02100 00005"
 @ example no-vac-area
 # Alarm 1201: the astronaut presses a key again and again, and each press establishes a job with\
  a VAC area. There are five
@@ -1943,6 +1951,45 @@ end", "end"]
 [[worker]]
 script = ["findvac 20 03000 00006", "findvac 20 03000 00006", "findvac 20 03000 00006", "end", "\
 end", "end"]
+@ example sleepers-take-core-sets
+# Alarms 1202 and 1201 that nobody asks for, as in the landing. Let a tick stand for a second. E\
+ach two seconds the task at
+# 02000, the pass, establishes a job with a VAC area and lists itself again. Each such job shoul\
+d end before the next pass,
+# but something takes the computer's time, and each four seconds just one ends. Three other jobs\
+ sleep, each in a core set of
+# its own. So the core sets run full, alarm 1202, while an area is free. Group 5 stands in phase\
+ 1: the restart brings the
+# pass back with a job, but not the three sleepers. Now there are sets enough, and the areas run\
+ full: alarm 1201.
+script = [
+    "phase 5 1",
+    "novac 15 06000 00011", "sleep 06000",
+    "novac 15 06100 00011", "sleep 06100",
+    "novac 15 06200 00011", "sleep 06200",
+    "list 1 02000 00005",
+    "tick", "tick", "tick", "tick", "end",
+    "tick", "tick", "tick", "tick", "end",
+    "tick", "tick", "tick", "tick", "end",
+    "tick", "tick", "tick", "tick", "end",
+    "tick", "tick", "tick", "tick", "end",
+    "tick", "tick", "tick", "tick", "end",
+    "tick", "tick", "tick", "tick", "end",
+    "tick", "tick", "tick", "tick", "end",
+    "tick", "tick", "tick", "tick", "end",
+    "tick", "tick", "tick", "tick", "end",
+]
+
+[[task]]
+at = "02000"
+bank = "00005"
+action = ["findvac 20 04000 00007", "list 2 02000 00005"]
+
+[[phase]]
+group = 5
+phase = 1
+job = "findvac 20 04000 00007"
+task = "list 2 02000 00005"
 @ example task-lists-itself
 # A task that runs again and again: as it fires, it lists itself for three centiseconds later. T\
 he script lists it once, for
@@ -2159,11 +2206,11 @@ action = ["findvac 20 04000 00007", "list 2 02000 00005"]
  it by
 # `agc threads \l 9.toml`, several times: does an alarm come? Could one come, if the threads too\
 k turns
-# in another way? Find an order of the twelve requests in which alarm 1201 comes. Then change th\
-e
-# order of the lines within each thread, so that no order at all raises an alarm, although each \
-thread
-# still starts three jobs and ends three.
+# in another way? `agc_watch explore 9.toml` tries every order. Then change the order of the lin\
+es
+# within each thread so that `explore` says `never` of each alarm, although each thread still st\
+arts
+# three jobs and ends three.
 [[worker]]
 script = [
     "findvac 20 02000 00005",
@@ -2185,28 +2232,33 @@ script = [
 ]
 @ exercise exercise-10
 # No alarm so far.
-# This is exercise 8 without the jobs that sleep: a job with a VAC area begins every two ticks, \
-and
-# one ends after every fourth tick. Let the jobs begin less often: write `list 3` in the last li\
-ne
-# instead of `list 2`, then `list 4`. With which of them does no alarm come? Now let the time be\
- three
-# times as long, by writing the five lines of ticks three times. What do you conclude from a tes\
-t run
-# without an alarm?
-script = [
-    "list 1 02000 00005",
-    "tick", "tick", "tick", "tick", "end",
-    "tick", "tick", "tick", "tick", "end",
-    "tick", "tick", "tick", "tick", "end",
-    "tick", "tick", "tick", "tick", "end",
-    "tick", "tick", "tick", "tick", "end",
-]
+# Every second a job with a VAC area begins, and it needs 0.8 seconds of computing time. Somethi\
+ng
+# else steals a part of the time: `steal` is its percentage. What is the greatest percentage for\
+ which
+# no alarm comes in these two minutes? Work it out first; then try it with
+# `agc_watch sweep steal 15 25 10.toml`. Now let the run last ten minutes (`seconds = 600`). Wha\
+t is
+# the greatest percentage now? What do you conclude from a test run without an alarm?
+title = "No alarm so far"
+seconds = 120
+steal = 15
 
 [[task]]
+name = "every second"
 at = "02000"
 bank = "00005"
-action = ["findvac 20 04000 00007", "list 2 02000 00005"]
+action = ["findvac 20 04000 00007", "list 100 02000 00005"]
+
+[[job]]
+name = "guidance"
+at = "04000"
+cost = 80
+
+[[event]]
+name = "start"
+at = 0
+do = "list 1 02000 00005"
 @ exercise exercise-11
 # When power comes back.
 # A phase is stored in two words, so that damage shows. Each line of `power` has the two words o\
@@ -2239,50 +2291,56 @@ job = "findvac 20 04000 00007"
 task = "list 200 02000 00005"
 @ exercise exercise-12
 # A restart that restores the overload.
-# Every two ticks the guidance begins a job, and every two ticks one job ends: that fits. A disp\
-lay
-# begins one more job every six ticks, and that is too much. How many alarms come, and at which \
-times
-# since the start? Only the guidance has a phase, that of group 5. Now give the display one as w\
-ell:
-# write `"phase 3 1",` in front of `"phase 5 1"`. How many alarms come now? Which jobs would you\
- let
-# begin again after an alarm?
-script = [
-    "phase 5 1", "list 2 02000 00005", "list 6 02100 00005",
-    "tick", "tick", "end", "tick", "tick", "end", "tick", "tick", "end", "tick", "tick", "end",
-    "tick", "tick", "end", "tick", "tick", "end", "tick", "tick", "end", "tick", "tick", "end",
-    "tick", "tick", "end", "tick", "tick", "end", "tick", "tick", "end", "tick", "tick", "end",
-    "tick", "tick", "end", "tick", "tick", "end", "tick", "tick", "end", "tick", "tick", "end",
-    "tick", "tick", "end", "tick", "tick", "end", "tick", "tick", "end", "tick", "tick", "end",
-    "tick", "tick", "end", "tick", "tick", "end", "tick", "tick", "end", "tick", "tick", "end",
-    "tick", "tick", "end", "tick", "tick", "end", "tick", "tick", "end", "tick", "tick", "end",
-    "tick", "tick", "end", "tick", "tick", "end", "tick", "tick", "end", "tick", "tick", "end",
-    "tick", "tick", "end", "tick", "tick", "end", "tick", "tick", "end", "tick", "tick", "end",
-    "tick", "tick", "end", "tick", "tick", "end", "tick", "tick", "end", "tick", "tick", "end",
-    "tick", "tick", "end", "tick", "tick", "end", "tick", "tick", "end", "tick", "tick", "end",
-    "tick", "tick", "end", "tick", "tick", "end", "tick", "tick", "end", "tick", "tick", "end",
-]
+# Every two seconds the guidance begins a job that needs 1.6 seconds of computing time. A displa\
+y
+# begins one every second that needs 0.3 seconds. That is more than there is. How many alarms co\
+me in
+# two minutes, and when? Which table is full, and since when? (`agc_watch peaks 12.toml`.) Only \
+the
+# guidance has a phase, that of group 5. Now give the display one as well: write `"phase 3 1",` \
+in
+# front of `"phase 5 1"`. How many alarms come now? Which jobs would you let begin again after a\
+n
+# alarm?
+title = "A restart that restores the overload"
+seconds = 120
 
 [[task]]
+name = "guidance's task"
 at = "02000"
 bank = "00005"
-action = ["findvac 20 04000 00007", "list 2 02000 00005"]
+action = ["findvac 20 04000 00007", "list 200 02000 00005"]
 
 [[task]]
+name = "display's task"
 at = "02100"
 bank = "00005"
-action = ["novac 30 05000 00006", "list 6 02100 00005"]
+action = ["novac 30 05000 00006", "list 100 02100 00005"]
+
+[[job]]
+name = "guidance"
+at = "04000"
+cost = 160
+
+[[job]]
+name = "display"
+at = "05000"
+cost = 30
 
 [[phase]]
 group = 3
 phase = 1
-task = "list 6 02100 00005"
+task = "list 100 02100 00005"
 
 [[phase]]
 group = 5
 phase = 1
-task = "list 2 02000 00005"
+task = "list 200 02000 00005"
+
+[[event]]
+name = "start"
+at = 0
+do = ["phase 5 1", "list 200 02000 00005", "list 100 02100 00005"]
 </script>
 <script type="module">
 const in_machine = (() => {
@@ -2343,17 +2401,17 @@ const CODE_TEXTS = {
   [Code.NO_ROOM]: "the text doesn't fit into the room that is lent",
   [Code.TIME_RANGE]: "a number of the timetable is out of its range",
   [Code.STEAL_TWICE]: "two rows of stolen time hold at one time",
-  [Code.COST_TWICE]: "one address has two costs",
+"##;
+
+/// Part 4 of what stands before the data.
+pub(crate) const PART_4: &str = r##"  [Code.COST_TWICE]: "one address has two costs",
 };
 
 const REPLY_TEXTS = {
   [Kind.ESTABLISHED]: "a job was established",
   [Kind.LEFT]: "the running job ended or sleeps, and another runs",
   [Kind.IDLE]: "the running job ended or sleeps, and no job is running",
-"##;
-
-/// Part 4 of what stands before the data.
-pub(crate) const PART_4: &str = r##"  [Kind.ROUSED]: "a sleeper was awakened",
+  [Kind.ROUSED]: "a sleeper was awakened",
   [Kind.NO_SLEEPER]: "no job sleeps at that address",
   [Kind.NO_JOB]: "no job is running, so there is none to act on",
   [Kind.RUNS]: "a job runs",
@@ -3644,12 +3702,12 @@ function replySentence(run, shown, names) {
     case Kind.NO_SLEEPER: return [["No job sleeps at that address."]];
     case Kind.ROUSED: return [[`Job ${step?.number} is awake.`]];
     case Kind.IDLE: return [["No job is left that is awake."]];
-    case Kind.LEFT: case Kind.RUNS:
-      return [[`Job ${step?.number} runs${runner ? `, at ${names.of(runner.at)}` : ""}.`]];
 "##;
 
 /// Part 5 of what stands before the data.
-pub(crate) const PART_5: &str = r##"    default: return [];
+pub(crate) const PART_5: &str = r##"    case Kind.LEFT: case Kind.RUNS:
+      return [[`Job ${step?.number} runs${runner ? `, at ${names.of(runner.at)}` : ""}.`]];
+    default: return [];
   }
 }
 
