@@ -156,6 +156,8 @@ class Case:
             return [it for part in ended for it in self.differs(part, ended[part])]
         except Unread as why:
             return [str(why)]
+        except OSError as why:
+            return [f"{self.path}: {why}"]
         except subprocess.TimeoutExpired:
             return [f"{self.path}: it runs for more than {SECONDS} seconds"]
 

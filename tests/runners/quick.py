@@ -23,7 +23,7 @@ from repository import TOP, is_scenario, text_of
 PARTS = ("cases", "examples", "crates")
 PROGRAMS = ("agc", "agc_watch")
 # Of an example's bench, and of a scenario: the program and its word, and the ending of the file that has the output.
-SHOWN = (("agc", "", "out"), ("agc_watch", "trace", "trace"), ("agc_watch", "picture", "svg"), ("agc_watch", "page", "html"))
+SHOWN = (("agc", "", "out"), ("agc_watch", "picture", "svg"), ("agc_watch", "page", "html"))
 SHOWN_OF_SCENARIO = (("agc_watch", "peaks", "out"),)
 # Longer outputs rt try doesn't compare, and longer inputs take long without optimization; so do many pulses.
 MOST_WRITTEN, MOST_READ = 1 << 20, 1 << 16
