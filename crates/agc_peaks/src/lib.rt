@@ -4,12 +4,14 @@
 
 mod counting;
 mod era;
+mod following;
 mod machine;
 mod peaks;
 mod running;
 mod sweep;
 mod writing;
 
+pub use following::{Sum, follow_scenario, scenario_sum};
 pub use peaks::{bench_peaks, scenario_peaks};
 pub use sweep::{Column, Sweep, Watches, run_sweep};
 pub use writing::scenario_bench;

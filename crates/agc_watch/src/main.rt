@@ -4,6 +4,7 @@
 //! file that is named, or from standard input.
 #![tactic(auto)]
 
+mod checking;
 mod commands;
 mod exploring;
 mod program;

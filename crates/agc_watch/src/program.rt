@@ -8,7 +8,7 @@ ghost use Rattle.agc_watch.specs.Program.{WorksOn, is_nothing, status_by};
 
 use crate::exploring::run_explore;
 use crate::progress::Teller;
-use crate::scenarios::run_telling;
+use crate::scenarios::{is_of_scenario, run_shown, run_telling};
 use crate::words::{Asked, Refused, Task, Work, asked_for};
 use agc_document::read_bench;
 use agc_findings::{Checked, findings};
@@ -248,6 +248,24 @@ fn ended_refused<H: Print + Eprint>(rt: &H, refused: &Refused) -> ExitCode {
     }
 }
 
+/// Does this work on an input, which may be a scenario.
+fn run_on_input<H: AllocGlobal + Clock + Print + Eprint, R: Read>(
+    rt: &H,
+    work: Work,
+    has_progress: bool,
+    reader: &mut R,
+) -> Result<ExitCode, Refused> {
+    let text = match read_all(rt.alloc(), reader) {
+        Ok(text) => text,
+        Err(fault) => return Ok(ended_by(rt, Err(Fault::Read(fault)))),
+    };
+    if is_of_scenario(rt.alloc(), work, text.as_str())? {
+        return run_shown(rt, PROGRAM, work, has_progress, text.as_str());
+    }
+    let mut unread = text.as_bytes();
+    Ok(ended_by(rt, run_work(rt, work, has_progress, &mut unread)))
+}
+
 /// Does this task on an input.
 fn run_task<H: AllocGlobal + Clock + Print + Eprint, R: Read>(
     rt: &H,
@@ -255,13 +273,14 @@ fn run_task<H: AllocGlobal + Clock + Print + Eprint, R: Read>(
     has_progress: bool,
     reader: &mut R,
 ) -> ExitCode {
-    match task {
-        Task::Work(work) => ended_by(rt, run_work(rt, work, has_progress, reader)),
-        Task::Explore(options) => run_explore(rt, PROGRAM, options, reader),
-        Task::Tell(telling) => match run_telling(rt, PROGRAM, telling, reader) {
-            Ok(code) => code,
-            Err(refused) => ended_refused(rt, &refused),
-        },
+    let ending = match task {
+        Task::Work(work) => run_on_input(rt, work, has_progress, reader),
+        Task::Explore(options) => return run_explore(rt, PROGRAM, options, reader),
+        Task::Tell(telling) => run_telling(rt, PROGRAM, telling, reader),
+    };
+    match ending {
+        Ok(code) => code,
+        Err(refused) => ended_refused(rt, &refused),
     }
 }
 

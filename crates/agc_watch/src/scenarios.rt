@@ -1,18 +1,25 @@
-//! What a scenario comes to: its bench, its eras, and a sweep over one of its numbers.
+//! What a scenario comes to: its bench, its eras, a sweep over one of its numbers, its trace and
+//! picture.
 ghost use Rattle.std.specs.Prelude.{◌≡◌};
 ghost use Rattle.agc_watch.specs.declared.scenarios.Stop.TheVariants as stop;
 ghost use Rattle.agc_program.specs.declared.fault.Fault.TheVariants as fault;
 
-use crate::progress::SweepTeller;
-use crate::words::{Refused, Telling, refused_sweep};
+use crate::checking::scenario_told;
+use crate::progress::{SweepTeller, Teller};
+use crate::words::{Refused, Telling, Work, refused_sweep};
 use agc_document::{Bench, BenchFault, read_bench};
 use agc_findings::findings;
 use agc_lint::{add, add_decimal, bench_told};
-use agc_peaks::{Column, Sweep, bench_peaks, run_sweep, scenario_bench, scenario_peaks};
+use agc_page::{PageFault, page};
+use agc_peaks::{
+    Column, Sweep, bench_peaks, follow_scenario, run_sweep, scenario_bench, scenario_peaks,
+};
+use agc_picture::picture;
 use agc_program::{Fault, Program, buffered, ended, flushed};
 use agc_scenario::{Scenario, is_scenario, read_scenario, scenario_findings};
-use agc_session::RunFault;
-use agc_text::{add_word, read_all};
+use agc_session::{Progress, RunFault, machine_of};
+use agc_text::{Output, add_word, put, read_all};
+use agc_trace::{Choice, Tracer};
 use arrayvec::ArrayString;
 use std::alloc::{AllocError, Global};
 use std::io::{Eprint, Print, Read, Write};
@@ -60,6 +67,14 @@ impl From<RunFault> for Stop {
 
     fn from(why: RunFault) -> Self {
         Self::Fault(Fault::Run(why))
+    }
+}
+
+impl From<Output> for Stop {
+    ghost from_gives = { λ _ e. e ≡ stop.Fault fault.Output };
+
+    fn from(_error: Output) -> Self {
+        Self::Fault(Fault::Output)
     }
 }
 
@@ -212,6 +227,106 @@ fn tell_input<H: AllocGlobal + Clock + Print + Eprint, R: Read>(
         return Err(Stop::TooLong(bytes));
     }
     Ok(())
+}
+
+/// Writes the trace of a text's scenario, of the requests that are chosen.
+fn trace_scenario<P: Progress, W: Write>(
+    alloc: Global,
+    text: &str,
+    choice: Choice,
+    progress: &mut P,
+    writer: &mut W,
+) -> Result<(), Stop> {
+    let scenario = scenario_in(alloc, text)?;
+    let bench = scenario.bench();
+    let mut tracer = Tracer::new(machine_of(alloc, bench)?, choice, false);
+    tracer.begin(bench.power(), writer)?;
+    follow_scenario(alloc, &scenario, &mut tracer, progress, writer)?;
+    tracer.end(bench.limit().get(), bench.allowance(), writer)?;
+    Ok(())
+}
+
+/// Writes the picture of a text's scenario: that of the bench that it comes to.
+fn draw_scenario<P: Progress, W: Write>(
+    alloc: Global,
+    text: &str,
+    progress: &mut P,
+    writer: &mut W,
+) -> Result<(), Stop> {
+    let mut bytes: Vec<u8> = Vec::new(alloc);
+    write_bench(alloc, text, &mut bytes)?;
+    let bench = bench_in(alloc, str::from_utf8(bytes.as_slice()).unwrap_or(""))?;
+    picture(alloc, &bench, progress, writer)?;
+    Ok(())
+}
+
+/// Writes the page of a text's scenario.
+fn page_scenario<W: Write>(alloc: Global, text: &str, writer: &mut W) -> Result<(), Stop> {
+    let _paged = scenario_in(alloc, text)?;
+    match page(alloc, text, writer) {
+        Ok(()) => Ok(()),
+        Err(PageFault::NoMemory) => Err(Stop::Fault(Fault::NoMemory)),
+        Err(PageFault::Output) => Err(Stop::Fault(Fault::Output)),
+    }
+}
+
+/// Writes what is wrong with a text's scenario, or else what is warned of, and returns whether it
+/// is one.
+fn check_scenario<W: Write>(alloc: Global, text: &str, writer: &mut W) -> Result<bool, Stop> {
+    let (is_well, told) = scenario_told(alloc, text)?;
+    put(writer, told.as_bytes())?;
+    Ok(is_well)
+}
+
+/// Does this work on a text's scenario, and writes it through a buffer that is flushed at the end.
+/// False where that is a check, and something is wrong.
+fn show<H: AllocGlobal + Clock + Print + Eprint>(
+    rt: &H,
+    work: Work,
+    has_progress: bool,
+    text: &str,
+) -> Result<bool, Stop> {
+    let alloc = rt.alloc();
+    let mut output = buffered(rt)?;
+    let mut progress = Teller::new(rt, has_progress);
+    let mut is_well = true;
+    match work {
+        Work::Trace(choice) => { trace_scenario(alloc, text, choice, &mut progress, &mut output)? }
+        Work::Picture => draw_scenario(alloc, text, &mut progress, &mut output)?,
+        Work::Page => page_scenario(alloc, text, &mut output)?,
+        Work::CheckBench => is_well = check_scenario(alloc, text, &mut output)?,
+        Work::TraceScript(_) | Work::CheckScript => {}
+    }
+    flushed(&mut output)?;
+    Ok(is_well)
+}
+
+/// Whether this work can be done on a scenario, and a text should be one.
+///
+/// # Errors
+///
+/// Where there is no memory.
+pub(crate) fn is_of_scenario(alloc: Global, work: Work, text: &str) -> Result<bool, AllocError> {
+    match work {
+        Work::TraceScript(_) | Work::CheckScript => Ok(false),
+        _ => is_scenario(alloc, text),
+    }
+}
+
+/// Does this work on a text's scenario, and says how the program then ends: with status 2 where a
+/// check found something wrong.
+pub(crate) fn run_shown<H: AllocGlobal + Clock + Print + Eprint>(
+    rt: &H,
+    program: Program,
+    work: Work,
+    has_progress: bool,
+    text: &str,
+) -> Result<ExitCode, Refused> {
+    match show(rt, work, has_progress, text) {
+        Ok(true) => Ok(ended(rt, program, Ok(()))),
+        Ok(false) => Ok(ExitCode::from(2)),
+        Err(stop) => ended_early(rt, program, stop),
+    }
 }
 
 /// Says why a command ended early, and how the program then ends; or returns which words are wrong.

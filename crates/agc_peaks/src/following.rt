@@ -1,0 +1,183 @@
+//! Runs of a scenario that somebody follows, and what they come to.
+ghost use Rattle.std.specs.Prelude.{◌≡◌};
+ghost use Rattle.agc_clock.specs.Runs.{by_machine};
+
+use agc_clock::{Asked, Serves, run};
+use agc_machine::{Machine, Refusal};
+use agc_plan::Fired;
+use agc_scenario::Scenario;
+use agc_session::{Follows, Progress, RunFault, Source, machine_of};
+use agc_text::Output;
+use agc_word::Erasable;
+use std::alloc::Global;
+use std::io::Write;
+use std::marker::Model;
+
+/// A machine, and who is asked for the same requests. Contracts see the machine.
+#[derive(Drop)]
+struct FollowedMachine<'f, 'p, 'w, F: Follows, P: Progress, W: Write> {
+    machine: Machine,
+    follower: &'f mut F,
+    progress: &'p mut P,
+    writer: &'w mut W,
+}
+
+impl<'f, 'p, 'w, F: Follows, P: Progress, W: Write> Model for FollowedMachine<'f, 'p, 'w, F, P, W> {
+    ghost use Rattle.agc_machine.specs.Machines.{Machined};
+
+    ghost Value = { Machined };
+
+    ghost view = { λ f. f.machine };
+}
+
+impl<'f, 'p, 'w, F: Follows, P: Progress, W: Write> Serves
+    for FollowedMachine<'f, 'p, 'w, F, P, W> {
+    ghost use Rattle.agc_clock.specs.Runs.{by_machine};
+
+    type Fault = Output;
+
+    ghost serving = { by_machine };
+
+    fn words(&self) -> &Erasable {
+        self.machine.erasable()
+    }
+
+    fn serve(&mut self, asked: &Asked) -> Result<bool, Output> {
+        self.follower
+            .follow(Source::Script, &asked.request, self.writer)?;
+        self.progress.asked();
+        match self.machine.ask(&asked.request, &mut Fired::new()) {
+            Ok(reply) => Ok(reply.begins()),
+            Err(_refusal) => Ok(false),
+        }
+    }
+}
+
+/// Asks who follows for all requests of a scenario, in order, as the clock asks its machine for
+/// them, and tells of each that it was asked. Source: profile.
+///
+/// # Errors
+///
+/// `NoMemory`, and nothing was asked. `Output`, where a write failed.
+pub fn follow_scenario<F: Follows, P: Progress, W: Write>(
+    alloc: Global,
+    scenario: &Scenario,
+    follower: &mut F,
+    progress: &mut P,
+    writer: &mut W,
+) -> Result<(), RunFault> {
+    let machine = machine_of(alloc, scenario.bench())?;
+    let mut followed = FollowedMachine {
+        machine,
+        follower,
+        progress,
+        writer,
+    };
+    run(scenario.timing(), &mut followed)?;
+    Ok(())
+}
+
+/// What the requests of a scenario come to: how many there were, how many tasks fired, how many
+/// alarms came, the numbers from 1 of the first that was refused as the log was full, and as all of
+/// the allowance was served, and whether there were more requests than were asked. Source: profile.
+#[derive(Clone, Copy, Debug)]
+pub struct Sum {
+    pub requests: u64,
+    pub fired: u64,
+    pub alarms: u64,
+    pub log_full: Option<u64>,
+    pub spent: Option<u64>,
+    pub is_cut: bool,
+}
+
+/// More requests came than were to be asked.
+#[derive(Clone, Copy, Debug)]
+struct Cut;
+
+/// A machine of which so many requests may still be asked, and what those came to that were.
+/// Contracts see the machine.
+#[derive(Drop)]
+struct SummedMachine {
+    machine: Machine,
+    left: u64,
+    sum: Sum,
+}
+
+impl Model for SummedMachine {
+    ghost use Rattle.agc_machine.specs.Machines.{Machined};
+
+    ghost Value = { Machined };
+
+    ghost view = { λ s. s.machine };
+}
+
+impl Serves for SummedMachine {
+    ghost use Rattle.agc_clock.specs.Runs.{by_machine};
+
+    type Fault = Cut;
+
+    ghost serving = { by_machine };
+
+    fn words(&self) -> &Erasable {
+        self.machine.erasable()
+    }
+
+    fn serve(&mut self, asked: &Asked) -> Result<bool, Cut> {
+        if self.left == 0 {
+            return Err(Cut);
+        }
+        self.left -= 1;
+        self.sum.requests = self.sum.requests.saturating_add(1);
+        let mut fired = Fired::new();
+        let answer = self.machine.ask(&asked.request, &mut fired);
+        let count = fired.len() as u64;
+        self.sum.fired = self.sum.fired.saturating_add(count);
+        match answer {
+            Ok(reply) => Ok(reply.begins()),
+            Err(refusal) => {
+                self.sum.note(refusal);
+                Ok(false)
+            }
+        }
+    }
+}
+
+impl Sum {
+    /// The last request was refused.
+    fn note(&mut self, refusal: Refusal) {
+        let number = Some(self.requests);
+        match refusal {
+            Refusal::LogFull if self.log_full.is_none() => self.log_full = number,
+            Refusal::Spent if self.spent.is_none() => self.spent = number,
+            _ => {}
+        }
+    }
+}
+
+/// Asks a machine for the first so many requests of a scenario, and returns what they come to.
+/// Source: profile.
+///
+/// # Errors
+///
+/// `NoMemory`.
+pub fn scenario_sum(alloc: Global, scenario: &Scenario, most: u64) -> Result<Sum, RunFault> {
+    let mut summed = SummedMachine {
+        machine: machine_of(alloc, scenario.bench())?,
+        left: most,
+        sum: Sum {
+            requests: 0,
+            fired: 0,
+            alarms: 0,
+            log_full: None,
+            spent: None,
+            is_cut: false,
+        },
+    };
+    let is_cut = run(scenario.timing(), &mut summed).is_err();
+    let totals = summed.machine.totals();
+    let alarms = totals.a1201.saturating_add(totals.a1202);
+    let mut sum = summed.sum;
+    sum.alarms = alarms.saturating_add(totals.a1203);
+    sum.is_cut = is_cut;
+    Ok(sum)
+}

@@ -1,0 +1,277 @@
+//! What is wrong with a scenario, or else what is warned of, and what it comes to.
+use agc_clock::{Then, Timetables};
+use agc_document::{Key, Place, ScenarioKey};
+use agc_findings::{line_at, places_in};
+use agc_lint::{add, add_decimal, add_where, bench_told};
+use agc_peaks::{Sum, scenario_sum};
+use agc_plan::{Action, Actions, Address, JobStart, PhaseEntry, Request, Task, action_request};
+use agc_program::Fault;
+use agc_scenario::{Scenario, TimedJob, scenario_findings};
+use agc_warn::{Located, Ran, Warned, Warning, add_summary, warnings_told};
+use std::alloc::{AllocError, Global};
+
+/// How many requests are run.
+const MOST_RUN: u64 = 1_000_000;
+
+/// How many warnings are told of jobs and events.
+const MOST_TOLD: usize = 20;
+
+/// What is warned of.
+#[derive(Clone, Copy)]
+enum Doubt {
+    /// Nothing begins this job.
+    NotBegun,
+    /// A job costs so much, and comes each so many centiseconds, of which this percent is stolen.
+    NothingLeft(u64, u64, u64),
+    /// This event comes behind the end.
+    Late,
+}
+
+/// A place of the document, and what is warned of there.
+#[derive(Clone, Copy)]
+struct Doubted {
+    place: Place,
+    doubt: Doubt,
+}
+
+/// Whether a job may begin at an address by this request, or be awakened there.
+fn begins(request: &Request, at: Address) -> bool {
+    match *request {
+        Request::Novac(_priority, entry) | Request::Findvac(_priority, entry) => entry.at == at,
+        Request::Sleep(awakened) => awakened == at,
+        _ => false,
+    }
+}
+
+/// Whether a job may begin at an address by one of these actions.
+fn is_begun_by(actions: &Actions, at: Address) -> bool {
+    for action in actions.as_slice() {
+        if let Some(request) = action_request(*action) {
+            if begins(&request, at) {
+                return true;
+            }
+        }
+    }
+    false
+}
+
+/// Whether a job begins at an address with an era in which this entry holds.
+fn begins_again(phase: &PhaseEntry, at: Address) -> bool {
+    let Some(job) = phase.job() else {
+        return false;
+    };
+    let request = match job {
+        JobStart::Novac(priority, entry) => Request::Novac(priority, entry),
+        JobStart::Findvac(priority, entry) => Request::Findvac(priority, entry),
+    };
+    begins(&request, at)
+}
+
+/// Whether anything of a scenario begins a job at an address.
+fn is_begun(scenario: &Scenario, at: Address) -> bool {
+    let bench = scenario.bench();
+    let timing = scenario.timing();
+    let by_event = timing.all_events().iter().any(|event| event
+        .requests()
+        .iter()
+        .any(|request| begins(request, at)));
+    by_event
+        || bench.rows().iter().any(|row| is_begun_by(&row.1, at))
+        || bench.entries().iter().any(|entry| begins_again(entry, at))
+        || timing
+            .jobs()
+            .iter()
+            .any(|job| job.leaves() == Then::Sleep(at))
+}
+
+/// How many percent are stolen all the time; 0 where that changes.
+fn stolen_always(scenario: &Scenario) -> u64 {
+    match scenario.timing().stolen() {
+        [row] if row.from == 0 && row.to > scenario.timing().lasts() => u64::from(row.percent),
+        _ => 0,
+    }
+}
+
+/// After how many centiseconds a task lists itself again by one of these actions.
+fn period_of(task: Task, actions: &Actions) -> Option<u64> {
+    for action in actions.as_slice() {
+        match *action {
+            Action::List(delay, listed) if listed == task => return Some(u64::from(delay.get())),
+            _ => {}
+        }
+    }
+    None
+}
+
+/// After how many centiseconds a job begins again at an address: the first such number of an event
+/// or a task.
+fn period_at(scenario: &Scenario, at: Address) -> Option<u64> {
+    for event in scenario.timing().all_events() {
+        if let Some(every) = event.every() {
+            if event.requests().iter().any(|request| begins(request, at)) {
+                return Some(u64::from(every));
+            }
+        }
+    }
+    for (task, actions) in scenario.bench().rows() {
+        if is_begun_by(actions, at) {
+            if let Some(period) = period_of(*task, actions) {
+                return Some(period);
+            }
+        }
+    }
+    None
+}
+
+/// What is doubtful of a job.
+fn doubt_of(scenario: &Scenario, job: &TimedJob) -> Option<Doubt> {
+    if !is_begun(scenario, job.at()) {
+        return Some(Doubt::NotBegun);
+    }
+    let period = period_at(scenario, job.at())?;
+    let stolen = stolen_always(scenario);
+    let cost = u64::from(job.cost());
+    let left = period.saturating_mul(100_u64.saturating_sub(stolen));
+    if cost.saturating_mul(100) >= left {
+        Some(Doubt::NothingLeft(cost, period, stolen))
+    } else {
+        None
+    }
+}
+
+/// What is doubtful of a scenario's jobs and events, in their order.
+fn doubts_of(alloc: Global, scenario: &Scenario) -> Result<Vec<Doubted>, AllocError> {
+    let timing = scenario.timing();
+    let mut doubts = Vec::new(alloc);
+    for (k, job) in timing.jobs().iter().enumerate() {
+        if let Some(doubt) = doubt_of(scenario, job) {
+            let place = Place::Table(Key::Of(ScenarioKey::Jobs), (k as u64).saturating_add(1));
+            doubts.push(Doubted { place, doubt })?;
+        }
+    }
+    for (k, event) in timing.all_events().iter().enumerate() {
+        if event.at() > timing.lasts() {
+            let place = Place::Table(Key::Of(ScenarioKey::Events), (k as u64).saturating_add(1));
+            let doubt = Doubt::Late;
+            doubts.push(Doubted { place, doubt })?;
+        }
+    }
+    Ok(doubts)
+}
+
+/// Says what is warned of.
+fn add_doubt(told: &mut String, doubt: Doubt) -> Result<(), AllocError> {
+    match doubt {
+        Doubt::NotBegun => add(told, &["nothing begins a job at this address\n"]),
+        Doubt::Late => add(told, &["it comes behind the end\n"]),
+        Doubt::NothingLeft(cost, period, stolen) => {
+            add(told, &["it costs "])?;
+            add_decimal(told, cost)?;
+            add(told, &[" of each "])?;
+            add_decimal(told, period)?;
+            add(told, &[" centiseconds, of which "])?;
+            add_decimal(told, stolen)?;
+            add(told, &[" percent are stolen: nothing is left\n"])
+        }
+    }
+}
+
+/// The lines of a document at which these places begin.
+fn lines_of(alloc: Global, text: &str, places: &[Place]) -> Result<Vec<u64>, AllocError> {
+    let found = places_in(alloc, text, places)?;
+    let mut lines = Vec::new(alloc);
+    for at in found.as_slice() {
+        lines.push(line_at(text, *at))?;
+    }
+    Ok(lines)
+}
+
+/// Tells what is doubtful, a line each.
+fn add_doubts(
+    alloc: Global,
+    told: &mut String,
+    text: &str,
+    doubts: &[Doubted],
+) -> Result<(), AllocError> {
+    let mut places = Vec::new(alloc);
+    for one in doubts.iter().take(MOST_TOLD) {
+        places.push(one.place)?;
+    }
+    let lines = lines_of(alloc, text, places.as_slice())?;
+    for (one, line) in doubts.iter().zip(lines.iter()) {
+        add_where(told, *line, "warning: ", one.place)?;
+        add_doubt(told, one.doubt)?;
+    }
+    Ok(())
+}
+
+/// What is warned of in a run that came to this.
+fn warnings_of(
+    alloc: Global,
+    text: &str,
+    scenario: &Scenario,
+    sum: &Sum,
+) -> Result<Vec<Located>, AllocError> {
+    let bench = scenario.bench();
+    let [limit, allowance] = [Place::Value(Key::Limit), Place::Value(Key::Allowance)];
+    let lines = lines_of(alloc, text, &[limit, allowance])?;
+    let mut found = [
+        (
+            limit,
+            sum.log_full
+                .map(|first| Warning::LogFull(first, bench.limit())),
+        ),
+        (
+            allowance,
+            sum.spent
+                .map(|first| Warning::Spent(first, bench.allowance())),
+        ),
+    ];
+    let mut warnings = Vec::new(alloc);
+    for ((place, warning), line) in found.iter().zip(lines.iter()) {
+        if let Some(warning) = warning {
+            let warned = Warned {
+                place: *place,
+                warning: *warning,
+            };
+            warnings.push(Located {
+                line: *line,
+                warned,
+            })?;
+        }
+    }
+    Ok(warnings)
+}
+
+/// What is told of a scenario in which nothing is wrong: what is warned of, and what it comes to.
+fn told_of_scenario(alloc: Global, text: &str, scenario: &Scenario) -> Result<String, Fault> {
+    let sum = match scenario_sum(alloc, scenario, MOST_RUN) {
+        Ok(sum) => sum,
+        Err(fault) => return Err(Fault::Run(fault)),
+    };
+    let warnings = warnings_of(alloc, text, scenario, &sum)?;
+    let mut told = String::new(alloc);
+    let doubts = doubts_of(alloc, scenario)?;
+    add_doubts(alloc, &mut told, text, doubts.as_slice())?;
+    let of_run = warnings_told(alloc, warnings.as_slice())?;
+    add(&mut told, &[of_run.as_str()])?;
+    let ran = Ran {
+        requests: sum.requests,
+        fired: sum.fired,
+        alarms: sum.alarms,
+        log_full: sum.log_full,
+        spent: sum.spent,
+        is_cut: sum.is_cut,
+    };
+    add_summary(&mut told, &ran)?;
+    Ok(told)
+}
+
+/// What is told of a document that should be a scenario, and whether it is one.
+pub(crate) fn scenario_told(alloc: Global, text: &str) -> Result<(bool, String), Fault> {
+    let checked = scenario_findings(alloc, text)?;
+    match &checked.scenario {
+        Some(scenario) => Ok((true, told_of_scenario(alloc, text, scenario)?)),
+        None => Ok((false, bench_told(alloc, checked.findings.as_slice())?)),
+    }
+}
