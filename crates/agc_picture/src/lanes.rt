@@ -29,7 +29,7 @@ impl Part {
 }
 
 /// What core set k holds in a scene.
-fn seat_in(scene: &Scene, k: usize) -> Option<Seat> {
+pub(crate) fn seat_in(scene: &Scene, k: usize) -> Option<Seat> {
     match scene.seats().get(k) {
         Some(seat) => *seat,
         None => None,
@@ -156,7 +156,7 @@ fn put_tasks<W: Write>(writer: &mut W, column: Column, y: u64, count: u64) -> io
 }
 
 /// The number of the running job, if one runs.
-fn runner(scene: &Scene) -> Option<u16> {
+pub(crate) fn runner(scene: &Scene) -> Option<u16> {
     match scene.running() {
         None => None,
         Some(number) => Some(number.get() as u16),

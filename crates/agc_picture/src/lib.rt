@@ -1,12 +1,21 @@
-//! A picture of a run: what each core set, each VAC area and the Waitlist held, request by request.
-//! Source: profile.
+//! Pictures of a run: what each core set, each VAC area and the Waitlist held, request by request
+//! or over time. Source: profile.
 #![tactic(auto)]
 
 mod blocks;
 mod drawing;
+mod escaping;
 mod frame;
+mod lane;
 mod lanes;
+pub mod laws;
 mod marks;
+mod over_time;
+mod scale;
+mod sheet;
+mod timed;
 mod whole;
 
+pub use over_time::{scenario_picture, time_picture};
+pub use scale::Span;
 pub use whole::picture;

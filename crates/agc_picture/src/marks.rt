@@ -6,7 +6,7 @@ use std::io;
 use std::io::Write;
 
 /// Which table was full, in a scene.
-fn full_table(alarm: Alarm, scene: &Scene) -> &'static str {
+pub(crate) fn full_table(alarm: Alarm, scene: &Scene) -> &'static str {
     match alarm {
         Alarm::A1201 => "alarm 1201: all five VAC areas are owned",
         Alarm::A1202 if scene.seats().len() == 8 => "alarm 1202: all eight core sets are in use",
@@ -16,7 +16,7 @@ fn full_table(alarm: Alarm, scene: &Scene) -> &'static str {
 }
 
 /// The alarm's code.
-fn code(alarm: Alarm) -> &'static str {
+pub(crate) fn code(alarm: Alarm) -> &'static str {
     match alarm {
         Alarm::A1201 => "1201",
         Alarm::A1202 => "1202",

@@ -1,0 +1,11 @@
+//! What holds of each text in a picture, whatever it is.
+
+ghost use Rattle.std.specs.Prelude.{◌≡◌, ℕ, List, true};
+ghost use Rattle.std.specs.List.{list_all};
+ghost use Rattle.agc_picture.specs.Escaped.{escaped, is_plain};
+
+/// In a text as it is in a picture stands no `<`, `>`, `"` or `'`, and no control character: it
+/// can't end the element in which it stands, or begin another.
+pub fn text_is_plain()
+    ensures { (text : List ℕ) → list_all is_plain (escaped text) ≡ true }
+{}
