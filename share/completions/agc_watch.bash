@@ -11,7 +11,8 @@ _agc_watch() {
         2:sweep) mapfile -t COMPREPLY < <(compgen -W 'steal sets seconds --csv --help' -- "$2") ;;
         *:sweep) mapfile -t COMPREPLY < <(compgen -W '--csv --help' -- "$2") ;;
         2:bench | 2:peaks) mapfile -t COMPREPLY < <(compgen -W '--help' -- "$2") ;;
-        2:picture | 2:page) mapfile -t COMPREPLY < <(compgen -W '--progress --help' -- "$2") ;;
+        *:picture) mapfile -t COMPREPLY < <(compgen -W '--time --width --from --to --progress --help' -- "$2") ;;
+        2:page) mapfile -t COMPREPLY < <(compgen -W '--progress --help' -- "$2") ;;
     esac
 }
 complete -o default -F _agc_watch agc_watch

@@ -1,5 +1,5 @@
 // The picture of a run over time.
-ghost use Rattle.std.specs.Prelude.{◌≡◌, IfOk, OnOk};
+ghost use Rattle.std.specs.Prelude.{◌≡◌, IfErr, IfOk, OnOk};
 ghost use Rattle.std.specs.List.{fold};
 ghost use Rattle.agc_clock.specs.Runs.{by_machine, run};
 ghost use Rattle.agc_scenario.specs.Scenarios.{schedule_of};
@@ -12,9 +12,8 @@ use crate::scale::{Scale, Span};
 use crate::timed::TimeDrawing;
 use agc_clock::{Asked, Serves, Timetables, run};
 use agc_document::Bench;
-use agc_machine::Machine;
 use agc_plan::Request;
-use agc_scenario::Scenario;
+use agc_scenario::{Scenario, Timing};
 use agc_scene::Watched;
 use agc_session::{
     Follows, Progress, RunFault, Silent, Source, count_requests, follow_bench, machine_of,
@@ -59,17 +58,32 @@ impl Follows for Timed {
 }
 
 /// How long a bench's run lasts.
-fn length_of(alloc: Global, bench: &Bench) -> Result<u64, RunFault> {
+fn length_of(alloc: Global, bench: &Bench) -> Result<u64, RunFault>
+    ensures { IfErr result (λ e. e ≡ RunFault.NoMemory) }
+{
+    let machine = machine_of(alloc, bench)?;
     let mut timed = Timed {
-        watched: Watched::new(machine_of(alloc, bench)?),
+        watched: Watched::new(machine),
         time: 0,
     };
-    follow_bench(&mut timed, &mut Silent, bench, &mut io::sink())?;
+    let _ = follow_bench(&mut timed, &mut Silent, bench, &mut io::sink());
     Ok(timed.time)
 }
 
+/// Where a bench's run ends that is to be drawn.
+fn end_of(alloc: Global, bench: &Bench, span: Span<'_>) -> Result<u64, RunFault>
+    ensures { IfErr result (λ e. e ≡ RunFault.NoMemory) }
+{
+    match span.to {
+        Some(to) => Ok(to),
+        None => length_of(alloc, bench),
+    }
+}
+
 /// A title as it is in markup.
-fn title_of(alloc: Global, span: Span<'_>) -> Result<Option<Vec<u8>>, RunFault> {
+fn title_of(alloc: Global, span: Span<'_>) -> Result<Option<Vec<u8>>, RunFault>
+    ensures { IfErr result (λ e. e ≡ RunFault.NoMemory) }
+{
     match span.title {
         None => Ok(None),
         Some(title) => match escaped(alloc, title) {
@@ -79,36 +93,31 @@ fn title_of(alloc: Global, span: Span<'_>) -> Result<Option<Vec<u8>>, RunFault> 
     }
 }
 
-/// Begins a drawing.
-fn begun(alloc: Global, machine: Machine, scale: Scale) -> Result<TimeDrawing, RunFault> {
-    match TimeDrawing::new(alloc, machine, scale) {
+/// A drawing of a bench's machine, which was asked for nothing yet.
+fn begun(alloc: Global, bench: &Bench, span: Span<'_>, end: u64) -> Result<TimeDrawing, RunFault>
+    ensures begun { IfOk result (λ d. d ≡ watching_from (bench_machine bench.now)) }
+    ensures refused { IfErr result (λ e. e ≡ RunFault.NoMemory) }
+{
+    let title = title_of(alloc, span)?;
+    let machine = machine_of(alloc, bench)?;
+    match TimeDrawing::new(alloc, machine, Scale::new(span, end), title) {
         Ok(drawing) => Ok(drawing),
         Err(_no_memory) => Err(RunFault::NoMemory),
     }
 }
 
-/// Writes the head of a drawing.
-fn put_begin<W: Write>(
-    drawing: &TimeDrawing,
-    title: &Option<Vec<u8>>,
+/// Draws the requests of a bench: all of them, in order, are asked for.
+fn draw<P: Progress, W: Write>(
+    drawing: &mut TimeDrawing,
+    bench: &Bench,
+    progress: &mut P,
     writer: &mut W,
-) -> Result<(), Output> {
-    let title = match title {
-        None => None,
-        Some(title) => Some(title.as_slice()),
-    };
-    match drawing.begin(writer, title) {
-        Ok(()) => Ok(()),
-        Err(_failed) => Err(Output),
-    }
-}
-
-/// Writes the end of a drawing.
-fn put_end<W: Write>(drawing: &mut TimeDrawing, writer: &mut W) -> Result<(), Output> {
-    match drawing.finish(writer) {
-        Ok(()) => Ok(()),
-        Err(_failed) => Err(Output),
-    }
+) -> Result<(), Output>
+    ensures { OnOk result (drawing.new ≡ fold watched drawing.old (bench_requests bench.now)) }
+{
+    drawing.begin(writer)?;
+    follow_bench(drawing, progress, bench, writer)?;
+    drawing.finish(writer)
 }
 
 /// Writes the picture of a bench over time, an SVG as wide as the span says: its machine is asked
@@ -134,16 +143,10 @@ pub fn time_picture<P: Progress, W: Write>(
         (fold watched (watching_from (bench_machine bench.now)) (bench_requests bench.now))
         (W.contents writer.old) (W.contents writer.new) result }
 {
-    let title = title_of(alloc, span)?;
+    let end = end_of(alloc, bench, span)?;
+    let mut drawing = begun(alloc, bench, span, end)?;
     progress.expect(count_requests(bench).requests);
-    let end = match span.to {
-        Some(to) => to,
-        None => length_of(alloc, bench)?,
-    };
-    let mut drawing = begun(alloc, machine_of(alloc, bench)?, Scale::new(span, end))?;
-    put_begin(&drawing, &title, writer)?;
-    follow_bench(&mut drawing, progress, bench, writer)?;
-    put_end(&mut drawing, writer)?;
+    draw(&mut drawing, bench, progress, writer)?;
     Ok(drawing.into_watched())
 }
 
@@ -178,6 +181,35 @@ impl<'a, W: Write> Serves for Drawn<'a, W> {
     }
 }
 
+/// Asks for all requests of a scenario, in order, and for no others, and draws them.
+fn run_drawn<W: Write>(
+    drawing: TimeDrawing,
+    timing: &Timing,
+    writer: &mut W,
+) -> Result<TimeDrawing, Output>
+    ensures { IfOk result (λ d. d.machine
+        ≡ (run by_machine (schedule_of timing.now) drawing.machine).state) }
+{
+    let mut drawn = Drawn { drawing, writer };
+    run(timing, &mut drawn)?;
+    Ok(drawn.drawing)
+}
+
+/// Draws the requests of a scenario, and what stands around them.
+fn draw_scenario<W: Write>(
+    drawing: TimeDrawing,
+    timing: &Timing,
+    writer: &mut W,
+) -> Result<TimeDrawing, Output>
+    ensures { IfOk result (λ d. d.machine
+        ≡ (run by_machine (schedule_of timing.now) drawing.machine).state) }
+{
+    drawing.begin(writer)?;
+    let mut drawing = run_drawn(drawing, timing, writer)?;
+    drawing.finish(writer)?;
+    Ok(drawing)
+}
+
 /// Runs a scenario, and writes its picture over time, as [`time_picture`] does a bench's. Without
 /// an end it ends with the scenario. Source: profile.
 ///
@@ -191,17 +223,13 @@ pub fn scenario_picture<W: Write>(
     span: Span<'_>,
     writer: &mut W,
 ) -> Result<Watched, RunFault>
-    ensures { IfOk result (λ watched. watched.machine
-        ≡ (run by_machine (schedule_of scenario.now.timing) (bench_machine scenario.now.bench)).state) }
+    ensures { IfOk result (λ watched. watched.machine ≡
+        (run by_machine (schedule_of scenario.now.timing)
+        (bench_machine scenario.now.bench)).state) }
 {
-    let title = title_of(alloc, span)?;
     let timing = scenario.timing();
     let end = u64::from(timing.lasts());
-    let machine = machine_of(alloc, scenario.bench())?;
-    let drawing = begun(alloc, machine, Scale::new(span, end))?;
-    put_begin(&drawing, &title, writer)?;
-    let mut drawn = Drawn { drawing, writer };
-    run(timing, &mut drawn)?;
-    put_end(&mut drawn.drawing, drawn.writer)?;
-    Ok(drawn.drawing.into_watched())
+    let drawing = begun(alloc, scenario.bench(), span, end)?;
+    let drawing = draw_scenario(drawing, timing, writer)?;
+    Ok(drawing.into_watched())
 }

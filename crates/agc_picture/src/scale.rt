@@ -119,7 +119,7 @@ impl Scale {
             10_000_000,
             100_000_000,
         ] {
-            let wide = self.columns.saturating_mul(COLUMN * step);
+            let wide = self.columns.saturating_mul(COLUMN).saturating_mul(step);
             if wide >= self.length().saturating_mul(120) {
                 return step;
             }

@@ -79,7 +79,7 @@ pub(crate) fn put_head<W: Write>(
     scale: Scale,
 ) -> io::Result<()> {
     let width = scale.width;
-    let height = bottom(sets) + 122;
+    let height = bottom(sets).saturating_add(122);
     write!(writer, "<svg xmlns=\"http://www.w3.org/2000/svg\"")?;
     write!(
         writer,
@@ -127,7 +127,8 @@ fn put_number<W: Write>(writer: &mut W, scale: Scale, time: u64, end: u64) -> io
 /// Writes the axis: whole steps of time.
 fn put_axis<W: Write>(writer: &mut W, sets: u64, scale: Scale) -> io::Result<()> {
     let step = scale.step().max(1);
-    let first = scale.from.saturating_add(step - 1) / step * step;
+    let before = scale.from.saturating_add(step - 1) / step;
+    let first = before.saturating_mul(step);
     for k in 0..200u64 {
         let time = first.saturating_add(step.saturating_mul(k));
         if time > scale.to {
@@ -161,17 +162,22 @@ fn put_stroke<W: Write>(writer: &mut W, class: &str, x: u64, y: u64) -> io::Resu
 
 /// Writes what the axis and the colours mean.
 fn put_legend<W: Write>(writer: &mut W, y: u64, scale: Scale) -> io::Result<()> {
-    let (one, two, three) = (y + 36, y + 70, y + 104);
+    let (one, two, three) = (
+        y.saturating_add(36),
+        y.saturating_add(70),
+        y.saturating_add(104),
+    );
+    let (high, low) = (y.saturating_add(51), y.saturating_add(85));
     put_line(writer, 8, one, AXIS)?;
-    put_square(writer, "x", 8, two - 19)?;
+    put_square(writer, "x", 8, high)?;
     write!(writer, "<text x=\"36\" y=\"{two}\">{BRIEF} (")?;
     Seconds(scale.column_length()).put(writer)?;
     write!(writer, " s)</text>\n")?;
-    put_square(writer, "y", 790, two - 19)?;
+    put_square(writer, "y", 790, high)?;
     put_line(writer, 818, two, "the same, and free in between")?;
-    put_stroke(writer, "m", 18, three - 19)?;
+    put_stroke(writer, "m", 18, low)?;
     put_line(writer, 36, three, "alarm")?;
-    put_stroke(writer, "n", 140, three - 19)?;
+    put_stroke(writer, "n", 140, low)?;
     put_line(writer, 158, three, "restart or fresh start")?;
     put_line(
         writer,

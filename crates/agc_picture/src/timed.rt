@@ -1,5 +1,7 @@
 // A run that is drawn over time.
-ghost use Rattle.std.specs.Prelude.{◌≡◌};
+ghost use Rattle.std.specs.Prelude.{◌≡◌, IfOk};
+ghost use Rattle.agc_clock.specs.Runs.{begins_with};
+ghost use Rattle.agc_machine.specs.Machines.{answer_of};
 ghost use Rattle.agc_scene.specs.Events.{watched, watching_from};
 
 use crate::lane::{Held, Lane, Place};
@@ -7,8 +9,8 @@ use crate::lanes::{runner, seat_in};
 use crate::marks::{code, full_table};
 use crate::scale::{Scale, Seconds};
 use crate::sheet::{put_foot, put_ground, put_head, strip_of};
-use agc_machine::Machine;
-use agc_plan::Request;
+use agc_machine::{Machine, Refusal};
+use agc_plan::{Reply, Request};
 use agc_scene::{Event, Scene, Watched};
 use agc_session::{Follows, Source};
 use agc_text::Output;
@@ -35,6 +37,7 @@ pub(crate) struct TimeDrawing {
     time: u64,
     scale: Scale,
     sets: u64,
+    title: Option<Vec<u8>>,
     lanes: Vec<Lane>,
     room: Room,
 }
@@ -45,6 +48,24 @@ impl Model for TimeDrawing {
     ghost Value = { Watching };
 
     ghost view = { λ d. d.watched };
+}
+
+/// Whether an era begins with an answer.
+fn begins_with(answer: &Result<Reply, Refusal>) -> bool
+    ensures { result ≡ begins_with answer.now }
+{
+    match answer {
+        Ok(reply) => reply.begins(),
+        Err(_refusal) => false,
+    }
+}
+
+/// What stands behind a write.
+fn written(put: io::Result<()>) -> Result<(), Output> {
+    match put {
+        Ok(()) => Ok(()),
+        Err(_failed) => Err(Output),
+    }
 }
 
 /// What is in a lane, in a scene.
@@ -126,11 +147,13 @@ impl Room {
 }
 
 impl TimeDrawing {
-    /// Nothing was asked of this machine, and it is to be drawn on this scale.
+    /// Nothing was asked of this machine, and it is to be drawn on this scale, with this title as it
+    /// is in markup.
     pub(crate) fn new(
         alloc: Global,
         machine: Machine,
         scale: Scale,
+        title: Option<Vec<u8>>,
     ) -> Result<TimeDrawing, AllocError>
         ensures { IfOk result (λ d. d ≡ watching_from machine) }
     {
@@ -142,6 +165,7 @@ impl TimeDrawing {
             time: 0,
             scale,
             sets,
+            title,
             lanes: lanes_of(alloc, sets)?,
             room: Room {
                 alarm: 0,
@@ -169,13 +193,22 @@ impl TimeDrawing {
         self.watched.machine()
     }
 
-    /// Writes the head, with this title as it is in markup, and the grounds of all lanes.
-    pub(crate) fn begin<W: Write>(&self, writer: &mut W, title: Option<&[u8]>) -> io::Result<()> {
+    /// Writes the head, and the grounds of all lanes.
+    fn put_begin<W: Write>(&self, writer: &mut W) -> io::Result<()> {
+        let title = match &self.title {
+            None => None,
+            Some(title) => Some(title.as_slice()),
+        };
         put_head(writer, title, self.sets, self.scale)?;
         for lane in self.lanes.iter() {
             put_ground(writer, lane, self.scale)?;
         }
         Ok(())
+    }
+
+    /// Writes the head, and the grounds of all lanes.
+    pub(crate) fn begin<W: Write>(&self, writer: &mut W) -> Result<(), Output> {
+        written(self.put_begin(writer))
     }
 
     /// This is in the lanes from now on.
@@ -249,16 +282,17 @@ impl TimeDrawing {
     fn draw<W: Write>(&mut self, writer: &mut W, event: &Event) -> io::Result<()>
         ensures { self.new ≡ self.old }
     {
+        let scale = self.scale;
         self.time = event.total;
-        self.pass(writer, self.scale.column(event.total))?;
+        self.pass(writer, scale.column(event.total))?;
         self.show(&event.scene, false);
         if let Some(era) = &event.era {
-            if self.scale.from <= event.total && event.total <= self.scale.to {
+            if scale.from <= event.total && event.total <= scale.to {
                 self.mark(writer, event)?;
             }
             self.show(era, true);
         }
-        if event.total < self.scale.from {
+        if event.total < scale.from {
             self.settle();
         }
         Ok(())
@@ -273,14 +307,12 @@ impl TimeDrawing {
         ensures { self.new ≡ watched self.old request.now }
     {
         let event = self.watched.ask(request);
-        match self.draw(writer, &event) {
-            Ok(()) => Ok(event.era.is_some()),
-            Err(_failed) => Err(Output),
-        }
+        written(self.draw(writer, &event))?;
+        Ok(begins_with(&event.answer))
     }
 
     /// Writes what is not written yet, and what stands around the lanes.
-    pub(crate) fn finish<W: Write>(&mut self, writer: &mut W) -> io::Result<()>
+    fn put_end<W: Write>(&mut self, writer: &mut W) -> io::Result<()>
         ensures { self.new ≡ self.old }
     {
         let end = if self.time == 0 {
@@ -291,6 +323,13 @@ impl TimeDrawing {
         self.pass(writer, end)?;
         self.flush(writer)?;
         put_foot(writer, self.sets, self.scale, end)
+    }
+
+    /// Writes what is not written yet, and what stands around the lanes.
+    pub(crate) fn finish<W: Write>(&mut self, writer: &mut W) -> Result<(), Output>
+        ensures { self.new ≡ self.old }
+    {
+        written(self.put_end(writer))
     }
 }
 

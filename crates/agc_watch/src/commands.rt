@@ -72,14 +72,27 @@ pub(crate) fn trace_command<'a>(alloc: Global) -> Result<Command<'a>, AllocError
     .arg(numbered(alloc, "to", "Tells only the requests up to number N"))
 }
 
+/// An option that takes seconds.
+fn seconds<'a>(alloc: Global, name: &'a str, help: &'a str) -> Arg<'a> {
+    Arg::new(alloc, name).long(name).value_name("S").help(help)
+}
+
 /// The command `picture`.
-fn picture_command<'a>(alloc: Global) -> Result<Command<'a>, AllocError> {
+pub(crate) fn picture_command<'a>(alloc: Global) -> Result<Command<'a>, AllocError> {
     reading_command(
         alloc,
         "picture",
-        "Draws the tables, request by request, as an SVG",
+        "Draws the tables, request by request or over time, as an SVG",
         "Example: agc_watch picture examples/no-vac-area.toml > run.svg",
-    )
+    )?
+    .arg(flag(alloc, "time", "Draws seconds along the top"))?
+    .arg(numbered(
+        alloc,
+        "width",
+        "With --time: draws N points wide; 1600 if nothing is said",
+    ))?
+    .arg(seconds(alloc, "from", "With --time: begins at second S"))?
+    .arg(seconds(alloc, "to", "With --time: ends at second S"))
 }
 
 /// The command `page`.

@@ -1,12 +1,12 @@
 //! What a scenario comes to: its bench, its eras, a sweep over one of its numbers, its trace and
-//! picture.
+//! pictures.
 ghost use Rattle.std.specs.Prelude.{◌≡◌};
 ghost use Rattle.agc_watch.specs.declared.scenarios.Stop.TheVariants as stop;
 ghost use Rattle.agc_program.specs.declared.fault.Fault.TheVariants as fault;
 
 use crate::checking::scenario_told;
 use crate::progress::{SweepTeller, Teller};
-use crate::words::{Refused, Telling, Work, refused_sweep};
+use crate::words::{Refused, Telling, Times, Work, refused_sweep};
 use agc_document::{Bench, BenchFault, read_bench};
 use agc_findings::findings;
 use agc_lint::{add, add_decimal, bench_told};
@@ -14,7 +14,7 @@ use agc_page::{PageFault, page};
 use agc_peaks::{
     Column, Sweep, bench_peaks, follow_scenario, run_sweep, scenario_bench, scenario_peaks,
 };
-use agc_picture::picture;
+use agc_picture::{Span, picture, scenario_picture, time_picture};
 use agc_program::{Fault, Program, buffered, ended, flushed};
 use agc_scenario::{Scenario, is_scenario, read_scenario, scenario_findings};
 use agc_session::{Progress, RunFault, machine_of};
@@ -132,6 +132,44 @@ fn write_peaks<W: Write>(alloc: Global, text: &str, writer: &mut W) -> Result<()
     }
 }
 
+/// Writes the picture over time of a text's scenario, or of its bench.
+fn write_picture<H: AllocGlobal + Clock + Eprint, W: Write>(
+    rt: &H,
+    text: &str,
+    times: Times,
+    writer: &mut W,
+) -> Result<(), Stop> {
+    let alloc = rt.alloc();
+    let Times {
+        width,
+        from,
+        to,
+        ..
+    } = times;
+    if is_scenario(alloc, text)? {
+        let scenario = scenario_in(alloc, text)?;
+        let title = scenario.timing().title();
+        let span = Span {
+            title,
+            width,
+            from,
+            to,
+        };
+        scenario_picture(alloc, &scenario, span, writer)?;
+    } else {
+        let bench = bench_in(alloc, text)?;
+        let span = Span {
+            title: None,
+            width,
+            from,
+            to,
+        };
+        let mut progress = Teller::new(rt, times.has_progress);
+        time_picture(alloc, &bench, span, &mut progress, writer)?;
+    }
+    Ok(())
+}
+
 /// Tells which keys of a scenario a sweep can take: at most so many of its jobs, and of its events.
 fn add_keys(told: &mut String, scenario: &Scenario) -> Result<(), AllocError> {
     add(told, &["sets, steal, seconds"])?;
@@ -218,6 +256,7 @@ fn tell_input<H: AllocGlobal + Clock + Print + Eprint, R: Read>(
     let mut output = buffered(rt)?;
     let mut bytes = 0;
     match telling {
+        Telling::Picture(times) => write_picture(rt, text, times, &mut output)?,
         Telling::Bench => bytes = write_bench(alloc, text, &mut output)?,
         Telling::Peaks => write_peaks(alloc, text, &mut output)?,
         Telling::Sweep(key, sweep) => write_sweep(rt, text, key, sweep, &mut output)?,

@@ -2,7 +2,7 @@
 ghost use Rattle.std.specs.Prelude.{◌≡◌};
 ghost use Rattle.agc_watch.specs.declared.words.Refused.TheVariants.{NoMemory};
 
-use crate::commands::{sweep_command, trace_command, whole_command};
+use crate::commands::{picture_command, sweep_command, trace_command, whole_command};
 use agc_orders::Options;
 use agc_peaks::Sweep;
 use agc_plan::Alarm;
@@ -31,9 +31,21 @@ pub enum Work {
     CheckScript,
 }
 
-/// What the program is to tell of a scenario, or of the eras of a bench.
+/// How wide a picture over time is, and which centiseconds it shows.
+#[derive(Clone, Copy, Debug, PartialEq, Eq)]
+pub struct Times {
+    pub width: u64,
+    pub from: u64,
+    pub to: Option<u64>,
+    /// How far it has come is told on standard error.
+    pub has_progress: bool,
+}
+
+/// What the program is to tell of a scenario, or of a bench in the course of time.
 #[derive(Clone, Copy, Debug)]
 pub enum Telling<'a> {
+    /// The picture over time.
+    Picture(Times),
     /// The bench that it comes to.
     Bench,
     /// How full the tables were, era by era.
@@ -207,6 +219,97 @@ pub(crate) fn refused_sweep(alloc: Global, reason: &str) -> Refused {
     }
 }
 
+/// The number that a part of seconds is; nothing, if it has another letter than a digit, or is too
+/// long.
+fn number_of(digits: &str) -> Option<u64> {
+    let mut number = 0u64;
+    if digits.is_empty() || digits.len() > 12 {
+        return None;
+    }
+    for byte in digits.as_bytes() {
+        match *byte {
+            b'0'..=b'9' => {
+                let digit = u64::from(*byte - b'0');
+                number = number.saturating_mul(10).saturating_add(digit);
+            }
+            _ => return None,
+        }
+    }
+    Some(number)
+}
+
+/// The centiseconds that a text of seconds says, with at most two decimals.
+fn centiseconds_of(text: &str) -> Option<u64> {
+    let (whole, rest) = match text.split_once('.') {
+        None => (number_of(text)?, 0),
+        Some((whole, rest)) => match rest.len() {
+            1 => (number_of(whole)?, number_of(rest)?.saturating_mul(10)),
+            2 => (number_of(whole)?, number_of(rest)?),
+            _ => return None,
+        },
+    };
+    Some(whole.saturating_mul(100).saturating_add(rest))
+}
+
+/// The centiseconds of an option, if it is given; an error, if it says no seconds.
+fn seconds_of(given: &ArgMatches<'_>, name: &str) -> Result<Option<u64>, ()> {
+    match given.get_str(name) {
+        None => Ok(None),
+        Some(text) => match centiseconds_of(text) {
+            Some(time) => Ok(Some(time)),
+            None => Err(()),
+        },
+    }
+}
+
+/// The picture over time that is asked for, if one is, or why the words are wrong.
+fn times_of(given: &ArgMatches<'_>) -> Result<Option<Times>, &'static str> {
+    let width = given.get_one::<u64>("width");
+    let Ok(from) = seconds_of(given, "from") else {
+        return Err("--from is seconds, such as 12.5");
+    };
+    let Ok(to) = seconds_of(given, "to") else {
+        return Err("--to is seconds, such as 12.5");
+    };
+    if !given.get_flag("time") {
+        return match (width, from, to) {
+            (None, None, None) => Ok(None),
+            (Some(_), _, _) => Err("--width goes with --time"),
+            (None, Some(_), _) => Err("--from goes with --time"),
+            (None, None, Some(_)) => Err("--to goes with --time"),
+        };
+    }
+    let (width, from) = (width.unwrap_or(1600), from.unwrap_or(0));
+    if width < 1200 || 10_000 < width {
+        return Err("--width is 1200 to 10000");
+    }
+    match to {
+        Some(to) if to <= from => Err("--to is not beyond --from"),
+        _ => Ok(Some(Times {
+            width,
+            from,
+            to,
+            has_progress: given.get_flag("progress"),
+        })),
+    }
+}
+
+/// What the words behind `picture` ask for.
+fn asked_to_draw<'a>(
+    alloc: Global,
+    command: &mut Command<'a>,
+    given: &ArgMatches<'a>,
+) -> Result<Asked<'a>, Refused> {
+    match times_of(given) {
+        Ok(None) => asked_to_work(alloc, command, "picture", given),
+        Ok(Some(times)) => Ok(asked_to_tell(Telling::Picture(times), given)),
+        Err(reason) => {
+            let mut picture = picture_command(alloc)?.bin_name("agc_watch picture")?;
+            Err(refused_as(&mut picture, reason))
+        }
+    }
+}
+
 /// What a command asks for that works on its input.
 fn asked_to_work<'a>(
     alloc: Global,
@@ -247,6 +350,7 @@ fn asked_by<'a>(
         return Err(refused_as(command, "a command is missing"));
     };
     match name {
+        "picture" => asked_to_draw(alloc, command, given),
         "explore" => asked_to_explore(command, given),
         "bench" => Ok(asked_to_tell(Telling::Bench, given)),
         "peaks" => Ok(asked_to_tell(Telling::Peaks, given)),
