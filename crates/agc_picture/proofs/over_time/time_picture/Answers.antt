@@ -1,6 +1,6 @@
 use Rattle.std.proofs.Common.{◌∙◌, ap}
 use Rattle.std.specs.List.{fold}
-use Rattle.agc_scene.specs.Events.{Watching, watched, watching_from}
+use Rattle.agc_scene.specs.Events.{Watching, watched}
 use Rattle.agc_session.specs.Runs.{bench_requests}
 use Rattle.agc_picture.proofs.over_time.time_picture.Goals as goal
 
@@ -8,4 +8,4 @@ pub returns : goal.returns
 returns g c =
     c.into_watched.ensures ∙ c.in_ok-draw.ensures
     ∙ ap (λ (w : Watching). fold watched w (bench_requests c.args.bench.now))
-    (c.new-drawing.ensures ∙ ap watching_from c.in_ok-machine.ensures.machine)
+    c.in_ok-drawing.ensures.begun
