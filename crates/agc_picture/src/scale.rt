@@ -79,7 +79,7 @@ impl Scale {
     /// one that is later.
     pub(crate) fn column(self, time: u64) -> u64 {
         let passed = time.saturating_sub(self.from).min(self.length());
-        passed.saturating_mul(self.columns) / self.length()
+        passed.saturating_mul(self.columns) / self.length().max(1)
     }
 
     /// Where a column begins, in points from the left.

@@ -181,7 +181,7 @@ fn put_legend<W: Write>(writer: &mut W, y: u64, scale: Scale) -> io::Result<()> 
     put_line(writer, 158, three, "restart or fresh start")?;
     put_line(
         writer,
-        400,
+        510,
         three,
         "Grey tasks: the most at once within a column.",
     )
