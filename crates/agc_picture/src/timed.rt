@@ -60,6 +60,17 @@ fn begins_with(answer: &Result<Reply, Refusal>) -> bool
     }
 }
 
+/// Asks a machine for one request. Returns its event, and whether an era began with it.
+#[tactic(auto, unfolding(agc_scene::specs::Events::event_of))]
+fn asked(machine: &mut Watched, request: &Request) -> (Event, bool)
+    ensures after { machine.new ≡ watched machine.old request.now }
+    ensures began { result.1 ≡ begins_with (answer_of machine.old.machine request.now) }
+{
+    let event = machine.ask(request);
+    let began = begins_with(&event.answer);
+    (event, began)
+}
+
 /// What stands behind a write.
 fn written(put: io::Result<()>) -> Result<(), Output> {
     match put {
@@ -304,11 +315,13 @@ impl TimeDrawing {
         request: &Request,
         writer: &mut W,
     ) -> Result<bool, Output>
-        ensures { self.new ≡ watched self.old request.now }
+        ensures after { self.new ≡ watched self.old request.now }
+        ensures began { IfOk result (λ began.
+            began ≡ begins_with (answer_of self.old.machine request.now)) }
     {
-        let event = self.watched.ask(request);
+        let (event, began) = asked(&mut self.watched, request);
         written(self.draw(writer, &event))?;
-        Ok(begins_with(&event.answer))
+        Ok(began)
     }
 
     /// Writes what is not written yet, and what stands around the lanes.
