@@ -1,0 +1,10 @@
+//! Play with a machine: a request a line, and of each at once its row, the tables, and the account
+//! of its alarm. Source: profile.
+#![tactic(auto)]
+
+mod folding;
+mod line;
+mod player;
+mod playing;
+
+pub use playing::{Manner, PlayFault, play};

@@ -1,0 +1,445 @@
+//! The play: a line is read, and answered, before the next one is read.
+ghost use Rattle.std.specs.Prelude.{◌≡◌, ◌++◌, ◌∷◌, [], OnOk};
+
+use crate::folding::Folded;
+use crate::line::{Asked, asked_by, not_text_told, wrong_told};
+use crate::player::{Came, Player};
+use agc_document::Bench;
+use agc_machine::Refusal;
+use agc_peaks::put_bench;
+use agc_plan::Request;
+use agc_session::{Follows, RunFault, Silent, Source, follow_bench};
+use agc_text::Output;
+use std::alloc::{AllocError, AllocFailed, Global};
+use std::io::{BufRead, Eprint, ErrorKind, Read, Write};
+use std::marker::Model;
+use std::rt::Files;
+use std::{fs, io};
+
+/// How many bytes a line may have.
+const MOST_LINE: usize = 8192;
+
+/// How many bytes `agc` and `agc_watch` read of a bench.
+const MOST_BYTES: usize = 1_048_576;
+
+const GREETING: &str = "Type a request, such as findvac 20 02000 00005, or help. Ctrl-D ends.";
+
+const HELP: &str = "\
+A line is a request, as in a script, or one of these:
+    tick N     lets N centiseconds pass; tells the ticks in which something
+               happened, and the last; ends at one that is refused
+    undo       takes back what the last line asked; behind those, what FILE asked
+    show       tells the state: jobs, areas, tasks, phases, FAILREG, the log
+    save FILE  writes all that was asked as a bench, for agc serial
+    help       tells this
+    quit       ends, as the end of the input does
+A request:
+    novac P A W, findvac P A W    a job of priority P at address A in bank W
+    end, sleep A, prio P          the running job ends, sleeps, or changes
+    store K W, change             .. stores W in work word K; the best job runs
+    rouse A                       awakens the job that sleeps at A
+    list D A W                    the task at A in bank W, in D centiseconds
+    tick                          a centisecond passes
+    phase G N                     group G is in phase N
+    restart, fresh                restart; fresh start
+P is octal, 01 to 37; A and W have five octal digits; K, D, G and N are decimal.
+";
+
+/// How one plays: on a terminal it is told what is waited for, and the tables of a row stand below
+/// it. Source: profile.
+#[derive(Clone, Copy, Debug, PartialEq, Eq)]
+pub struct Manner {
+    /// Standard error tells that a line is waited for.
+    pub prompts: bool,
+    /// Rows are folded, so that they fit a terminal.
+    pub folds: bool,
+}
+
+/// Why one no longer plays. Source: profile.
+#[derive(Clone, Copy, Debug, PartialEq, Eq)]
+pub enum PlayFault {
+    NoMemory,
+    /// A read failed.
+    Input,
+    /// A line has more than 8,192 bytes.
+    TooLong,
+    /// A write failed.
+    Output,
+}
+
+impl From<AllocError> for PlayFault {
+    fn from(_error: AllocError) -> PlayFault {
+        PlayFault::NoMemory
+    }
+}
+
+impl<T: Drop> From<AllocFailed<T>> for PlayFault {
+    fn from(_error: AllocFailed<T>) -> PlayFault {
+        PlayFault::NoMemory
+    }
+}
+
+impl From<Output> for PlayFault {
+    fn from(_error: Output) -> PlayFault {
+        PlayFault::Output
+    }
+}
+
+impl From<RunFault> for PlayFault {
+    fn from(fault: RunFault) -> PlayFault {
+        match fault {
+            RunFault::NoMemory | RunFault::NoThread | RunFault::Lost => PlayFault::NoMemory,
+            RunFault::Output => PlayFault::Output,
+        }
+    }
+}
+
+/// What stands behind a write to the one who plays.
+fn written(put: io::Result<()>) -> Result<(), PlayFault> {
+    put.map_err(|_failed| PlayFault::Output)
+}
+
+/// The requests of a bench, as they are gathered, and whether memory ran out.
+#[derive(Drop)]
+struct Gatherer {
+    requests: Vec<Request>,
+    lacks: bool,
+}
+
+impl Model for Gatherer {
+    ghost Value = { Unit {0} };
+
+    ghost view = { λ _. tt };
+}
+
+impl Follows for Gatherer {
+    ghost next = { λ gatherer request. gatherer };
+
+    /// Keeps one request, and writes nothing.
+    fn follow<W: Write>(
+        &mut self,
+        _source: Source,
+        request: &Request,
+        _writer: &mut W,
+    ) -> Result<(), Output> {
+        match self.requests.push(*request) {
+            Ok(()) => Ok(()),
+            Err(_lacking) => {
+                self.lacks = true;
+                Err(Output)
+            }
+        }
+    }
+}
+
+/// All requests of a bench, in the order of `agc serial`.
+fn requests_of(alloc: Global, bench: &Bench) -> Result<Vec<Request>, PlayFault> {
+    let mut gatherer = Gatherer {
+        requests: Vec::new(alloc),
+        lacks: false,
+    };
+    let _ = follow_bench(&mut gatherer, &mut Silent, bench, &mut io::sink());
+    if gatherer.lacks {
+        return Err(PlayFault::NoMemory);
+    }
+    Ok(gatherer.requests)
+}
+
+/// A play: the bench that it began from, all that was asked, from the bench's own requests on, how
+/// many were asked before each line that asked for some, and the machine. Contracts see what was
+/// asked; the machine is what the bench's comes to by that. Source: profile.
+#[derive(Drop)]
+struct Played<'a> {
+    bench: &'a Bench,
+    requests: Vec<Request>,
+    steps: Vec<usize>,
+    player: Player,
+}
+
+impl<'a> Model for Played<'a> {
+    ghost use Rattle.std.specs.Prelude.{◌≡◌, List};
+    ghost use Rattle.std.specs.List.{fold};
+    ghost use Rattle.agc_plan.specs.declared.request.Request.{Request};
+    ghost use Rattle.agc_scene.specs.Events.{watched, watching_from};
+    ghost use Rattle.agc_session.specs.Runs.{bench_machine};
+
+    ghost Value = { List Request };
+
+    ghost view = { λ p. p.requests.items };
+
+    ghost invariant = { λ p. p.player
+        ≡ fold watched (watching_from (bench_machine p.bench.now)) p.requests.items };
+}
+
+/// Says why a request was refused, and what helps.
+fn put_refused<W: Write>(writer: &mut W, bench: &Bench, refusal: Refusal) -> io::Result<()> {
+    let (limit, allowance) = (bench.limit().get(), bench.allowance());
+    match refusal {
+        Refusal::LogFull => write!(
+            writer,
+            "        the log is full (limit {limit}): only restart and fresh are served\n"
+        ),
+        Refusal::Spent => write!(
+            writer,
+            "        spent (allowance {allowance}): nothing more is served\n"
+        ),
+    }
+}
+
+impl<'a> Played<'a> {
+    /// A play that goes on where the bench ends.
+    fn new(alloc: Global, bench: &'a Bench) -> Result<Played<'a>, PlayFault> {
+        let requests = requests_of(alloc, bench)?;
+        let player = Player::after(alloc, bench, requests.as_slice())?;
+        Ok(Played {
+            bench,
+            requests,
+            steps: Vec::new(alloc),
+            player,
+        })
+    }
+
+    /// Writes the state.
+    fn put_state<W: Write>(&self, writer: &mut W) -> Result<(), PlayFault> {
+        written(self.player.put_state(self.bench, writer))
+    }
+
+    /// Writes the heading, what came of power-up, and where the bench's own requests ended.
+    fn begin<W: Write>(&self, alloc: Global, writer: &mut W) -> Result<(), PlayFault> {
+        let first = Player::after(alloc, self.bench, &[])?;
+        first.begin(self.bench, writer)?;
+        let count = self.requests.len();
+        if count == 0 {
+            return Ok(());
+        }
+        let ending = if count == 1 { " was" } else { "s were" };
+        written(write!(writer, "{count} request{ending} asked by the bench\n"))?;
+        self.put_state(writer)
+    }
+
+    /// Asks for one request. Returns whether it was refused.
+    fn ask<W: Write>(
+        &mut self,
+        request: &Request,
+        is_told: bool,
+        writer: &mut W,
+    ) -> Result<bool, PlayFault>
+        ensures { OnOk result (self.new ≡ self.old ++ request.now ∷ []) }
+    {
+        self.requests.push(*request)?;
+        match self.player.ask(request, is_told, writer)? {
+            Came::Served => Ok(false),
+            Came::Begun => {
+                self.put_state(writer)?;
+                Ok(false)
+            }
+            Came::Refused(refusal) => {
+                written(put_refused(writer, self.bench, refusal))?;
+                Ok(true)
+            }
+        }
+    }
+
+    /// Asks for a tick so many times, up to one that is refused.
+    fn ask_ticks<W: Write>(&mut self, count: u32, writer: &mut W) -> Result<(), PlayFault> {
+        self.steps.push(self.requests.len())?;
+        for number in 1..=count {
+            if self.ask(&Request::Tick, number == count, writer)? {
+                return Ok(());
+            }
+        }
+        Ok(())
+    }
+
+    /// Forgets the last line that was to ask, where it couldn't.
+    fn forget_empty(&mut self) {
+        if let [.., step] = self.steps.as_slice()
+            && *step == self.requests.len()
+        {
+            self.steps.pop();
+        }
+    }
+
+    /// Takes back what the last line asked, or the last request of the bench.
+    fn undo<W: Write>(&mut self, alloc: Global, writer: &mut W) -> Result<(), PlayFault> {
+        let count = self.requests.len();
+        let left = match self.steps.as_slice() {
+            [.., step] => *step,
+            [] => count.saturating_sub(1),
+        };
+        if count <= left {
+            self.steps.pop();
+            return written(write!(writer, "nothing was asked that could be taken back\n"));
+        }
+        let requests = self.requests.as_slice();
+        self.player = Player::after(alloc, self.bench, &requests[..left])?;
+        self.requests.truncate(left);
+        self.steps.pop();
+        let taken = count - left;
+        let ending = if taken == 1 { " is" } else { "s are" };
+        written(write!(writer, "{taken} request{ending} taken back\n"))?;
+        self.put_state(writer)
+    }
+
+    /// Writes all that was asked to a file, as a bench.
+    fn save<H: AllocGlobal + Files, W: Write>(
+        &self,
+        rt: &H,
+        name: &str,
+        writer: &mut W,
+    ) -> Result<(), PlayFault> {
+        let mut text = Vec::new(rt.alloc());
+        if let Err(_lacking) = put_bench(self.bench, self.requests.as_slice(), &mut text) {
+            return Err(PlayFault::NoMemory);
+        }
+        let (count, length) = (self.requests.len(), text.len());
+        if length > MOST_BYTES {
+            return written(write!(
+                writer,
+                "{name}: not written: it would have {length} bytes, and agc reads {MOST_BYTES}\n"
+            ));
+        }
+        match fs::write(rt, name, text.as_slice()) {
+            Ok(()) => {
+                let ending = if count == 1 { "" } else { "s" };
+                written(write!(writer, "{name}: a bench of {count} request{ending}\n"))
+            }
+            Err(error) => written(write!(writer, "{name}: not written: {error}\n")),
+        }
+    }
+
+    /// Does what a line asks for, of this number.
+    fn serve<H: AllocGlobal + Files, W: Write>(
+        &mut self,
+        rt: &H,
+        number: u64,
+        line: &str,
+        writer: &mut W,
+    ) -> Result<(), PlayFault> {
+        match asked_by(line) {
+            Asked::Request(request) => {
+                self.steps.push(self.requests.len())?;
+                self.ask(&request, true, writer)?;
+                Ok(())
+            }
+            Asked::Ticks(count) => self.ask_ticks(count, writer),
+            Asked::Undo => self.undo(rt.alloc(), writer),
+            Asked::Show => self.put_state(writer),
+            Asked::Save(name) => self.save(rt, name, writer),
+            Asked::Help => written(writer.write_all(HELP.as_bytes())),
+            Asked::Quit => Ok(()),
+            Asked::Nothing => {
+                let told = wrong_told(rt.alloc(), number, line)?;
+                written(writer.write_all(told.as_bytes()))
+            }
+        }
+    }
+}
+
+/// Ends an answer: an empty line stands behind it, and nothing of it is kept back.
+fn end_answer<W: Write>(writer: &mut W) -> Result<(), PlayFault> {
+    written(writer.write_all(b"\n"))?;
+    written(writer.flush())
+}
+
+/// The bytes of the next line, with its end; none at the end of the input.
+fn next_line<R: BufRead>(alloc: Global, reader: &mut R) -> Result<Vec<u8>, PlayFault> {
+    let mut bytes = Vec::new(alloc);
+    let mut front = Read::take(&mut *reader, MOST_LINE as u64 + 1);
+    match front.read_until(b'\n', &mut bytes) {
+        Ok(_count) if bytes.len() > MOST_LINE => Err(PlayFault::TooLong),
+        Ok(_count) => Ok(bytes),
+        Err(error) if error.kind() == ErrorKind::OutOfMemory => Err(PlayFault::NoMemory),
+        Err(_failed) => Err(PlayFault::Input),
+    }
+}
+
+/// A line as a text, without its end.
+fn text_of(line: &[u8]) -> Option<&str> {
+    match str::from_utf8(line) {
+        Ok(text) => Some(text.strip_suffix('\n').unwrap_or(text)),
+        Err(_other) => None,
+    }
+}
+
+/// Answers a line of this number. Returns whether further ones are read.
+fn answer<H: AllocGlobal + Files, W: Write>(
+    rt: &H,
+    played: &mut Played<'_>,
+    number: u64,
+    line: &[u8],
+    writer: &mut W,
+) -> Result<bool, PlayFault> {
+    let served = match text_of(line) {
+        Some("quit") => return Ok(false),
+        Some(text) => played.serve(rt, number, text, writer),
+        None => not_text_told(rt.alloc(), number)
+            .map_err(PlayFault::from)
+            .and_then(|told| written(writer.write_all(told.as_bytes()))),
+    };
+    match served {
+        Err(PlayFault::NoMemory) => {
+            played.forget_empty();
+            written(writer.write_all(b"no memory\n"))?;
+        }
+        served => served?,
+    }
+    end_answer(writer)?;
+    Ok(true)
+}
+
+/// Says on standard error that a line is waited for, if that is wanted.
+fn prompt<H: Eprint>(rt: &H, manner: Manner, text: &str) {
+    if manner.prompts {
+        let _ = eprint!(rt; "{text}");
+    }
+}
+
+/// Answers each line, before the next one is read.
+fn answer_all<H: AllocGlobal + Files + Eprint, R: BufRead, W: Write>(
+    rt: &H,
+    played: &mut Played<'_>,
+    manner: Manner,
+    reader: &mut R,
+    writer: &mut W,
+) -> Result<(), PlayFault> {
+    for number in 1..u64::MAX {
+        prompt(rt, manner, "> ");
+        let line = next_line(rt.alloc(), reader)?;
+        if line.is_empty() {
+            prompt(rt, manner, "\n");
+            return Ok(());
+        }
+        if manner.prompts && matches!(line.as_slice(), [b'\n']) {
+            continue;
+        }
+        if !answer(rt, played, number, line.as_slice(), writer)? {
+            return Ok(());
+        }
+    }
+    Ok(())
+}
+
+/// Plays with the machine of a bench, from the bench's end on: of each line that is read the answer
+/// is written, and flushed, before the next line is read. Returns at the end of the input. Source:
+/// profile.
+///
+/// # Errors
+///
+/// `NoMemory`, where there is none to begin with or for a line; where a request wants memory, that
+/// is told, and one plays on. `Input`, `TooLong` and `Output`.
+pub fn play<H: AllocGlobal + Files + Eprint, R: BufRead, W: Write>(
+    rt: &H,
+    bench: &Bench,
+    manner: Manner,
+    reader: &mut R,
+    writer: &mut W,
+) -> Result<(), PlayFault> {
+    let mut folded = Folded::new(writer, manner.folds);
+    let mut played = Played::new(rt.alloc(), bench)?;
+    played.begin(rt.alloc(), &mut folded)?;
+    end_answer(&mut folded)?;
+    prompt(rt, manner, GREETING);
+    prompt(rt, manner, "\n");
+    answer_all(rt, &mut played, manner, reader, &mut folded)
+}
