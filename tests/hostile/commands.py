@@ -1,10 +1,12 @@
 """Parts of tests/run hostile: tools/many, ./agc and ./agc_watch, where much goes wrong around them."""
 import os
+import random
 import re
 import shutil
 import subprocess
 import sys
 import tempfile
+import threading
 import time
 
 TOP = os.path.realpath(os.path.join(os.path.dirname(os.path.realpath(__file__)), "../.."))
@@ -29,10 +31,16 @@ esac
 """
 PROGRAM = "#!/bin/sh\necho ran $*\necho own line >&2\nexit 7\n"
 PROGRAMS = ("agc", "agc_watch")
+AGC, WATCH = (f"{TOP}/crates/{it}/out/{it}" for it in PROGRAMS)
 NEEDED = "sh dirname find sort xargs cksum cp mkdir mktemp head cat tr awk sed rm grep".split()
 
 # Cases of agc_watch that need no program: their words, and what comes on standard output.
 HELPS = ("help", "help-short", "help-word", "help-of-trace", "version", "version-short")
+
+# Requests of agc_watch play, and benches that one plays from first.
+ASKED = ["novac 20 02000 00005", "findvac 30 02100 00005", "findvac 10 02200 00005", "list 2 02300 00005", "tick",
+         "tick", "end", "change", "sleep 02000", "rouse 02000", "prio 25", "store 1 00017", "phase 2 3"]
+EXAMPLES = ["no-vac-area.toml", "comes-back-after-an-alarm.toml", "power-up-with-a-broken-pair.toml", "waitlist-full.toml"]
 
 # A program that does what its bench says, as a script of the shell.
 OBEYING = "#!/bin/sh\nexec sh\n"
@@ -294,7 +302,7 @@ def starter(hostile):
 
 def starter_on_a_terminal(clone):
     """./agc_watch asks its program to show how far it has come where standard error is a terminal."""
-    for words, wanted in (("trace bench.toml", "trace --progress bench.toml"), ("help trace", "help trace"), ("-V", "-V"), ("", "")):
+    for words, wanted in (("trace bench.toml", "trace --progress bench.toml"), ("play x.toml", "play x.toml"), ("help trace", "help trace"), ("-V", "-V"), ("", "")):
         master, slave = os.openpty()
         ran = subprocess.run([f"{clone.room}/agc_watch", *words.split()], env={"PATH": f"{clone.room}/tools-of-system:{clone.room}/kit"},
                              stdin=subprocess.DEVNULL, stdout=subprocess.PIPE, stderr=slave, check=False)
@@ -308,8 +316,7 @@ def progress(hostile):
     """Long work tells each second how many requests were asked, and only where that is asked for."""
     with tempfile.TemporaryDirectory() as room:
         write(f"{room}/bench.toml", "script = []\n" + 32 * '[[device]]\nline = "timer"\npulses = 1000000\n')
-        program = f"{TOP}/crates/agc_watch/out/agc_watch"
-        ran = subprocess.Popen([program, "trace", "--alarms", "--progress", f"{room}/bench.toml"],
+        ran = subprocess.Popen([WATCH, "trace", "--alarms", "--progress", f"{room}/bench.toml"],
                                stdout=subprocess.DEVNULL, stderr=subprocess.PIPE)
         said = [ran.stderr.readline().decode() for _ in range(2)]
         ran.kill()
@@ -319,6 +326,93 @@ def progress(hostile):
         found = [re.fullmatch(r"agc_watch: (\d+) of 32000000 requests\n", it) for it in said]
         is_right = all(found) and 0 < int(found[0][1]) < int(found[1][1])
         hostile.expect(f"agc_watch trace --progress: {said}", is_right)
+
+
+class Player:
+    """agc_watch play behind pipes. It is killed if it answers nothing for so long."""
+
+    def __init__(self, *words):
+        called = [WATCH, "play", *words]
+        self.run = subprocess.Popen(called, stdin=subprocess.PIPE, stdout=subprocess.PIPE)
+        self.killer = threading.Timer(SECONDS, self.run.kill)
+        self.killer.start()
+        self.first = self.answer()
+
+    def answer(self):
+        """The lines up to the empty one that ends an answer."""
+        return list(iter(lambda: self.run.stdout.readline().decode().rstrip("\n"), ""))
+
+    def ask(self, line):
+        self.run.stdin.write(f"{line}\n".encode())
+        self.run.stdin.flush()
+        return self.answer()
+
+    def end(self):
+        self.run.stdin.close()
+        left = self.run.stdout.read()
+        self.killer.cancel()
+        self.run.stdout.close()
+        return self.run.wait(), left
+
+
+def play(hostile):
+    """Each line of agc_watch play is answered before the next is asked, as trace tells it; what is saved runs alike."""
+    dice = random.Random(1201)
+    with tempfile.TemporaryDirectory() as room:
+        for k in range(10):
+            played_at_random(hostile, dice, f"{room}/{k}.toml", EXAMPLES[k] if k < len(EXAMPLES) else None)
+    played_on_a_terminal(hostile)
+
+
+def played_at_random(hostile, dice, saved, example):
+    """60 requests, each of which may be taken back and asked again, from a bench or from nothing."""
+    player = Player(*([f"{TOP}/examples/{example}"] if example else []))
+    asked, told = [], []
+    for _ in range(60):
+        request = dice.choice(ASKED)
+        while dice.random() < 0.2 and asked:
+            asked.pop()
+            told.pop()
+            hostile.expect("undo", player.ask("undo")[0] == "1 request is taken back")
+        asked.append(request)
+        told.append(player.ask(request))
+    state = player.ask("show")
+    wrote = player.ask(f"save {saved}")
+    ending = player.end()
+    rows = ended([WATCH, "trace", saved])[1].splitlines()
+    hostile.runs += 1
+    hostile.expect(f"play, {example}: {ending}, {wrote}", ending == (0, b"") and len(wrote) == 1)
+    lines = [line for it in told for line in it]
+    hostile.expect(f"play, {example}: other rows than trace", lines and rows[-len(lines):] == lines)
+    again = Player(saved)
+    is_same = again.first[-len(state):] == state and again.ask("show") == state
+    hostile.expect(f"play, {example}: other state from what was saved", is_same and again.end() == (0, b""))
+    if not example:
+        script = "".join(f"{it}\n" for it in asked)
+        runs = [subprocess.run([AGC, word], input=text.encode(), stdout=subprocess.PIPE, check=False).stdout
+                for word, text in (("script", script), ("serial", read(saved)))]
+        hostile.expect("play: agc serial runs what was saved otherwise", runs[0] == runs[1] != b"")
+
+
+def played_on_a_terminal(hostile):
+    """On a terminal it says that it waits, and puts the tables of a row below it."""
+    master, slave = os.openpty()
+    run = subprocess.Popen([WATCH, "play"], stdin=slave, stdout=slave, stderr=slave)
+    os.close(slave)
+    os.write(master, b"novac 20 02000 00005\n\n\4")
+    text = b""
+    try:
+        while piece := os.read(master, 4096):
+            text += piece
+    except OSError:  # it has ended
+        pass
+    os.close(master)
+    row = "1         0         0         novac 20 02000 00005    job 1"
+    tables = "    running 1  sets 1/20 . . . . . .  areas . . . . .  tasks -"
+    said = text.decode().replace("\r\n", "\n")
+    is_right = run.wait() == 0 and f"{row}\n{tables}\n" in said and said.count("> ") == 3 and "Ctrl-D ends" in said
+    hostile.runs += 1
+    hostile.expect(f"play, on a terminal: {said}", is_right)
 
 
 def at_once(clone):
@@ -348,6 +442,8 @@ def at_once(clone):
 def starter_of_watch(clone, ended_with):
     """./agc_watch does so too, and says nothing before what its program says, of wrong words too."""
     clone.expect("before it is built", (0, "tried\n", "takes about 90 seconds"), "trace", name="agc_watch")
+    clone.expect("asked to play, before it is built", (0, "tried\n", "takes about 90 seconds"), "play", name="agc_watch")
+    clone.expect("asked to play from a file, before", (70, "", ""), "play", "x.toml", name="agc_watch")
     status, text, _ = clone.run([sys.executable, f"{clone.room}/tools/prove"], "agc_watch")
     clone.hostile.expect(f"tools/prove agc_watch: status {status}, {text}", status == 0)
     for words in ("trace", "picture", "page", "check", "check --script", "--help", "-V", "help check", "trace --help", "",

@@ -2,7 +2,7 @@
 
     tests/run hostile           all of it
     tests/run hostile PART ..   the parts named: growths, reads, writes, ends, texts, benches, many,
-                                starter and progress of commands.py, orders of orders.py, and release of
+                                starter, progress and play of commands.py, orders of orders.py, and release of
                                 releases.py
 
 `failing.c` is put under the program: each growth of memory, each read of standard input and each write
@@ -16,7 +16,7 @@ import subprocess
 import tempfile
 
 import counting
-from commands import many, progress, starter
+from commands import many, play, progress, starter
 from orders import orders
 from releases import release
 from repository import TOP, is_scenario
@@ -261,7 +261,7 @@ def read(path):
         return file.read()
 
 
-PARTS = {it.__name__: it for it in (growths, reads, writes, ends, texts, benches, orders, many, starter, progress, release)}
+PARTS = {it.__name__: it for it in (growths, reads, writes, ends, texts, benches, orders, many, starter, progress, play, release)}
 
 
 def add_words(parser):

@@ -81,7 +81,7 @@ fn form_of(line: &str) -> Option<&'static str> {
     };
     match word {
         "tick" => Some("a number of ticks is decimal, 1 to 1000000"),
-        "save" => Some("it has the form \"save FILE\""),
+        "save" => Some("it has the form \"save NAME\""),
         "undo" => Some("undo stands alone"),
         "show" => Some("show stands alone"),
         "help" => Some("help stands alone"),

@@ -26,23 +26,25 @@ const GREETING: &str = "Type a request, such as findvac 20 02000 00005, or help.
 
 const HELP: &str = "\
 A line is a request, as in a script, or one of these:
-    tick N     lets N centiseconds pass; tells the ticks in which something
-               happened, and the last; ends at one that is refused
-    undo       takes back what the last line asked; behind those, what FILE asked
-    show       tells the state: jobs, areas, tasks, phases, FAILREG, the log
-    save FILE  writes all that was asked as a bench, for agc serial
-    help       tells this
-    quit       ends, as the end of the input does
-A request:
-    novac P A W, findvac P A W    a job of priority P at address A in bank W
-    end, sleep A, prio P          the running job ends, sleeps, or changes
-    store K W, change             .. stores W in work word K; the best job runs
-    rouse A                       awakens the job that sleeps at A
-    list D A W                    the task at A in bank W, in D centiseconds
-    tick                          a centisecond passes
-    phase G N                     group G is in phase N
-    restart, fresh                restart; fresh start
-P is octal, 01 to 37; A and W have five octal digits; K, D, G and N are decimal.
+    tick N     N ticks; shows those in which something happened, and the last
+    undo       takes back what the last line asked
+    show       shows the state: jobs, areas, tasks, phases, FAILREG, the log
+    save NAME  writes a file: a bench that asks all that was asked
+    help       shows this
+    quit       ends, as Ctrl-D does
+The requests:
+    novac P A W     a job of priority P at address A in bank W
+    findvac P A W   the same with a VAC area
+    end, sleep A    the running job ends, or sleeps, to be awakened at A
+    prio P          the running job gets priority P
+    store K W       the running job gets W in its work word K
+    change          a more urgent job takes over
+    rouse A         the job that sleeps at A is awakened
+    list D A W      the task at A in bank W is to fire in D centiseconds
+    tick            a centisecond passes
+    phase G N       group G is in phase N
+    restart, fresh  restart; fresh start
+P is octal, 01 to 37. A and W are five octal digits. The others are decimal.
 ";
 
 /// How one plays: on a terminal it is told what is waited for, and the tables of a row stand below

@@ -199,6 +199,17 @@ pub(crate) fn sweep_command<'a>(alloc: Global) -> Result<Command<'a>, AllocError
         .arg(flag(alloc, "csv", "Writes comma-separated values"))
 }
 
+/// The command `play`.
+fn play_command<'a>(alloc: Global) -> Result<Command<'a>, AllocError> {
+    let file = Arg::new(alloc, "file")
+        .value_name("FILE")
+        .help("The bench to begin from; an empty plan if none is named");
+    Command::new(alloc, "play")
+        .about("Answers each request as it is typed, a line at a time")
+        .after_help("Example: agc_watch play examples/no-vac-area.toml")
+        .arg(file)
+}
+
 /// The program, with all of its commands. Without a word it prints its help.
 pub(crate) fn whole_command<'a>(alloc: Global) -> Result<Command<'a>, AllocError> {
     Command::new(alloc, "agc_watch")
@@ -213,5 +224,6 @@ pub(crate) fn whole_command<'a>(alloc: Global) -> Result<Command<'a>, AllocError
         .subcommand(explore_command(alloc)?)?
         .subcommand(bench_command(alloc)?)?
         .subcommand(peaks_command(alloc)?)?
-        .subcommand(sweep_command(alloc)?)
+        .subcommand(sweep_command(alloc)?)?
+        .subcommand(play_command(alloc)?)
 }

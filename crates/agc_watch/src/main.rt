@@ -1,19 +1,27 @@
 //! `agc_watch trace`, `picture` and `page`: tell and draw what the requests of a bench do to the
 //! tables. `agc_watch check`: tells what is wrong with a bench, or with `--script` what is wrong
 //! with a script. `agc_watch bench`, `peaks` and `sweep`: tell what a scenario comes to. From the
-//! file that is named, or from standard input.
+//! file that is named, or from standard input. `agc_watch play`: answers a line of standard input
+//! before it reads the next.
 #![tactic(auto)]
 
 mod checking;
 mod commands;
 mod exploring;
+mod playing;
 mod program;
 mod progress;
 mod scenarios;
 mod words;
 
+use agc_play::Manner;
+use std::io::IsTerminal;
 use std::process::ExitCode;
 
 fn main(rt: HostRuntime) -> ExitCode {
-    program::run(&rt)
+    let manner = Manner {
+        prompts: rt.stdin().is_terminal(),
+        folds: rt.stdout().is_terminal(),
+    };
+    program::run(&rt, manner)
 }

@@ -7,6 +7,7 @@ ghost use Rattle.agc_watch.specs.Program.{EndsOn, IsBenchIf, IsScriptIf, IsShown
 ghost use Rattle.agc_watch.specs.Program.{WorksOn, is_nothing, status_by};
 
 use crate::exploring::run_explore;
+use crate::playing::{EMPTY, run_play};
 use crate::progress::Teller;
 use crate::scenarios::{is_of_scenario, run_shown, run_telling};
 use crate::words::{Asked, Refused, Task, Work, asked_for};
@@ -15,6 +16,7 @@ use agc_findings::{Checked, findings};
 use agc_lint::{Finding, bench_told, script_findings, script_told};
 use agc_page::{PageFault, page};
 use agc_picture::picture;
+use agc_play::Manner;
 use agc_program::{Fault, Program, buffered, ended, flushed, given_words};
 use agc_session::Progress;
 use agc_text::{put, read_all, read_script};
@@ -34,7 +36,7 @@ const MOST_BYTES: u64 = 1_048_576;
 /// What the program is called, and which words it takes.
 const PROGRAM: Program = Program {
     name: "agc_watch",
-    usage: "use trace, picture, page, check, explore, bench, peaks or sweep",
+    usage: "use trace, picture, page, check, explore, bench, peaks, sweep or play",
 };
 
 /// How the program ends: with status 2 where its input isn't what it should be.
@@ -266,17 +268,18 @@ fn run_on_input<H: AllocGlobal + Clock + Print + Eprint, R: Read>(
     Ok(ended_by(rt, run_work(rt, work, has_progress, &mut unread)))
 }
 
-/// Does this task on an input.
-fn run_task<H: AllocGlobal + Clock + Print + Eprint, R: Read>(
+/// Does what is asked for, of an input.
+fn run_task<H: AllocGlobal + Clock + Files + Input + Print + Eprint, R: Read>(
     rt: &H,
-    task: Task<'_>,
-    has_progress: bool,
+    asked: &Asked<'_>,
+    manner: Manner,
     reader: &mut R,
 ) -> ExitCode {
-    let ending = match task {
-        Task::Work(work) => run_on_input(rt, work, has_progress, reader),
+    let ending = match asked.task {
+        Task::Work(work) => run_on_input(rt, work, asked.has_progress, reader),
         Task::Explore(options) => return run_explore(rt, PROGRAM, options, reader),
         Task::Tell(telling) => run_telling(rt, PROGRAM, telling, reader),
+        Task::Play => return run_play(rt, PROGRAM, manner, reader),
     };
     match ending {
         Ok(code) => code,
@@ -284,16 +287,18 @@ fn run_task<H: AllocGlobal + Clock + Print + Eprint, R: Read>(
     }
 }
 
-/// Does what is asked for, of the file that is named or of standard input.
+/// Does what is asked for, of the file that is named, or else of standard input; one plays from an
+/// empty plan then.
 fn run_asked<H: AllocGlobal + Clock + Files + Input + Print + Eprint>(
     rt: &H,
     asked: &Asked<'_>,
+    manner: Manner,
 ) -> ExitCode {
-    let task = asked.task;
-    match asked.file {
-        None => run_task(rt, task, asked.has_progress, &mut rt.reader()),
-        Some(name) => match read_file(rt, name) {
-            Ok(bytes) => run_task(rt, task, asked.has_progress, &mut bytes.as_slice()),
+    match (asked.file, asked.task) {
+        (None, Task::Play) => run_task(rt, asked, manner, &mut EMPTY.as_bytes()),
+        (None, _) => run_task(rt, asked, manner, &mut rt.reader()),
+        (Some(name), _) => match read_file(rt, name) {
+            Ok(bytes) => run_task(rt, asked, manner, &mut bytes.as_slice()),
             Err(error) => ended_unread(rt, name, &error),
         },
     }
@@ -303,17 +308,21 @@ fn run_asked<H: AllocGlobal + Clock + Files + Input + Print + Eprint>(
 fn run_words<H: AllocGlobal + Clock + Files + Input + Print + Eprint>(
     rt: &H,
     words: &[String],
+    manner: Manner,
 ) -> ExitCode {
     match asked_for(rt.alloc(), words) {
-        Ok(asked) => run_asked(rt, &asked),
+        Ok(asked) => run_asked(rt, &asked, manner),
         Err(refused) => ended_refused(rt, &refused),
     }
 }
 
-/// Runs the program.
-pub fn run(rt: &(impl Env + AllocGlobal + Clock + Files + Input + Print + Eprint)) -> ExitCode {
+/// Runs the program; in this manner one plays.
+pub fn run(
+    rt: &(impl Env + AllocGlobal + Clock + Files + Input + Print + Eprint),
+    manner: Manner,
+) -> ExitCode {
     match given_words(rt) {
-        Ok(given) => run_words(rt, given.as_slice()),
+        Ok(given) => run_words(rt, given.as_slice(), manner),
         Err(fault) => ended_by(rt, Err(fault)),
     }
 }

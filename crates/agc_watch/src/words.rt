@@ -54,20 +54,21 @@ pub enum Telling<'a> {
     Sweep(&'a str, Sweep),
 }
 
-/// What the program is to do: work on its input, tell what all orders of a bench come to, or tell
-/// of a scenario.
+/// What the program is to do: work on its input, tell what all orders of a bench come to, tell of a
+/// scenario, or play from a bench.
 #[derive(Clone, Copy, Debug)]
 pub enum Task<'a> {
     Work(Work),
     Explore(Options),
     Tell(Telling<'a>),
+    Play,
 }
 
 /// What the program is asked for.
 #[derive(Clone, Copy, Debug)]
 pub struct Asked<'a> {
     pub task: Task<'a>,
-    /// The name of the file to read; standard input without one.
+    /// The name of the file to read; standard input without one, or an empty plan to play from.
     pub file: Option<&'a str>,
     /// How far it has come is told on standard error.
     pub has_progress: bool,
@@ -354,6 +355,11 @@ fn asked_by<'a>(
         "explore" => asked_to_explore(command, given),
         "bench" => Ok(asked_to_tell(Telling::Bench, given)),
         "peaks" => Ok(asked_to_tell(Telling::Peaks, given)),
+        "play" => Ok(Asked {
+            task: Task::Play,
+            file: file_of(given),
+            has_progress: false,
+        }),
         "sweep" => sweep_of(given).map_err(|reason| refused_sweep(alloc, reason)),
         _ => asked_to_work(alloc, command, name, given),
     }

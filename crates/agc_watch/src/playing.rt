@@ -1,0 +1,43 @@
+//! A machine to play with.
+use agc_document::read_bench;
+use agc_play::{Manner, PlayFault, play};
+use agc_program::{Fault, Program, buffered, ended};
+use agc_text::{ReadFault, read_all};
+use std::io::{Eprint, Input, Print, Read};
+use std::process::ExitCode;
+use std::rt::Files;
+
+/// The bench that one plays from where none is named: nothing is planned, and much is served.
+pub(crate) const EMPTY: &str = "limit = 1000000\nallowance = 9223372036854775807\n";
+
+/// Why one no longer plays, as the program's fault.
+fn fault_of(fault: PlayFault) -> Fault {
+    match fault {
+        PlayFault::NoMemory => Fault::NoMemory,
+        PlayFault::Input => Fault::Read(ReadFault::Input),
+        PlayFault::TooLong => Fault::Read(ReadFault::TooLong),
+        PlayFault::Output => Fault::Output,
+    }
+}
+
+/// Reads a bench, and answers what standard input asks of its machine.
+fn play_from<H: AllocGlobal + Files + Input + Print + Eprint, R: Read>(
+    rt: &H,
+    manner: Manner,
+    reader: &mut R,
+) -> Result<(), Fault> {
+    let text = read_all(rt.alloc(), reader)?;
+    let bench = read_bench(rt.alloc(), text.as_str())?;
+    let mut output = buffered(rt)?;
+    play(rt, &bench, manner, &mut rt.reader(), &mut output).map_err(fault_of)
+}
+
+/// Does so, and says how the program then ends.
+pub(crate) fn run_play<H: AllocGlobal + Files + Input + Print + Eprint, R: Read>(
+    rt: &H,
+    program: Program,
+    manner: Manner,
+    reader: &mut R,
+) -> ExitCode {
+    ended(rt, program, play_from(rt, manner, reader))
+}
