@@ -141,6 +141,29 @@ fn put_rest<W: Write>(writer: &mut W, scene: &Scene) -> io::Result<()> {
     write!(writer, "\n")
 }
 
+/// A bench's machine, of which nothing was asked yet.
+fn watched_of(alloc: Global, bench: &Bench) -> Result<Watched, RunFault>
+    ensures { IfOk result (λ w. w ≡ watching_from (bench_machine bench.now)) }
+{
+    let machine = machine_of(alloc, bench)?;
+    Ok(Watched::new(machine))
+}
+
+/// Who writes the rows of a bench's machine, of which nothing was asked yet, from the request behind
+/// this number on.
+fn tracer_of(alloc: Global, bench: &Bench, number: u64) -> Result<Tracer, RunFault>
+    ensures { IfOk result (λ t. t ≡ watching_from (bench_machine bench.now)) }
+{
+    let machine = machine_of(alloc, bench)?;
+    let choice = Choice {
+        alarms: false,
+        from: Some(number.saturating_add(1)),
+        to: None,
+        brief: false,
+    };
+    Ok(Tracer::new(machine, choice, false))
+}
+
 impl Player {
     /// A bench's machine, of which nothing was asked yet; rows are written from the request behind
     /// this number on.
@@ -151,15 +174,11 @@ impl Player {
     fn new(alloc: Global, bench: &Bench, number: u64) -> Result<Player, RunFault>
         ensures { IfOk result (λ p. p ≡ watching_from (bench_machine bench.now)) }
     {
-        let choice = Choice {
-            alarms: false,
-            from: Some(number.saturating_add(1)),
-            to: None,
-            brief: false,
-        };
+        let watched = watched_of(alloc, bench)?;
+        let tracer = tracer_of(alloc, bench, number)?;
         Ok(Player {
-            watched: Watched::new(machine_of(alloc, bench)?),
-            tracer: Tracer::new(machine_of(alloc, bench)?, choice, false),
+            watched,
+            tracer,
             number: 0,
             time: 0,
             total: 0,
