@@ -158,8 +158,8 @@ impl Room {
 }
 
 impl TimeDrawing {
-    /// Nothing was asked of this machine, and it is to be drawn on this scale, with this title as it
-    /// is in markup.
+    /// Nothing was asked of this machine, and it is to be drawn on this scale, with this title as
+    /// it is in markup.
     pub(crate) fn new(
         alloc: Global,
         machine: Machine,

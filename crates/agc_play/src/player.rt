@@ -149,8 +149,8 @@ fn watched_of(alloc: Global, bench: &Bench) -> Result<Watched, RunFault>
     Ok(Watched::new(machine))
 }
 
-/// Who writes the rows of a bench's machine, of which nothing was asked yet, from the request behind
-/// this number on.
+/// Who writes the rows of a bench's machine, of which nothing was asked yet, from the request
+/// behind this number on.
 fn tracer_of(alloc: Global, bench: &Bench, number: u64) -> Result<Tracer, RunFault>
     ensures { IfOk result (λ t. t ≡ watching_from (bench_machine bench.now)) }
 {

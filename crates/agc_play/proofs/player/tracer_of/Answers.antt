@@ -4,4 +4,5 @@ use Rattle.agc_scene.specs.Events.{watching_from}
 use Rattle.agc_play.proofs.player.tracer_of.Goals as goal
 
 pub returns : goal.returns
-returns c = c.new.ensures ∙ ap (λ (m : Machined). watching_from m) c.in_ok-machine.ensures.machine
+returns c =
+    c.new.ensures ∙ ap (λ (m : Machined). watching_from m) c.in_ok-machine.ensures.machine
