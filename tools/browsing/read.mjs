@@ -1,6 +1,7 @@
 // Reads documents by the workbench's own reader, and runs those that it takes, over libagc/js:
 // node tools/browsing/read.mjs FILE. FILE is a JSON array of texts; for each it prints the report, or
-// why the document isn't read. Of a document that asks for very much the report is "long".
+// why the document isn't read. Of a document that asks for very much the report is "long", and of a
+// scenario it prints only that it is one.
 import { readFileSync } from "node:fs";
 import { start } from "../../libagc/js/machine.js";
 import { readBench, requestsOf } from "../../web/bench.js";
@@ -14,7 +15,9 @@ const MOST = 50_000;
 /** @param {string} text */
 function read(text) {
   try {
-    const run = new Run(readBench(text));
+    const bench = readBench(text);
+    if (bench.seconds !== undefined) return { scenario: true };
+    const run = new Run(bench);
     for (const [line, who] of requestsOf(run.bench)) {
       run.ask(line, who);
       if (run.count > MOST) return { report: "long" };
