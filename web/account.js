@@ -11,7 +11,7 @@ import { Kind } from "../libagc/js/machine.js";
 import { LOG_FULL, SPENT } from "./run.js";
 import { octal, seconds } from "./words.js";
 
-/** What is full at each alarm, and where that table stands. */
+/** What is full at each alarm, and where that table is. */
 const TABLES = {
   0o1201: { text: "all five VAC areas are owned", part: "areas" },
   0o1202: { text: "a job is in each core set", part: "sets" },

@@ -104,7 +104,7 @@ export function textFault(form, given) {
   return /^[^\u0000-\u001f\u007f]*$/.test(given) ? null : "it stands on one line";
 }
 
-/** Where something stands in a document. */
+/** Where something is in a document. */
 class Place {
   /**
    * @param {number} line

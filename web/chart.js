@@ -125,7 +125,7 @@ export function alarmAt(run, row) {
 }
 
 /**
- * Draws a strip, and where the row stands that is shown.
+ * Draws a strip, and where the shown row is.
  * @param {Strip} strip
  * @param {number} at
  */

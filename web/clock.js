@@ -145,7 +145,7 @@ export class ClockPanel {
     };
   }
 
-  /** The run to which requests are added, behind the row that is shown. */
+  /** The run to which requests are added, after the row that is shown. */
   runToAddTo() {
     const { history } = this.workbench;
     const run = history.runToGoOn();
@@ -153,7 +153,7 @@ export class ClockPanel {
     return run;
   }
 
-  /** Whether rows that are there already stand behind the one that is shown. */
+  /** Whether there are rows already after the one that is shown. */
   get hasMore() {
     const { at, count } = this.workbench.view;
     return at < count;

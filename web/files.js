@@ -17,7 +17,7 @@ export function textOfData(data) {
 }
 
 /**
- * Kept texts of the page: each begins with a line `@ KIND NAME`, and has data behind it.
+ * Kept texts of the page: each begins with a line `@ KIND NAME`, followed by its data.
  * @param {string} data
  * @returns {{ kind: string, name: string, text: string }[]}
  */
@@ -67,7 +67,7 @@ async function through(bytes, stream) {
 }
 
 /**
- * What stands behind `#` for a document.
+ * The part of a link after `#`, for a document.
  * @param {string} document
  */
 export async function markOf(document) {
@@ -76,7 +76,7 @@ export async function markOf(document) {
 }
 
 /**
- * The document behind `#`, or null where there is none.
+ * The document after `#`, or null where there is none.
  * @param {string} mark
  */
 export async function documentOf(mark) {

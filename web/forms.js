@@ -5,7 +5,7 @@ import { FORMS, MEANINGS, octal } from "./words.js";
 const COMMON = ["tick", "change", "end", "novac", "findvac", "sleep", "rouse", "list", "prio",
   "store", "phase", "restart", "fresh"];
 
-/** What stands in a field before it is filled. */
+/** The text in a field before it is filled. */
 const FIRST = { P: "20", A: "04000", W: "00005", D: "100", K: "1", G: "1", N: "1" };
 
 /**

@@ -8,7 +8,7 @@
 import { by, fill, make } from "./dom.js";
 import { octal } from "./words.js";
 
-/** How many rows stand before and behind the one that is shown. */
+/** How many rows there are before and after the one that is shown. */
 const AROUND = 7;
 
 /** How many ticks in a row in which nothing changes are printed as one line. */

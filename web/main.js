@@ -32,7 +32,7 @@ class Workbench {
     this.title = "AGC workbench";
     /** What came of the run that was left by the last change, to compare. */
     this.outcome = "";
-    /** The branch or the number of core sets that stands beside, if one does. */
+    /** The branch or the number of core sets that is compared with, if any. */
     this.beside = null;
     /** Whether an exercise's answer is hidden. */
     this.isHidden = false;
@@ -115,7 +115,7 @@ class Workbench {
   }
 
   /**
-   * Asks a request behind the row that is shown.
+   * Asks a request after the row that is shown.
    * @param {string} line
    * @param {string} who
    */
@@ -151,7 +151,7 @@ class Workbench {
         return;
       }
     }
-    this.say(`There is no ${what} ${step > 0 ? "behind" : "before"} this row.`);
+    this.say(`There is no ${what} ${step > 0 ? "after" : "before"} this row.`);
   }
 
   /** @param {string} text */
@@ -422,7 +422,7 @@ class Workbench {
     event.preventDefault();
   }
 
-  /** What stands behind `#`: a request's number, the name of an example or exercise, a document. */
+  /** Opens the part of the link after `#`: a request's number, an example, an exercise, a document. */
   async fromAddress() {
     const mark = location.hash;
     const kept = this.kept.find((it) => `#${it.name}` === mark);
@@ -431,7 +431,7 @@ class Workbench {
       this.open(kept.text, kept.name, kept.kind === "exercise" ? files.questionOf(kept.text) : "");
     } else if (mark.startsWith("#bench=")) {
       const text = await files.documentOf(mark).catch(() => null);
-      if (text === null) this.say("What stands behind # can't be read.");
+      if (text === null) this.say("The part of the link after # can't be read.");
       else this.open(text, files.firstSentence(text) || "From a link");
     }
   }

@@ -19,7 +19,7 @@ const LABELS = {
 
 const HEADINGS = {
   ...{ task: "Tasks: what is done when they fire", job: "Jobs: what they cost" },
-  ...{ phase: "Phases: what begins again while a group stands in one" },
+  ...{ phase: "Phases: what begins again while a group is in one" },
   ...{ event: "Events: what is asked when" },
 };
 

@@ -96,7 +96,7 @@ class Witness {
   }
 
   /**
-   * Looks at the words as they are behind a row.
+   * Looks at the words as they are after a row.
    * @param {number} row
    * @param {boolean} beginsEra
    * @param {boolean} movesTasks
@@ -378,7 +378,7 @@ export class Run {
   }
 
   /**
-   * How much of each table is used behind a row.
+   * How much of each table is used after a row.
    * @param {number} row
    */
   useAt(row) {

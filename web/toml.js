@@ -59,7 +59,7 @@ class Reader {
   }
 
   /**
-   * Passes over a text, if it stands here.
+   * Passes over a text, if it is next.
    * @param {string} text
    */
   takes(text) {
@@ -84,7 +84,7 @@ class Reader {
     this.match(/[ \t]*/y);
   }
 
-  /** Passes over a comment, if one stands here. */
+  /** Passes over a comment, if one is next. */
   comment() {
     const found = this.match(/#[^\r\n]*/y);
     if (found !== null && CONTROL.test(found[0])) this.refuse("a comment has a control character");
@@ -105,7 +105,7 @@ class Reader {
     } while (this.lineEnd());
   }
 
-  /** The end of a line, behind what stands in it. */
+  /** The end of a line, after its contents. */
   restOfLine() {
     this.spaces();
     this.comment();
@@ -122,7 +122,7 @@ class Reader {
     return this.refuse("a key is expected");
   }
 
-  /** A key, and the sign behind it. */
+  /** A key, and the sign after it. */
   keyAndSign() {
     const key = this.key();
     this.spaces();
@@ -153,7 +153,7 @@ class Reader {
     }
   }
 
-  /** What stands behind a backslash. */
+  /** What follows a backslash. */
   escape() {
     const sign = this.text[this.at] ?? "";
     if (Object.hasOwn(ESCAPES, sign)) {

@@ -184,7 +184,7 @@ export interface Stolen {
   percent: number;
 }
 
-/** What a job costs that stands at an address, in centiseconds; then `"end"` or `"sleep 04000"`. */
+/** What a job at an address costs, in centiseconds; then `"end"` or `"sleep 04000"`. */
 export interface JobCost {
   at: string | number;
   cost: number;

@@ -402,7 +402,7 @@ export class Step {
 /** Saves what stands in the module's memory of the machine that was asked last, and of its clock. */
 let leave = () => {};
 
-/** Saves the clock that stands in the module's memory. */
+/** Saves the clock that is in the module's memory. */
 let leaveClock = () => {};
 
 /**
@@ -713,7 +713,7 @@ function thenOf(then) {
   return numbers[at.request / 4 + 1];
 }
 
-/** What a timetable is in the module's memory, one part behind the other. */
+/** What a timetable is in the module's memory, one part after the other. */
 class LentTimes {
   /** @param {Timetable} given */
   constructor({ seconds = LAST_TIME / 100, steal = 0, job = [], event = [] }) {

@@ -9,7 +9,7 @@ use crate::timetable::{Cost, Stolen, Timetables};
 use agc_exec::{Seat, job_at};
 use agc_word::Erasable;
 
-/// A job's number, and the address at which it stands.
+/// A job's number, and its address.
 #[derive(Clone, Copy)]
 pub(crate) struct JobAt {
     pub number: u16,
@@ -51,7 +51,7 @@ fn runner(words: &Erasable) -> Option<JobAt>
     runner_in(job_at(words, 0))
 }
 
-/// What a job costs that stands at this address.
+/// What a job at this address costs.
 fn cost_at<T: Timetables>(table: &T, at: u16) -> Option<Cost>
     ensures { result ≡ cost_at (T.set_down table.now).costs at }
 {

@@ -77,7 +77,7 @@ pub trait Timetables {
     fn costs(&self) -> usize
         ensures { result ≡ length (set_down self.now).costs };
 
-    /// What a job costs that stands at an address.
+    /// What a job at an address costs.
     fn cost(&self, row: usize) -> Option<Cost>
         ensures { result ≡ slice_get (set_down self.now).costs row };
 

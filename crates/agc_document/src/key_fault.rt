@@ -11,7 +11,7 @@ pub enum KeyFault {
     /// It is required, and missing.
     Missing(Key),
     /// Its value is of another kind, out of range, or of another length. The finding's text is the
-    /// digits that stand where a text is expected.
+    /// digits where a text is expected.
     Value(Key),
     /// So is an item of its array.
     Item(Key),

@@ -4,7 +4,7 @@ ghost use Rattle.std.specs.Prelude.{◌≡◌, ℕ, List, true};
 ghost use Rattle.std.specs.List.{list_all};
 ghost use Rattle.agc_page.specs.Data.{data_of, is_plain, read_again};
 
-/// In the data of a page stands no `<`: they can't end the element in which they stand, or begin
+/// The data of a page contain no `<`, so they can't end the element that they are in, or begin
 /// another.
 pub fn data_is_plain()
     ensures { (text : List ℕ) → list_all is_plain (data_of text) ≡ true }

@@ -9,7 +9,7 @@ use agc_text::{Output, put};
 use std::alloc::Global;
 use std::io::Write;
 
-/// Writes two texts, one behind the other.
+/// Writes two texts, one after the other.
 fn put_two<W: Write>(one: &str, two: &str, writer: &mut W) -> Result<(), Output>
     ensures { WritesSome (W.contents writer.old) (W.contents writer.new) result }
 {
@@ -17,7 +17,7 @@ fn put_two<W: Write>(one: &str, two: &str, writer: &mut W) -> Result<(), Output>
     put(writer, two.as_bytes())
 }
 
-/// Writes what stands before the data.
+/// Writes the part of the page ahead of the data.
 fn put_front<W: Write>(writer: &mut W) -> Result<(), Output>
     ensures { WritesSome (W.contents writer.old) (W.contents writer.new) result }
 {

@@ -7,7 +7,7 @@ pub(crate) const PART_1: &str = r##"<!DOCTYPE html>
 <meta charset="utf-8">
 <meta http-equiv="Content-Security-Policy" content="default-src 'none';
 base-uri 'none'; form-action 'none';
-script-src 'sha256-NRwkDyBCg31jViUZnc4u3LFoaQ4pfgA1AEPOsnEiqCY=' 'wasm-unsafe-eval';
+script-src 'sha256-23hsnh+hXQ9FTe17wwpEToyiFzYQs16JRjMn6MxmIP4=' 'wasm-unsafe-eval';
 style-src 'sha256-fg28iUFHxrtJH0xP0lwIbhYOEs0od5nCUJdWFEiv2j8='">
 <meta name="viewport" content="width=device-width, initial-scale=1">
 <meta name="color-scheme" content="light dark">
@@ -5156,7 +5156,7 @@ const LABELS = {
 
 const HEADINGS = {
   ...{ task: "Tasks: what is done when they fire", job: "Jobs: what they cost" },
-  ...{ phase: "Phases: what begins again while a group stands in one" },
+  ...{ phase: "Phases: what begins again while a group is in one" },
   ...{ event: "Events: what is asked when" },
 };
 
@@ -5740,7 +5740,7 @@ class Workbench {
         return;
       }
     }
-    this.say(`There is no ${what} ${step > 0 ? "behind" : "before"} this row.`);
+    this.say(`There is no ${what} ${step > 0 ? "after" : "before"} this row.`);
   }
 
   say(text) {
@@ -6009,7 +6009,7 @@ class Workbench {
       this.open(kept.text, kept.name, kept.kind === "exercise" ? files.questionOf(kept.text) : "");
     } else if (mark.startsWith("#bench=")) {
       const text = await files.documentOf(mark).catch(() => null);
-      if (text === null) this.say("What stands behind # can't be read.");
+      if (text === null) this.say("The part of the link after # can't be read.");
       else this.open(text, files.firstSentence(text) || "From a link");
     }
   }

@@ -62,7 +62,7 @@ pub struct Era {
     pub sets: Most,
     pub areas: Most,
     pub tasks: Most,
-    /// At how many ticks nobody ran.
+    /// At how many ticks no job was running.
     pub idle: u64,
 }
 
@@ -104,7 +104,7 @@ impl Era {
         self.tasks.saw(counts.tasks, time);
     }
 
-    /// A tick was served before which somebody ran, or nobody.
+    /// A tick was served, before which a job was running or none.
     pub(crate) fn tick(&mut self, ran: bool) {
         if !ran {
             self.idle = self.idle.saturating_add(1);
@@ -125,7 +125,7 @@ impl Era {
         self.ended.saturating_sub(self.began)
     }
 
-    /// The percent of its ticks at which nobody ran.
+    /// The percentage of its ticks at which no job was running.
     fn idle_percent(&self) -> u64 {
         match self.length() {
             0 => 0,

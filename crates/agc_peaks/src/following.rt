@@ -8,12 +8,13 @@ use agc_plan::Fired;
 use agc_scenario::Scenario;
 use agc_session::{Follows, Progress, RunFault, Source, machine_of};
 use agc_text::Output;
+use agc_warn::Ran;
 use agc_word::Erasable;
 use std::alloc::Global;
 use std::io::Write;
 use std::marker::Model;
 
-/// A machine, and who is asked for the same requests. Contracts see the machine.
+/// A machine, and a follower that gets the same requests. Contracts see the machine.
 #[derive(Drop)]
 struct FollowedMachine<'f, 'p, 'w, F: Follows, P: Progress, W: Write> {
     machine: Machine,
@@ -77,19 +78,6 @@ pub fn follow_scenario<F: Follows, P: Progress, W: Write>(
     Ok(())
 }
 
-/// What the requests of a scenario come to: how many there were, how many tasks fired, how many
-/// alarms came, the numbers from 1 of the first that was refused as the log was full, and as all of
-/// the allowance was served, and whether there were more requests than were asked. Source: profile.
-#[derive(Clone, Copy, Debug)]
-pub struct Sum {
-    pub requests: u64,
-    pub fired: u64,
-    pub alarms: u64,
-    pub log_full: Option<u64>,
-    pub spent: Option<u64>,
-    pub is_cut: bool,
-}
-
 /// More requests came than were to be asked.
 #[derive(Clone, Copy, Debug)]
 struct Cut;
@@ -100,7 +88,7 @@ struct Cut;
 struct SummedMachine {
     machine: Machine,
     left: u64,
-    sum: Sum,
+    ran: Ran,
 }
 
 impl Model for SummedMachine {
@@ -127,30 +115,28 @@ impl Serves for SummedMachine {
             return Err(Cut);
         }
         self.left -= 1;
-        self.sum.requests = self.sum.requests.saturating_add(1);
+        self.ran.requests = self.ran.requests.saturating_add(1);
         let mut fired = Fired::new();
         let answer = self.machine.ask(&asked.request, &mut fired);
         let count = fired.len() as u64;
-        self.sum.fired = self.sum.fired.saturating_add(count);
+        self.ran.fired = self.ran.fired.saturating_add(count);
         match answer {
             Ok(reply) => Ok(reply.begins()),
             Err(refusal) => {
-                self.sum.note(refusal);
+                note(&mut self.ran, refusal);
                 Ok(false)
             }
         }
     }
 }
 
-impl Sum {
-    /// The last request was refused.
-    fn note(&mut self, refusal: Refusal) {
-        let number = Some(self.requests);
-        match refusal {
-            Refusal::LogFull if self.log_full.is_none() => self.log_full = number,
-            Refusal::Spent if self.spent.is_none() => self.spent = number,
-            _ => {}
-        }
+/// The last request was refused.
+fn note(ran: &mut Ran, refusal: Refusal) {
+    let number = Some(ran.requests);
+    match refusal {
+        Refusal::LogFull if ran.log_full.is_none() => ran.log_full = number,
+        Refusal::Spent if ran.spent.is_none() => ran.spent = number,
+        _ => {}
     }
 }
 
@@ -160,11 +146,11 @@ impl Sum {
 /// # Errors
 ///
 /// `NoMemory`.
-pub fn scenario_sum(alloc: Global, scenario: &Scenario, most: u64) -> Result<Sum, RunFault> {
+pub fn scenario_sum(alloc: Global, scenario: &Scenario, most: u64) -> Result<Ran, RunFault> {
     let mut summed = SummedMachine {
         machine: machine_of(alloc, scenario.bench())?,
         left: most,
-        sum: Sum {
+        ran: Ran {
             requests: 0,
             fired: 0,
             alarms: 0,
@@ -176,8 +162,9 @@ pub fn scenario_sum(alloc: Global, scenario: &Scenario, most: u64) -> Result<Sum
     let is_cut = run(scenario.timing(), &mut summed).is_err();
     let totals = summed.machine.totals();
     let alarms = totals.a1201.saturating_add(totals.a1202);
-    let mut sum = summed.sum;
-    sum.alarms = alarms.saturating_add(totals.a1203);
-    sum.is_cut = is_cut;
-    Ok(sum)
+    Ok(Ran {
+        alarms: alarms.saturating_add(totals.a1203),
+        is_cut,
+        ..summed.ran
+    })
 }

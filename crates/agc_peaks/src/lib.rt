@@ -11,7 +11,7 @@ mod running;
 mod sweep;
 mod writing;
 
-pub use following::{Sum, follow_scenario, scenario_sum};
+pub use following::{follow_scenario, scenario_sum};
 pub use peaks::{bench_peaks, scenario_peaks};
 pub use sweep::{Column, Sweep, Watches, run_sweep};
 pub use writing::{put_bench, scenario_bench};

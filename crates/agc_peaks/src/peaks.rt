@@ -44,7 +44,7 @@ fn put_last<W: Write>(counted: &CountedMachine, has_idle: bool, writer: &mut W) 
     }
 }
 
-/// What stands behind a write.
+/// The result of a write, as a run returns it.
 pub(crate) fn written(put: io::Result<()>) -> Result<(), Output> {
     match put {
         Ok(()) => Ok(()),

@@ -19,7 +19,7 @@ pub(crate) trait Notes: Drop {
     fn note<W: Write>(&mut self, request: &Request, came: &Came, writer: &mut W) -> io::Result<()>;
 }
 
-/// A machine, who takes note of what it is asked, and where to. Contracts see the machine.
+/// A machine, what takes note of its requests, and the writer. Contracts see the machine.
 #[derive(Drop)]
 struct NotedMachine<'a, N: Notes, W: Write> {
     counted: CountedMachine,

@@ -37,7 +37,7 @@ impl Column {
     }
 }
 
-/// From which value to which it is exchanged, by which step, and whether rows are told as CSV.
+/// The first value, the last, the step, and whether rows are written as CSV.
 /// Source: profile.
 #[derive(Clone, Copy, PartialEq, Eq, Debug)]
 pub struct Sweep {
@@ -47,7 +47,7 @@ pub struct Sweep {
     pub csv: bool,
 }
 
-/// Who is told of each run that is done.
+/// Receives a call after each run of a sweep.
 pub trait Watches {
     fn ran(&mut self, done: u64, of: u64);
 }

@@ -4,8 +4,8 @@ ghost use Rattle.std.specs.Prelude.{◌≡◌, ℕ, List, true};
 ghost use Rattle.std.specs.List.{list_all};
 ghost use Rattle.agc_picture.specs.Escaped.{escaped, is_plain};
 
-/// In a text as it is in a picture stands no `<`, `>`, `"` or `'`, and no control character: it
-/// can't end the element in which it stands, or begin another.
+/// A text written into a picture has no `<`, `>`, `"` or `'` and no control character, so it can't
+/// end the element that it is in, or begin another.
 pub fn text_is_plain()
     ensures { (text : List ℕ) → list_all is_plain (escaped text) ≡ true }
 {}

@@ -195,7 +195,7 @@ fn run_drawn<W: Write>(
     Ok(drawn.drawing)
 }
 
-/// Draws the requests of a scenario, and what stands around them.
+/// Draws the requests of a scenario, with heading, axis and legend.
 fn draw_scenario<W: Write>(
     drawing: TimeDrawing,
     timing: &Timing,

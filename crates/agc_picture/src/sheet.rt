@@ -187,7 +187,8 @@ fn put_legend<W: Write>(writer: &mut W, y: u64, scale: Scale) -> io::Result<()> 
     )
 }
 
-/// Writes what stands behind and below the lanes, where a run ends in this column, and the end.
+/// Writes what is to the right of the lanes and below them, for a run that ends in this column, and
+/// closes the picture.
 pub(crate) fn put_foot<W: Write>(
     writer: &mut W,
     sets: u64,

@@ -71,7 +71,7 @@ fn asked(machine: &mut Watched, request: &Request) -> (Event, bool)
     (event, began)
 }
 
-/// What stands behind a write.
+/// The result of a write, as a run returns it.
 fn written(put: io::Result<()>) -> Result<(), Output> {
     match put {
         Ok(()) => Ok(()),

@@ -1,9 +1,9 @@
-//! Rows on a terminal: the tables stand below, each with its name.
+//! Rows on a terminal: the tables of a row are listed below it, each with its name.
 use arrayvec::ArrayVec;
 use std::io;
 use std::io::Write;
 
-/// How wide the columns of a row are that stand before its tables.
+/// How wide the columns ahead of a row's tables are, in characters.
 const FRONT: usize = 84;
 
 /// How wide a line may be to which a further table is added.
@@ -31,7 +31,7 @@ fn parted(line: &str) -> Option<(&str, &str)> {
     }
 }
 
-/// Writes the tables of a row, each behind its name.
+/// Writes the tables of a row, each after its name.
 fn put_tables<W: Write>(writer: &mut W, tables: &str) -> io::Result<()> {
     let contents = tables
         .split("  ")

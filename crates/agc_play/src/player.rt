@@ -1,4 +1,4 @@
-//! The machine that is played with, and what is told of it.
+//! The machine that is played with, and what the player sees of it.
 ghost use Rattle.std.specs.Prelude.{◌≡◌, IfOk};
 ghost use Rattle.std.specs.List.{fold};
 ghost use Rattle.agc_scene.specs.Events.{watched, watching_from};
@@ -21,16 +21,16 @@ use std::marker::Model;
 /// What came of a request, beside its row.
 #[derive(Clone, Copy, Debug, PartialEq, Eq)]
 pub(crate) enum Came {
-    /// Nothing more is to be told.
+    /// There is nothing more to say.
     Served,
     /// An era began without an alarm, of which the row has no tables.
     Begun,
     Refused(Refusal),
 }
 
-/// The machine that is played with, who writes its rows, of a second one in the same state, and
-/// what is told of the last request: its number, and the time of the era and of all after it.
-/// Contracts see the machine. Source: profile.
+/// The machine that is played with; a tracer, which has a second one in the same state and writes
+/// the rows; and the number of the last request, with the time after it in the era and since the
+/// start, in centiseconds. Contracts see the machine. Source: profile.
 #[derive(Drop)]
 pub(crate) struct Player {
     watched: Watched,
@@ -88,7 +88,7 @@ fn put_seat<W: Write>(writer: &mut W, k: usize, seat: Seat) -> io::Result<()> {
     write!(writer, "\n")
 }
 
-/// Writes who runs, and what the core sets hold.
+/// Writes which job is running, and what the core sets hold.
 fn put_jobs<W: Write>(writer: &mut W, scene: &Scene) -> io::Result<()> {
     match scene.running() {
         None => write!(writer, "    no job is running\n")?,
@@ -141,7 +141,7 @@ fn put_rest<W: Write>(writer: &mut W, scene: &Scene) -> io::Result<()> {
     write!(writer, "\n")
 }
 
-/// A bench's machine, of which nothing was asked yet.
+/// A bench's machine before its first request.
 fn watched_of(alloc: Global, bench: &Bench) -> Result<Watched, RunFault>
     ensures { IfOk result (λ w. w ≡ watching_from (bench_machine bench.now)) }
 {
@@ -149,8 +149,8 @@ fn watched_of(alloc: Global, bench: &Bench) -> Result<Watched, RunFault>
     Ok(Watched::new(machine))
 }
 
-/// Who writes the rows of a bench's machine, of which nothing was asked yet, from the request
-/// behind this number on.
+/// A tracer of a bench's machine before its first request, which writes the rows of the requests
+/// after this number.
 fn tracer_of(alloc: Global, bench: &Bench, number: u64) -> Result<Tracer, RunFault>
     ensures { IfOk result (λ t. t ≡ watching_from (bench_machine bench.now)) }
 {
@@ -165,8 +165,8 @@ fn tracer_of(alloc: Global, bench: &Bench, number: u64) -> Result<Tracer, RunFau
 }
 
 impl Player {
-    /// A bench's machine, of which nothing was asked yet; rows are written from the request behind
-    /// this number on.
+    /// A bench's machine before its first request; rows are written of the requests after this
+    /// number.
     ///
     /// # Errors
     ///

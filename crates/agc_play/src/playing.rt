@@ -47,17 +47,17 @@ The requests:
 P is octal, 01 to 37. A and W are five octal digits. The others are decimal.
 ";
 
-/// How one plays: on a terminal it is told what is waited for, and the tables of a row stand below
+/// How answers are shown: on a terminal there is a prompt, and the tables of a row are listed below
 /// it. Source: profile.
 #[derive(Clone, Copy, Debug, PartialEq, Eq)]
 pub struct Manner {
-    /// Standard error tells that a line is waited for.
+    /// Whether a prompt is written on standard error.
     pub prompts: bool,
     /// Rows are folded, so that they fit a terminal.
     pub folds: bool,
 }
 
-/// Why one no longer plays. Source: profile.
+/// Why play ended early. Source: profile.
 #[derive(Clone, Copy, Debug, PartialEq, Eq)]
 pub enum PlayFault {
     NoMemory,
@@ -96,7 +96,7 @@ impl From<RunFault> for PlayFault {
     }
 }
 
-/// What stands behind a write to the one who plays.
+/// The result of a write to the player's terminal.
 fn written(put: io::Result<()>) -> Result<(), PlayFault> {
     put.map_err(|_failed| PlayFault::Output)
 }
@@ -338,7 +338,7 @@ impl<'a> Played<'a> {
     }
 }
 
-/// Ends an answer: an empty line stands behind it, and nothing of it is kept back.
+/// Ends an answer with an empty line, and flushes it.
 fn end_answer<W: Write>(writer: &mut W) -> Result<(), PlayFault> {
     written(writer.write_all(b"\n"))?;
     written(writer.flush())
@@ -422,14 +422,14 @@ fn answer_all<H: AllocGlobal + Files + Eprint, R: BufRead, W: Write>(
     Ok(())
 }
 
-/// Plays with the machine of a bench, from the bench's end on: of each line that is read the answer
-/// is written, and flushed, before the next line is read. Returns at the end of the input. Source:
-/// profile.
+/// Answers requests on a bench's machine, starting where the bench's own requests end. Each line is
+/// answered, and the answer flushed, before the next line is read. Returns at the end of the input.
+/// Source: profile.
 ///
 /// # Errors
 ///
-/// `NoMemory`, where there is none to begin with or for a line; where a request wants memory, that
-/// is told, and one plays on. `Input`, `TooLong` and `Output`.
+/// `NoMemory` at the start, or for a line; a request that runs out of memory is reported, and play
+/// goes on. `Input`, `TooLong` and `Output`.
 pub fn play<H: AllocGlobal + Files + Eprint, R: BufRead, W: Write>(
     rt: &H,
     bench: &Bench,

@@ -10,7 +10,7 @@ pub trait Progress {
     fn asked(&mut self);
 }
 
-/// Nobody is told. Source: profile.
+/// Reports go nowhere. Source: profile.
 #[derive(Clone, Copy, Default)]
 pub struct Silent;
 

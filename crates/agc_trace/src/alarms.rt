@@ -95,7 +95,7 @@ fn put_tasks<W: Write>(writer: &mut W, event: &Event) -> io::Result<()> {
     Ok(())
 }
 
-/// Writes phases behind what stands before them.
+/// Writes phases, after this text.
 pub(crate) fn put_phases<W: Write>(writer: &mut W, phases: &[Phase]) -> io::Result<()> {
     write!(writer, "        restart by phases")?;
     for phase in phases {
@@ -117,7 +117,7 @@ fn put_again<W: Write>(
     put_tables(&mut line, era)
 }
 
-/// Writes what is told of an event's alarm, if it has one.
+/// Writes the account of an event's alarm, if it has one.
 pub(crate) fn put_account<W: Write>(
     writer: &mut W,
     plan: &Plan,

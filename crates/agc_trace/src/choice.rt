@@ -15,7 +15,7 @@ pub struct Choice {
 }
 
 impl Choice {
-    /// Whether a request of this number is told, which raised an alarm or not. Source: profile.
+    /// Whether the request of this number has a row, if it raised an alarm or not. Source: profile.
     pub fn tells(&self, number: u64, is_alarmed: bool) -> bool {
         (is_alarmed || !self.alarms)
             && self.from.is_none_or(|from| from <= number)

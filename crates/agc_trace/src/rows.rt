@@ -30,7 +30,7 @@ pub(crate) fn put_heading<W: Write>(writer: &mut W, has_sources: bool) -> io::Re
     put_names(&mut line)
 }
 
-/// Ends the cell of an answer: behind a longer one the line ends, and the scene stands below.
+/// Ends the cell of an answer: after a longer one the line ends, and the scene is on the next.
 fn end_reply<W: Write>(line: &mut Line<'_, W>, has_sources: bool) -> io::Result<()> {
     if line.cell_length() <= REPLY_WIDTH {
         return line.end_cell(REPLY_WIDTH);
@@ -58,7 +58,7 @@ pub(crate) fn put_power_row<W: Write>(
     put_tables(&mut line, scene)
 }
 
-/// Writes the row of a request: behind the number of a refused one stands `!`.
+/// Writes the row of a request; the number of a refused one is followed by `!`.
 pub(crate) fn put_row<W: Write>(
     writer: &mut W,
     source: Option<Source>,

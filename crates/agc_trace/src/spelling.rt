@@ -74,7 +74,7 @@ pub(crate) fn code(alarm: Alarm) -> &'static str {
     }
 }
 
-/// Writes who runs now.
+/// Writes which job is running now.
 fn put_runner<W: Write>(writer: &mut W, runner: Option<JobNo>) -> io::Result<()> {
     match runner {
         None => write!(writer, "left idle"),

@@ -26,7 +26,7 @@ use std::io;
 use std::io::Write;
 use std::marker::Model;
 
-/// Quiet requests, one behind the other, which were not told yet.
+/// Quiet requests in a row that have not been written yet.
 #[derive(Clone, Copy)]
 struct Left {
     quiet: Quiet,
@@ -61,7 +61,7 @@ fn counted(left: Option<Left>, quiet: Quiet) -> u64 {
     }
 }
 
-/// What stands behind a write.
+/// The result of a write, as a run returns it.
 fn written(put: io::Result<()>) -> Result<(), Output> {
     match put {
         Ok(()) => Ok(()),
@@ -126,7 +126,7 @@ impl Tracer {
         written(put_refused(writer, self.refused, limit, allowance))
     }
 
-    /// Writes how many quiet requests were not told yet, if there are any.
+    /// Writes how many quiet requests were left out since the last row, if there are any.
     fn put_left<W: Write>(&mut self, writer: &mut W) -> io::Result<()>
         ensures { self.new ≡ self.old }
     {
@@ -203,7 +203,7 @@ impl Follows for Tracer {
 
     ghost next = { λ tracer request. watched tracer request };
 
-    /// Asks for one request, and writes its row and account, where it is told.
+    /// Asks for one request, and writes its row and account, if it is chosen.
     fn follow<W: Write>(
         &mut self,
         source: Source,

@@ -17,7 +17,7 @@ use std::io;
 use std::io::Write;
 use std::marker::Model;
 
-/// What the first 200,000 requests of a run come to. Source: profile.
+/// What the first requests of a run come to: 200,000 of a bench or script. Source: profile.
 #[derive(Clone, Copy, PartialEq, Eq, Debug)]
 pub struct Ran {
     /// How many were asked.

@@ -1,9 +1,9 @@
-//! What is wrong with a scenario, or else what is warned of, and what it comes to.
+//! What is wrong with a scenario, or else warnings and a summary of its run.
 use agc_clock::{Then, Timetables};
 use agc_document::{Key, Place, ScenarioKey};
 use agc_findings::{line_at, places_in};
 use agc_lint::{add, add_decimal, add_where, bench_told};
-use agc_peaks::{Sum, scenario_sum};
+use agc_peaks::scenario_sum;
 use agc_plan::{Action, Actions, Address, JobStart, PhaseEntry, Request, Task, action_request};
 use agc_program::Fault;
 use agc_scenario::{Scenario, TimedJob, scenario_findings};
@@ -13,21 +13,21 @@ use std::alloc::{AllocError, Global};
 /// How many requests are run.
 const MOST_RUN: u64 = 1_000_000;
 
-/// How many warnings are told of jobs and events.
+/// How many warnings about jobs and events are written at most.
 const MOST_TOLD: usize = 20;
 
-/// What is warned of.
+/// A reason to warn.
 #[derive(Clone, Copy)]
 enum Doubt {
     /// Nothing begins this job.
     NotBegun,
-    /// A job costs so much, and comes each so many centiseconds, of which this percent is stolen.
+    /// What a job costs, how often it comes, both in centiseconds, and the percentage stolen.
     NothingLeft(u64, u64, u64),
-    /// This event comes behind the end.
+    /// This event comes after the end.
     Late,
 }
 
-/// A place of the document, and what is warned of there.
+/// A place of the document, and the reason to warn there.
 #[derive(Clone, Copy)]
 struct Doubted {
     place: Place,
@@ -163,7 +163,7 @@ fn doubts_of(alloc: Global, scenario: &Scenario) -> Result<Vec<Doubted>, AllocEr
 fn add_doubt(told: &mut String, doubt: Doubt) -> Result<(), AllocError> {
     match doubt {
         Doubt::NotBegun => add(told, &["nothing begins a job at this address\n"]),
-        Doubt::Late => add(told, &["it comes behind the end\n"]),
+        Doubt::Late => add(told, &["it comes after the end\n"]),
         Doubt::NothingLeft(cost, period, stolen) => {
             add(told, &["it costs "])?;
             add_decimal(told, cost)?;
@@ -210,7 +210,7 @@ fn warnings_of(
     alloc: Global,
     text: &str,
     scenario: &Scenario,
-    sum: &Sum,
+    ran: &Ran,
 ) -> Result<Vec<Located>, AllocError> {
     let bench = scenario.bench();
     let [limit, allowance] = [Place::Value(Key::Limit), Place::Value(Key::Allowance)];
@@ -218,12 +218,12 @@ fn warnings_of(
     let mut found = [
         (
             limit,
-            sum.log_full
+            ran.log_full
                 .map(|first| Warning::LogFull(first, bench.limit())),
         ),
         (
             allowance,
-            sum.spent
+            ran.spent
                 .map(|first| Warning::Spent(first, bench.allowance())),
         ),
     ];
@@ -243,31 +243,23 @@ fn warnings_of(
     Ok(warnings)
 }
 
-/// What is told of a scenario in which nothing is wrong: what is warned of, and what it comes to.
+/// The report on a scenario in which nothing is wrong: warnings, and a summary of its run.
 fn told_of_scenario(alloc: Global, text: &str, scenario: &Scenario) -> Result<String, Fault> {
-    let sum = match scenario_sum(alloc, scenario, MOST_RUN) {
-        Ok(sum) => sum,
+    let ran = match scenario_sum(alloc, scenario, MOST_RUN) {
+        Ok(ran) => ran,
         Err(fault) => return Err(Fault::Run(fault)),
     };
-    let warnings = warnings_of(alloc, text, scenario, &sum)?;
+    let warnings = warnings_of(alloc, text, scenario, &ran)?;
     let mut told = String::new(alloc);
     let doubts = doubts_of(alloc, scenario)?;
     add_doubts(alloc, &mut told, text, doubts.as_slice())?;
     let of_run = warnings_told(alloc, warnings.as_slice())?;
     add(&mut told, &[of_run.as_str()])?;
-    let ran = Ran {
-        requests: sum.requests,
-        fired: sum.fired,
-        alarms: sum.alarms,
-        log_full: sum.log_full,
-        spent: sum.spent,
-        is_cut: sum.is_cut,
-    };
     add_summary(&mut told, &ran)?;
     Ok(told)
 }
 
-/// What is told of a document that should be a scenario, and whether it is one.
+/// Whether a document is a scenario, and the report on it.
 pub(crate) fn scenario_told(alloc: Global, text: &str) -> Result<(bool, String), Fault> {
     let checked = scenario_findings(alloc, text)?;
     match &checked.scenario {

@@ -2,7 +2,7 @@
 use clap::{Arg, ArgAction, Command, value_parser};
 use std::alloc::{AllocError, Global};
 
-/// What stands below the help of `sweep`.
+/// The text below the help of `sweep`.
 const SWEPT: &str = "\
 KEY is sets, steal, seconds, job.NAME.cost, event.NAME.at, event.NAME.every or
 event.NAME.until. A job without a name is called by its address. The word behind

@@ -19,7 +19,7 @@ pub(crate) struct Teller<'a, H> {
 }
 
 impl<'a, H: Clock> Teller<'a, H> {
-    /// A run begins now, and what comes of it is told, if that is wanted.
+    /// A run begins now; its progress is reported if that is wanted.
     pub(crate) fn new(rt: &'a H, is_wanted: bool) -> Teller<'a, H> {
         let begun = if is_wanted {
             Instant::now(rt).ok()
@@ -67,7 +67,7 @@ impl<H: Clock + Eprint> Progress for Teller<'_, H> {
     }
 }
 
-/// One who says on standard error, each second, how many runs of a sweep are done.
+/// Reports on standard error, each second, how many runs of a sweep are done.
 #[derive(Drop)]
 pub(crate) struct SweepTeller<'a, H> {
     rt: &'a H,

@@ -29,7 +29,7 @@ use std::time::Clock;
 /// How many bytes `agc` takes.
 const MOST_BYTES: u64 = 1_048_576;
 
-/// How many keys are told.
+/// How many jobs and events are listed at most.
 const MOST_KEYS: usize = 20;
 
 /// Why a command ends early.

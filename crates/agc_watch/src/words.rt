@@ -37,7 +37,7 @@ pub struct Times {
     pub width: u64,
     pub from: u64,
     pub to: Option<u64>,
-    /// How far it has come is told on standard error.
+    /// Progress is reported on standard error.
     pub has_progress: bool,
 }
 
@@ -70,7 +70,7 @@ pub struct Asked<'a> {
     pub task: Task<'a>,
     /// The name of the file to read; standard input without one, or an empty plan to play from.
     pub file: Option<&'a str>,
-    /// How far it has come is told on standard error.
+    /// Progress is reported on standard error.
     pub has_progress: bool,
 }
 
@@ -153,7 +153,7 @@ fn is_backwards(work: Work) -> bool {
     }
 }
 
-/// What the words behind `explore` ask for.
+/// What the words after `explore` ask for.
 fn asked_to_explore<'a>(
     command: &mut Command<'a>,
     given: &ArgMatches<'a>,
@@ -168,7 +168,7 @@ fn asked_to_explore<'a>(
     }
 }
 
-/// The step and the file of a sweep: the word behind its values is the file, if it is no number.
+/// The step and the file of a sweep: the word after its values is the file, if it is no number.
 /// Nothing, where there are two words, of which the first is no number.
 fn step_and_file<'a>(given: &ArgMatches<'a>) -> Option<(u64, Option<&'a str>)> {
     let Some(word) = given.get_str("step") else {
@@ -182,7 +182,7 @@ fn step_and_file<'a>(given: &ArgMatches<'a>) -> Option<(u64, Option<&'a str>)> {
     }
 }
 
-/// What the words behind `sweep` ask for, or why they are wrong.
+/// What the words after `sweep` ask for, or why they are wrong.
 fn sweep_of<'a>(given: &ArgMatches<'a>) -> Result<Asked<'a>, &'static str> {
     let key = given.get_str("key").unwrap_or("");
     let from = given.get_one::<u64>("from").unwrap_or(0);
@@ -208,7 +208,7 @@ fn sweep_of<'a>(given: &ArgMatches<'a>) -> Result<Asked<'a>, &'static str> {
     }
 }
 
-/// Words behind `sweep` that are wrong for a reason that `clap` doesn't know.
+/// Words after `sweep` that are wrong for a reason that `clap` doesn't know.
 pub(crate) fn refused_sweep(alloc: Global, reason: &str) -> Refused {
     let command = match sweep_command(alloc) {
         Ok(command) => command.bin_name("agc_watch sweep"),
@@ -295,7 +295,7 @@ fn times_of(given: &ArgMatches<'_>) -> Result<Option<Times>, &'static str> {
     }
 }
 
-/// What the words behind `picture` ask for.
+/// What the words after `picture` ask for.
 fn asked_to_draw<'a>(
     alloc: Global,
     command: &mut Command<'a>,
