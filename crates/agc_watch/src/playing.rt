@@ -7,10 +7,10 @@ use std::io::{Eprint, Input, Print, Read};
 use std::process::ExitCode;
 use std::rt::Files;
 
-/// The bench that one plays from where none is named: nothing is planned, and much is served.
+/// The bench to begin from if no file is named: an empty plan, and room for a million requests.
 pub(crate) const EMPTY: &str = "limit = 1000000\nallowance = 9223372036854775807\n";
 
-/// Why one no longer plays, as the program's fault.
+/// Why play ended early, as the program's fault.
 fn fault_of(fault: PlayFault) -> Fault {
     match fault {
         PlayFault::NoMemory => Fault::NoMemory,
@@ -20,7 +20,7 @@ fn fault_of(fault: PlayFault) -> Fault {
     }
 }
 
-/// Reads a bench, and answers what standard input asks of its machine.
+/// Reads a bench, and answers the lines of standard input.
 fn play_from<H: AllocGlobal + Files + Input + Print + Eprint, R: Read>(
     rt: &H,
     manner: Manner,
@@ -32,7 +32,7 @@ fn play_from<H: AllocGlobal + Files + Input + Print + Eprint, R: Read>(
     play(rt, &bench, manner, &mut rt.reader(), &mut output).map_err(fault_of)
 }
 
-/// Does so, and says how the program then ends.
+/// Plays on the bench that is read, and returns the exit status.
 pub(crate) fn run_play<H: AllocGlobal + Files + Input + Print + Eprint, R: Read>(
     rt: &H,
     program: Program,
