@@ -94,7 +94,12 @@ fn put_in_order(findings: &mut Vec<Finding>) -> Result<(), AllocError>
     Ok(())
 }
 
-/// The digits that stand at a byte of a document.
+/// Whether a value in which this byte comes next goes on with it.
+fn goes_on(byte: u8) -> bool {
+    byte.is_ascii_alphanumeric() || matches!(byte, b'_' | b'.' | b':' | b'-' | b'+')
+}
+
+/// The digits at a byte of a document, if they are a value by themselves; else nothing.
 fn digits_at(document: &str, at: usize) -> &str {
     let rest = document.get(at..).unwrap_or("");
     let count = rest
@@ -102,7 +107,10 @@ fn digits_at(document: &str, at: usize) -> &str {
         .iter()
         .take_while(|byte| byte.is_ascii_digit())
         .count();
-    rest.get(..count).unwrap_or("")
+    match rest.as_bytes().get(count) {
+        Some(next) if goes_on(*next) => "",
+        _ => rest.get(..count).unwrap_or(""),
+    }
 }
 
 /// The text that is told of what is wrong with a key.
