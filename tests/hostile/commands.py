@@ -312,6 +312,23 @@ def starter_on_a_terminal(clone):
         clone.hostile.expect(f"./agc_watch {words}, on a terminal: {ran.stdout}", ran.stdout == f"ran {wanted}".strip().encode() + b"\n")
 
 
+def starter_reads_a_terminal(clone):
+    """Where standard input is a terminal, ./agc and ./agc_watch say in one line that they read it to its end."""
+    reads = "agc script", "agc serial", "agc threads", "agc_watch trace", "agc_watch check --script", "agc_watch trace --from 3", "agc_watch peaks -"
+    silent = "agc_watch trace bench.toml", "agc_watch trace /bench.toml", "agc_watch trace --nothing", "agc_watch trace --help", "agc_watch play", "agc_watch"
+    for called in reads + silent:
+        name, *words = called.split()
+        master, slave = os.openpty()
+        ran = subprocess.run([f"{clone.room}/{name}", *words], env={"PATH": f"{clone.room}/tools-of-system:{clone.room}/kit"},
+                             stdin=slave, stdout=subprocess.PIPE, stderr=subprocess.PIPE, check=False)
+        os.close(slave)
+        os.close(master)
+        clone.hostile.runs += 1
+        wanted = f"{name}: reads what is typed until Ctrl-D in an empty line, and then answers\n" if called in reads else ""
+        is_right = ran.stderr.decode().replace("own line\n", "") == wanted and ran.stdout.decode() == " ".join(["ran", *words]) + "\n"
+        clone.hostile.expect(f"./{called}, typed: {ran.stdout}, {ran.stderr}", is_right)
+
+
 def progress(hostile):
     """Long work tells each second how many requests were asked, and only where that is asked for."""
     with tempfile.TemporaryDirectory() as room:
@@ -451,3 +468,4 @@ def starter_of_watch(clone, ended_with):
         wanted = (ended_with, f"ran {words}".strip() + "\n", "")
         clone.expect(f"asked for {words}", wanted, *words.split(), name="agc_watch")
     starter_on_a_terminal(clone)
+    starter_reads_a_terminal(clone)
