@@ -112,7 +112,7 @@ class Unproved:
 def run_unproved(parts):
     """Runs cases and examples on programs that are compiled for it; returns the exit status."""
     if not shutil.which("rt"):
-        counting.refuse("quick", "no proved program stands here, and the kit's command rt is not on the path")
+        counting.refuse("quick", "there is no proved program here, and the kit's command rt is not on the path")
     print("quick: compiling agc and agc_watch unproved; this takes about two minutes", flush=True)
     with concurrent.futures.ThreadPoolExecutor(2) as pool:
         found = [*pool.map(Unproved.lines, [Unproved(it, parts) for it in PROGRAMS])]
