@@ -35,11 +35,13 @@ def tools_browse():
 
 
 class Files(http.server.SimpleHTTPRequestHandler):
-    """Files of libagc/, and an empty page."""
+    """Files of libagc/, and an empty page. In the folder /absent/ are those of js/ without the module agc.wasm."""
 
     extensions_map = {".js": "text/javascript", ".mjs": "text/javascript", ".wasm": "application/wasm", "": "text/html"}
 
     def do_GET(self):
+        if self.path.startswith("/absent/") and not self.path.endswith(".wasm"):
+            self.path = self.path.replace("absent", "js")
         if self.path != "/":
             super().do_GET()
             return
@@ -57,6 +59,10 @@ RUN = """(async () => {
   const agc = await import('/js/agc.js');
   const steps = await import('/tests/steps.mjs');
   steps.refuses(agc);
+  steps.keeps(agc);
+  let said = '';
+  await import('/absent/agc.js').catch((fault) => { said = String(fault); });
+  if (!said.includes("agc.wasm can't be fetched: status 404")) throw new Error(`no module, and it says ${said}`);
   const given = %s;
   const machine = new agc.Machine({ sets: 8 });
   let best = Infinity;

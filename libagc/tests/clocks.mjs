@@ -76,23 +76,66 @@ function refuses() {
     [Code.TIME_RANGE, { steal: 101 }], [Code.STEAL_TWICE, { steal: [{ from: 0, to: 9, percent: 1 }, { from: 8, to: 9, percent: 1 }] }],
     [Code.COST_TWICE, { job: [job, job] }], [Code.NOT_SPELLED, { job: [{ ...job, then: "tick" }] }],
     [Code.TIME_RANGE, { event: [{ at: 0, do: "tick" }, { at: 5, do: "tick", every: 1, until: 4 }] }],
+    [Code.TIME_RANGE, { event: [{ at: 0, do: "tick" }, { at: 5, do: "tick", every: 0 }] }],
   ];
   for (const [code, timetable] of faults) {
     let found = null;
     try { new Clock(timetable); } catch (fault) { found = fault; }
     want(found instanceof Lacking && found.code === code, JSON.stringify(timetable));
-    if (code === Code.TIME_RANGE && timetable.event) want(found.message.startsWith("event 2: "), found.message);
+    const named = timetable.event?.every((it) => it.every !== 0);
+    if (code === Code.TIME_RANGE && named) want(found.message.startsWith("event 2: "), found.message);
   }
   const [machine, clock] = [new Machine(), new Clock({ job: [job] })];
-  machine.run(clock, 10);
-  want(clock.time === 10 && machine.totals.served === 10, "ten ticks");
+  want(machine.run(clock, 10) === 10 && clock.time === 10 && machine.totals.served === 10, "ten ticks");
   const other = clock.copy();
   clock.change({ event: [{ at: 12, do: "novac 20 04000 00005" }] });
-  machine.run(clock, 5, (asked, step, time) => time < 12);
-  want(clock.time === 12 && other.time === 10, "a run that stops");
+  want(machine.run(clock, 5, (asked, step, time) => time < 12) === 2, "how many were asked");
+  want(clock.time === 12 && other.time === 10 && machine.run(clock, 0) === 2, "a run that stops");
+}
+
+/** The texts of what is asked by a clock, of a machine of its own, up to so many centiseconds. */
+function asks(clock, centiseconds) {
+  const texts = [];
+  const last = clock.time;
+  new Machine().run(clock, centiseconds, (asked, _, time) => { if (asked.name !== "tick") texts.push(`${time - last} ${asked}`); });
+  return texts.join(", ");
+}
+
+/** What a clock keeps, and what it takes where nothing is named. */
+function keeps() {
+  const lines = ["findvac 05 04000 00007", "novac 31 17777 77777", "sleep 00010", "prio 07", "store 3 12345", "list 20 02000 00005", "phase 2 7"];
+  const told = lines.map((it) => `1 ${it}`).join(", ");
+  want(asks(new Clock({ event: [{ at: 1, do: lines }] }), 1) === told, "lines");
+  const again = { at: 1, do: "phase 1 1", every: 2 };
+  want(asks(new Clock({ event: [again] }), 6) === "1 phase 1 1, 3 phase 1 1, 5 phase 1 1", "every two centiseconds, without an end");
+  want(asks(new Clock({ event: [{ ...again, until: 3 }] }), 6) === "1 phase 1 1, 3 phase 1 1", "up to the third");
+  want(new Clock().lasts === 360000 && new Clock({ seconds: 60 }).lasts === 6000, "how long it lasts");
+  // A job costs two centiseconds, and of each 40 percent are stolen: it has 60, 120, 180 and 200 hundredths.
+  const timetable = { steal: 40, job: [{ at: "04000", cost: 2 }], event: [{ at: 1, do: "novac 20 04000 00005" }] };
+  const [clock, machine] = [new Clock(timetable), new Machine()];
+  machine.run(clock, 3);
+  want(same(clock.given, [180, 0, 0, 0, 0, 0, 0, 0]), `was given ${clock.given}`);
+  want(asks(new Clock(timetable), 9) === "1 novac 20 04000 00005, 4 end", "its end");
+  // Two machines take turns, each with its own clock.
+  const pairs = [3, 2].map((cost) => [new Machine(), new Clock({ ...timetable, job: [{ at: "04000", cost }] }), []]);
+  for (let k = 0; k < 9; k++) {
+    const asked = pairs.map(([its, own]) => own.next(its));
+    const steps = pairs.map(([its], j) => its.ask(asked[j]));
+    pairs.forEach(([its, own, texts], j) => { own.served(its, steps[j]); texts.push(`${own.time} ${asked[j]}`); });
+  }
+  const turns = pairs.map(([, , texts]) => texts.filter((it) => !it.endsWith("tick")).join(", "));
+  want(same(turns, ["1 novac 20 04000 00005, 5 end", "1 novac 20 04000 00005, 4 end"]), turns.join("; "));
+  // What isn't changed stays, also where it was changed before, and in a copy.
+  const [changed, copied] = [new Clock(timetable), new Clock(timetable).copy()];
+  changed.change({ steal: 0 });
+  changed.change({ seconds: 9 });
+  want(asks(changed, 9) === "1 novac 20 04000 00005, 2 end" && changed.time === 9, "two changes");
+  copied.change({ steal: 0 });
+  want(asks(copied, 9) === "1 novac 20 04000 00005, 2 end", "a copy that is changed");
 }
 
 refuses();
+keeps();
 let scenario = null;
 for (const line of (await new Response(process.stdin).text()).split("\n").slice(0, -1)) {
   const [name, rest] = [line.slice(0, line.indexOf(" ")), line.slice(line.indexOf(" ") + 1)];

@@ -197,8 +197,40 @@ def refuses():
             sys.exit(f"clocks: {timetable} lacks {found}, and not {code}")
 
 
+def asks(timetable, centiseconds):
+    """What a clock asks besides ticks: when, and the line's name and numbers."""
+    machine, clock = Machine(), Clock(timetable)
+    return [(clock.time, it.name, *it.numbers) for it, _ in machine.run(clock, centiseconds) if it.name != "tick"]
+
+
+def keeps():
+    """What a clock takes where nothing is named, what it tells, and what a copy has."""
+    again = {"at": 1, "do": "phase 1 1", "every": 2}
+    assert asks({"event": [again]}, 6) == [(at, "phase", 1, 1) for at in (1, 3, 5)]
+    assert asks({"event": [{**again, "until": 3}]}, 6) == [(at, "phase", 1, 1) for at in (1, 3)]
+    assert Clock().lasts == 360000 and Clock({"seconds": 60}).lasts == 6000
+    # A job costs two centiseconds, and of each 40 percent are stolen: it has 60, 120, 180 and 200 hundredths.
+    steal = {"steal": 40, "job": [{"at": "04000", "cost": 2}], "event": [{"at": 1, "do": "novac 20 04000 00005"}]}
+    assert asks(steal, 9) == [(1, "novac", 0o20, 0o4000, 5), (4, "end")]
+    machine, clock = Machine(), Clock(steal)
+    for _ in machine.run(clock, 3):
+        pass
+    assert clock.given == (180, 0, 0, 0, 0, 0, 0, 0)
+    other, copied = clock.copy(), machine.copy()
+    assert other.time == 3 and [it.name for it, _ in copied.run(other, 1)] == ["tick", "end"] and other.given[0] == 0
+    assert (clock.time, clock.given[0]) == (3, 180) and [it.name for it, _ in machine.run(clock, 1)] == ["tick", "end"]
+    # Each request is served when its reply is told, also where a run is broken off: the job is gone, and what it was given.
+    events = [{"at": 1, "do": "novac 20 04000 00005"}, {"at": 2, "do": "restart"}]
+    machine, clock = Machine(), Clock({"event": events, "job": [{"at": "04000", "cost": 5}]})
+    for asked, step in machine.run(clock, 9):
+        if step.begins_era:
+            break
+    assert (asked.name, asked.event, clock.time, clock.given[0]) == ("restart", 1, 2, 0)
+
+
 if sys.argv[1] == "make":
     make(sys.argv[2], int(sys.argv[3]))
 else:
     refuses()
+    keeps()
     written(ByClock if sys.argv[1] == "clock" else Plainly)

@@ -81,10 +81,34 @@ impl Scenario {
     }
 }
 
+/// A job costs two centiseconds, and of each 40 percent are stolen: it has 60, 120, 180 and 200 hundredths.
+fn keeps() -> Result<(), Lacking> {
+    let timetable = Timetable::new(1).steal(0, 100, 40).job(0o4000, 2, "end")?;
+    let (mut machine, mut clock) = (Machine::new(7, Plan::new())?, Clock::new(timetable)?);
+    let step = machine.ask("novac 20 04000 00005")?;
+    clock.served(&machine, &step);
+    assert_eq!((machine.run(&mut clock, 3)?.len(), clock.given()), (3, [180, 0, 0, 0, 0, 0, 0, 0]));
+    // The fourth has its end; and how long is asked for may be any number.
+    let asked: Vec<u32> = machine.run(&mut clock, u32::MAX)?.iter().map(|it| it.0.request.kind).collect();
+    assert_eq!((asked.len(), &asked[..2], clock.time(), clock.given()), (98, &[TICK, END][..], 100, [0; 8]));
+    // A run tells its clock of the restart, after which nothing was given to a job that is gone.
+    let timetable = Timetable::new(1).job(0o4000, 5, "end")?;
+    let timetable = timetable.event(1, 0, 100, &["novac 20 04000 00005"])?.event(2, 0, 100, &["restart"])?;
+    let (mut machine, mut clock) = (Machine::new(7, Plan::new())?, Clock::new(timetable)?);
+    assert_eq!((machine.run(&mut clock, 1)?.len(), clock.given()[0]), (2, 100));
+    assert_eq!((machine.run(&mut clock, 1)?.len(), clock.given()[0]), (2, 0));
+    Ok(())
+}
+
 fn main() -> Result<(), Lacking> {
     let twice = Timetable::new(1).job(0o4000, 1, "end")?.job(0o4000, 2, "end")?;
     assert_eq!(Clock::new(twice).unwrap_err().code, COST_TWICE);
     assert_eq!(Timetable::new(1).job(0o4000, 1, "tick").unwrap_err().code, NOT_SPELLED);
+    // 2^32 hundredths and four, and as many centiseconds, aren't cut to four.
+    let long = Timetable::new(42_949_673).job(0o4000, 42_949_673, "end")?;
+    assert_eq!(Clock::new(long).unwrap_err().code, TIME_RANGE);
+    assert_eq!((Clock::new(Timetable::new(42_949_673))?.lasts(), Clock::new(Timetable::new(60))?.lasts()), (u32::MAX, 6000));
+    keeps()?;
     let (mut text, mut out) = (String::new(), BufWriter::new(io::stdout()));
     io::stdin().read_to_string(&mut text).unwrap();
     let mut scenario = None;

@@ -162,6 +162,25 @@ def a_plan_that_is_none():
     raised(TypeError, lambda: image.begin(None))
 
 
+def single_calls():
+    """What each of those tells that no script asks for."""
+    image = busy()
+    assert image.is_between_requests() and image.count_time3() and not image.is_between_requests()
+    assert image.dispatch() == (0o4000, 7) and image.is_between_requests() and not image.due()
+    assert not image.count_time3()
+    image.set_phase(2, 7)
+    image.record_alarm(0o1202)
+    image.restart()
+    assert image.running() == 0 and image.words[117:121] == (0o77777, 0, 0o77770, 7) and image.words[129:] == (0o1202, 0, 0o1202)
+    seven = busy()
+    words = seven.words
+    seven.migrate()
+    assert seven.sets == 8 and seven.words == (*words, *[0] * 11, 0o77777) and seven == Image(8, seven.words)
+    assert agc.add(1, 2) == (3, False) and agc.add(0o37777, 1) == (0, True) and agc.negative(5) == 0o77772
+    assert (agc.value(0o77772), agc.value(5), agc.value(0o77777)) == (-5, 5, 0)
+    assert agc.recover([it for phase in (0, 1, 2, 127, 3, 4) for it in (0o77777 - phase, phase)]) == [0, 1, 2, 127, 3, 4]
+
+
 def a_star_brings_the_modules_own_names():
     names = {}
     exec("from agc import *", names)
@@ -240,6 +259,7 @@ def main():
         an_era_begins,
         an_era_that_cannot_begin,
         a_plan_that_is_none,
+        single_calls,
         a_star_brings_the_modules_own_names,
         what_is_no_number,
         lacking_has_a_sentence,

@@ -150,12 +150,26 @@ def compared_javascript(calls, constants):
     exported = set(re.findall(r"(?m)^export (?:async )?(?:const|class|function) (\w+)", module))
     named = set(re.findall(r"(?m)^export declare (?:const|class|function) (\w+)", types))
     yield from (f"signatures: machine.js and agc.d.ts don't both have {it}" for it in exported ^ named)
+    yield from compared("machine.js", members_of(types), members_of(module))
     for name, number in re.findall(r"(?m)^  (?:readonly )?([A-Z_]+): (\d+)[,;]$", module + types):
         if constants.get(name) != int(number):
             yield f"signatures: {name} is {constants.get(name)} in agc.h and {number} in libagc/js"
     has = {name: set(re.findall(r"(?m)^  (?:readonly )?([A-Z_]+): \d+[,;]$", it)) for name, it in [("js", module), ("d.ts", types)]}
     wanted = {it.name for it in [*agc.Code, *agc.Kind]}
     yield from (f"signatures: {name} has the constants {it ^ wanted} or lacks them" for name, it in has.items() if it != wanted)
+
+
+# What classes of machine.js have for each other alone.
+INTERNAL = {"Machine": {"enter"}, "Clock": {"give", "take"}, "Asked": {"read"}, "Lacking": {"name"}}
+
+
+def members_of(text):
+    """The public members of each class of machine.js or agc.d.ts: methods, and what is read. Two may share a name."""
+    found = {}
+    for name, body in re.findall(r"(?m)^export (?:declare )?class (\w+)[^{]*\{\n((?:  .*\n|\n)*)\}$", text):
+        members = re.findall(r"(?m)^  (?:static |readonly |get )*(\w+)(?:: |\()|^    this\.(\w+) =", body)
+        found[name] = {one or other for one, other in members} - INTERNAL.get(name, set()) - {"constructor"}
+    return found
 
 
 def names_of_python(calls):

@@ -5,7 +5,7 @@
 //     node steps.mjs AGC_JS SETS           by the module agc.js at this path
 //     node steps.mjs AGC_JS SETS MODULE    by machine.js beside it, and another module of WebAssembly
 //
-// In a browser a page of tests/browse imports it, and calls `written` and `refuses`.
+// In a browser a page of browse.py imports it, and calls `written`, `refuses` and `keeps`.
 
 const BASES = {
   novac: [8, 8, 8], findvac: [8, 8, 8], sleep: [8], rouse: [8], prio: [8], store: [10, 8], list: [10, 8, 8], phase: [10, 10],
@@ -116,7 +116,9 @@ export function refuses({ Code, Lacking, Machine }) {
     [Code.NOT_WORDS, () => new Machine({ words: filled(32768, 132) })],
     [Code.NOT_WORDS, () => new Machine({ words: filled(2 ** 32, 132) })],
     [Code.NOT_WORDS, () => new Machine({ power: filled("77777", 11) })],
+    [Code.NOT_WORDS, () => new Machine({ words: Array.from(words, (it) => it + 65536) })],
     [Code.NOT_WORDS, () => new Machine({ power: filled(32768, 12) })],
+    [Code.NOT_WORDS, () => new Machine({ power: filled(65536, 12) })],
     [Code.UNLAWFUL, () => new Machine({ words: filled(0, 132) })],
     [Code.UNTIDY, () => new Machine({ words: untidy })],
     [Code.OUT_OF_RANGE, () => machine.ask("novac", 2 ** 32 + 1, 1, 1)],
@@ -134,9 +136,12 @@ export function refuses({ Code, Lacking, Machine }) {
     [Code.NOT_SPELLED, () => machine.ask("toString")],
     [Code.NOT_SPELLED, () => planned({ task: [{ ...row, action: "tick" }] })],
     [Code.NOT_SPELLED, () => planned({ phase: [{ ...wants[0], job: "rouse 02000" }] })],
+    [Code.NOT_SPELLED, () => planned({ phase: [{ ...wants[0], job: "" }] })],
     [Code.NOT_SPELLED, () => planned({ phase: [{ ...wants[0], task: "novac 01 00001 00000" }] })],
     [Code.PLAN_RANGE, () => planned({ task: [{ ...row, at: "2000" }] })],
+    [Code.PLAN_RANGE, () => planned({ task: [{ ...row, at: "02009" }] })],
     [Code.PLAN_RANGE, () => planned({ task: [{ ...row, action: filled("nothing", 5) }] })],
+    [Code.PLAN_RANGE, () => planned({ task: [{ ...row, action: [] }] })],
     [Code.PLAN_RANGE, () => planned({ phase: [{ ...wants[0], phase: 128 }] })],
     [Code.TASK_TWICE, () => planned({ task: [row, row] })],
     [Code.PHASE_TWICE, () => planned({ phase: [wants[0], wants[0]] })],
@@ -148,14 +153,65 @@ export function refuses({ Code, Lacking, Machine }) {
   for (const call of [() => machine.ask("novac", 1.5, 1, 1), () => machine.ask(5), () => machine.ask("prio", "1")]) {
     thrown(call, TypeError);
   }
+  // After all that the plan still says what begins again.
+  machine.ask("phase 4 5");
+  thrown(() => machine.ask(`tick${" ".repeat(9999)}`), Lacking);
+  for (let k = 0; k < 5; k++) machine.ask("findvac 01 00001 00000");
+  want(machine.ask("findvac 01 00001 00000").alarm === 0o1201 && machine.words[8] === 0o6000, "the plan");
   const again = new Machine({ words, plan: { phase: wants.slice(1) } });
-  want(same(again.words, words) && same(again.ask("change"), machine.ask("change")), "a machine of words");
+  want(same(again.words, words) && again.ask("change").text === "runs 1", "a machine of words");
   // A plan of many rows wants more memory, and leaves the machines that were asked before as they were.
   const many = filled(0, 3000).map((_, k) => ({ ...row, at: k + 1, action: ["list 1 00001 00005", "nothing"] }));
   const long = new Machine({ plan: { task: many } });
   long.ask("list", 1, 3000, 5);
   want(long.ask("tick").text === "tick 05670/00005" && long.scene().tasks[0].left === 1, "the last row of many");
   want(again.ask("tick").text === "tick" && again.words.length === 144, "a machine that was asked before");
+}
+
+/** What a machine keeps to itself, whichever was asked last. */
+export function keeps({ Machine }) {
+  const one = new Machine();
+  one.ask("novac 10 02000 00005");
+  one.ask("novac 20 02100 00005");
+  const [words, moment, totals, report] = [one.words, one.moment, one.totals, one.report()];
+  const kept = same([words, moment, totals], [one.words, one.moment, one.totals]);
+  want(kept && totals.served === 2 && report.includes("\nSERVED 2\n"), "what was asked");
+  const other = one.copy();
+  want(same([other.words, other.moment, other.totals, other.report()], [words, moment, totals, report]), "a copy");
+  for (const line of ["change", "end", "end"]) other.ask(line);
+  want(other.report().includes("SET 0 FREE\n") && other.report().includes("\nSERVED 5\n"), "a copy's report");
+  want(same([one.words, one.moment, one.totals, one.report()], [words, moment, totals, report]), "what a copy leaves");
+  want(same([one.words, one.moment], [words, moment]), "what a report leaves");
+  want(one.ask("change").text === "runs 2" && totals.served === 2 && words[0] === 1, "what was told is kept");
+  // Words from elsewhere are tried by a change of job, and stay as they are; nothing was asked yet.
+  const made = new Machine({ words });
+  want(same([made.words, made.moment], [words, words]) && made.totals.served === 0, "words from elsewhere");
+  const fresh = new Machine({ sets: 8 });
+  want(fresh.moment.length === 144 && same(fresh.moment, fresh.words) && fresh.sets === 8, "a fresh start");
+  // All nine tasks fire at once, and the line names each, also after nine others have fired.
+  const ats = Array.from({ length: 9 }, (_, k) => octal(0o2000 + k, 5));
+  const nine = new Machine({ plan: { task: [{ at: ats[8], bank: 5, action: "findvac 01 00001 00000" }] } });
+  ats.forEach((at) => nine.ask(`list 1 ${at} 00005`));
+  for (let k = 0; k < 5; k++) nine.ask("findvac 01 00001 00000");
+  const step = nine.ask("tick");
+  ats.forEach((at) => one.ask(`list 1 ${octal(parseInt(at, 8) + 64, 5)} 00005`));
+  want(one.ask("tick").fired.length === 9, "nine others");
+  want(step.text === `tick ${ats.map((at) => `${at}/00005`).join(" ")} alarm 1201` && step.action === 1, "nine tasks");
+  want(`${step}` === step.text && step.beginsEra && nine.ask("restart").beginsEra && !nine.ask("tick").beginsEra, "eras");
+}
+
+/** A module takes another's place, and each machine goes on. */
+export async function goesOn(agc, bytes, last) {
+  const phase = [{ group: 4, phase: 5, job: "findvac 25 06000 00007" }];
+  const made = Array.from({ length: 2 }, () => new agc.Machine({ plan: { phase } }));
+  made.forEach((it) => it.ask("phase 4 5"));
+  await agc.start(bytes);
+  for (let k = 0; k < 5; k++) made.forEach((it) => it.ask("findvac 01 00001 00000"));
+  await agc.start(last);
+  for (const it of made) {
+    want(it.ask("findvac 01 00001 00000").alarm === 0o1201 && it.words[8] === 0o6000, "another module");
+    want(it.totals.served === 7 && it.report().includes("\nSERVED 7\nALARMS 1 0 0\nRESTARTS 1\n"), "its totals");
+  }
 }
 
 function thrown(call, kind) {
@@ -175,5 +231,8 @@ if (typeof process !== "undefined" && process.argv[1]?.endsWith("steps.mjs")) {
   const agc = await import(pathToFileURL(module ? path.replace(/agc\.js$/, "machine.js") : path).href);
   if (module) await agc.start(readFileSync(module));
   refuses(agc);
+  keeps(agc);
+  const own = readFileSync(path.replace(/agc\.js$/, "agc.wasm"));
+  await goesOn(agc, own, module ? readFileSync(module) : own);
   process.stdout.write(written(agc, Number(sets), readFileSync(0, "utf8").split("\n").slice(0, -1)));
 }

@@ -6,6 +6,7 @@ Other lines are those that eras.py writes: the plan, where the next bench begins
 """
 
 import json
+import pickle
 import sys
 
 from agc import Code, Kind, Lacking, Machine, scene_of
@@ -98,10 +99,13 @@ def refuses():
     words, totals = machine.words, machine.totals
     for code, call in [
         (Code.NO_SUCH_SETS, lambda: Machine(9)),
+        (Code.NO_SUCH_SETS, lambda: Machine(0)),
         (Code.NOT_WORDS, lambda: Machine(words=[0] * 131)),
         (Code.NOT_WORDS, lambda: Machine(words=[32768] * 132)),
         (Code.NOT_WORDS, lambda: Machine(power=["77777"] * 11)),
+        (Code.NOT_WORDS, lambda: Machine(words=[it + 65536 for it in words])),
         (Code.NOT_WORDS, lambda: Machine(power=[32768] * 12)),
+        (Code.NOT_WORDS, lambda: Machine(power=[65536] * 12)),
         (Code.UNLAWFUL, lambda: Machine(words=[0] * 132)),
         (Code.UNTIDY, lambda: Machine(words=[*words[:7], 1, *words[8:]])),
         (Code.OUT_OF_RANGE, lambda: machine.ask("novac", 2**32 + 1, 1, 1)),
@@ -118,7 +122,9 @@ def refuses():
         (Code.NOT_SPELLED, lambda: Machine(plan={"phase": [{**wants[0], "job": "rouse 02000"}]})),
         (Code.NOT_SPELLED, lambda: Machine(plan={"phase": [{**wants[0], "task": "novac 01 00001 00000"}]})),
         (Code.PLAN_RANGE, lambda: Machine(plan={"task": [{**row, "at": "2000"}]})),
+        (Code.PLAN_RANGE, lambda: Machine(plan={"task": [{**row, "at": "02009"}]})),
         (Code.PLAN_RANGE, lambda: Machine(plan={"task": [{**row, "action": ["nothing"] * 5}]})),
+        (Code.PLAN_RANGE, lambda: Machine(plan={"task": [{**row, "action": []}]})),
         (Code.PLAN_RANGE, lambda: Machine(plan={"phase": [{**wants[0], "phase": 128}]})),
         (Code.TASK_TWICE, lambda: Machine(plan={"task": [row, row]})),
         (Code.PHASE_TWICE, lambda: Machine(plan={"phase": [wants[0], wants[0]]})),
@@ -132,11 +138,47 @@ def refuses():
             raise AssertionError(code)
         assert (machine.words, machine.totals) == (words, totals), code
     again = Machine(words=words, plan={"phase": wants[1:]})
-    assert again.words == words and again.ask("change") == machine.ask("change")
+    assert again.words == words and again.ask("change").text == "runs 1"
+
+
+def keeps():
+    """What a machine keeps to itself, and what is told before anything is asked."""
+    one = Machine(plan={"phase": [{"group": 4, "phase": 5, "job": "findvac 25 06000 00007"}]})
+    for line in ("phase 4 5", "novac 10 02000 00005", "novac 20 02100 00005"):
+        one.ask(line)
+    was = one.words, one.moment, one.totals, one.report()
+    other = one.copy()
+    assert (other.words, other.moment, other.totals, other.report()) == was and one.totals.served == 3
+    for line in ("change", "end", "end"):
+        other.ask(line)
+    assert "SET 0 FREE\n" in other.report() and "\nSERVED 6\n" in other.report()
+    assert (one.words, one.moment, one.totals, one.report()) == was
+    while not (step := other.ask("findvac 01 00001 00000")).alarm:
+        pass
+    assert (str(step), other.words[8], other.totals.alarms, other.totals.restarts) == ("alarm 1201", 0o6000, (1, 0, 0), 1)
+    # Words from elsewhere are tried by a change of job, and stay as they are.
+    made, eight = Machine(words=one.words), Machine(8)
+    assert (made.words, made.moment, made.totals.served) == (one.words, one.words, 0) and one.ask("change").text == "runs 2"
+    assert eight.copy().sets == 8 and len(eight.moment) == 144 and eight.moment == eight.words
+    # All nine tasks fire at once, and the line names each.
+    ats = [f"{0o2000 + k:05o}" for k in range(9)]
+    nine = Machine(plan={"task": [{"at": ats[8], "bank": 5, "action": "findvac 01 00001 00000"}]})
+    for line in [*(f"list 1 {at} 00005" for at in ats), *["findvac 01 00001 00000"] * 5]:
+        nine.ask(line)
+    step = nine.ask("tick")
+    assert step.text == " ".join(["tick", *(f"{at}/00005" for at in ats), "alarm 1201"]) and step.action == 1
+    assert step.begins_era and nine.ask("restart").begins_era and not nine.ask("tick").begins_era
+    for call in (lambda: pickle.dumps(nine), lambda: nine.ask(5)):
+        try:
+            call()
+        except TypeError:
+            continue
+        raise AssertionError("a machine pickles, or a number is a line")
 
 
 def main():
     refuses()
+    keeps()
     run = Run(int(sys.argv[1]))
     for line in sys.stdin:
         if line.startswith("next "):

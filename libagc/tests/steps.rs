@@ -156,6 +156,8 @@ fn refuses() {
     lacks(Machine::power_up(7, Plan::new(), &[32768; 12]), NOT_WORDS);
     lacks(Machine::from_words(&[0; 132], Plan::new()), UNLAWFUL);
     lacks(Machine::from_words(&untidy, Plan::new()), UNTIDY);
+    lacks(Machine::from_words(&[], Plan::new()), NOT_WORDS);
+    lacks(Machine::from_words(&words[..143], Plan::new()), NOT_WORDS);
     lacks(machine.ask(request(NOVAC, 32, 1, 1)), OUT_OF_RANGE);
     lacks(machine.ask(request(NOTHING, 0, 0, 0)), OUT_OF_RANGE);
     lacks(machine.ask(request(14, 0, 0, 0)), OUT_OF_RANGE);
@@ -166,7 +168,9 @@ fn refuses() {
     lacks(Plan::new().task(1, 1, &["tick"]), NOT_SPELLED);
     lacks(Plan::new().phase(1, 1, "rouse 02000", ""), NOT_SPELLED);
     lacks(Plan::new().phase(1, 1, "", area), NOT_SPELLED);
+    lacks(Plan::new().phase(1, 1, "", "novac 01 00001 00000"), NOT_SPELLED);
     lacks(Plan::new().task(1, 1, &["nothing"; 5]), PLAN_RANGE);
+    lacks(Plan::new().task(1, 1, &[]), PLAN_RANGE);
     lacks(Machine::new(7, Plan::new().task(16384, 1, &["nothing"]).unwrap()), PLAN_RANGE);
     lacks(Machine::new(7, Plan::new().phase(1, 128, area, "").unwrap()), PLAN_RANGE);
     let twice = Plan::new().task(1, 1, &["nothing"]).unwrap().task(1, 1, &[area]).unwrap();
@@ -178,11 +182,60 @@ fn refuses() {
     assert_eq!((machine.words(), machine.totals()), (&words[..], totals));
     let mut again = Machine::from_words(&words, Plan::new()).unwrap();
     assert_eq!(again.words(), words);
-    assert_eq!(again.ask("change"), machine.ask("change"));
+    assert_eq!(again.ask("change").unwrap().to_string(), "runs 1");
+    // A line that spells nothing is told. What is too long for its room isn't written.
+    let told = machine.ask("novac 20").unwrap_err();
+    assert_eq!((told.line.as_deref(), told.to_string().starts_with("\"novac 20\": ")), (Some("novac 20"), true));
+    let step = AgcStep { code: OK, reply: ESTABLISHED, number: 3, fired: 0, action: 0 };
+    let (fired, mut whole, mut text) = ([AgcFired::default(); FIRED], [0; WORDS], [7; LINE]);
+    assert_eq!(agc_write_reply(&step, &fired, &mut text[..5]), AgcNumber { code: NO_ROOM, number: 6 });
+    whole.copy_from_slice(&words);
+    assert_eq!(agc_write_report(&whole, 8, &totals, &mut text[..5]).code, NO_ROOM);
+    let task = Some(Listing { delay: 0, at: 1, bank: 1 });
+    assert_eq!(agc_begin(&mut whole, 8, 0, &[PhaseEntry { group: 1, phase: 1, job: None, task }]), PLAN_RANGE);
+    assert_eq!(text, [7; LINE]);
+    assert_eq!(agc_write_reply(&step, &fired, &mut text[..6]), AgcNumber { code: OK, number: 6 });
+    assert_eq!(text[..7], *b"job 3\n\x07");
+}
+
+/// What a machine keeps to itself, and what is told before anything is asked.
+fn keeps() {
+    let plan = Plan::new().phase(4, 5, "findvac 25 06000 00007", "").unwrap();
+    let mut one = Machine::new(7, plan).unwrap();
+    assert_eq!(one.moment(), one.words());
+    for line in ["phase 4 5", "novac 10 02000 00005", "novac 20 02100 00005"] {
+        one.ask(line).unwrap();
+    }
+    let (mut other, was) = (one.clone(), one.report());
+    other.ask("end").unwrap();
+    assert_eq!((one.report(), one.totals().served, other.totals().served), (was, 3, 4));
+    // Words from elsewhere are tried by a change of job, and stay as they are.
+    let made = Machine::from_words(one.words(), Plan::new()).unwrap();
+    assert_eq!((made.words(), made.moment(), made.totals()), (one.words(), one.words(), AgcTotals::default()));
+    assert_eq!(one.ask("change").unwrap().to_string(), "runs 2");
+    let phase_words = [0o77772, 5, 0o77777, 0, 0o77777, 0, 0o77772, 5, 0o77777, 0, 0o77777, 0];
+    let plan = Plan::new().phase(4, 5, "findvac 25 06000 00007", "").unwrap();
+    let up = Machine::power_up(7, plan, &phase_words).unwrap();
+    assert_eq!((up.moment(), up.words()[8], up.scene().phases), (up.words(), 0o6000, [5, 0, 0, 5, 0, 0]));
+    // All nine tasks fire at once, and the line names each.
+    let ats: Vec<String> = (0..9).map(|k| format!("{:05o}/00005", 0o2000 + k)).collect();
+    let plan = Plan::new().task(0o2010, 5, &["findvac 01 00001 00000"]).unwrap();
+    let mut nine = Machine::new(7, plan).unwrap();
+    for at in &ats {
+        nine.ask(&format!("list 1 {}", at.replace('/', " "))).unwrap();
+    }
+    for _ in 0..5 {
+        nine.ask("findvac 01 00001 00000").unwrap();
+    }
+    let step = nine.ask("tick").unwrap();
+    assert_eq!(step.to_string(), format!("tick {} alarm 1201", ats.join(" ")));
+    assert_eq!((step.action(), step.begins_era(), nine.ask("tick").unwrap().begins_era()), (1, true, false));
+    assert!(nine.ask("restart").unwrap().begins_era());
 }
 
 fn main() {
     refuses();
+    keeps();
     let mut run = Run::new(number(&std::env::args().nth(1).unwrap(), 10));
     let (mut lines, mut out) = (String::new(), String::new());
     std::io::stdin().read_to_string(&mut lines).unwrap();
