@@ -3,36 +3,12 @@
 //! and reads a plain form of the bench, which `run` writes. Its output is the same bytes.
 //!
 //! Tuned are: requests of eight bytes, one pass over the core sets with bits for what is taken,
-//! tasks in an array with their due times, what is due taken out at once, lines from constants
-//! and a table of digits, and a buffer of its own in front of the output.
-use std::io::{self, Read, Write};
+//! tasks in an array with their due times, what is due taken out at once, and how answers are
+//! written (`common.rs`).
+mod common;
 
-const AREAS: [u16; 5] = [0o300, 0o354, 0o430, 0o504, 0o560];
-const BUFFER: usize = 1 << 16;
-
-#[derive(Clone, Copy, PartialEq)]
-struct Pair {
-    at: u16,
-    bank: u16,
-}
-
-#[derive(Clone, Copy)]
-enum Request {
-    Novac(u8, Pair),
-    Findvac(u8, Pair),
-    EndOfJob,
-    Sleep(u16),
-    Rouse(u16),
-    Prio(u8),
-    Change,
-    Store(u8, u16),
-    List(u16, Pair),
-    Tick,
-    Phase(u8, u16),
-    Restart,
-    Fresh,
-    Nothing,
-}
+use common::{AREAS, Alarm, Fired, Limits, Machine, Pair, Reply, Request};
+use std::io::{self, Write};
 
 #[derive(Clone, Copy)]
 struct Job {
@@ -56,53 +32,21 @@ const NOBODY: Waiting = Waiting {
     task: Pair { at: 0, bank: 0 },
 };
 
-/// Which table was full.
-#[derive(Clone, Copy)]
-enum Alarm {
-    A1201,
-    A1202,
-    A1203,
-}
-
-enum Reply {
-    Established(u8),
-    Left(u8),
-    Roused(u8),
-    NoSleeper,
-    NoJob,
-    Runs(u8),
-    Stored,
-    Listed,
-    Ticked(Option<Alarm>),
-    Phased,
-    Restarted,
-    Alarmed(Alarm),
-    Spent,
-    LogFull,
-}
-
-struct Fired {
-    tasks: [Pair; 9],
-    count: usize,
-}
-
-struct Machine {
+struct Records {
     sets: [Option<Job>; 7],
     tasks: [Waiting; 9],
     waiting: usize,
     now: u64,
     phases: [u16; 6],
     codes: [u16; 3],
-    rows: Vec<(Pair, Request)>,
+    limits: Limits,
     log: Vec<Request>,
-    limit: usize,
-    allowance: u64,
     served: u64,
     alarms: [u64; 3],
     restarts: u64,
 }
 
-impl Machine {
+impl Records {
     fn best(&self) -> Option<usize> {
         let (mut found, mut priority, mut number) = (None, 0, 0);
         for (k, set) in self.sets.iter().enumerate() {
@@ -252,7 +196,7 @@ impl Machine {
         while fired.count < due {
             let task = fired.tasks[fired.count];
             fired.count += 1;
-            if let Some(row) = self.rows.iter().find(|row| row.0 == task)
+            if let Some(row) = self.limits.rows.iter().find(|row| row.0 == task)
                 && let Err(alarm) = self.act(row.1, due - fired.count)
             {
                 return Some(alarm);
@@ -280,13 +224,32 @@ impl Machine {
         };
         self.begin();
     }
+}
 
+impl Machine for Records {
+    fn new(limits: Limits) -> Self {
+        Records {
+            sets: [None; 7],
+            tasks: [NOBODY; 9],
+            waiting: 0,
+            now: 0,
+            phases: [0; 6],
+            codes: [0; 3],
+            log: Vec::with_capacity(limits.limit),
+            limits,
+            served: 0,
+            alarms: [0; 3],
+            restarts: 0,
+        }
+    }
+
+    #[inline(always)]
     fn ask(&mut self, request: Request, fired: &mut Fired) -> Reply {
-        if self.served == self.allowance {
+        if self.served == self.limits.allowance {
             return Reply::Spent;
         }
         let starts_over = matches!(request, Request::Restart | Request::Fresh);
-        if self.log.len() == self.limit && !starts_over {
+        if self.log.len() == self.limits.limit && !starts_over {
             return Reply::LogFull;
         }
         self.served += 1;
@@ -358,244 +321,71 @@ impl Machine {
             }
         }
     }
-}
 
-/// Four octal digits of each number of twelve bits.
-static DIGITS: [[u8; 4]; 4096] = {
-    let mut digits = [[0; 4]; 4096];
-    let mut n = 0;
-    while n < 4096 {
-        let mut k = 0;
-        while k < 4 {
-            digits[n][k] = b'0' + (n >> (9 - 3 * k) & 7) as u8;
-            k += 1;
+    fn report<W: Write>(&self, out: &mut W) -> io::Result<()> {
+        for (k, set) in self.sets.iter().enumerate() {
+            let Some(job) = set else {
+                writeln!(out, "SET {k} FREE")?;
+                continue;
+            };
+            let area = AREAS.get(job.area.wrapping_sub(1) as usize).unwrap_or(&0);
+            let awake = 512 * job.priority as u16 + area;
+            let priority = if job.asleep { 32767 ^ awake } else { awake };
+            write!(out, "SET {k} {:05o}", job.number)?;
+            for word in job.work {
+                write!(out, " {word:05o}")?;
+            }
+            writeln!(
+                out,
+                " 00000 {:05o} {:05o} 00000 {priority:05o}",
+                job.at, job.bank
+            )?;
         }
-        n += 1;
-    }
-    digits
-};
-
-struct Output<W> {
-    bytes: Vec<u8>,
-    writer: W,
-}
-
-impl<W: Write> Output<W> {
-    #[inline(always)]
-    fn put(&mut self, text: &[u8]) -> io::Result<()> {
-        if self.bytes.len() + text.len() > BUFFER {
-            self.flush()?;
+        write!(out, "VAC")?;
+        for (k, area) in (1..).zip(AREAS) {
+            let is_owned = self.sets.iter().flatten().any(|job| job.area == k);
+            write!(out, " {:05o}", if is_owned { 0 } else { area })?;
         }
-        self.bytes.extend_from_slice(text);
-        Ok(())
-    }
-
-    #[inline(never)]
-    fn flush(&mut self) -> io::Result<()> {
-        self.writer.write_all(&self.bytes)?;
-        self.bytes.clear();
-        Ok(())
-    }
-
-    fn put_numbered(&mut self, line: &[u8], number: u8) -> io::Result<()> {
-        let mut text = [0; 16];
-        text[..line.len()].copy_from_slice(line);
-        text[line.len()] = b'0' + number;
-        text[line.len() + 1] = b'\n';
-        self.put(&text[..line.len() + 2])
-    }
-
-    #[inline(never)]
-    fn put_tick(&mut self, fired: &Fired, alarm: Option<Alarm>) -> io::Result<()> {
-        let mut line = [0; 128];
-        line[..4].copy_from_slice(b"tick");
-        let mut end = 4;
-        for task in &fired.tasks[..fired.count] {
-            let piece: &mut [u8; 12] = (&mut line[end..end + 12]).try_into().unwrap();
-            piece[0] = b' ';
-            piece[1] = b'0' + (task.at >> 12) as u8;
-            piece[2..6].copy_from_slice(&DIGITS[task.at as usize & 4095]);
-            piece[6] = b'/';
-            piece[7] = b'0' + (task.bank >> 12) as u8;
-            piece[8..].copy_from_slice(&DIGITS[task.bank as usize & 4095]);
-            end += 12;
-        }
-        let last: &[u8] = match alarm {
-            None => b"\n",
-            Some(Alarm::A1201) => b" alarm 1201\n",
-            Some(Alarm::A1202) => b" alarm 1202\n",
-            Some(Alarm::A1203) => b" alarm 1203\n",
+        let priority = |k: usize| self.sets[k].map_or(0, |job| job.priority);
+        let newjob = match self.best() {
+            None => 32767,
+            Some(k) if priority(k) > priority(0) => 12 * k,
+            Some(_) => 0,
         };
-        line[end..end + last.len()].copy_from_slice(last);
-        self.put(&line[..end + last.len()])
-    }
-
-    #[inline(always)]
-    fn put_reply(&mut self, reply: &Reply, fired: &Fired) -> io::Result<()> {
-        match reply {
-            Reply::NoSleeper => self.put(b"no sleeper\n"),
-            Reply::NoJob => self.put(b"no job\n"),
-            Reply::Stored => self.put(b"stored\n"),
-            Reply::Listed => self.put(b"listed\n"),
-            Reply::Phased => self.put(b"phased\n"),
-            Reply::Restarted => self.put(b"restarted\n"),
-            Reply::Left(0) => self.put(b"left idle\n"),
-            Reply::Spent => self.put(b"refused spent\n"),
-            Reply::LogFull => self.put(b"refused log full\n"),
-            Reply::Alarmed(Alarm::A1201) => self.put(b"alarm 1201\n"),
-            Reply::Alarmed(Alarm::A1202) => self.put(b"alarm 1202\n"),
-            Reply::Alarmed(Alarm::A1203) => self.put(b"alarm 1203\n"),
-            Reply::Established(number) => self.put_numbered(b"job ", *number),
-            Reply::Left(number) => self.put_numbered(b"left ", *number),
-            Reply::Roused(number) => self.put_numbered(b"roused ", *number),
-            Reply::Runs(number) => self.put_numbered(b"runs ", *number),
-            Reply::Ticked(alarm) => self.put_tick(fired, *alarm),
-        }
-    }
-}
-
-fn report<W: Write>(machine: &Machine, out: &mut W) -> io::Result<()> {
-    for (k, set) in machine.sets.iter().enumerate() {
-        let Some(job) = set else {
-            writeln!(out, "SET {k} FREE")?;
-            continue;
-        };
-        let area = AREAS.get(job.area.wrapping_sub(1) as usize).unwrap_or(&0);
-        let awake = 512 * job.priority as u16 + area;
-        let priority = if job.asleep { 32767 ^ awake } else { awake };
-        write!(out, "SET {k} {:05o}", job.number)?;
-        for word in job.work {
+        writeln!(out, "\nNEWJOB {newjob:05o}")?;
+        let tasks = &self.tasks[..self.waiting];
+        let time3 = tasks
+            .first()
+            .map_or(0, |first| 16384 - (first.due - self.now));
+        write!(out, "TIME3 {time3:05o}\nLST1")?;
+        for k in 0..8 {
+            let word = match (tasks.get(k), tasks.get(k + 1)) {
+                (Some(one), Some(next)) if next.due - one.due < 2 => 1 - (next.due - one.due),
+                (Some(one), Some(next)) => 32768 - (next.due - one.due),
+                _ => 0o57777,
+            };
             write!(out, " {word:05o}")?;
         }
+        write!(out, "\nLST2")?;
+        for k in 0..9 {
+            let task = tasks.get(k).unwrap_or(&NOBODY).task;
+            write!(out, " {:05o} {:05o}", task.at, task.bank)?;
+        }
+        write!(out, "\nPHASE")?;
+        for phase in self.phases {
+            write!(out, " {:05o} {phase:05o}", 32767 ^ phase)?;
+        }
+        let [first, second, last] = self.codes;
+        writeln!(out, "\nFAILREG {first:05o} {second:05o} {last:05o}")?;
+        let [a1201, a1202, a1203] = self.alarms;
         writeln!(
             out,
-            " 00000 {:05o} {:05o} 00000 {priority:05o}",
-            job.at, job.bank
-        )?;
-    }
-    write!(out, "VAC")?;
-    for (k, area) in (1..).zip(AREAS) {
-        let is_owned = machine.sets.iter().flatten().any(|job| job.area == k);
-        write!(out, " {:05o}", if is_owned { 0 } else { area })?;
-    }
-    let priority = |k: usize| machine.sets[k].map_or(0, |job| job.priority);
-    let newjob = match machine.best() {
-        None => 32767,
-        Some(k) if priority(k) > priority(0) => 12 * k,
-        Some(_) => 0,
-    };
-    writeln!(out, "\nNEWJOB {newjob:05o}")?;
-    let tasks = &machine.tasks[..machine.waiting];
-    let time3 = tasks
-        .first()
-        .map_or(0, |first| 16384 - (first.due - machine.now));
-    write!(out, "TIME3 {time3:05o}\nLST1")?;
-    for k in 0..8 {
-        let word = match (tasks.get(k), tasks.get(k + 1)) {
-            (Some(one), Some(next)) if next.due - one.due < 2 => 1 - (next.due - one.due),
-            (Some(one), Some(next)) => 32768 - (next.due - one.due),
-            _ => 0o57777,
-        };
-        write!(out, " {word:05o}")?;
-    }
-    write!(out, "\nLST2")?;
-    for k in 0..9 {
-        let task = tasks.get(k).unwrap_or(&NOBODY).task;
-        write!(out, " {:05o} {:05o}", task.at, task.bank)?;
-    }
-    write!(out, "\nPHASE")?;
-    for phase in machine.phases {
-        write!(out, " {:05o} {phase:05o}", 32767 ^ phase)?;
-    }
-    let [first, second, last] = machine.codes;
-    writeln!(out, "\nFAILREG {first:05o} {second:05o} {last:05o}")?;
-    let [a1201, a1202, a1203] = machine.alarms;
-    writeln!(
-        out,
-        "SERVED {}\nALARMS {a1201} {a1202} {a1203}\nRESTARTS {}",
-        machine.served, machine.restarts
-    )
-}
-
-fn octal(text: &str) -> u16 {
-    u16::from_str_radix(text, 8).unwrap()
-}
-
-fn request_in(line: &str) -> Request {
-    let pair = |at, bank| Pair {
-        at: octal(at),
-        bank: octal(bank),
-    };
-    match line.split(' ').collect::<Vec<_>>()[..] {
-        ["novac", p, at, bank] => Request::Novac(octal(p) as u8, pair(at, bank)),
-        ["findvac", p, at, bank] => Request::Findvac(octal(p) as u8, pair(at, bank)),
-        ["end"] => Request::EndOfJob,
-        ["sleep", at] => Request::Sleep(octal(at)),
-        ["rouse", at] => Request::Rouse(octal(at)),
-        ["prio", p] => Request::Prio(octal(p) as u8),
-        ["change"] => Request::Change,
-        ["store", place, word] => Request::Store(place.parse().unwrap(), octal(word)),
-        ["list", delay, at, bank] => Request::List(delay.parse().unwrap(), pair(at, bank)),
-        ["tick"] => Request::Tick,
-        ["phase", group, n] => Request::Phase(group.parse().unwrap(), n.parse().unwrap()),
-        ["restart"] => Request::Restart,
-        ["fresh"] => Request::Fresh,
-        _ => Request::Nothing,
+            "SERVED {}\nALARMS {a1201} {a1202} {a1203}\nRESTARTS {}",
+            self.served, self.restarts
+        )
     }
 }
 
 fn main() -> io::Result<()> {
-    let mut text = String::new();
-    io::stdin().read_to_string(&mut text)?;
-    let mut machine = Machine {
-        sets: [None; 7],
-        tasks: [NOBODY; 9],
-        waiting: 0,
-        now: 0,
-        phases: [0; 6],
-        codes: [0; 3],
-        rows: Vec::new(),
-        log: Vec::new(),
-        limit: 1000,
-        allowance: 1_000_000,
-        served: 0,
-        alarms: [0; 3],
-        restarts: 0,
-    };
-    let mut runs = Vec::new();
-    for line in text.lines() {
-        let (kind, rest) = line.split_once(' ').unwrap();
-        match kind {
-            "limit" => machine.limit = rest.parse().unwrap(),
-            "allowance" => machine.allowance = rest.parse().unwrap(),
-            "task" => {
-                let words: Vec<_> = rest.splitn(3, ' ').collect();
-                let (at, bank) = (octal(words[0]), octal(words[1]));
-                machine.rows.push((Pair { at, bank }, request_in(words[2])));
-            }
-            "req" => runs.push((request_in(rest), 1)),
-            _ => {
-                let (count, line) = rest.split_once(' ').unwrap();
-                runs.push((request_in(line), count.parse().unwrap()));
-            }
-        }
-    }
-    machine.log.reserve_exact(machine.limit);
-    let mut out = Output {
-        bytes: Vec::with_capacity(BUFFER),
-        writer: io::stdout().lock(),
-    };
-    let mut fired = Fired {
-        tasks: [NOBODY.task; 9],
-        count: 0,
-    };
-    for (request, count) in runs {
-        for _ in 0..count {
-            let reply = machine.ask(request, &mut fired);
-            out.put_reply(&reply, &fired)?;
-        }
-    }
-    out.flush()?;
-    report(&machine, &mut out.bytes)?;
-    out.flush()
+    common::run::<Records>()
 }
