@@ -210,18 +210,17 @@ def text_of(scenario):
     return "\n".join(lines) + "\n"
 
 
-def compare(command, seed, machine):
-    """What is wrong with the bench that a command makes of a scenario, or None."""
-    scenario = Dice(seed).scenario()
+def compare(command, scenario, machine):
+    """What is wrong with the bench that a command makes of a scenario, or None; and that bench."""
     ran = subprocess.run(command, input=text_of(scenario), capture_output=True, text=True, check=False)
     if ran.returncode:
-        return f"status {ran.returncode}: {ran.stderr.strip()}"
+        return f"status {ran.returncode}: {ran.stderr.strip()}", ran.stdout
     found = tomllib.loads(ran.stdout).get("script", [])
     wanted = [line for _, _, line in Passing(scenario, machine(scenario)).run()]
     if found == wanted:
-        return None
+        return None, ran.stdout
     same = next((k for k, pair in enumerate(zip(found, wanted)) if pair[0] != pair[1]), min(len(found), len(wanted)))
-    return f"request {same + 1}: {found[same:same + 1]} in place of {wanted[same:same + 1]}"
+    return f"request {same + 1}: {found[same:same + 1]} in place of {wanted[same:same + 1]}", ran.stdout
 
 
 def main():
@@ -243,7 +242,8 @@ def main():
         return 0
     wrong = 0
     for seed in range(given.seed, given.seed + given.runs):
-        if (said := compare(given.rest, seed, machine)) is not None:
+        said, _ = compare(given.rest, Dice(seed).scenario(), machine)
+        if said is not None:
             wrong += 1
             print(f"seed {seed}: {said}")
     print(f"{given.runs} scenarios, {wrong} disagreements")
