@@ -116,15 +116,16 @@ function keeps() {
   machine.run(clock, 3);
   want(same(clock.given, [180, 0, 0, 0, 0, 0, 0, 0]), `was given ${clock.given}`);
   want(asks(new Clock(timetable), 9) === "1 novac 20 04000 00005, 4 end", "its end");
-  // Two machines take turns, each with its own clock.
-  const pairs = [3, 2].map((cost) => [new Machine(), new Clock({ ...timetable, job: [{ at: "04000", cost }] }), []]);
-  for (let k = 0; k < 9; k++) {
+  // Two machines take turns, each with its own clock, which is told of the restart: what the job was given is gone.
+  const event = [[1, "novac 20 04000 00005"], [2, "restart"], [3, "novac 20 04000 00005"]].map(([at, line]) => ({ at, do: line }));
+  const pairs = [3, 2].map((cost) => [new Machine(), new Clock({ steal: 40, job: [{ at: "04000", cost }], event }), []]);
+  for (let k = 0; k < 11; k++) {
     const asked = pairs.map(([its, own]) => own.next(its));
     const steps = pairs.map(([its], j) => its.ask(asked[j]));
-    pairs.forEach(([its, own, texts], j) => { own.served(its, steps[j]); texts.push(`${own.time} ${asked[j]}`); });
+    pairs.forEach(([its, own, texts], j) => { own.served(its, steps[j]); texts.push(`${own.time} ${asked[j].name}`); });
   }
   const turns = pairs.map(([, , texts]) => texts.filter((it) => !it.endsWith("tick")).join(", "));
-  want(same(turns, ["1 novac 20 04000 00005, 5 end", "1 novac 20 04000 00005, 4 end"]), turns.join("; "));
+  want(same(turns, ["1 novac, 2 restart, 3 novac, 7 end", "1 novac, 2 restart, 3 novac, 6 end"]), turns.join("; "));
   // What isn't changed stays, also where it was changed before, and in a copy.
   const [changed, copied] = [new Clock(timetable), new Clock(timetable).copy()];
   changed.change({ steal: 0 });
