@@ -205,6 +205,9 @@ def asks(timetable, centiseconds):
 
 def keeps():
     """What a clock takes where nothing is named, what it tells, and what a copy has."""
+    lines = ["findvac 05 04000 00007", "novac 31 17777 77777", "sleep 00010", "prio 07", "store 3 02345", "list 20 02000 00005", "phase 2 7"]
+    clock = Clock({"event": [{"at": 1, "do": lines}]})
+    assert [str(it) for it, _ in Machine().run(clock, 1)] == ["tick", *lines]
     again = {"at": 1, "do": "phase 1 1", "every": 2}
     assert asks({"event": [again]}, 6) == [(at, "phase", 1, 1) for at in (1, 3, 5)]
     assert asks({"event": [{**again, "until": 3}]}, 6) == [(at, "phase", 1, 1) for at in (1, 3)]

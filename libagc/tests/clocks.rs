@@ -73,12 +73,26 @@ impl Scenario {
         for (asked, step) in machine.run(clock, rest.parse().unwrap())? {
             assert_eq!(copy.next(&other), Some(asked));
             assert_eq!(other.ask(asked.request)?, step);
+            assert_eq!(AgcRequest::try_from(&asked.request.to_string())?, asked.request);
             copy.served(&other, &step);
             tell(copy.time(), asked.event.map_or(1, |it| it + 2), &asked.request, &step);
         }
         assert_eq!((copy.time(), other.words()), (clock.time(), machine.words()));
         Ok(())
     }
+}
+
+/// Lines are spelled as they are read.
+fn spells() -> Result<(), Lacking> {
+    for line in [
+        "novac 31 17777 77777", "findvac 05 04000 00007", "end", "sleep 00010", "rouse 37777", "prio 07", "change",
+        "store 3 02345", "list 16250 02000 00005", "tick", "phase 2 127", "restart", "fresh",
+    ] {
+        assert_eq!(AgcRequest::try_from(line)?.to_string(), line);
+    }
+    assert_eq!(AgcRequest::default().to_string(), "nothing");
+    assert_eq!(AgcRequest { kind: 14, ..AgcRequest::default() }.to_string(), "kind 14");
+    Ok(())
 }
 
 /// A job costs two centiseconds, and of each 40 percent are stolen: it has 60, 120, 180 and 200 hundredths.
@@ -108,6 +122,7 @@ fn main() -> Result<(), Lacking> {
     let long = Timetable::new(42_949_673).job(0o4000, 42_949_673, "end")?;
     assert_eq!(Clock::new(long).unwrap_err().code, TIME_RANGE);
     assert_eq!((Clock::new(Timetable::new(42_949_673))?.lasts(), Clock::new(Timetable::new(60))?.lasts()), (u32::MAX, 6000));
+    spells()?;
     keeps()?;
     let (mut text, mut out) = (String::new(), BufWriter::new(io::stdout()));
     io::stdin().read_to_string(&mut text).unwrap();
