@@ -33,7 +33,7 @@ def build_wheel(wheel_directory, config_settings=None, metadata_directory=None):
         "agc/py.typed": b"",
         f"{about}/METADATA": f"Metadata-Version: 2.1\nName: agc\nVersion: {version}\n"
                              "Summary: The job tables of the Apollo Guidance Computer, proved\n"
-                             "Requires-Python: >=3.9\n".encode(),
+                             "Requires-Python: >=3.8\n".encode(),
         f"{about}/WHEEL": f"Wheel-Version: 1.0\nGenerator: agc_wheel\nRoot-Is-Purelib: false\nTag: {tag}\n".encode(),
     }
     record = "".join(_row(*it) for it in files.items()) + f"{about}/RECORD,,\n"
