@@ -1,0 +1,5 @@
+mod Fronts
+mod Calls
+mod Lanes
+mod Quiet
+mod Reaching
