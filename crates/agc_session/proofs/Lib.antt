@@ -1,4 +1,3 @@
 pub mod Walks
 pub mod Sessions
 pub mod Pairs
-pub mod Followed

@@ -1,5 +1,5 @@
 -- The text of a session.
-use Rattle.std.proofs.Common.{◌≡◌, ℕ, List, ◌++◌, ◌⊎◌, Option, subst, refl, inl, inr}
+use Rattle.std.proofs.Common.{◌≡◌, ℕ, List, [], ◌∷◌, ◌++◌, ◌⊎◌, Option, subst, refl, sym, ap, ◌∙◌, append_assoc, inl, inr}
 use Rattle.std.specs.Io.KnownBytes.{Appends}
 use Rattle.std.specs.List.{fold}
 use Rattle.agc_plan.specs.declared.request.Request.{Request}
@@ -7,8 +7,41 @@ use Rattle.agc_machine.specs.Image.{HandsOut}
 use Rattle.agc_machine.specs.Machines.{Machined, after, after_all}
 use Rattle.agc_text.specs.Report.{report_text}
 use Rattle.agc_text.specs.Writing.{AppendsFront}
-use Rattle.agc_text.proofs.Steps.{appends_both, up_to_more_front}
+use Rattle.agc_text.specs.Session.{line_for}
+use Rattle.agc_text.proofs.Steps.{appends_none, appends_both, up_to_start, up_to_more, up_to_front, up_to_more_front}
 use Rattle.agc_session.specs.Session.{IsSession, answer_lines}
+use Rattle.agc_session.specs.Walks.{AllWritten, StopsIn, Writing}
+
+-- what a machine writes: the answer's line; where a write fails, a front of it
+abbrev line_written : Writing Machined
+line_written machine request old new = Appends old new (line_for machine request)
+
+abbrev line_stopped : Writing Machined
+line_stopped machine request old new = AppendsFront old new (line_for machine request)
+
+-- all of them wrote their lines
+pub lines_written : (machine : Machined) (rs : List Request) (o n : Option (List ℕ)) → AllWritten after line_written machine rs o n → Appends o n (answer_lines machine rs)
+unfolding AllWritten answer_lines
+lines_written machine [] o n is = subst (λ (x : Option (List ℕ)). Appends o x []) (sym is) (appends_none o)
+lines_written machine (r ∷ rs) o n h = appends_both o h.0 n (line_for machine r) (answer_lines (after machine r) rs) h.1 (lines_written (after machine r) rs h.0 n h.2)
+
+lines_append : (machine : Machined) (a b : List Request) → answer_lines machine (a ++ b) ≡ answer_lines machine a ++ answer_lines (fold after machine a) b
+unfolding answer_lines
+lines_append machine [] b = refl
+lines_append machine (r ∷ a) b = ap (λ (x : List ℕ). line_for machine r ++ x) (lines_append (after machine r) a b) ∙ sym (append_assoc (line_for machine r) (answer_lines (after machine r) a) (answer_lines (fold after (after machine r) a) b))
+
+-- and where it stopped, a front of all the lines
+pub stopped_front : {machine t : Machined} → {rs : List Request} → {o n : Option (List ℕ)} → StopsIn after line_written line_stopped machine rs t o n → AppendsFront o n (answer_lines machine rs)
+unfolding answer_lines
+stopped_front {machine} {t} {rs} {o} {n} stop =
+    let here = fold after machine stop.before in
+    let own = line_for here stop.last in
+    let rest = answer_lines (after here stop.last) stop.after in
+    let all = answer_lines machine stop.before ++ (own ++ rest) in
+    let whole : answer_lines machine rs ≡ all = ap (answer_lines machine) stop.whole ∙ lines_append machine stop.before (stop.last ∷ stop.after) in
+    subst (λ (l : List ℕ). AppendsFront o n l) (sym whole)
+    (up_to_front o stop.between n all own rest
+    (up_to_more o o stop.between all (answer_lines machine stop.before) (own ++ rest) (up_to_start o all) (lines_written machine stop.before o stop.between stop.told)) stop.front)
 
 -- a front of a session's text was written: of its answers' lines, or these all and a front of the report
 abbrev pub AppendsSessionFront : Option (List ℕ) → Option (List ℕ) → Machined → List Request → Type 0

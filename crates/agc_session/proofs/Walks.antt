@@ -1,61 +1,55 @@
--- What is left of a walk: the requests that are still to be asked, and their texts.
-use Rattle.std.proofs.Common.{◌≡◌, ℕ, zero, suc, replicate, ◌+◌, ◌<◌, ◌≤◌, List, [], ◌∷◌, ◌++◌, length, get_or, drop, Option, map, subst, refl, sym, ap, ◌∙◌, append_assoc, append-nil, Result, Ok, Err}
+-- What is left of a walk: the requests that are still to be asked.
+use Rattle.std.proofs.Common.{◌≡◌, ℕ, List, [], ◌∷◌, ◌++◌, ◌+◌, ◌<◌, ◌≤◌, length, get_or, drop, Option, map, subst, refl, sym, ap, ◌∙◌, append_assoc, append-nil, Result, Ok, Err}
 use Rattle.std.specs.Prelude.{IsErr}
-use Rattle.std.specs.Io.KnownBytes.{Appends}
 use Rattle.std.specs.List.{fold, flat_map}
 use Rattle.std.proofs.lemmas.List.Concat.{flat_map-cons}
 use Rattle.std.proofs.lemmas.List.Folds.{flat_map-map}
 use Rattle.std.proofs.lemmas.List.Sums.{fold-append}
 use Rattle.agc_plan.proofs.Lists.{next_is, none_left}
 use Rattle.agc_plan.specs.declared.request.Request.{Request}
-use Rattle.agc_plan.specs.Pulses.{repeated}
-use Rattle.agc_text.specs.Writing.{AppendsFront, Writes}
-use Rattle.agc_text.proofs.Steps.{appends_none, appends_both, up_to_start, up_to_more, up_to_front}
 use Rattle.agc_document.specs.Benches.{Benched}
 use Rattle.agc_session.specs.Runs.{device_requests, bench_requests}
-use Rattle.agc_session.specs.Walks.{AsksInOrder, StopsIn, texts}
+use Rattle.agc_session.specs.Walks.{AllWritten, AsksInOrder, StopsIn, Writing}
 
 -- of a walk from a state and contents on, these requests are left, those before them were asked
-pub record IsLeft (S : Type 0) (next : S → Request → S) (text : S → Request → List ℕ) (start : S) (all : List Request) (old : Option (List ℕ)) (here : S) (now : Option (List ℕ)) (rest : List Request) : Type 0 where
+pub record IsLeft (S : Type 0) (next : S → Request → S) (writes : Writing S) (start : S) (all : List Request) (old : Option (List ℕ)) (here : S) (now : Option (List ℕ)) (rest : List Request) : Type 0 where
   pub asked : List Request
   pub whole : all ≡ asked ++ rest
   pub here_is : here ≡ fold next start asked
-  pub told : Appends old now (texts next text start asked)
+  pub told : AllWritten next writes start asked old now
 
-pub all_left : {S : Type 0} → (next : S → Request → S) (text : S → Request → List ℕ) (start : S) (rs : List Request) (o : Option (List ℕ)) → IsLeft S next text start rs o start o rs
-unfolding texts
-all_left next text start rs o = record { asked = []; whole = refl; here_is = refl; told = appends_none o }
+pub all_left : {S : Type 0} → (next : S → Request → S) (writes : Writing S) (start : S) (rs : List Request) (o : Option (List ℕ)) → IsLeft S next writes start rs o start o rs
+unfolding AllWritten
+all_left next writes start rs o = record { asked = []; whole = refl; here_is = refl; told = refl }
 
-texts_append : {S : Type 0} → (next : S → Request → S) (text : S → Request → List ℕ) (s : S) (a b : List Request) → texts next text s (a ++ b) ≡ texts next text s a ++ texts next text (fold next s a) b
-unfolding texts
-texts_append next text s [] b = refl
-texts_append next text s (r ∷ a) b = ap (λ (x : List ℕ). text s r ++ x) (texts_append next text (next s r) a b) ∙ sym (append_assoc (text s r) (texts next text (next s r) a) (texts next text (fold next (next s r) a) b))
+written_append : {S : Type 0} → (next : S → Request → S) (writes : Writing S) (s : S) (a b : List Request) (o w n : Option (List ℕ)) → AllWritten next writes s a o w → AllWritten next writes (fold next s a) b w n → AllWritten next writes s (a ++ b) o n
+unfolding AllWritten
+written_append next writes s [] b o w n is more = subst (λ (x : Option (List ℕ)). AllWritten next writes s b x n) is more
+written_append next writes s (r ∷ a) b o w n h more = (h.0, h.1, written_append next writes (next s r) a b h.0 w n h.2 more)
 
--- the texts of those that were asked, and of these after them
-told_more : {S : Type 0} → {s : S} → (next : S → Request → S) (text : S → Request → List ℕ) (start : S) (o w n : Option (List ℕ)) (asked a : List Request) → s ≡ fold next start asked → Appends o w (texts next text start asked) → Appends w n (texts next text s a) → Appends o n (texts next text start (asked ++ a))
-told_more {S} {s} next text start o w n asked a is told written =
-    let more : Appends w n (texts next text (fold next start asked) a) = subst (λ (u : S). Appends w n (texts next text u a)) is written in
-    subst (λ (l : List ℕ). Appends o n l) (sym (texts_append next text start asked a)) (appends_both o w n (texts next text start asked) (texts next text (fold next start asked) a) told more)
+-- what was asked wrote, and these after them
+told_more : {S : Type 0} → {s : S} → (next : S → Request → S) (writes : Writing S) (start : S) (o w n : Option (List ℕ)) (asked a : List Request) → s ≡ fold next start asked → AllWritten next writes start asked o w → AllWritten next writes s a w n → AllWritten next writes start (asked ++ a) o n
+told_more {S} {s} next writes start o w n asked a is told more = written_append next writes start asked a o w n told (subst (λ (u : S). AllWritten next writes u a w n) is more)
 
 -- they are asked after the others
 asked_more : {S : Type 0} → {s t : S} → (next : S → Request → S) (start : S) (asked a : List Request) → s ≡ fold next start asked → t ≡ fold next s a → t ≡ fold next start (asked ++ a)
 asked_more {S} {s} {t} next start asked a is to = to ∙ ap (λ (u : S). fold next u a) is ∙ sym (fold-append next start asked a)
 
-pub left_as : {S : Type 0} → {next : S → Request → S} → {text : S → Request → List ℕ} → {start s : S} → {all a b : List Request} → {o w : Option (List ℕ)} → a ≡ b → IsLeft S next text start all o s w a → IsLeft S next text start all o s w b
-left_as {next} {text} {start} {s} {all} {a} {b} {o} {w} is left = subst (λ (rs : List Request). IsLeft _ next text start all o s w rs) is left
+pub left_as : {S : Type 0} → {next : S → Request → S} → {writes : Writing S} → {start s : S} → {all a b : List Request} → {o w : Option (List ℕ)} → a ≡ b → IsLeft S next writes start all o s w a → IsLeft S next writes start all o s w b
+left_as {next} {writes} {start} {s} {all} {a} {b} {o} {w} is left = subst (λ (rs : List Request). IsLeft _ next writes start all o s w rs) is left
 
 -- some requests were asked
-pub some_asked : {S : Type 0} → {next : S → Request → S} → {text : S → Request → List ℕ} → {start s t : S} → {all : List Request} → {o w n : Option (List ℕ)} → (a rest : List Request) → IsLeft S next text start all o s w (a ++ rest) → (t ≡ fold next s a) × Appends w n (texts next text s a) → IsLeft S next text start all o t n rest
-some_asked {S} {next} {text} {start} {s} {t} {all} {o} {w} {n} a rest left done = record {
+pub some_asked : {S : Type 0} → {next : S → Request → S} → {writes : Writing S} → {start s t : S} → {all : List Request} → {o w n : Option (List ℕ)} → (a rest : List Request) → IsLeft S next writes start all o s w (a ++ rest) → (t ≡ fold next s a) × AllWritten next writes s a w n → IsLeft S next writes start all o t n rest
+some_asked {S} {next} {writes} {start} {s} {t} {all} {o} {w} {n} a rest left done = record {
   asked = left.asked ++ a;
   whole = left.whole ∙ sym (append_assoc left.asked a rest);
   here_is = asked_more next start left.asked a left.here_is done.0;
-  told = told_more next text start o w n left.asked a left.here_is left.told done.1;
+  told = told_more next writes start o w n left.asked a left.here_is left.told done.1;
 }
 
 -- they were asked, up to where the walk stops
-some_stopped : {S : Type 0} → {next : S → Request → S} → {text : S → Request → List ℕ} → {start s t : S} → {all : List Request} → {o w n : Option (List ℕ)} → (a rest : List Request) → IsLeft S next text start all o s w (a ++ rest) → StopsIn next text s a t w n → StopsIn next text start all t o n
-some_stopped {S} {next} {text} {start} {s} {t} {all} {o} {w} {n} a rest left stop =
+some_stopped : {S : Type 0} → {next : S → Request → S} → {writes stops : Writing S} → {start s t : S} → {all : List Request} → {o w n : Option (List ℕ)} → (a rest : List Request) → IsLeft S next writes start all o s w (a ++ rest) → StopsIn next writes stops s a t w n → StopsIn next writes stops start all t o n
+some_stopped {S} {next} {writes} {stops} {start} {s} {t} {all} {o} {w} {n} a rest left stop =
     let here : fold next s stop.before ≡ fold next start (left.asked ++ stop.before) = asked_more next start left.asked stop.before left.here_is refl in
     let inner : a ++ rest ≡ stop.before ++ stop.last ∷ (stop.after ++ rest) = ap (λ (rs : List Request). rs ++ rest) stop.whole ∙ append_assoc stop.before (stop.last ∷ stop.after) rest in
     record {
@@ -65,68 +59,39 @@ some_stopped {S} {next} {text} {start} {s} {t} {all} {o} {w} {n} a rest left sto
       whole = left.whole ∙ ap (λ (rs : List Request). left.asked ++ rs) inner ∙ sym (append_assoc left.asked stop.before (stop.last ∷ (stop.after ++ rest)));
       end_is = stop.end_is ∙ ap (λ (u : S). next u stop.last) here;
       between = stop.between;
-      told = told_more next text start o w stop.between left.asked stop.before left.here_is left.told stop.told;
-      front = subst (λ (u : S). AppendsFront stop.between n (text u stop.last)) here stop.front;
+      told = told_more next writes start o w stop.between left.asked stop.before left.here_is left.told stop.told;
+      front = subst (λ (u : S). stops u stop.last stop.between n) here stop.front;
     }
 
-pub walk_stopped : {S T E : Type 0} → {next : S → Request → S} → {text : S → Request → List ℕ} → {start s t : S} → {all : List Request} → {o w n : Option (List ℕ)} → (a rest : List Request) (result : Result T E) → IsLeft S next text start all o s w (a ++ rest) → StopsIn next text s a t w n → IsErr result → AsksInOrder next text start all t o n result
+pub walk_stopped : {S T E : Type 0} → {next : S → Request → S} → {writes stops : Writing S} → {start s t : S} → {all : List Request} → {o w n : Option (List ℕ)} → (a rest : List Request) (result : Result T E) → IsLeft S next writes start all o s w (a ++ rest) → StopsIn next writes stops s a t w n → IsErr result → AsksInOrder next writes stops start all t o n result
 walk_stopped a rest (Ok x) left stop is = absurd cc
 walk_stopped a rest (Err x) left stop is = some_stopped a rest left stop
 
 -- nothing is left
-pub walk_done : {S : Type 0} → {next : S → Request → S} → {text : S → Request → List ℕ} → {start s : S} → {all : List Request} → {o w : Option (List ℕ)} → IsLeft S next text start all o s w [] → (s ≡ fold next start all) × Appends o w (texts next text start all)
-walk_done {S} {next} {text} {start} {s} {all} {o} {w} left =
+pub walk_done : {S : Type 0} → {next : S → Request → S} → {writes : Writing S} → {start s : S} → {all : List Request} → {o w : Option (List ℕ)} → IsLeft S next writes start all o s w [] → (s ≡ fold next start all) × AllWritten next writes start all o w
+walk_done {S} {next} {writes} {start} {s} {all} {o} {w} left =
     let is : left.asked ≡ all = sym (left.whole ∙ append-nil left.asked) in
-    (left.here_is ∙ ap (fold next start) is, subst (λ (rs : List Request). Appends o w (texts next text start rs)) is left.told)
+    (left.here_is ∙ ap (fold next start) is, subst (λ (rs : List Request). AllWritten next writes start rs o w) is left.told)
 
 -- all that was left is asked last
-pub walk_ended : {S T E : Type 0} → {next : S → Request → S} → {text : S → Request → List ℕ} → {start s : S} → {all : List Request} → {o w : Option (List ℕ)} → (t : S) (n : Option (List ℕ)) (a : List Request) (result : Result T E) → IsLeft S next text start all o s w a → AsksInOrder next text s a t w n result → AsksInOrder next text start all t o n result
-walk_ended t n a (Ok x) left asks = walk_done (some_asked a [] (left_as (sym (append-nil a)) left) asks)
-walk_ended t n a (Err x) left asks = some_stopped a [] (left_as (sym (append-nil a)) left) asks
-
--- one request that is asked alone
-one_done : {S : Type 0} → {s t : S} → (next : S → Request → S) (text : S → Request → List ℕ) (o n : Option (List ℕ)) (q : Request) → t ≡ next s q → Appends o n (text s q) → (t ≡ fold next s (q ∷ [])) × Appends o n (texts next text s (q ∷ []))
-unfolding texts
-one_done {S} {s} {t} next text o n q is written = (is, subst (λ (l : List ℕ). Appends o n l) (sym (append-nil (text s q))) written)
-
-one_stopped : {S : Type 0} → {next : S → Request → S} → {text : S → Request → List ℕ} → {s t : S} → {o n : Option (List ℕ)} → (q : Request) → t ≡ next s q → AppendsFront o n (text s q) → StopsIn next text s (q ∷ []) t o n
-unfolding texts
-one_stopped {S} {next} {text} {s} {t} {o} {n} q is front = record { before = []; last = q; after = []; whole = refl; end_is = is; between = o; told = appends_none o; front = front }
-
-pub alone : {S T E : Type 0} → {s t : S} → (next : S → Request → S) (text : S → Request → List ℕ) (o n : Option (List ℕ)) (q : Request) (result : Result T E) → t ≡ next s q → Writes o n (text s q) result → AsksInOrder next text s (q ∷ []) t o n result
-alone next text o n q (Ok x) is written = one_done next text o n q is written
-alone next text o n q (Err x) is front = one_stopped q is front
+pub walk_ended : {S T E : Type 0} → {next : S → Request → S} → {writes : Writing S} → {start s : S} → {all : List Request} → {o w : Option (List ℕ)} → (stops : Writing S) (t : S) (n : Option (List ℕ)) (a : List Request) (result : Result T E) → IsLeft S next writes start all o s w a → AsksInOrder next writes stops s a t w n result → AsksInOrder next writes stops start all t o n result
+walk_ended stops t n a (Ok x) left asks = walk_done (some_asked a [] (left_as (sym (append-nil a)) left) asks)
+walk_ended stops t n a (Err x) left asks = some_stopped a [] (left_as (sym (append-nil a)) left) asks
 
 -- the next one is asked
-pub one_asked : {S : Type 0} → {next : S → Request → S} → {text : S → Request → List ℕ} → {start s t : S} → {all rest : List Request} → {o w n : Option (List ℕ)} → {q : Request} → IsLeft S next text start all o s w (q ∷ rest) → t ≡ next s q → Appends w n (text s q) → IsLeft S next text start all o t n rest
-one_asked {S} {next} {text} {start} {s} {t} {all} {rest} {o} {w} {n} {q} left is written = some_asked (q ∷ []) rest left (one_done next text w n q is written)
+pub one_asked : {S : Type 0} → {next : S → Request → S} → {writes : Writing S} → {start s t : S} → {all rest : List Request} → {o w n : Option (List ℕ)} → {q : Request} → IsLeft S next writes start all o s w (q ∷ rest) → t ≡ next s q → writes s q w n → IsLeft S next writes start all o t n rest
+unfolding AllWritten
+one_asked {S} {next} {writes} {start} {s} {t} {all} {rest} {o} {w} {n} {q} left is written = some_asked (q ∷ []) rest left (is, (n, written, refl))
 
-pub one_failed : {S T E : Type 0} → {next : S → Request → S} → {text : S → Request → List ℕ} → {start s t : S} → {all rest : List Request} → {o w n : Option (List ℕ)} → {q : Request} → (result : Result T E) → IsLeft S next text start all o s w (q ∷ rest) → t ≡ next s q → AppendsFront w n (text s q) → IsErr result → AsksInOrder next text start all t o n result
-one_failed {S} {T} {E} {next} {text} {start} {s} {t} {all} {rest} {o} {w} {n} {q} result left is front err = walk_stopped (q ∷ []) rest result left (one_stopped q is front) err
+pub one_failed : {S T E : Type 0} → {next : S → Request → S} → {writes : Writing S} → {start s t : S} → {all rest : List Request} → {o w n : Option (List ℕ)} → {q : Request} → (stops : Writing S) (result : Result T E) → IsLeft S next writes start all o s w (q ∷ rest) → t ≡ next s q → stops s q w n → IsErr result → AsksInOrder next writes stops start all t o n result
+unfolding AllWritten
+one_failed {S} {T} {E} {next} {writes} {start} {s} {t} {all} {rest} {o} {w} {n} {q} stops result left is front err =
+    let stop : StopsIn next writes stops s (q ∷ []) t w n = record { before = []; last = q; after = []; whole = refl; end_is = is; between = w; told = refl; front = front } in
+    walk_stopped (q ∷ []) rest result left stop err
 
--- what is written: a front where it stopped
-pub stopped_front : {S : Type 0} → {next : S → Request → S} → {text : S → Request → List ℕ} → {start t : S} → {all : List Request} → {o n : Option (List ℕ)} → StopsIn next text start all t o n → AppendsFront o n (texts next text start all)
-unfolding texts
-stopped_front {S} {next} {text} {start} {t} {all} {o} {n} stop =
-    let here = fold next start stop.before in
-    let own = text here stop.last in
-    let rest = texts next text (next here stop.last) stop.after in
-    let whole : texts next text start all ≡ texts next text start stop.before ++ (own ++ rest) = ap (texts next text start) stop.whole ∙ texts_append next text start stop.before (stop.last ∷ stop.after) in
-    subst (λ (l : List ℕ). AppendsFront o n l) (sym whole)
-    (up_to_front o stop.between n (texts next text start stop.before ++ (own ++ rest)) own rest
-    (up_to_more o o stop.between (texts next text start stop.before ++ (own ++ rest)) (texts next text start stop.before) (own ++ rest) (up_to_start o (texts next text start stop.before ++ (own ++ rest))) stop.told) stop.front)
-
-pub walk_writes : {S T E : Type 0} → (next : S → Request → S) (text : S → Request → List ℕ) (start t : S) (all : List Request) (o n : Option (List ℕ)) (result : Result T E) → AsksInOrder next text start all t o n result → Writes o n (texts next text start all) result
-walk_writes next text start t all o n (Ok x) asks = asks.1
-walk_writes next text start t all o n (Err x) asks = stopped_front asks
-
--- where nothing is written of each request, no write fails
-rest_of_none : (a b : List ℕ) → [] ≡ a ++ b → b ≡ []
-rest_of_none [] b e = sym e
-rest_of_none (x ∷ a) b e = absurd (cc)
-
-pub never_stops : {S : Type 0} → {next : S → Request → S} → {start t : S} → {all : List Request} → {o n : Option (List ℕ)} → StopsIn next (λ _ _. []) start all t o n → ⊥
-never_stops stop = stop.front.1 (rest_of_none stop.front.2.front stop.front.0 stop.front.2.whole)
+-- where no write fails, all are asked
+pub never_stops : {S : Type 0} → {next : S → Request → S} → {writes : Writing S} → {start t : S} → {all : List Request} → {o n : Option (List ℕ)} → StopsIn next writes (λ _ _ _ _. ⊥) start all t o n → ⊥
+never_stops stop = stop.front
 
 -- the next of what is left, and the rest
 pub next_item : {X : Type 0} → (f : X → List Request) (xs : List X) (i : ℕ) (x : X) → i < length xs → x ≡ get_or xs i x → flat_map f (drop i xs) ≡ f x ++ flat_map f (drop (i + 1) xs)
@@ -136,17 +101,12 @@ pub no_item : {X : Type 0} → (f : X → List Request) (xs : List X) (i : ℕ) 
 no_item f xs i l = ap (flat_map f) (none_left xs i l)
 
 -- the requests of a bench, its workers' as their lists hold them
-pub bench_is : {V : Type 0} → (f : V → List Request) (bench : Benched) (workers : List V) → map f workers ≡ bench.workers → bench_requests bench ≡ bench.script ++ (flat_map f workers ++ flat_map (device_requests bench) bench.devices)
+bench_is : {V : Type 0} → (f : V → List Request) (bench : Benched) (workers : List V) → map f workers ≡ bench.workers → bench_requests bench ≡ bench.script ++ (flat_map f workers ++ flat_map (device_requests bench) bench.devices)
 unfolding bench_requests
 bench_is f bench workers e =
     let k : flat_map (λ rs. rs) bench.workers ≡ flat_map f workers = ap (flat_map (λ rs. rs)) (sym e) ∙ flat_map-map (λ rs. rs) f workers in
     ap (λ (rs : List Request). bench.script ++ (rs ++ flat_map (device_requests bench) bench.devices)) k
 
 -- before the first request of a bench all are left
-pub bench_left : {S V : Type 0} → (next : S → Request → S) (text : S → Request → List ℕ) (start : S) (o : Option (List ℕ)) (f : V → List Request) (bench : Benched) (workers : List V) → map f workers ≡ bench.workers → IsLeft S next text start (bench_requests bench) o start o (bench.script ++ (flat_map f workers ++ flat_map (device_requests bench) bench.devices))
-bench_left next text start o f bench workers e = left_as (bench_is f bench workers e) (all_left next text start (bench_requests bench) o)
-
--- a list of one request so many times
-pub repeated_sole : (request : Request) (n : ℕ) → repeated (request ∷ []) n ≡ replicate n request
-repeated_sole request zero = refl
-repeated_sole request (suc n) = ap (λ (rs : List Request). request ∷ rs) (repeated_sole request n)
+pub bench_left : {S V : Type 0} → (next : S → Request → S) (writes : Writing S) (start : S) (o : Option (List ℕ)) (f : V → List Request) (bench : Benched) (workers : List V) → map f workers ≡ bench.workers → IsLeft S next writes start (bench_requests bench) o start o (bench.script ++ (flat_map f workers ++ flat_map (device_requests bench) bench.devices))
+bench_left next writes start o f bench workers e = left_as (bench_is f bench workers e) (all_left next writes start (bench_requests bench) o)

@@ -1,5 +1,5 @@
 -- A session: requests asked of a machine in order, and what is written of it.
-use Rattle.std.specs.Prelude.{◌≡◌, ℕ, List, ◌++◌, ◌⊎◌, Option, Result, Ok, Err}
+use Rattle.std.specs.Prelude.{◌≡◌, ℕ, List, [], ◌∷◌, ◌++◌, ◌⊎◌, Option, Result, Ok, Err}
 use Rattle.std.specs.Io.KnownBytes.{Appends}
 use Rattle.agc_plan.specs.declared.request.Request.{Request}
 use Rattle.agc_machine.specs.Image.{HandsOut}
@@ -9,11 +9,12 @@ use Rattle.agc_session.specs.declared.run_fault.RunFault.TheVariants.{NoMemory, 
 use Rattle.agc_text.specs.Report.{report_text}
 use Rattle.agc_text.specs.Session.{line_for}
 use Rattle.agc_text.specs.Writing.{AppendsFront}
-use Rattle.agc_session.specs.Walks.{texts}
 
 -- the lines of the answers, in order
-abbrev pub answer_lines : Machined → List Request → List ℕ
-answer_lines machine requests = texts after line_for machine requests
+unfoldable pub answer_lines : Machined → List Request → List ℕ
+answer_lines machine [] = []
+answer_lines machine (request ∷ requests) =
+    line_for machine request ++ answer_lines (after machine request) requests
 
 -- the text of a session: a line for each answer, then the report of totals and words of the machine
 -- that was reached

@@ -1,5 +1,6 @@
 // How many requests a bench has.
-use crate::following::{Follows, follow_bench};
+use crate::following::follow_bench;
+use crate::follows::Follows;
 use crate::progress::Silent;
 use crate::source::Source;
 use agc_document::Bench;

@@ -1,11 +1,13 @@
-// The same walk of a bench, of which no text is known.
-ghost use Rattle.std.specs.Prelude.{◌≡◌, ℕ, List, OnOk};
-ghost use Rattle.std.specs.List.{flat_map, fold};
+// One walk of a bench, whoever follows it.
+ghost use Rattle.std.specs.Prelude.{◌≡◌, ◌≤◌, ◌+◌, ◌<◌, ◌++◌, ◌==◌, length, take};
+ghost use Rattle.std.specs.List.{flat_map};
 ghost use Rattle.std.specs.Option.{option_to_list};
-ghost use Rattle.agc_plan.specs.declared.request.Request.{Request};
-ghost use Rattle.agc_plan.specs.Pulses.{action_request, pulse_requests, requests_for};
+ghost use Rattle.agc_plan.specs.Pulses.{action_request, asks_nothing, pulse_requests};
+ghost use Rattle.agc_plan.specs.Pulses.{requests_for};
 ghost use Rattle.agc_session.specs.Runs.{bench_plan, bench_requests, device_requests};
+ghost use Rattle.agc_session.specs.Walks.{AsksInOrder};
 
+use crate::follows::Follows;
 use crate::progress::Progress;
 use crate::source::Source;
 use agc_document::Bench;
@@ -13,43 +15,58 @@ use agc_plan::{Action, Line, Request, action_request};
 use agc_text::Output;
 use std::io::Write;
 
-/// Who asks for requests, and writes what it likes of each. An impl names one definition, of one
-/// request; the contract of [`follow_bench`](crate::follow_bench) says by it what comes of many, in
-/// order. Source: profile.
-pub trait Follows {
-    /// The state after a request, which was asked in this state. Source: profile.
-    ghost next: { Self → Request → Self };
-
-    /// Asks for one request, as this source asks for it, and writes of it. Source: profile.
-    ///
-    /// # Errors
-    ///
-    /// Where a write fails.
-    fn follow<W: Write>(
-        &mut self,
-        source: Source,
-        request: &Request,
-        writer: &mut W,
-    ) -> Result<(), Output>
-        ensures { self.new ≡ next self.old request.now };
-}
-
-/// Asks for one request, and tells that it was asked.
-fn follow_one<F: Follows, P: Progress, W: Write>(
-    follower: &mut F,
-    progress: &mut P,
-    source: Source,
-    request: &Request,
-    writer: &mut W,
-) -> Result<(), Output>
-    ensures { OnOk result (follower.new ≡ F.next follower.old request.now) }
+/// Puts what an action asks for after the first so many requests. Returns how many there are then.
+fn put_request(requests: &mut [Request; 4], count: usize, action: Action) -> usize
+    requires { count < 4 }
+    ensures list { take result requests.new
+        ≡ take count requests.old ++ option_to_list (action_request action) }
+    ensures most { result ≤ count + 1 }
 {
-    follower.follow(source, request, writer)?;
-    progress.asked();
-    Ok(())
+    match action_request(action) {
+        None => count,
+        Some(request) => {
+            requests[count] = request;
+            count + 1
+        }
+    }
 }
 
-/// Asks for all requests in order, which come of one source. Source: profile.
+/// What these actions ask for, in order: the first so many of these requests.
+fn requests_for(actions: &[Action]) -> ([Request; 4], usize)
+    requires { length actions.now ≤ 4 }
+    ensures requests { take result.1 result.0 ≡ requests_for actions.now }
+    ensures most { result.1 ≤ 4 }
+{
+    let mut requests = [Request::Tick; 4];
+    let mut count = 0;
+    for action in actions {
+        count = put_request(&mut requests, count, *action);
+    }
+    (requests, count)
+}
+
+/// What a pulse of the line asks for: a tick for a timer's, else what the plan's actions do.
+fn pulse_of(bench: &Bench, line: Line) -> ([Request; 4], usize)
+    ensures requests { take result.1 result.0 ≡ pulse_requests (bench_plan bench.now) line }
+    ensures most { result.1 ≤ 4 }
+{
+    match line {
+        Line::Timer => ([Request::Tick; 4], 1),
+        Line::Key => requests_for(bench.key().as_slice()),
+        Line::Radar => requests_for(bench.radar().as_slice()),
+    }
+}
+
+/// Whether pulses of the line ask for nothing: a timer's ask for ticks, the others' for what the
+/// plan's actions do. Source: profile.
+pub fn asks_nothing(bench: &Bench, line: Line) -> bool
+    ensures { result ≡ asks_nothing (bench_plan bench.now) line }
+{
+    pulse_of(bench, line).1 == 0
+}
+
+/// Asks for all requests in order, which come of one source, and tells of each that it was asked.
+/// Source: profile.
 ///
 /// # Errors
 ///
@@ -61,69 +78,17 @@ pub fn follow_all<F: Follows, P: Progress, W: Write>(
     requests: &[Request],
     writer: &mut W,
 ) -> Result<(), Output>
-    ensures { OnOk result (follower.new ≡ fold F.next follower.old requests.now) }
+    ensures { AsksInOrder F.next F.writes F.stops follower.old requests.now
+        follower.new (W.contents writer.old) (W.contents writer.new) result }
 {
     for request in requests {
-        follow_one(follower, progress, source, request, writer)?;
+        follower.follow(source, request, writer)?;
+        progress.asked();
     }
     Ok(())
 }
 
-/// Asks for what an action asks for.
-fn follow_action<F: Follows, P: Progress, W: Write>(
-    follower: &mut F,
-    progress: &mut P,
-    source: Source,
-    action: Action,
-    writer: &mut W,
-) -> Result<(), Output>
-    ensures { OnOk result
-        (follower.new ≡ fold F.next follower.old (option_to_list (action_request action))) }
-{
-    match action_request(action) {
-        None => Ok(()),
-        Some(request) => follow_one(follower, progress, source, &request, writer),
-    }
-}
-
-/// Asks for what these actions ask for.
-fn follow_actions<F: Follows, P: Progress, W: Write>(
-    follower: &mut F,
-    progress: &mut P,
-    source: Source,
-    actions: &[Action],
-    writer: &mut W,
-) -> Result<(), Output>
-    ensures { OnOk result (follower.new ≡ fold F.next follower.old (requests_for actions.now)) }
-{
-    for action in actions {
-        follow_action(follower, progress, source, *action, writer)?;
-    }
-    Ok(())
-}
-
-/// Asks for what a pulse of the line asks for: a tick for a timer's, else the plan's actions.
-fn follow_pulse<F: Follows, P: Progress, W: Write>(
-    follower: &mut F,
-    progress: &mut P,
-    bench: &Bench,
-    line: Line,
-    writer: &mut W,
-) -> Result<(), Output>
-    ensures { OnOk result
-        (follower.new ≡ fold F.next follower.old (pulse_requests (bench_plan bench.now) line)) }
-{
-    let source = Source::Pulse(line);
-    match line {
-        Line::Timer => follow_one(follower, progress, source, &Request::Tick, writer),
-        Line::Key => follow_actions(follower, progress, source, bench.key().as_slice(), writer),
-        Line::Radar => {
-            follow_actions(follower, progress, source, bench.radar().as_slice(), writer)
-        }
-    }
-}
-
-/// Asks for a device's requests.
+/// Asks for a device's requests, one pulse after the other.
 fn follow_device<F: Follows, P: Progress, W: Write>(
     follower: &mut F,
     progress: &mut P,
@@ -131,11 +96,13 @@ fn follow_device<F: Follows, P: Progress, W: Write>(
     device: (Line, u32),
     writer: &mut W,
 ) -> Result<(), Output>
-    ensures { OnOk result
-        (follower.new ≡ fold F.next follower.old (device_requests bench.now device)) }
+    ensures { AsksInOrder F.next F.writes F.stops follower.old (device_requests bench.now device)
+        follower.new (W.contents writer.old) (W.contents writer.new) result }
 {
+    let (requests, count) = pulse_of(bench, device.0);
+    let source = Source::Pulse(device.0);
     for _pulse in 0..device.1 {
-        follow_pulse(follower, progress, bench, device.0, writer)?;
+        follow_all(follower, progress, source, &requests[..count], writer)?;
     }
     Ok(())
 }
@@ -147,8 +114,8 @@ fn follow_workers<F: Follows, P: Progress, W: Write>(
     workers: &[Vec<Request>],
     writer: &mut W,
 ) -> Result<(), Output>
-    ensures { OnOk result
-        (follower.new ≡ fold F.next follower.old (flat_map (λ w. w.items) workers.now)) }
+    ensures { AsksInOrder F.next F.writes F.stops follower.old (flat_map (λ w. w.items) workers.now)
+        follower.new (W.contents writer.old) (W.contents writer.new) result }
 {
     for (k, worker) in workers.iter().enumerate() {
         let source = Source::Worker(k as u64 + 1);
@@ -164,8 +131,9 @@ fn follow_devices<F: Follows, P: Progress, W: Write>(
     bench: &Bench,
     writer: &mut W,
 ) -> Result<(), Output>
-    ensures { OnOk result (follower.new
-        ≡ fold F.next follower.old (flat_map (device_requests bench.now) bench.now.devices)) }
+    ensures { AsksInOrder F.next F.writes F.stops follower.old
+        (flat_map (device_requests bench.now) bench.now.devices)
+        follower.new (W.contents writer.old) (W.contents writer.new) result }
 {
     for device in bench.devices() {
         follow_device(follower, progress, bench, *device, writer)?;
@@ -185,7 +153,8 @@ pub fn follow_bench<F: Follows, P: Progress, W: Write>(
     bench: &Bench,
     writer: &mut W,
 ) -> Result<(), Output>
-    ensures { OnOk result (follower.new ≡ fold F.next follower.old (bench_requests bench.now)) }
+    ensures { AsksInOrder F.next F.writes F.stops follower.old (bench_requests bench.now)
+        follower.new (W.contents writer.old) (W.contents writer.new) result }
 {
     follow_all(follower, progress, Source::Script, bench.script(), writer)?;
     follow_workers(follower, progress, bench.workers(), writer)?;

@@ -10,7 +10,7 @@ ghost use Rattle.agc_warn.specs.Runners.{first_of, ran, ran_on, run_from};
 use agc_document::Bench;
 use agc_machine::{Machine, Refusal};
 use agc_plan::{Fired, Request};
-use agc_session::{Asks, ask_all, ask_bench, machine_of, script_machine};
+use agc_session::{Follows, Silent, Source, follow_all, follow_bench, machine_of, script_machine};
 use agc_text::Output;
 use std::alloc::{AllocError, Global};
 use std::io;
@@ -136,16 +136,20 @@ fn run_one(runner: &mut Runner, request: &Request)
     }
 }
 
-impl Asks for Runner {
-    ghost use Rattle.std.specs.Prelude.{[]};
+impl Follows for Runner {
     ghost use Rattle.agc_warn.specs.Runners.{ran};
 
     ghost next = { λ runner request. ran runner request };
 
-    ghost text = { λ _ _. [] };
+    ghost stops = { λ _ _ _ _. ⊥ };
 
     /// Asks for one request, and writes nothing.
-    fn ask<W: Write>(&mut self, request: &Request, _writer: &mut W) -> Result<(), Output> {
+    fn follow<W: Write>(
+        &mut self,
+        _source: Source,
+        request: &Request,
+        _writer: &mut W,
+    ) -> Result<(), Output> {
         run_one(self, request);
         Ok(())
     }
@@ -155,7 +159,7 @@ impl Asks for Runner {
 fn run_all(runner: &mut Runner, bench: &Bench)
     ensures { runner.new ≡ fold ran runner.old (bench_requests bench.now) }
 {
-    match ask_bench(runner, bench, &mut io::sink()) {
+    match follow_bench(runner, &mut Silent, bench, &mut io::sink()) {
         Ok(()) => {}
         Err(_output) => unreachable!(),
     }
@@ -222,6 +226,12 @@ pub fn run_requests(alloc: Global, requests: &[Request]) -> Result<Ran, AllocErr
         Err(_fault) => return Err(AllocError),
     };
     let mut runner = runner_of(machine);
-    let _ = ask_all(&mut runner, requests, &mut io::sink());
+    let _ = follow_all(
+        &mut runner,
+        &mut Silent,
+        Source::Script,
+        requests,
+        &mut io::sink(),
+    );
     Ok(ran_of(&runner))
 }
