@@ -5,7 +5,7 @@ use crate::running::{Notes, run_scenario};
 use agc_document::Bench;
 use agc_plan::Request;
 use agc_scenario::Scenario;
-use agc_session::{Follows, RunFault, Silent, Source, follow_bench, machine_of};
+use agc_session::{Follows, RunFault, Silent, Source, follow_bench, machine_of, written};
 use agc_text::Output;
 use std::alloc::Global;
 use std::io;
@@ -41,14 +41,6 @@ fn put_last<W: Write>(counted: &CountedMachine, has_idle: bool, writer: &mut W) 
         0 => Ok(()),
         1 => write!(writer, "1 request was refused\n"),
         count => write!(writer, "{count} requests were refused\n"),
-    }
-}
-
-/// The result of a write, as a run returns it.
-pub(crate) fn written(put: io::Result<()>) -> Result<(), Output> {
-    match put {
-        Ok(()) => Ok(()),
-        Err(_failed) => Err(Output),
     }
 }
 

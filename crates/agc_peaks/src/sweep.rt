@@ -1,11 +1,10 @@
 //! A scenario's run for each value of one of its numbers.
 use crate::era::{Most, Seconds, code};
 use crate::machine::{Came, CountedMachine};
-use crate::peaks::written;
 use crate::running::{Notes, run_scenario};
 use agc_plan::{Alarm, Request};
 use agc_scenario::{Number, Scenario};
-use agc_session::{RunFault, machine_on};
+use agc_session::{RunFault, machine_on, written};
 use agc_word::Sets;
 use std::alloc::Global;
 use std::io;

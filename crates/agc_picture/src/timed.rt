@@ -12,7 +12,7 @@ use crate::sheet::{put_foot, put_ground, put_head, strip_of};
 use agc_machine::{Machine, Refusal};
 use agc_plan::{Reply, Request};
 use agc_scene::{Event, Scene, Watched};
-use agc_session::{Follows, Source};
+use agc_session::{Follows, Source, written};
 use agc_text::Output;
 use std::alloc::{AllocError, Global};
 use std::io;
@@ -69,14 +69,6 @@ fn asked(machine: &mut Watched, request: &Request) -> (Event, bool)
     let event = machine.ask(request);
     let began = begins_with(&event.answer);
     (event, began)
-}
-
-/// The result of a write, as a run returns it.
-fn written(put: io::Result<()>) -> Result<(), Output> {
-    match put {
-        Ok(()) => Ok(()),
-        Err(_failed) => Err(Output),
-    }
 }
 
 /// What is in a lane, in a scene.

@@ -8,7 +8,7 @@ use agc_document::Bench;
 use agc_machine::Refusal;
 use agc_peaks::put_bench;
 use agc_plan::Request;
-use agc_session::{Follows, RunFault, Silent, Source, follow_bench};
+use agc_session::{Follows, RunFault, Silent, Source, follow_bench, written};
 use agc_text::Output;
 use std::alloc::{AllocError, AllocFailed, Global};
 use std::io::{BufRead, Eprint, ErrorKind, Read, Write};
@@ -94,11 +94,6 @@ impl From<RunFault> for PlayFault {
             RunFault::Output => PlayFault::Output,
         }
     }
-}
-
-/// The result of a write to the player's terminal.
-fn written(put: io::Result<()>) -> Result<(), PlayFault> {
-    put.map_err(|_failed| PlayFault::Output)
 }
 
 /// The requests of a bench, as they are gathered, and whether memory ran out.
@@ -202,7 +197,7 @@ impl<'a> Played<'a> {
     }
 
     /// Writes the state.
-    fn put_state<W: Write>(&self, writer: &mut W) -> Result<(), PlayFault> {
+    fn put_state<W: Write>(&self, writer: &mut W) -> Result<(), Output> {
         written(self.player.put_state(self.bench, writer))
     }
 
@@ -216,7 +211,8 @@ impl<'a> Played<'a> {
         }
         let ending = if count == 1 { " was" } else { "s were" };
         written(write!(writer, "{count} request{ending} asked by the bench\n"))?;
-        self.put_state(writer)
+        self.put_state(writer)?;
+        Ok(())
     }
 
     /// Asks for one request. Returns whether it was refused.
@@ -271,7 +267,8 @@ impl<'a> Played<'a> {
         };
         if count <= left {
             self.steps.pop();
-            return written(write!(writer, "nothing was asked that could be taken back\n"));
+            written(write!(writer, "nothing was asked that could be taken back\n"))?;
+            return Ok(());
         }
         let requests = self.requests.as_slice();
         self.player = Player::after(alloc, self.bench, &requests[..left])?;
@@ -280,7 +277,8 @@ impl<'a> Played<'a> {
         let taken = count - left;
         let ending = if taken == 1 { " is" } else { "s are" };
         written(write!(writer, "{taken} request{ending} taken back\n"))?;
-        self.put_state(writer)
+        self.put_state(writer)?;
+        Ok(())
     }
 
     /// Writes all that was asked to a file, as a bench.
@@ -296,18 +294,21 @@ impl<'a> Played<'a> {
         }
         let (count, length) = (self.requests.len(), text.len());
         if length > MOST_BYTES {
-            return written(write!(
+            written(write!(
                 writer,
                 "{name}: not written: it would have {length} bytes, and agc reads {MOST_BYTES}\n"
-            ));
+            ))?;
+            return Ok(());
         }
-        match fs::write(rt, name, text.as_slice()) {
+        let put = match fs::write(rt, name, text.as_slice()) {
             Ok(()) => {
                 let ending = if count == 1 { "" } else { "s" };
-                written(write!(writer, "{name}: a bench of {count} request{ending}\n"))
+                write!(writer, "{name}: a bench of {count} request{ending}\n")
             }
-            Err(error) => written(write!(writer, "{name}: not written: {error}\n")),
-        }
+            Err(error) => write!(writer, "{name}: not written: {error}\n"),
+        };
+        written(put)?;
+        Ok(())
     }
 
     /// Does what a line asks for, of this number.
@@ -322,24 +323,24 @@ impl<'a> Played<'a> {
             Asked::Request(request) => {
                 self.steps.push(self.requests.len())?;
                 self.ask(&request, true, writer)?;
-                Ok(())
             }
-            Asked::Ticks(count) => self.ask_ticks(count, writer),
-            Asked::Undo => self.undo(rt.alloc(), writer),
-            Asked::Show => self.put_state(writer),
-            Asked::Save(name) => self.save(rt, name, writer),
-            Asked::Help => written(writer.write_all(HELP.as_bytes())),
-            Asked::Quit => Ok(()),
+            Asked::Ticks(count) => self.ask_ticks(count, writer)?,
+            Asked::Undo => self.undo(rt.alloc(), writer)?,
+            Asked::Show => self.put_state(writer)?,
+            Asked::Save(name) => self.save(rt, name, writer)?,
+            Asked::Help => written(writer.write_all(HELP.as_bytes()))?,
+            Asked::Quit => {}
             Asked::Nothing => {
                 let told = wrong_told(rt.alloc(), number, line)?;
-                written(writer.write_all(told.as_bytes()))
+                written(writer.write_all(told.as_bytes()))?;
             }
         }
+        Ok(())
     }
 }
 
 /// Ends an answer with an empty line, and flushes it.
-fn end_answer<W: Write>(writer: &mut W) -> Result<(), PlayFault> {
+fn end_answer<W: Write>(writer: &mut W) -> Result<(), Output> {
     written(writer.write_all(b"\n"))?;
     written(writer.flush())
 }
@@ -377,7 +378,7 @@ fn answer<H: AllocGlobal + Files, W: Write>(
         Some(text) => played.serve(rt, number, text, writer),
         None => not_text_told(rt.alloc(), number)
             .map_err(PlayFault::from)
-            .and_then(|told| written(writer.write_all(told.as_bytes()))),
+            .and_then(|told| Ok(written(writer.write_all(told.as_bytes()))?)),
     };
     match served {
         Err(PlayFault::NoMemory) => {

@@ -17,7 +17,7 @@ use agc_plan::Request;
 use agc_scene::{Event, Scene, Watched};
 use agc_session::{
     Follows, Progress, RunFault, Source, count_requests, follow_all, follow_bench, machine_of,
-    script_machine,
+    script_machine, written,
 };
 use agc_text::Output;
 use agc_word::Word;
@@ -58,14 +58,6 @@ fn counted(left: Option<Left>, quiet: Quiet) -> u64 {
     match left {
         Some(left) if left.quiet == quiet => left.count.saturating_add(1),
         _ => 1,
-    }
-}
-
-/// The result of a write, as a run returns it.
-fn written(put: io::Result<()>) -> Result<(), Output> {
-    match put {
-        Ok(()) => Ok(()),
-        Err(_failed) => Err(Output),
     }
 }
 
