@@ -1,5 +1,5 @@
 //! The commands of `agc_watch`, as `clap` reads them.
-use clap::{Arg, ArgAction, Command, value_parser};
+use clap::{Arg, ArgAction, Command};
 use std::alloc::{AllocError, Global};
 
 /// The text below the help of `sweep`.
@@ -20,11 +20,7 @@ fn flag<'a>(alloc: Global, name: &'a str, help: &'a str) -> Arg<'a> {
 
 /// An option that takes a request's number.
 fn numbered<'a>(alloc: Global, name: &'a str, help: &'a str) -> Arg<'a> {
-    Arg::new(alloc, name)
-        .long(name)
-        .value_name("N")
-        .value_parser(value_parser!(u64))
-        .help(help)
+    Arg::new(alloc, name).long(name).value_name("N").help(help)
 }
 
 /// A command that reads a file or standard input, of which its help tells an example.
@@ -125,7 +121,7 @@ fn alarm_option<'a>(alloc: Global, name: &'a str, help: &'a str) -> Arg<'a> {
 }
 
 /// The command `explore`.
-fn explore_command<'a>(alloc: Global) -> Result<Command<'a>, AllocError> {
+pub(crate) fn explore_command<'a>(alloc: Global) -> Result<Command<'a>, AllocError> {
     reading_command(
         alloc,
         "explore",
@@ -192,8 +188,8 @@ pub(crate) fn sweep_command<'a>(alloc: Global) -> Result<Command<'a>, AllocError
             "KEY",
             "Which number: steal, sets, job.NAME.cost, ..",
         ))?
-        .arg(word(alloc, "from", "FROM", from).value_parser(value_parser!(u64)))?
-        .arg(word(alloc, "to", "TO", to).value_parser(value_parser!(u64)))?
+        .arg(word(alloc, "from", "FROM", from))?
+        .arg(word(alloc, "to", "TO", to))?
         .arg(step)?
         .arg(file)?
         .arg(flag(alloc, "csv", "Writes comma-separated values"))

@@ -2,7 +2,9 @@
 ghost use Rattle.std.specs.Prelude.{◌≡◌};
 ghost use Rattle.agc_watch.specs.declared.words.Refused.TheVariants.{NoMemory};
 
-use crate::commands::{picture_command, sweep_command, trace_command, whole_command};
+use crate::commands::{
+    explore_command, picture_command, sweep_command, trace_command, whole_command,
+};
 use agc_orders::Options;
 use agc_peaks::Sweep;
 use agc_plan::Alarm;
@@ -90,21 +92,39 @@ impl From<AllocError> for Refused {
     }
 }
 
-/// Which requests a trace is to tell.
-fn choice_of(matches: &ArgMatches<'_>) -> Choice {
-    Choice {
-        alarms: matches.get_flag("alarms"),
-        from: matches.get_one::<u64>("from"),
-        to: matches.get_one::<u64>("to"),
-        brief: matches.get_flag("brief"),
+/// The number of an option or a word, if it is given; an error, if that is no number.
+fn number_in(matches: &ArgMatches<'_>, name: &str) -> Result<Option<u64>, ()> {
+    match matches.get_str(name) {
+        None => Ok(None),
+        Some(_) => match matches.get_one::<u64>(name) {
+            Some(number) => Ok(Some(number)),
+            None => Err(()),
+        },
     }
 }
 
-/// What a command asks to be done; nothing, where there is no such command.
+/// Which requests a trace is to tell, or why the words are wrong.
+fn choice_of(matches: &ArgMatches<'_>) -> Result<Choice, &'static str> {
+    let Ok(from) = number_in(matches, "from") else {
+        return Err("--from wants a number");
+    };
+    let Ok(to) = number_in(matches, "to") else {
+        return Err("--to wants a number");
+    };
+    match (from, to) {
+        (Some(first), Some(last)) if first > last => Err("--from is beyond --to"),
+        _ => Ok(Choice {
+            alarms: matches.get_flag("alarms"),
+            from,
+            to,
+            brief: matches.get_flag("brief"),
+        }),
+    }
+}
+
+/// What `picture`, `page` or `check` asks to be done; nothing, where there is no such command.
 fn work_of(name: &str, matches: &ArgMatches<'_>) -> Option<Work> {
     match name {
-        "trace" if matches.get_flag("script") => Some(Work::TraceScript(choice_of(matches))),
-        "trace" => Some(Work::Trace(choice_of(matches))),
         "picture" => Some(Work::Picture),
         "page" => Some(Work::Page),
         "check" if matches.get_flag("script") => Some(Work::CheckScript),
@@ -124,14 +144,20 @@ fn alarm_of(matches: &ArgMatches<'_>, option: &str) -> Result<Option<Alarm>, ()>
     }
 }
 
-/// What is asked of all orders; an error, where an alarm is none.
-fn orders_of(matches: &ArgMatches<'_>) -> Result<Options, ()> {
-    Ok(Options {
-        states: matches.get_one::<u64>("states").unwrap_or(STATES),
-        alarm: alarm_of(matches, "alarm")?,
-        through: matches.get_flag("through"),
-        bench: alarm_of(matches, "bench")?,
-    })
+/// What is asked of all orders, or why the words are wrong.
+fn orders_of(matches: &ArgMatches<'_>) -> Result<Options, &'static str> {
+    let Ok(states) = number_in(matches, "states") else {
+        return Err("--states wants a number");
+    };
+    match (alarm_of(matches, "alarm"), alarm_of(matches, "bench")) {
+        (Ok(alarm), Ok(bench)) => Ok(Options {
+            states: states.unwrap_or(STATES),
+            alarm,
+            through: matches.get_flag("through"),
+            bench,
+        }),
+        _ => Err("an alarm is 1201, 1202 or 1203"),
+    }
 }
 
 /// The file that a command names.
@@ -142,29 +168,37 @@ fn file_of<'a>(matches: &ArgMatches<'a>) -> Option<&'a str> {
     }
 }
 
-/// Whether the first request to be told is beyond the last.
-fn is_backwards(work: Work) -> bool {
-    match work {
-        Work::Trace(choice) | Work::TraceScript(choice) => match (choice.from, choice.to) {
-            (Some(from), Some(to)) => from > to,
-            _ => false,
-        },
-        _ => false,
+/// What the words after `trace` ask for.
+fn asked_to_trace<'a>(alloc: Global, given: &ArgMatches<'a>) -> Result<Asked<'a>, Refused> {
+    match choice_of(given) {
+        Ok(choice) => Ok(Asked {
+            task: Task::Work(if given.get_flag("script") {
+                Work::TraceScript(choice)
+            } else {
+                Work::Trace(choice)
+            }),
+            file: file_of(given),
+            has_progress: given.get_flag("progress"),
+        }),
+        Err(reason) => {
+            let mut trace = trace_command(alloc)?.bin_name("agc_watch trace")?;
+            Err(refused_as(&mut trace, reason))
+        }
     }
 }
 
 /// What the words after `explore` ask for.
-fn asked_to_explore<'a>(
-    command: &mut Command<'a>,
-    given: &ArgMatches<'a>,
-) -> Result<Asked<'a>, Refused> {
+fn asked_to_explore<'a>(alloc: Global, given: &ArgMatches<'a>) -> Result<Asked<'a>, Refused> {
     match orders_of(given) {
         Ok(options) => Ok(Asked {
             task: Task::Explore(options),
             file: file_of(given),
             has_progress: true,
         }),
-        Err(()) => Err(refused_as(command, "an alarm is 1201, 1202 or 1203")),
+        Err(reason) => {
+            let mut explore = explore_command(alloc)?.bin_name("agc_watch explore")?;
+            Err(refused_as(&mut explore, reason))
+        }
     }
 }
 
@@ -185,8 +219,12 @@ fn step_and_file<'a>(given: &ArgMatches<'a>) -> Option<(u64, Option<&'a str>)> {
 /// What the words after `sweep` ask for, or why they are wrong.
 fn sweep_of<'a>(given: &ArgMatches<'a>) -> Result<Asked<'a>, &'static str> {
     let key = given.get_str("key").unwrap_or("");
-    let from = given.get_one::<u64>("from").unwrap_or(0);
-    let to = given.get_one::<u64>("to").unwrap_or(0);
+    let Some(from) = given.get_one::<u64>("from") else {
+        return Err("FROM is no number");
+    };
+    let Some(to) = given.get_one::<u64>("to") else {
+        return Err("TO is no number");
+    };
     let csv = given.get_flag("csv");
     match step_and_file(given) {
         None => Err("STEP is no number"),
@@ -265,7 +303,9 @@ fn seconds_of(given: &ArgMatches<'_>, name: &str) -> Result<Option<u64>, ()> {
 
 /// The picture over time that is asked for, if one is, or why the words are wrong.
 fn times_of(given: &ArgMatches<'_>) -> Result<Option<Times>, &'static str> {
-    let width = given.get_one::<u64>("width");
+    let Ok(width) = number_in(given, "width") else {
+        return Err("--width wants a number");
+    };
     let Ok(from) = seconds_of(given, "from") else {
         return Err("--from is seconds, such as 12.5");
     };
@@ -302,7 +342,7 @@ fn asked_to_draw<'a>(
     given: &ArgMatches<'a>,
 ) -> Result<Asked<'a>, Refused> {
     match times_of(given) {
-        Ok(None) => asked_to_work(alloc, command, "picture", given),
+        Ok(None) => asked_to_work(command, "picture", given),
         Ok(Some(times)) => Ok(asked_to_tell(Telling::Picture(times), given)),
         Err(reason) => {
             let mut picture = picture_command(alloc)?.bin_name("agc_watch picture")?;
@@ -313,16 +353,11 @@ fn asked_to_draw<'a>(
 
 /// What a command asks for that works on its input.
 fn asked_to_work<'a>(
-    alloc: Global,
     command: &mut Command<'a>,
     name: &str,
     given: &ArgMatches<'a>,
 ) -> Result<Asked<'a>, Refused> {
     match work_of(name, given) {
-        Some(work) if is_backwards(work) => {
-            let mut trace = trace_command(alloc)?.bin_name("agc_watch trace")?;
-            Err(refused_as(&mut trace, "--from is beyond --to"))
-        }
         Some(work) => Ok(Asked {
             task: Task::Work(work),
             file: file_of(given),
@@ -351,8 +386,9 @@ fn asked_by<'a>(
         return Err(refused_as(command, "a command is missing"));
     };
     match name {
+        "trace" => asked_to_trace(alloc, given),
         "picture" => asked_to_draw(alloc, command, given),
-        "explore" => asked_to_explore(command, given),
+        "explore" => asked_to_explore(alloc, given),
         "bench" => Ok(asked_to_tell(Telling::Bench, given)),
         "peaks" => Ok(asked_to_tell(Telling::Peaks, given)),
         "play" => Ok(Asked {
@@ -361,7 +397,7 @@ fn asked_by<'a>(
             has_progress: false,
         }),
         "sweep" => sweep_of(given).map_err(|reason| refused_sweep(alloc, reason)),
-        _ => asked_to_work(alloc, command, name, given),
+        _ => asked_to_work(command, name, given),
     }
 }
 
