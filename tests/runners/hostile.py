@@ -1,7 +1,7 @@
 """Runs the built programs where memory, reads and writes fail, and agc on benches with faults in them.
 
     tests/run hostile           all of it
-    tests/run hostile PART ..   the parts named: growths, reads, writes, ends, texts, benches, many,
+    tests/run hostile PART ..   the parts named: growths, reads, writes, ends, texts, benches, scenarios, many,
                                 starter, progress and play of commands.py, orders of orders.py, and release of
                                 releases.py
 
@@ -11,6 +11,7 @@ at a time. What has to come of it is said beside each part. A run that ends othe
 """
 import os
 import random
+import re
 import resource
 import subprocess
 import tempfile
@@ -25,7 +26,7 @@ FAILING = f"{TOP}/tests/hostile/failing.c"
 PROGRAMS = {name: f"{TOP}/crates/{name}/out/{name}" for name in ("agc", "agc_watch")}
 
 # By these words agc_watch is run, by all others agc.
-WATCHED = {"trace", "picture", "page", "check", "explore", "--help", "--version"}
+WATCHED = {"trace", "picture", "page", "check", "explore", "bench", "peaks", "sweep", "--help", "--version"}
 
 SECONDS = 120
 
@@ -52,6 +53,42 @@ job = "findvac 20 04100 00007"
 task = "list 100 04000 00007"
 """ % (b", ".join([b'"77777", "00000"'] * 6), b", ".join([b'"list 5 02000 00005"'] * 10))
 
+# Jobs and a task that take time, of which some is stolen; the sixth VAC area is one too many.
+SCENARIO = b"""title = "Names & more"
+seconds = 1
+steal = [{ from = 0, to = 50, percent = 90 }]
+[[job]]
+name = "SERVICER"
+at = "04000"
+cost = 3
+then = "sleep 04100"
+[[task]]
+name = "READACCS"
+at = "02000"
+bank = "00005"
+action = ["findvac 20 04000 00007", "list 9 02000 00005"]
+[[phase]]
+name = "descent"
+group = 5
+phase = 1
+task = "list 20 02000 00005"
+[[event]]
+name = "begin"
+at = 0
+do = ["phase 5 1", "list 1 02000 00005"]
+[[event]]
+at = 2
+every = 40
+do = "rouse 04100"
+"""
+
+# What scenarios are run by; a word may have others behind it. A page is as long for each document, and a bench's is
+# written in parts already.
+SCENARIO_WORDS = ("trace --brief", "picture --time", "check", "bench", "peaks", "sweep steal 0 100 50")
+
+# Of these a scenario takes memory for a machine once more when something was written.
+FRONTS = {"trace", "bench", "sweep"}
+
 # Workers and devices of which each order leaves the same words and totals.
 THREADS = BENCH + b"""
 [[worker]]
@@ -65,7 +102,7 @@ pulses = 20
 
 
 def program_of(word):
-    return "agc_watch" if word in WATCHED else "agc"
+    return "agc_watch" if word.split()[0] in WATCHED else "agc"
 
 
 def told(word, ran):
@@ -82,7 +119,7 @@ class Ended:
         counts = os.path.join(room, "counts")
         given = {name.upper(): str(value) for name, value in settings.items()}
         under = {**os.environ, "LD_PRELOAD": os.path.join(room, "failing.so"), "COUNTS": counts, **given}
-        called = [PROGRAMS[program_of(word)], word, *words]
+        called = [PROGRAMS[program_of(word)], *word.split(), *words]
         ran = subprocess.run(called, input=text, capture_output=True, timeout=SECONDS, env=under, check=False)
         self.said = told(word, ran)
         self.text, self.status = ran.stdout, ran.returncode
@@ -111,6 +148,7 @@ class Hostile:
 def words(hostile):
     """Each way to run the program, its input, and the whole text that comes of it."""
     watched = [(word, BENCH) for word in ("trace", "picture", "page", "check")]
+    watched += [(word, SCENARIO) for word in SCENARIO_WORDS]
     for word, text in (("script", SCRIPT), ("serial", BENCH), ("threads", THREADS), *watched):
         whole = hostile.run(word, text)
         hostile.expect(f"{word} with nothing refused", whole.said == DONE and whole.text, whole)
@@ -118,14 +156,16 @@ def words(hostile):
 
 
 def growths(hostile):
-    """A run of which one growth is refused says so, and has written nothing. Before it reads, the program takes memory
-    for the command line, some of which it can do without: then the run goes on as if nothing was refused."""
+    """A run of which one growth is refused says so, and has written nothing, or what it writes of a scenario before it
+    takes memory again. Before it reads, the program takes memory for the command line, some of which it can do
+    without: then the run goes on as if nothing was refused."""
     for word, text, whole in words(hostile):
         refusals = {NO_MEMORY, NO_THREAD} if word == "threads" else {NO_MEMORY}
         spared = 0
         for k in range(1, whole.growths + 1):
             ended = hostile.run(word, text, fail_growth=k)
-            is_told = ended.said in refusals and not ended.text
+            is_front = text == SCENARIO and word.split()[0] in FRONTS and whole.text.startswith(ended.text)
+            is_told = ended.said in refusals and (not ended.text or is_front)
             is_spared = k <= whole.before_input and ended.said == DONE and ended.text == whole.text
             spared += is_spared
             hostile.expect(f"{word}, growth {k}", is_told or is_spared, ended)
@@ -156,7 +196,7 @@ def writes(hostile):
         singly = hostile.run(word, text, most_written=1)
         whole = singly.text
         hostile.expect(f"{word}, one byte a write", singly.said == DONE and singly.writes == len(whole), singly)
-        for k in (*range(1, 60), *range(60, singly.writes, 37), singly.writes):
+        for k in (*range(1, min(60, singly.writes)), *range(60, singly.writes, 37), singly.writes):
             ended = hostile.run(word, text, most_written=1, fail_write=k)
             hostile.expect(f"{word}, write {k}", ended.said == OUTPUT and whole.startswith(ended.text), ended)
         ended = hostile.run(word, text, most_written=0)
@@ -217,7 +257,7 @@ def said_by(hostile, word, text, **settings):
     settings.setdefault("stdout", subprocess.PIPE)
     if text is not None:
         settings["input"] = text
-    called = [PROGRAMS[program_of(word)], word]
+    called = [PROGRAMS[program_of(word)], *word.split()]
     ran = subprocess.run(called, stderr=subprocess.PIPE, timeout=SECONDS, check=False, **settings)
     return told(word, ran)
 
@@ -235,6 +275,22 @@ def benches(hostile):
         seen[said] = seen.get(said, 0) + 1
         hostile.expect(f"bench {number} of 500 ends in {said}", said in wanted)
     hostile.expect("all benches end alike", len(seen) > 3)
+
+
+def scenarios(hostile):
+    """Each of 300 scenarios, made of those here by seeded changes, is run, or is told what is wrong and has a fault."""
+    examples = sorted(name for name in os.listdir(f"{TOP}/examples") if name.endswith(".toml"))
+    texts = [it for it in (read(f"{TOP}/examples/{name}") for name in examples) if is_scenario(it)]
+    dice = random.Random(1107)
+    wanted = {DONE} | {(1, f"agc: {fault}\n".encode()) for fault in FAULTS}
+    seen = {}
+    for number in range(300):
+        text = changed(dice.choice([*texts, SCENARIO.decode()]), dice)
+        status, lines = said_by(hostile, "peaks", text.encode())
+        said = status, re.sub(rb"(?s)^agc: .*\nagc_watch: (?=[^\n]*\n$)", b"agc: ", lines)
+        seen[said] = seen.get(said, 0) + 1
+        hostile.expect(f"scenario {number} of 300 ends in {said}", said in wanted)
+    hostile.expect("all scenarios end alike", len(seen) > 3)
 
 
 def changed(text, dice):
@@ -261,7 +317,8 @@ def read(path):
         return file.read()
 
 
-PARTS = {it.__name__: it for it in (growths, reads, writes, ends, texts, benches, orders, many, starter, progress, play, release)}
+RUNS = (growths, reads, writes, ends, texts, benches, scenarios, orders, many, starter, progress, play, release)
+PARTS = {it.__name__: it for it in RUNS}
 
 
 def add_words(parser):
