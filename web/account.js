@@ -9,13 +9,13 @@
  */
 import { Kind } from "../libagc/js/machine.js";
 import { LOG_FULL, SPENT } from "./run.js";
-import { octal, seconds } from "./words.js";
+import { counted, octal, seconds, visible } from "./words.js";
 
 /** What is full at each alarm, and where that table is. */
 const TABLES = {
-  0o1201: { text: "all five VAC areas are owned", part: "areas" },
-  0o1202: { text: "a job is in each core set", part: "sets" },
-  0o1203: { text: "nine tasks wait", part: "tasks" },
+  0o1201: { text: "All five VAC areas are owned", part: "areas" },
+  0o1202: { text: "A job is in each core set", part: "sets" },
+  0o1203: { text: "Nine tasks wait", part: "tasks" },
 };
 
 /** What names a bench has for its addresses. */
@@ -25,7 +25,7 @@ export class Names {
     /** @type {Map<string, string>} */
     this.all = new Map();
     for (const it of [...bench.task, ...bench.job]) {
-      if (it.name !== undefined) this.all.set(it.at, it.name);
+      if (it.name !== undefined) this.all.set(it.at, visible(it.name));
     }
   }
 
@@ -107,6 +107,21 @@ function holders(run, { step, scene, jobsSince, tasksSince }, names) {
 }
 
 /**
+ * How many jobs began and ended in the era that an alarm ends, and whether time was left.
+ * @param {import("./run.js").Run} run
+ * @param {Shown} shown
+ * @returns {Piece[]}
+ */
+function balance(run, { row, era, begun, ended, step }) {
+  if (step === null || step.number === 0o1203) return [];
+  const since = era === 0 ? "the beginning" : `the restart of request ${era}`;
+  const jobs = `${counted(begun, "job")} began and ${ended} ended`;
+  const idle = run.bench.seconds === undefined ? ""
+    : `, and the computer was idle ${run.idlePercent(era, row)} % of the time`;
+  return [` Since ${since} ${jobs}${idle}.`];
+}
+
+/**
  * What begins again with an era.
  * @param {import("./run.js").Scene} after
  * @param {Names} names
@@ -176,9 +191,10 @@ function accountOfAlarm(run, shown, names) {
   const number = /** @type {1} */ (shown.step?.number ?? 0);
   const table = TABLES[/** @type {keyof typeof TABLES} */ (/** @type {unknown} */ (number))];
   const lines = [
-    [{ text: `${table.text[0].toUpperCase()}${table.text.slice(1)}`, part: table.part }, ":"],
-    ...holders(run, shown, names),
+    [{ text: table.text, part: table.part }, ".", ...balance(run, shown)],
     ...raisedBy(run, shown, names),
+    [number === 0o1203 ? "These wait:" : "These hold them:"],
+    ...holders(run, shown, names),
     ...(shown.after === null ? [] : beginsAgain(shown.after, names)),
   ];
   return { heading: `Alarm ${octal(number, 4)}: why`, lines, isAlarm: true };

@@ -296,6 +296,19 @@ export function* requestsOf(bench) {
   }
 }
 
+/**
+ * How many requests a bench asks for.
+ * @param {Bench} bench
+ */
+export function countOf({ script, worker, device, key, radar }) {
+  const pulses = device.map((it) => {
+    const asked = it.line === "timer" ? ["tick"] : it.line === "key" ? key : radar;
+    return it.pulses * asked.filter((one) => one !== "nothing").length;
+  });
+  return [script.length, ...worker.map((it) => it.script.length), ...pulses]
+    .reduce((sum, it) => sum + it, 0);
+}
+
 /** @param {string} given */
 function quoted(given) {
   return `"${given.replace(/[\\"]/g, "\\$&")}"`;

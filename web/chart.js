@@ -169,7 +169,7 @@ export function drawStrip(strip, at) {
  */
 function drawAlarms(pen, strip, wide, high, colour) {
   pen.fillStyle = colour;
-  const tall = Math.round(0.7 * parseFloat(getComputedStyle(document.documentElement).fontSize));
+  const tall = Math.round(0.85 * parseFloat(getComputedStyle(document.documentElement).fontSize));
   pen.font = `bold ${tall}px system-ui, sans-serif`;
   let free = -99;
   for (const row of strip.run.alarms) {

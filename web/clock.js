@@ -6,7 +6,7 @@ import { Clock } from "../libagc/js/machine.js";
 import { writeBench } from "./bench.js";
 import { button, by, fill, make } from "./dom.js";
 import { MOST_ROWS, Run } from "./run.js";
-import { seconds } from "./words.js";
+import { seconds, visible } from "./words.js";
 
 /** How many times real time, and which is chosen first. */
 const SPEEDS = [0.1, 0.2, 0.5, 1, 2, 5, 10, 20, 50, 100];
@@ -36,6 +36,8 @@ export class ClockPanel {
     this.target = 0;
     /** The run that is being filled up to its end, a stretch at a time. */
     this.filled = null;
+    /** The slider that was moved last, and the run and the row that have been shown since. */
+    this.moved = { slider: "", run: /** @type {Run | null} */ (null), at: 0 };
     fill("speed", SPEEDS.map((it) => make("option", { value: String(it) }, `${it} ×`)));
     by("speed").value = "1";
   }
@@ -51,10 +53,7 @@ export class ClockPanel {
     const run = new Run(bench);
     run.head.clock = clockOf(bench);
     run.checkpoints = [run.head.copy()];
-    for (const [line, who] of requests) {
-      if (run.count >= MOST_ROWS) break;
-      run.ask(line, who);
-    }
+    for (const [line, who] of requests) run.ask(line, who);
     if (bench.seconds !== undefined) this.fill(run);
     return run;
   }
@@ -105,7 +104,8 @@ export class ClockPanel {
     const request = run.head.clock.next(run.head.machine);
     if (request === null) return false;
     const event = request.event === null ? undefined : run.bench.event[request.event];
-    const who = event === undefined ? "the clock" : `event ${event.name ?? request.event + 1}`;
+    const who = event === undefined ? "the clock"
+      : `event ${visible(event.name ?? String(request.event + 1))}`;
     return run.ask(request.text, who) !== null;
   }
 
@@ -276,24 +276,50 @@ export class ClockPanel {
   }
 
   /**
-   * Goes on from the row that is shown with other numbers.
+   * Goes on with other numbers: from the row that is shown, or a scenario from its beginning. A
+   * slider that is moved on, after nothing else, changes what it changed before.
    * @param {any} given
+   * @param {boolean} isWhole
+   * @param {string} slider
    */
-  change(given) {
+  change(given, isWhole = this.isWhole, slider = "") {
     this.pause();
+    const { history } = this.workbench;
+    const { moved } = this;
+    const { run, at } = history.now;
+    const isMoved = moved.slider === slider && moved.run === run && moved.at === at;
+    if (slider !== "" && isMoved) history.undo();
+    else {
+      this.workbench.keepOutcome();
+      const what = { steal: "stolen time was changed", job: "a cost was changed",
+        event: "an event was left out" };
+      history.keep(`as ${what[/** @type {keyof typeof what} */ (Object.keys(given)[0])]}`);
+    }
+    this.goOnWith(given, isWhole);
+    this.moved = { slider, run: history.now.run, at: history.now.at };
+  }
+
+  /**
+   * @param {any} given
+   * @param {boolean} isWhole
+   */
+  goOnWith(given, isWhole) {
     const { workbench } = this;
     const { history } = workbench;
-    const { at, count, run: old } = workbench.view;
-    workbench.keepOutcome();
-    const what = { steal: "stolen time was changed", job: "a cost was changed",
-      event: "an event was left out" };
-    history.keep(`as ${what[/** @type {keyof typeof what} */ (Object.keys(given)[0])]}`);
-    const run = old.fork(at);
-    run.change(this.sinceThen(run, at, given), given);
+    const { at, run: old } = workbench.view;
+    const from = isWhole ? 0 : at;
+    const run = old.fork(from);
+    run.change(this.sinceThen(run, from, given), given);
     if (run.bench.seconds !== undefined) this.fill(run);
-    history.show({ run, count: run.count, at });
-    if (count === 0 || at === 0) history.now.at = 0;
+    const shown = isWhole ? run.rowAtTime(old.ticksAt(at), run.count) : at;
+    history.show({ run, count: run.count, at: shown });
     workbench.drawAll();
+    by("outcome").scrollIntoView({ block: "nearest" });
+  }
+
+  /** Whether what is changed holds from the beginning of a scenario. */
+  get isWhole() {
+    return by("whole").checked && this.workbench.view.run.bench.seconds !== undefined;
   }
 
   /**
@@ -321,18 +347,32 @@ export class ClockPanel {
     const now = typeof steal === "number" ? steal : steal.at(-1)?.percent ?? 0;
     const costs = job.map((it, k) => {
       const most = Math.max(400, 2 * it.cost);
-      return this.slider(it.name ?? it.at, it.cost, 1, most, "cs", (cost) =>
+      return this.slider(visible(it.name ?? it.at), it.cost, 1, most, "cs", (cost) =>
         ({ job: job.map((one, n) => (n === k ? { ...one, cost } : one)) }));
     });
     const stolen = this.slider("Stolen time", now, 0, 100, "%", (value) => ({ steal: value }));
     const rows = [stolen, ...costs];
-    if (!this.isRunning || this.drawnFor !== run) fill("sliders", rows);
+    if (!this.isRunning || this.drawnFor !== run) this.drawSliders(rows);
     this.drawnFor = run;
     const named = event.filter((it) => it.name !== undefined);
     by("events").hidden = named.length === 0;
-    fill("events", named.map((it) => button(it.name ?? "", () => {
-      for (const line of it.do) this.workbench.ask(line, `you: ${it.name}`);
-    }, { title: it.do.join(", ") })));
+    fill("events", named.map((it) => {
+      const name = visible(it.name ?? "");
+      return button(name, () => {
+        for (const line of it.do) this.workbench.ask(line, `you: ${name}`);
+      }, { title: it.do.join(", ") });
+    }));
+  }
+
+  /**
+   * Exchanges the sliders: the one that has the focus keeps it.
+   * @param {HTMLElement[]} rows
+   */
+  drawSliders(rows) {
+    const old = [...by("sliders").children];
+    const place = old.findIndex((it) => it.contains(document.activeElement));
+    fill("sliders", rows);
+    rows[place]?.querySelector("input")?.focus();
   }
 
   /**
@@ -352,7 +392,8 @@ export class ClockPanel {
       output.textContent = `${field.value} ${unit}`;
       field.setAttribute("aria-valuetext", `${field.value} ${unit}`);
     });
-    field.addEventListener("change", () => this.change(given(Number(field.value))));
+    field.addEventListener("change", () =>
+      this.change(given(Number(field.value)), this.isWhole, name));
     return make("label", {}, name, field, output);
   }
 }

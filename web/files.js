@@ -125,7 +125,8 @@ export function openOpening(open) {
   file.addEventListener("change", async () => {
     if (file.files.length === 1) open(await file.files[0].text(), file.files[0].name);
   });
-  const area = make("textarea", { id: "pasted", spellcheck: false, "aria-label": "A document" });
+  const area = make("textarea", { id: "pasted", spellcheck: false, "aria-label": "A document",
+    maxLength: MOST_BYTES + 1 });
   const paste = () => open(area.value, "what was pasted");
   const pasted = button("Open it", paste, { id: "open-pasted" });
   const begin = () => open("", "an empty bench");
@@ -172,14 +173,14 @@ export function questionOf(document) {
 /**
  * Opens the dialog of the examples and exercises.
  * @param {{ kind: string, name: string, text: string }[]} kept
- * @param {(text: string, name: string, question: string) => void} open
+ * @param {(name: string) => void} open
  */
 export function openExamples(kept, open) {
   const listOf = (/** @type {string} */ kind) => {
     const choices = kept.filter((it) => it.kind === kind).map((it) => {
-      const question = kind === "exercise" ? questionOf(it.text) : "";
-      const told = question === "" ? firstSentence(it.text) : question.split("\n")[0];
-      return make("li", {}, button(it.name, () => open(it.text, it.name, question)), " ", told);
+      const told = kind === "exercise" ? questionOf(it.text).split("\n")[0]
+        : firstSentence(it.text);
+      return make("li", {}, button(it.name, () => open(it.name)), " ", told);
     });
     return make("ul", { class: "choices", "aria-label": `${kind}s` }, ...choices);
   };

@@ -1,5 +1,6 @@
 /** What the help says. */
 import { make } from "./dom.js";
+import { MEANINGS, PARTS, REQUESTS, formOf } from "./words.js";
 
 const KEYS = [
   ["← →", "the row before, the next row"], ["Home End", "the first row, the last"],
@@ -9,10 +10,29 @@ const KEYS = [
   ["u r", "undo, redo"], ["o e p s", "open, examples, plan, save"], ["?", "this help"],
 ];
 
+const TABLES = [
+  ["Core sets", "each job that is alive holds one of these blocks of memory; the running job is in "
+    + "set 0"],
+  ["VAC areas", "a job that findvac establishes also holds one of these"],
+  ["Waitlist", "tasks: short programs that begin at a set time, and may establish jobs"],
+  ["Phases", "what each of six restart groups begins again with after an alarm"],
+  ["FAILREG", "the codes of alarms: the first, the second and the latest"],
+  ["NEWJOB", "the job that is more urgent than the running one, if any"],
+];
+
+/**
+ * Words and what they mean.
+ * @param {string[][]} rows
+ * @param {(word: string) => any[]} told
+ */
+function listOf(rows, told) {
+  return make("dl", { class: "keys" }, ...rows.flatMap(([word, what]) =>
+    [make("dt", {}, ...told(word)), make("dd", {}, what)]));
+}
+
 export function HELP() {
-  const keys = make("dl", { class: "keys" }, ...KEYS.flatMap(([key, what]) => [
-    make("dt", {}, ...key.split(" ").flatMap((it) => [make("kbd", {}, it), " "])),
-    make("dd", {}, what)]));
+  const keys = listOf(KEYS, (it) => it.split(" ").flatMap((key) => [make("kbd", {}, key), " "]));
+  const requests = REQUESTS.map((it) => [formOf(it), MEANINGS.get(it) ?? ""]);
   return [
     make("p", {}, "This page runs the proved job tables of the Apollo Guidance Computer: the "
       + "Executive's jobs, the Waitlist's tasks and the phases of the restart. Type a request, or "
@@ -22,9 +42,12 @@ export function HELP() {
       + "before. Colours are the jobs' numbers."),
     make("p", {}, "The clock lets centiseconds pass: jobs with a cost end when they have had it, "
       + "and stolen time is taken away from them. The numbers can be changed while it runs."),
-    make("h3", {}, "Keys"), keys,
     make("p", {}, "An alarm comes when one more is asked for and the table is full: 1201 areas, "
       + "1202 core sets, 1203 the Waitlist. Then all jobs and tasks are gone, and the phases say "
       + "what begins again."),
+    make("h3", {}, "Tables"), listOf(TABLES, (it) => [it]),
+    make("h3", {}, "Keys"), keys,
+    make("h3", {}, "Requests"), listOf(requests, (it) => [make("code", {}, it)]),
+    make("p", {}, Object.values(PARTS).map((it) => `${it.name}: ${it.sentence}`).join("; ") + "."),
   ];
 }

@@ -6,8 +6,10 @@
  * @typedef {{ run: Run, count: number, at: number }} View
  */
 
-/** The most steps that are kept to be undone. */
+/** The most steps that are kept to be undone, branches, and rows that all of these have. */
 const MOST_KEPT = 200;
+const MOST_BRANCHES = 50;
+const MOST_ROWS = 4_000_000;
 
 export class History {
   /** @param {View} view */
@@ -28,9 +30,25 @@ export class History {
    */
   show(view) {
     this.done.push(this.now);
-    if (this.done.length > MOST_KEPT) this.done.shift();
     this.undone = [];
     this.now = view;
+    this.forget();
+  }
+
+  /** How many rows the runs have that are kept. */
+  get rows() {
+    const runs = new Set([...this.done, ...this.branches].map((it) => it.run));
+    return [...runs].reduce((sum, it) => sum + it.count, 0);
+  }
+
+  /** Forgets what is oldest, where there is too much of it. */
+  forget() {
+    if (this.done.length > MOST_KEPT) this.done.shift();
+    if (this.branches.length > MOST_BRANCHES) this.branches.shift();
+    while (this.done.length + this.branches.length > 1 && this.rows > MOST_ROWS) {
+      if (this.branches.length > this.done.length) this.branches.shift();
+      else this.done.shift();
+    }
   }
 
   /** Whether something was undone. */

@@ -1,7 +1,7 @@
 /** The workbench: what its controls do. */
 import { start } from "../libagc/js/machine.js";
 import { Names, accountOf, sentenceOf } from "./account.js";
-import { emptyBench, readBench, requestsOf } from "./bench.js";
+import { countOf, emptyBench, readBench, requestsOf } from "./bench.js";
 import { Strip, drawLegend, drawStrip, outcomeOf } from "./chart.js";
 import { ClockPanel } from "./clock.js";
 import { button, by, closeDialog, fill, make, openDialog } from "./dom.js";
@@ -10,12 +10,12 @@ import { drawCommon } from "./forms.js";
 import { History, parting } from "./history.js";
 import { drawList, drawPrinted } from "./list.js";
 import { openPlan } from "./plan.js";
-import { Run } from "./run.js";
+import { MOST_ASKED, Run } from "./run.js";
 import { HELP } from "./help.js";
 import { drawSets, drawTables, drawWords } from "./tables.js";
 import { Prompt, completions } from "./typing.js";
 import { tries } from "./tries.js";
-import { counted, seconds } from "./words.js";
+import { counted, seconds, visible } from "./words.js";
 
 /** How many points wide the pictures of the strip are computed for. */
 const STRIP_WIDE = 1200;
@@ -70,8 +70,8 @@ class Workbench {
     }
     this.document = text;
     this.opened = this.view.run;
-    this.about = question === "" ? files.questionOf(text).replaceAll("\n", " ") : "";
-    this.hide(question);
+    this.about = question === "" ? visible(files.questionOf(text)).replaceAll("\n", " ") : "";
+    this.hide(visible(question));
     closeDialog();
     return true;
   }
@@ -93,9 +93,10 @@ class Workbench {
 
   /** @param {string} said */
   tellFault(said) {
+    const text = visible(said);
     const place = by("dialog").open ? document.getElementById("open-fault") : null;
-    if (place !== null) place.textContent = said;
-    else openDialog("This isn't a bench or a scenario", [make("p", { class: "wrong" }, said)]);
+    if (place !== null) place.textContent = text;
+    else openDialog("It isn't opened", [make("p", { class: "wrong", id: "fault" }, text)]);
   }
 
   /**
@@ -104,8 +105,13 @@ class Workbench {
    * @param {string} name
    */
   begin(bench, name) {
+    const count = countOf(bench);
+    if (count > MOST_ASKED) {
+      throw new Error(`It asks for ${counted(count, "request")}; this page takes at most `
+        + `${counted(MOST_ASKED, "request")}.`);
+    }
     const run = this.clock.runOf(bench, requestsOf(bench));
-    this.title = bench.title ?? name;
+    this.title = visible(bench.title ?? name);
     this.names = new Names(bench);
     this.beside = null;
     this.outcome = "";
@@ -198,9 +204,11 @@ class Workbench {
     by("slider").setAttribute("aria-valuetext", `request ${at} of ${count}`);
     by("sentence").textContent = sentenceOf(shown, count, this.names);
     by("sentence").className = shown.reply.includes("alarm") ? "alarm" : "";
-    const from = run.ticksAt(at) > 0 ? seconds(run.ticksAt(at)) : at > 0 ? `request ${at}`
-      : "the beginning";
+    const isWhole = at === 0 || this.clock.isWhole;
+    const from = isWhole ? "the beginning" : run.ticksAt(at) > 0 ? seconds(run.ticksAt(at))
+      : `request ${at}`;
     by("since").textContent = `A change here holds from ${from} on.`;
+    by("whole-box").hidden = run.bench.seconds === undefined;
     by("undo").disabled = this.history.done.length === 0;
     by("redo").disabled = this.history.undone.length === 0;
     by("alarm-next").disabled = this.isHidden;
@@ -364,8 +372,7 @@ class Workbench {
       ...{ undo: () => this.undo(), redo: () => this.redo(), plan: () => this.openPlan() },
       save: () => this.openSave(),
       open: () => files.openOpening((text, name) => this.open(text, name)),
-      examples: () => files.openExamples(this.kept, (text, name, question) =>
-        this.open(text, name, question)),
+      examples: () => files.openExamples(this.kept, (name) => this.openKept(name)),
       help: () => openDialog("Help", HELP()),
       ...this.clock.actions(),
     };
@@ -381,6 +388,7 @@ class Workbench {
       if (!by("dialog").open) fill("dialog-body", []);
     });
     by("slider").addEventListener("input", () => this.go(Number(by("slider").value)));
+    by("whole").addEventListener("change", () => this.drawRow());
     by("go").addEventListener("keydown", (/** @type {KeyboardEvent} */ event) => {
       if (event.key === "Enter") this.goTyped();
     });
@@ -404,7 +412,7 @@ class Workbench {
   key(event) {
     const on = /** @type {HTMLElement} */ (event.target);
     if (by("dialog").open) return;
-    const isTyped = on.matches("input:not([type=range]), textarea, select");
+    const isTyped = on.matches("input:not(#slider), textarea, select");
     const isPressed = on.matches("button, a, summary") && [" ", "Enter"].includes(event.key);
     const isControl = event.ctrlKey || event.metaKey;
     if (isTyped || isPressed || event.altKey || (isControl && event.key !== "z")) return;
@@ -422,14 +430,23 @@ class Workbench {
     event.preventDefault();
   }
 
+  /**
+   * Opens an example or an exercise, if there is one of this name.
+   * @param {string} name
+   */
+  openKept(name) {
+    const kept = this.kept.find((it) => it.name === name);
+    if (kept === undefined) return false;
+    const question = kept.kind === "exercise" ? files.questionOf(kept.text) : "";
+    return this.open(kept.text, kept.name, question);
+  }
+
   /** Opens the part of the link after `#`: a request's number, an example, an exercise, a document. */
   async fromAddress() {
     const mark = location.hash;
-    const kept = this.kept.find((it) => `#${it.name}` === mark);
     if (/^#[0-9]+$/.test(mark)) this.go(Number(mark.slice(1)));
-    else if (kept !== undefined) {
-      this.open(kept.text, kept.name, kept.kind === "exercise" ? files.questionOf(kept.text) : "");
-    } else if (mark.startsWith("#bench=")) {
+    else if (this.openKept(mark.slice(1))) return;
+    else if (mark.startsWith("#bench=")) {
       const text = await files.documentOf(mark).catch(() => null);
       if (text === null) this.say("The part of the link after # can't be read.");
       else this.open(text, files.firstSentence(text) || "From a link");

@@ -9,15 +9,16 @@
  * @typedef {{ row: number, line: string, who: string, reply: string, kind: number,
  *   step: StepType | null, scene: Scene, words: Uint16Array, jobsSince: number[],
  *   tasksSince: number[], before: Scene | null, after: Scene | null, ticks: number, time: number,
- *   afterSince: number[] }} Shown
+ *   afterSince: number[], era: number, begun: number, ended: number }} Shown
  */
 import { Kind, Machine, sceneOf } from "../libagc/js/machine.js";
 
 /** How many rows lie between two checkpoints. */
 const APART = 256;
 
-/** How many rows a run has at most. */
-export const MOST_ROWS = 8_000_000;
+/** How many rows a run has at most, and how many a bench may ask for. */
+export const MOST_ROWS = 4_000_000;
+export const MOST_ASKED = 1_000_000;
 
 /**
  * Each line that was asked, once: a run of many requests has few different lines.
@@ -76,6 +77,9 @@ class Witness {
     this.running = 0;
     /** How many sets, areas and tasks are used, and whether no job is running: four bits each. */
     this.use = 0;
+    /** How many jobs of this era have begun, and how many are gone. */
+    this.begun = 0;
+    this.ended = 0;
     /** How many ticks were served, requests served, and requests in the log. */
     this.now = 0;
     this.served = 0;
@@ -112,8 +116,12 @@ class Witness {
       }
     }
     const fresh = beginsEra ? living : living & ~this.living;
-    for (let job = 1; fresh !== 0 && job <= 8; job++) {
+    const gone = beginsEra ? 0 : this.living & ~living;
+    if (beginsEra) [this.begun, this.ended] = [0, 0];
+    for (let job = 1; (fresh | gone) !== 0 && job <= 8; job++) {
       if ((fresh >> job) & 1) this.born[job] = 2 * row + (beginsEra ? 1 : 0);
+      this.begun += (fresh >> job) & 1;
+      this.ended += (gone >> job) & 1;
     }
     if (movesTasks) this.tasks = this.tasksIn(waiting(words), row, beginsEra);
     this.living = living;
@@ -378,6 +386,22 @@ export class Run {
   }
 
   /**
+   * Of the ticks of these rows, in how many percent no job was running.
+   * @param {number} from
+   * @param {number} to
+   */
+  idlePercent(from, to) {
+    const { ticks, uses } = this.columns;
+    let [count, idle] = [0, 0];
+    for (let row = from + 1; row <= to; row++) {
+      if (ticks.items[row] === ticks.items[row - 1]) continue;
+      count += 1;
+      idle += uses.items[row - 1] >> 12;
+    }
+    return count === 0 ? 0 : Math.round((100 * idle) / count);
+  }
+
+  /**
    * How much of each table is used after a row.
    * @param {number} row
    */
@@ -430,6 +454,7 @@ export class Run {
       ...{ kind: Kind.RESTARTED, step: null, scene, words: state.machine.words },
       ...{ jobsSince: scene.sets.map(() => 1), tasksSince: scene.tasks.map(() => 1) },
       ...{ before: null, after: null, ticks: 0, time: 0, afterSince: [] },
+      ...{ era: 0, begun: state.begun, ended: state.ended },
     };
   }
 
@@ -443,7 +468,7 @@ export class Run {
     const line = this.lines[row];
     const kind = this.columns.kinds.items[row];
     const before = state.machine.scene();
-    const { living, eraTicks } = state;
+    const { living, era, eraTicks, begun, ended } = state;
     const born = state.born.slice();
     const isServed = kind < SPENT;
     const older = isServed ? Object.assign(Object.create(Witness.prototype), state) : state;
@@ -453,6 +478,7 @@ export class Run {
     const scene = sceneOf(words);
     const tasks = older.tasksIn(scene.tasks, row, false);
     const after = step !== null && step.beginsEra ? state.machine.scene() : null;
+    const fresh = scene.sets.filter((job) => job !== null && ((living >> job.number) & 1) === 0);
     return {
       ...{ row, line, kind, step, scene, words, before, after },
       who: this.whoAsked(row),
@@ -463,6 +489,7 @@ export class Run {
       ticks: state.now,
       time: state.now - eraTicks,
       afterSince: after === null ? [] : after.sets.map(() => 2 * row + 1),
+      ...{ era, begun: begun + fresh.length, ended },
     };
   }
 }

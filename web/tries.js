@@ -5,6 +5,7 @@
  * @typedef {[string, () => void]} Try
  * @typedef {import("./run.js").Shown} Shown
  */
+import { visible } from "./words.js";
 
 /** How many events may be left out. */
 const MOST_EVENTS = 2;
@@ -17,7 +18,10 @@ const MOST_EVENTS = 2;
 function atBeginning(workbench, shown) {
   const { run, count } = workbench.view;
   const actions = workbench.actions();
-  if (count === 0) return [["Open an example", actions.examples], ["Help", actions.help]];
+  if (count === 0) {
+    return [["A landing with alarm 1202", () => workbench.openKept("landing-1202")],
+      ["Open an example", actions.examples], ["Help", actions.help]];
+  }
   const alarm = run.alarms.find((/** @type {number} */ row) => row > shown.row && row <= count);
   return alarm === undefined ? [] : [["To the first alarm", () => workbench.go(alarm)]];
 }
@@ -30,13 +34,7 @@ function atBeginning(workbench, shown) {
  * @returns {Try}
  */
 function fromBeginning(workbench, name, given) {
-  return [name, () => {
-    const ticks = workbench.view.run.ticksAt(workbench.view.at);
-    workbench.go(0);
-    workbench.clock.change(given);
-    const { run, count } = workbench.view;
-    workbench.go(run.rowAtTime(ticks, count));
-  }];
+  return [name, () => workbench.clock.change(given, true)];
 }
 
 /**
@@ -61,7 +59,7 @@ function atAlarm(workbench, shown) {
   const later = bench.event.filter((/** @type {any} */ it) => it.name !== undefined && it.at > 0);
   for (const it of later.slice(0, MOST_EVENTS)) {
     const event = bench.event.filter((/** @type {any} */ other) => other !== it);
-    found.push(fromBeginning(workbench, `Without ${it.name}?`, { event }));
+    found.push(fromBeginning(workbench, `Without ${visible(it.name)}?`, { event }));
   }
   return found;
 }

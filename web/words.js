@@ -182,6 +182,14 @@ export function wordName(place) {
 }
 
 /**
+ * A text without signs that would turn the direction of what stands after it.
+ * @param {string} text
+ */
+export function visible(text) {
+  return text.replace(/[\u061c\u200e\u200f\u202a-\u202e\u2066-\u2069]/g, "\ufffd");
+}
+
+/**
  * A time in seconds, from centiseconds: `38.01 s`.
  * @param {number} centiseconds
  */

@@ -7,8 +7,8 @@ pub(crate) const PART_1: &str = r##"<!DOCTYPE html>
 <meta charset="utf-8">
 <meta http-equiv="Content-Security-Policy" content="default-src 'none';
 base-uri 'none'; form-action 'none';
-script-src 'sha256-23hsnh+hXQ9FTe17wwpEToyiFzYQs16JRjMn6MxmIP4=' 'wasm-unsafe-eval';
-style-src 'sha256-fg28iUFHxrtJH0xP0lwIbhYOEs0od5nCUJdWFEiv2j8='">
+script-src 'sha256-AaxkedIBTuaZ2t+dNuk/DOs3D/vGG/Lo0WOuMNES8lk=' 'wasm-unsafe-eval';
+style-src 'sha256-ftV82KQq+ndNwCxR7GcJEroyvcoByxRvoNsGC2Lig3I='">
 <meta name="viewport" content="width=device-width, initial-scale=1">
 <meta name="color-scheme" content="light dark">
 <title>AGC workbench</title>
@@ -98,7 +98,7 @@ margin-top:.5rem;display:flex;flex-direction:column}
 .told h2{margin-top:.2rem}.told .try{display:flex;flex-wrap:wrap;gap:.3rem;margin:.3rem 0 0}
 .told .try button{min-height:2.1rem}
 .since{margin:.3rem 0 0;font-size:.88rem;color:var(--soft);min-height:1.4em}
-#outcome{font-weight:bold;margin:.2rem 0 0}#outcome:empty{margin:0}
+#outcome{font-weight:bold;margin:.2rem 0 0;scroll-margin-top:10rem}#outcome:empty{margin:0}
 .told.alarm{border-color:var(--edge)}
 .told.alarm h2{color:var(--alarm)}
 .told ul{list-style:none;margin:0;padding:0;font-size:.92rem;flex:1;overflow:auto}
@@ -163,7 +163,8 @@ body{padding:0 .6rem 1rem}.bar{margin:0 -.6rem;padding:.15rem .6rem .25rem;gap:.
 .menu button{flex:1;padding:0 .2rem;min-height:2rem}
 #sentence{font-size:.85rem;height:2.7em;white-space:normal;line-height:1.35}
 .bar .steps{gap:.15rem;flex-wrap:nowrap}.bar .steps button{min-height:2.3rem}
-.where{flex-basis:100%}.go input{width:7.6rem}h2{margin:.2rem 0 .05rem;font-size:.82rem}
+.where{flex-basis:100%}.go input{width:8.6rem}
+#outcome{font-size:.85rem}h2{margin:.2rem 0 .05rem;font-size:.82rem}
 .chart{margin-top:.3rem}.chart canvas{height:4rem}figcaption{font-size:.72rem;gap:0 .7rem}
 .boxes{gap:.2rem}
 .sets{grid-template-columns:repeat(4,minmax(0,1fr))}.sets li{min-height:5.9rem}
@@ -172,7 +173,8 @@ body{padding:0 .6rem 1rem}.bar{margin:0 -.6rem;padding:.15rem .6rem .25rem;gap:.
 .phases{grid-template-columns:repeat(6,minmax(0,1fr))}
 .boxes li{font-size:.75rem;padding:.05rem .25rem;line-height:1.25}.boxes b{font-size:.9rem}
 .boxes li.runs{padding:calc(.05rem - 2px) calc(.25rem - 2px)}
-.tasks .named b{font-size:.66rem;line-height:1.7}
+.tasks li{padding:.05rem .1rem}
+.tasks .named b{font-size:.62rem;line-height:1.81}
 .phases span{font-size:.7rem}.phases li{padding:.05rem .2rem}
 .pair{gap:0 .5rem}table{font-size:.8rem}
 .choices li{grid-template-columns:1fr;gap:.1rem}
@@ -181,14 +183,14 @@ th,td{padding-right:.6rem}}
 grid-template-rows:auto auto 1fr}.state,.list,.branches{grid-column:1}
 .side{grid-column:2;grid-row:1/4}.tasks{grid-template-columns:repeat(9,minmax(0,1fr))}}
 @media (min-width:60rem) and (max-width:110rem){table{font-size:.8rem}th,td{padding-right:.5rem}
-.tasks li{padding:.15rem .25rem}}
-@media (min-width:110rem){html{font-size:125%}body{max-width:none}
+.tasks li{padding:.15rem}.tasks .named b{font-size:.72rem;line-height:1.97}}
+@media (min-width:110rem){html{font-size:137.5%}body{max-width:none}
 .boxes li{font-size:.95rem}.boxes b{font-size:1.35rem}.sets li{min-height:7.2rem}
 .tasks li{min-height:5.3rem}.areas li,.phases li,.codes li,.newjob li{min-height:3.4rem}
 .tasks .named b{font-size:1.15rem;line-height:1.52}
 .phases span{font-size:.85rem}#sentence{font-size:1.4rem}.told ul{font-size:1rem}
 main{grid-template-columns:minmax(0,1fr) 30rem}}
-@media (min-width:140rem){html{font-size:165%}}
+@media (min-width:140rem){html{font-size:175%}}
 @media (prefers-reduced-motion:reduce){*{transition:none!important;animation:none!important;
 scroll-behavior:auto!important}}
 @media print{
@@ -304,7 +306,8 @@ autocapitalize="off" spellcheck="false" placeholder="findvac 20 02000 00005" max
 <button type="button" id="tick" title="One centisecond (.)">1 cs</button>
 <button type="button" id="event" title="To the next event or change (n)">Next event</button>
 <label>Speed <select id="speed"></select></label></div>
-<p class="since" id="since"></p>
+<p class="since"><span id="since"></span> <label id="whole-box"><input type="checkbox" id="whole">
+From the beginning</label></p>
 <div class="sliders" id="sliders"></div>
 </section>
 </div>
@@ -702,10 +705,7 @@ Rg0AIAJB//8DcSICQcwAIABC4gB8py8AAEEDdGtB/P8DcSIEIAIgBEsbIQIL
 AkAgAEKKAXynLwAAIANHDQAgAEKQAXynLwAAIgNBgIABSQ0AIANB//8BRg0A
 IAJB//8DcSICQc0AIABC+gB8py8AAEEDdGtB/f8DcSIDIAIgA0sbIQILAkAg
 AEKiAXynLwAAIAFB//8DcUcNACAAQqgBfKcvAAAiA0GAgAFJDQAgA0H//wFG
-"##;
-
-/// Part 2 of what stands before the data.
-pub(crate) const PART_2: &str = r##"DQAgAkH//wNxIgJBzgAgAEKSAXynLwAAQQN0a0H+/wNxIgMgAiADSxshAgsC
+DQAgAkH//wNxIgJBzgAgAEKSAXynLwAAQQN0a0H+/wNxIgMgAiADSxshAgsC
 QCAApy0AAEUNACAAQpoCfKcvAAAgAUH//wNxRw0AIABCoAJ8py8AACIBQYCA
 AUkNACABQf//AUYNACACQf//A3EiAUHPACAAQooCfKcvAABBA3RrQf//A3Ei
 AiABIAJLGyECCyACDwsAC9gDAgN+A38jAEKwAn0iBCQAAkACQAJAAkACQCAE
@@ -719,7 +719,10 @@ AUEHIQMMBAsgBKdB//8BOwHCAUKqFSEFIASnLQCYAiIHQQFrQf8BcUEISQ0C
 CwALIACnQQA2AAggAKdCBDcAAAwCCyAEQg58IAUQCyAEp0EAOwHCAUEHIQMg
 BKctAA4hCAtCoAJCiAIgCBsiBVBFBEAgAacgBqcgBaf8CgAACyAApyAHQf8B
 cUEAIAJBgIABSRs2AAggAKcgAzYABCAAp0EANgAACyAEQrACfCQAC90HAgd/
-AX4CQAJAAn8CQAJ/AkACQCMAQhB9IglCEFkEQCAJp0EAOwEMIAmnQQA2Aggg
+"##;
+
+/// Part 2 of what stands before the data.
+pub(crate) const PART_2: &str = r##"AX4CQAJAAn8CQAJ/AkACQCMAQhB9IglCEFkEQCAJp0EAOwEMIAmnQQA2Aggg
 CadBADYCACAJp0EAOwEEAkACQAJAAkACQAJAAkACQAJAAkACQAJAAkAgAaco
 AgBBAWsODQABAgMEBQYHCAkKCwwUCyABQgR8pygCACIEQf8BSwRADBMLAn9B
 ACAEQQFrQf8BcUEeSw0AGiABQgx8pygCACIIQf//AUsNEyABQgh8pygCACIH
@@ -1397,10 +1400,7 @@ IAR8IgVCBnynLwEAIgsgBUIEfKcvAQAiDCAFQgJ8py8BACINIAWnLwEAIg4g
 CkH//wNxIgogCiAOSRsiCiAKIA1JGyIKIAogDEkbIgogCiALSRvBIQogBiAE
 Qgh8IgRSDQALQQAhCyAKQQBIDQEgB0IBhiIFUEUEQCADQhB8pyABpyAFp/wK
 AAALAkACQCADQg58EAFFDQAgA0IOfBADRQ0AIANCDnwQBA0BC0EDIQoMBAtC
-"##;
-
-/// Part 3 of what stands before the data.
-pub(crate) const PART_3: &str = r##"iAJCoAIgAkEHRiIKGyEFQhhCACAKGyIEUEUEQCADQg58IAV8p0EAIASn/AsA
+iAJCoAIgAkEHRiIKGyEFQhhCACAKGyIEUEUEQCADQg58IAV8p0EAIASn/AsA
 CyAFUCIORQRAIANCDnynIAGnIAWn/AoAAAtBBiEKIAOnLwHUASINRQ0DQQAh
 DCADpy8BwgENBCANQYCAAU8NAiADQtQBfCEEIANC2AF8IQZBACEKIAOnLwHY
 AQRAQYCAAUEAQYCAfiADpy8BxAEiC2sgC0GAgAFJG0EBIAsbIgtrQQAgC0H/
@@ -1432,7 +1432,10 @@ AyADIAdJGyIDIAMgBkkbIgMgAyAFSRsiAyADIARJG8EhAyAMIApCCHwiClIN
 AAtBACEEIANBAEgNAiALQgGGIglQRQRAIAhCEHynIAGnIAmn/AoAAAsCQAJA
 IAhCDnwQAUUNACAIQg58EANFDQAgCEIOfBAEDQELQQMMBAtCiAJCoAIgAkEH
 RiIDGyEJQhhCACADGyIKUEUEQCAIQg58IAl8p0EAIAqn/AsACyAJUCIDRQRA
-IAhCDnynIAGnIAmn/AoAAAsCQCAIpy8B1AFFDQAgCKcvAcIBIgRFBEBBACEE
+"##;
+
+/// Part 3 of what stands before the data.
+pub(crate) const PART_3: &str = r##"IAhCDnynIAGnIAmn/AoAAAsCQCAIpy8B1AFFDQAgCKcvAcIBIgRFBEBBACEE
 QQYMBQsgBEH//wBGBEAgCKdBADsBwgFBASEEDAELIAinIARBAWo7AcIBQQAh
 BAsgA0UEQCABpyAIQg58pyAJp/wKAAALQQAMAwsAC0EBDAELQQILNgAAIABC
 BHynIAQ6AAAgCEKwAnwkAEEAJAELqQMCBX8FfhAABEAACyMAQrACfSIIJAAC
@@ -1777,6 +1780,106 @@ YWxzKxNub250cmFwcGluZy1mcHRvaW50KwtidWxrLW1lbW9yeSsIc2lnbi1l
 eHQrCm11bHRpdmFsdWUrCG1lbW9yeTY0Kw5leHRlbmRlZC1jb25zdA==
 </script>
 <script type="text/plain" id="kept">
+@ example landing-1202
+# Alarm 1202 in a landing: each job holds a core set, and two of them sleep all the time. Every \
+two
+# seconds a SERVICER begins, which needs 1.7 seconds; a radar steals 15 % of the time, and a dis\
+play
+# takes 12 %. Go to the first alarm, and see who holds the core sets. What would have prevented \
+it?
+# The buttons below try it, and so do the sliders of the clock.
+title = "A landing with alarm 1202"
+seconds = 600
+steal = 15 # percent of the computing time: the radar's pulses
+
+[[task]] # every two seconds: a SERVICER, and this task again
+name = "READACCS"
+at = "02000"
+bank = "00005"
+action = ["findvac 20 04000 00007", "list 200 02000 00005"]
+
+[[task]] # every second: a display, which is more urgent and needs no VAC area
+name = "MONITOR"
+at = "02100"
+bank = "00005"
+action = ["novac 30 05000 00007", "list 100 02100 00005"]
+
+[[job]] # the guidance: 1.7 seconds of computing time, 85 % of what there is
+name = "SERVICER"
+at = "04000"
+cost = 170
+
+[[job]] # 0.12 seconds in each second: another 12 %
+name = "display"
+at = "05000"
+cost = 12
+
+[[phase]] # what begins again after an alarm: the guidance does, the display does not
+group = 5
+phase = 1
+job = "findvac 20 04000 00007"
+task = "list 200 02000 00005"
+
+[[event]]
+name = "descent"
+at = 0
+do = ["phase 5 1", "list 1 02000 00005"]
+
+[[event]] # half a second later somebody asks for the display
+name = "monitor"
+at = 49
+do = "list 1 02100 00005"
+
+[[event]]
+at = 0
+do = ["novac 15 06000 00011", "sleep 06000", "novac 15 06100 00011", "sleep 06100"]
+@ example landing
+# A landing in one file: jobs take time, a radar steals some of it, and a display takes some mor\
+e.
+# When does the first alarm come? Change `steal`, or remove the last table, and try it again, by
+# `agc_watch peaks` or the workbench. docs/LANDING.md has the answers, and what the model leaves\
+ out.
+title = "A landing: a radar steals time, and a display takes some more"
+seconds = 600
+steal = 15 # percent of the computing time: the radar's pulses
+
+[[task]] # every two seconds: a SERVICER, and this task again
+name = "READACCS"
+at = "02000"
+bank = "00005"
+action = ["findvac 20 04000 00007", "list 200 02000 00005"]
+
+[[task]] # every second: a display, which is more urgent and needs no VAC area
+name = "MONITOR"
+at = "02100"
+bank = "00005"
+action = ["novac 30 05000 00007", "list 100 02100 00005"]
+
+[[job]] # the guidance: 1.7 seconds of computing time, 85 % of what there is
+name = "SERVICER"
+at = "04000"
+cost = 170
+
+[[job]] # 0.12 seconds in each second: another 12 %
+name = "display"
+at = "05000"
+cost = 12
+
+[[phase]] # what begins again after an alarm: the guidance does, the display does not
+group = 5
+phase = 1
+job = "findvac 20 04000 00007"
+task = "list 200 02000 00005"
+
+[[event]]
+name = "descent"
+at = 0
+do = ["phase 5 1", "list 1 02000 00005"]
+
+[[event]] # half a second later somebody asks for the display
+name = "monitor"
+at = 49
+do = "list 1 02100 00005"
 @ example comes-back-after-an-alarm
 # What survives an alarm: restart group 4 stands in phase 5, and the plan says that this phase h\
 as a job with a VAC area and
@@ -1847,53 +1950,6 @@ script = [
     "novac 20 02000 00005", "novac 20 02100 00005", "end",
     "novac 20 02000 00005", "novac 20 02100 00005", "end",
 ]
-@ example landing
-# A landing in one file: jobs take time, a radar steals some of it, and a display takes some mor\
-e.
-# When does the first alarm come? Change `steal`, or remove the last table, and try it again, by
-# `agc_watch peaks` or the workbench. docs/LANDING.md has the answers, and what the model leaves\
- out.
-title = "A landing: a radar steals time, and a display takes some more"
-seconds = 600
-steal = 15 # percent of the computing time: the radar's pulses
-
-[[task]] # every two seconds: a SERVICER, and this task again
-name = "READACCS"
-at = "02000"
-bank = "00005"
-action = ["findvac 20 04000 00007", "list 200 02000 00005"]
-
-[[task]] # every second: a display, which is more urgent and needs no VAC area
-name = "MONITOR"
-at = "02100"
-bank = "00005"
-action = ["novac 30 05000 00007", "list 100 02100 00005"]
-
-[[job]] # the guidance: 1.7 seconds of computing time, 85 % of what there is
-name = "SERVICER"
-at = "04000"
-cost = 170
-
-[[job]] # 0.12 seconds in each second: another 12 %
-name = "display"
-at = "05000"
-cost = 12
-
-[[phase]] # what begins again after an alarm: the guidance does, the display does not
-group = 5
-phase = 1
-job = "findvac 20 04000 00007"
-task = "list 200 02000 00005"
-
-[[event]]
-name = "descent"
-at = 0
-do = ["phase 5 1", "list 1 02000 00005"]
-
-[[event]] # half a second later somebody asks for the display
-name = "monitor"
-at = 49
-do = "list 1 02100 00005"
 @ example no-vac-area
 # Alarm 1201: the astronaut presses a key again and again, and each press establishes a job with\
  a VAC area. There are five
@@ -2401,10 +2457,7 @@ const CODE_TEXTS = {
   [Code.NO_ROOM]: "the text doesn't fit into the room that is lent",
   [Code.TIME_RANGE]: "a number of the timetable is out of its range",
   [Code.STEAL_TWICE]: "two rows of stolen time hold at one time",
-"##;
-
-/// Part 4 of what stands before the data.
-pub(crate) const PART_4: &str = r##"  [Code.COST_TWICE]: "one address has two costs",
+  [Code.COST_TWICE]: "one address has two costs",
 };
 
 const REPLY_TEXTS = {
@@ -2461,7 +2514,10 @@ const decoder = new TextDecoder();
 
 function reach(end) {
   const lacking = Math.ceil((end - calls.memory.buffer.byteLength) / PAGE);
-  if (lacking > 0) {
+"##;
+
+/// Part 4 of what stands before the data.
+pub(crate) const PART_4: &str = r##"  if (lacking > 0) {
     try {
       calls.memory.grow(lacking);
     } catch {
@@ -3083,7 +3139,8 @@ const in_run = (() => {
 const { Kind, Machine, sceneOf } = in_machine;
 const APART = 256;
 
-const MOST_ROWS = 8_000_000;
+const MOST_ROWS = 4_000_000;
+const MOST_ASKED = 1_000_000;
 
 const spelled = new Map();
 
@@ -3125,6 +3182,8 @@ class Witness {
     this.living = 0;
     this.running = 0;
     this.use = 0;
+    this.begun = 0;
+    this.ended = 0;
     this.now = 0;
     this.served = 0;
     this.log = 0;
@@ -3152,8 +3211,12 @@ class Witness {
       }
     }
     const fresh = beginsEra ? living : living & ~this.living;
-    for (let job = 1; fresh !== 0 && job <= 8; job++) {
+    const gone = beginsEra ? 0 : this.living & ~living;
+    if (beginsEra) [this.begun, this.ended] = [0, 0];
+    for (let job = 1; (fresh | gone) !== 0 && job <= 8; job++) {
       if ((fresh >> job) & 1) this.born[job] = 2 * row + (beginsEra ? 1 : 0);
+      this.begun += (fresh >> job) & 1;
+      this.ended += (gone >> job) & 1;
     }
     if (movesTasks) this.tasks = this.tasksIn(waiting(words), row, beginsEra);
     this.living = living;
@@ -3338,6 +3401,17 @@ class Run {
     return this.columns.ticks.items[row];
   }
 
+  idlePercent(from, to) {
+    const { ticks, uses } = this.columns;
+    let [count, idle] = [0, 0];
+    for (let row = from + 1; row <= to; row++) {
+      if (ticks.items[row] === ticks.items[row - 1]) continue;
+      count += 1;
+      idle += uses.items[row - 1] >> 12;
+    }
+    return count === 0 ? 0 : Math.round((100 * idle) / count);
+  }
+
   useAt(row) {
     const use = this.columns.uses.items[row];
     return { sets: use & 15, areas: (use >> 4) & 15, tasks: (use >> 8) & 15, idle: use >> 12 };
@@ -3372,6 +3446,7 @@ class Run {
       ...{ kind: Kind.RESTARTED, step: null, scene, words: state.machine.words },
       ...{ jobsSince: scene.sets.map(() => 1), tasksSince: scene.tasks.map(() => 1) },
       ...{ before: null, after: null, ticks: 0, time: 0, afterSince: [] },
+      ...{ era: 0, begun: state.begun, ended: state.ended },
     };
   }
 
@@ -3379,7 +3454,7 @@ class Run {
     const line = this.lines[row];
     const kind = this.columns.kinds.items[row];
     const before = state.machine.scene();
-    const { living, eraTicks } = state;
+    const { living, era, eraTicks, begun, ended } = state;
     const born = state.born.slice();
     const isServed = kind < SPENT;
     const older = isServed ? Object.assign(Object.create(Witness.prototype), state) : state;
@@ -3389,6 +3464,7 @@ class Run {
     const scene = sceneOf(words);
     const tasks = older.tasksIn(scene.tasks, row, false);
     const after = step !== null && step.beginsEra ? state.machine.scene() : null;
+    const fresh = scene.sets.filter((job) => job !== null && ((living >> job.number) & 1) === 0);
     return {
       ...{ row, line, kind, step, scene, words, before, after },
       who: this.whoAsked(row),
@@ -3399,11 +3475,13 @@ class Run {
       ticks: state.now,
       time: state.now - eraTicks,
       afterSince: after === null ? [] : after.sets.map(() => 2 * row + 1),
+      ...{ era, begun: begun + fresh.length, ended },
     };
   }
 }
 return {
   MOST_ROWS,
+  MOST_ASKED,
   SPENT,
   LOG_FULL,
   Run,
@@ -3538,6 +3616,10 @@ function wordName(place) {
   return `FAILREG, ${["first", "second", "latest"][place - 129]}`;
 }
 
+function visible(text) {
+  return text.replace(/[\u061c\u200e\u200f\u202a-\u202e\u2066-\u2069]/g, "\ufffd");
+}
+
 function seconds(centiseconds) {
   return `${(centiseconds / 100).toFixed(2)} s`;
 }
@@ -3558,6 +3640,7 @@ return {
   nearest,
   lineFault,
   wordName,
+  visible,
   seconds,
   counted,
 };
@@ -3565,18 +3648,18 @@ return {
 const in_account = (() => {
 const { Kind } = in_machine;
 const { LOG_FULL, SPENT } = in_run;
-const { octal, seconds } = in_words;
+const { counted, octal, seconds, visible } = in_words;
 const TABLES = {
-  0o1201: { text: "all five VAC areas are owned", part: "areas" },
-  0o1202: { text: "a job is in each core set", part: "sets" },
-  0o1203: { text: "nine tasks wait", part: "tasks" },
+  0o1201: { text: "All five VAC areas are owned", part: "areas" },
+  0o1202: { text: "A job is in each core set", part: "sets" },
+  0o1203: { text: "Nine tasks wait", part: "tasks" },
 };
 
 class Names {
   constructor(bench) {
     this.all = new Map();
     for (const it of [...bench.task, ...bench.job]) {
-      if (it.name !== undefined) this.all.set(it.at, it.name);
+      if (it.name !== undefined) this.all.set(it.at, visible(it.name));
     }
   }
 
@@ -3629,6 +3712,15 @@ function holders(run, { step, scene, jobsSince, tasksSince }, names) {
   return lines.filter((it, k) => it.length > 0 && isHolder[k]);
 }
 
+function balance(run, { row, era, begun, ended, step }) {
+  if (step === null || step.number === 0o1203) return [];
+  const since = era === 0 ? "the beginning" : `the restart of request ${era}`;
+  const jobs = `${counted(begun, "job")} began and ${ended} ended`;
+  const idle = run.bench.seconds === undefined ? ""
+    : `, and the computer was idle ${run.idlePercent(era, row)} % of the time`;
+  return [` Since ${since} ${jobs}${idle}.`];
+}
+
 function beginsAgain(after, names) {
   const jobs = after.sets.filter((it) => it !== null)
     .map((job) => `job ${job.number}, priority ${octal(job.priority, 2)}, at ${names.of(job.at)}`);
@@ -3675,9 +3767,10 @@ function accountOfAlarm(run, shown, names) {
   const number = /** @type {1} */ (shown.step?.number ?? 0);
   const table = TABLES[/** @type {keyof typeof TABLES} */ (/** @type {unknown} */ (number))];
   const lines = [
-    [{ text: `${table.text[0].toUpperCase()}${table.text.slice(1)}`, part: table.part }, ":"],
-    ...holders(run, shown, names),
+    [{ text: table.text, part: table.part }, ".", ...balance(run, shown)],
     ...raisedBy(run, shown, names),
+    [number === 0o1203 ? "These wait:" : "These hold them:"],
+    ...holders(run, shown, names),
     ...(shown.after === null ? [] : beginsAgain(shown.after, names)),
   ];
   return { heading: `Alarm ${octal(number, 4)}: why`, lines, isAlarm: true };
@@ -3702,10 +3795,7 @@ function replySentence(run, shown, names) {
     case Kind.NO_SLEEPER: return [["No job sleeps at that address."]];
     case Kind.ROUSED: return [[`Job ${step?.number} is awake.`]];
     case Kind.IDLE: return [["No job is left that is awake."]];
-"##;
-
-/// Part 5 of what stands before the data.
-pub(crate) const PART_5: &str = r##"    case Kind.LEFT: case Kind.RUNS:
+    case Kind.LEFT: case Kind.RUNS:
       return [[`Job ${step?.number} runs${runner ? `, at ${names.of(runner.at)}` : ""}.`]];
     default: return [];
   }
@@ -3728,7 +3818,10 @@ function accountOf(run, shown, names, about = "") {
   const quiet = shown.kind === Kind.TICKED ? "A centisecond passes." : "Done.";
   if (lines.length === 0) lines.push([quiet]);
   return { heading: "What happens", lines, isAlarm: false };
-}
+"##;
+
+/// Part 5 of what stands before the data.
+pub(crate) const PART_5: &str = r##"}
 
 function sentenceOf(shown, count, names) {
   const { running, sets } = shown.scene;
@@ -4191,6 +4284,15 @@ function* requestsOf(bench) {
   }
 }
 
+function countOf({ script, worker, device, key, radar }) {
+  const pulses = device.map((it) => {
+    const asked = it.line === "timer" ? ["tick"] : it.line === "key" ? key : radar;
+    return it.pulses * asked.filter((one) => one !== "nothing").length;
+  });
+  return [script.length, ...worker.map((it) => it.script.length), ...pulses]
+    .reduce((sum, it) => sum + it, 0);
+}
+
 function quoted(given) {
   return `"${given.replace(/[\\"]/g, "\\$&")}"`;
 }
@@ -4256,6 +4358,7 @@ return {
   leftOut,
   readBench,
   requestsOf,
+  countOf,
   writeBench,
 };
 })();
@@ -4431,7 +4534,7 @@ function drawStrip(strip, at) {
 
 function drawAlarms(pen, strip, wide, high, colour) {
   pen.fillStyle = colour;
-  const tall = Math.round(0.7 * parseFloat(getComputedStyle(document.documentElement).fontSize));
+  const tall = Math.round(0.85 * parseFloat(getComputedStyle(document.documentElement).fontSize));
   pen.font = `bold ${tall}px system-ui, sans-serif`;
   let free = -99;
   for (const row of strip.run.alarms) {
@@ -4468,7 +4571,7 @@ const { Clock } = in_machine;
 const { writeBench } = in_bench;
 const { button, by, fill, make } = in_dom;
 const { MOST_ROWS, Run } = in_run;
-const { seconds } = in_words;
+const { seconds, visible } = in_words;
 const SPEEDS = [0.1, 0.2, 0.5, 1, 2, 5, 10, 20, 50, 100];
 
 const STRETCH = 60_000;
@@ -4487,6 +4590,7 @@ class ClockPanel {
     this.isRunning = false;
     this.target = 0;
     this.filled = null;
+    this.moved = { slider: "", run: /** @type {Run | null} */ (null), at: 0 };
     fill("speed", SPEEDS.map((it) => make("option", { value: String(it) }, `${it} ×`)));
     by("speed").value = "1";
   }
@@ -4496,10 +4600,7 @@ class ClockPanel {
     const run = new Run(bench);
     run.head.clock = clockOf(bench);
     run.checkpoints = [run.head.copy()];
-    for (const [line, who] of requests) {
-      if (run.count >= MOST_ROWS) break;
-      run.ask(line, who);
-    }
+    for (const [line, who] of requests) run.ask(line, who);
     if (bench.seconds !== undefined) this.fill(run);
     return run;
   }
@@ -4537,7 +4638,8 @@ class ClockPanel {
     const request = run.head.clock.next(run.head.machine);
     if (request === null) return false;
     const event = request.event === null ? undefined : run.bench.event[request.event];
-    const who = event === undefined ? "the clock" : `event ${event.name ?? request.event + 1}`;
+    const who = event === undefined ? "the clock"
+      : `event ${visible(event.name ?? String(request.event + 1))}`;
     return run.ask(request.text, who) !== null;
   }
 
@@ -4679,21 +4781,39 @@ class ClockPanel {
     return isOver || isAlarm;
   }
 
-  change(given) {
+  change(given, isWhole = this.isWhole, slider = "") {
     this.pause();
+    const { history } = this.workbench;
+    const { moved } = this;
+    const { run, at } = history.now;
+    const isMoved = moved.slider === slider && moved.run === run && moved.at === at;
+    if (slider !== "" && isMoved) history.undo();
+    else {
+      this.workbench.keepOutcome();
+      const what = { steal: "stolen time was changed", job: "a cost was changed",
+        event: "an event was left out" };
+      history.keep(`as ${what[/** @type {keyof typeof what} */ (Object.keys(given)[0])]}`);
+    }
+    this.goOnWith(given, isWhole);
+    this.moved = { slider, run: history.now.run, at: history.now.at };
+  }
+
+  goOnWith(given, isWhole) {
     const { workbench } = this;
     const { history } = workbench;
-    const { at, count, run: old } = workbench.view;
-    workbench.keepOutcome();
-    const what = { steal: "stolen time was changed", job: "a cost was changed",
-      event: "an event was left out" };
-    history.keep(`as ${what[/** @type {keyof typeof what} */ (Object.keys(given)[0])]}`);
-    const run = old.fork(at);
-    run.change(this.sinceThen(run, at, given), given);
+    const { at, run: old } = workbench.view;
+    const from = isWhole ? 0 : at;
+    const run = old.fork(from);
+    run.change(this.sinceThen(run, from, given), given);
     if (run.bench.seconds !== undefined) this.fill(run);
-    history.show({ run, count: run.count, at });
-    if (count === 0 || at === 0) history.now.at = 0;
+    const shown = isWhole ? run.rowAtTime(old.ticksAt(at), run.count) : at;
+    history.show({ run, count: run.count, at: shown });
     workbench.drawAll();
+    by("outcome").scrollIntoView({ block: "nearest" });
+  }
+
+  get isWhole() {
+    return by("whole").checked && this.workbench.view.run.bench.seconds !== undefined;
   }
 
   sinceThen(run, at, given) {
@@ -4711,18 +4831,28 @@ class ClockPanel {
     const now = typeof steal === "number" ? steal : steal.at(-1)?.percent ?? 0;
     const costs = job.map((it, k) => {
       const most = Math.max(400, 2 * it.cost);
-      return this.slider(it.name ?? it.at, it.cost, 1, most, "cs", (cost) =>
+      return this.slider(visible(it.name ?? it.at), it.cost, 1, most, "cs", (cost) =>
         ({ job: job.map((one, n) => (n === k ? { ...one, cost } : one)) }));
     });
     const stolen = this.slider("Stolen time", now, 0, 100, "%", (value) => ({ steal: value }));
     const rows = [stolen, ...costs];
-    if (!this.isRunning || this.drawnFor !== run) fill("sliders", rows);
+    if (!this.isRunning || this.drawnFor !== run) this.drawSliders(rows);
     this.drawnFor = run;
     const named = event.filter((it) => it.name !== undefined);
     by("events").hidden = named.length === 0;
-    fill("events", named.map((it) => button(it.name ?? "", () => {
-      for (const line of it.do) this.workbench.ask(line, `you: ${it.name}`);
-    }, { title: it.do.join(", ") })));
+    fill("events", named.map((it) => {
+      const name = visible(it.name ?? "");
+      return button(name, () => {
+        for (const line of it.do) this.workbench.ask(line, `you: ${name}`);
+      }, { title: it.do.join(", ") });
+    }));
+  }
+
+  drawSliders(rows) {
+    const old = [...by("sliders").children];
+    const place = old.findIndex((it) => it.contains(document.activeElement));
+    fill("sliders", rows);
+    rows[place]?.querySelector("input")?.focus();
   }
 
   slider(name, value, min, max, unit, given) {
@@ -4734,7 +4864,8 @@ class ClockPanel {
       output.textContent = `${field.value} ${unit}`;
       field.setAttribute("aria-valuetext", `${field.value} ${unit}`);
     });
-    field.addEventListener("change", () => this.change(given(Number(field.value))));
+    field.addEventListener("change", () =>
+      this.change(given(Number(field.value)), this.isWhole, name));
     return make("label", {}, name, field, output);
   }
 }
@@ -4824,7 +4955,8 @@ function openOpening(open) {
   file.addEventListener("change", async () => {
     if (file.files.length === 1) open(await file.files[0].text(), file.files[0].name);
   });
-  const area = make("textarea", { id: "pasted", spellcheck: false, "aria-label": "A document" });
+  const area = make("textarea", { id: "pasted", spellcheck: false, "aria-label": "A document",
+    maxLength: MOST_BYTES + 1 });
   const paste = () => open(area.value, "what was pasted");
   const pasted = button("Open it", paste, { id: "open-pasted" });
   const begin = () => open("", "an empty bench");
@@ -4863,9 +4995,9 @@ function questionOf(document) {
 function openExamples(kept, open) {
   const listOf = (/** @type {string} */ kind) => {
     const choices = kept.filter((it) => it.kind === kind).map((it) => {
-      const question = kind === "exercise" ? questionOf(it.text) : "";
-      const told = question === "" ? firstSentence(it.text) : question.split("\n")[0];
-      return make("li", {}, button(it.name, () => open(it.text, it.name, question)), " ", told);
+      const told = kind === "exercise" ? questionOf(it.text).split("\n")[0]
+        : firstSentence(it.text);
+      return make("li", {}, button(it.name, () => open(it.name)), " ", told);
     });
     return make("ul", { class: "choices", "aria-label": `${kind}s` }, ...choices);
   };
@@ -4929,10 +5061,7 @@ function openForm(word, bench, scene, ask) {
   const enter = () => {
     const wrong = parts.findIndex((part, k) => !part.is(fields[k].value.trim()));
     said.textContent = wrong < 0 ? "" : parts[wrong].sentence;
-"##;
-
-/// Part 6 of what stands before the data.
-pub(crate) const PART_6: &str = r##"    if (wrong >= 0) {
+    if (wrong >= 0) {
       fields[wrong].focus();
       return;
     }
@@ -4957,7 +5086,10 @@ function drawCommon(where, bench, scene, ask) {
     const wants = (FORMS.get(word)?.length ?? 0) > 0;
     const run = wants ? () => openForm(word, bench(), scene(), ask) : () => ask(word);
     return button(wants ? `${word} …` : word, run, { title: MEANINGS.get(word) });
-  }));
+"##;
+
+/// Part 6 of what stands before the data.
+pub(crate) const PART_6: &str = r##"  }));
 }
 return {
   drawCommon,
@@ -4965,6 +5097,8 @@ return {
 })();
 const in_history = (() => {
 const MOST_KEPT = 200;
+const MOST_BRANCHES = 50;
+const MOST_ROWS = 4_000_000;
 
 class History {
   constructor(view) {
@@ -4977,9 +5111,23 @@ class History {
 
   show(view) {
     this.done.push(this.now);
-    if (this.done.length > MOST_KEPT) this.done.shift();
     this.undone = [];
     this.now = view;
+    this.forget();
+  }
+
+  get rows() {
+    const runs = new Set([...this.done, ...this.branches].map((it) => it.run));
+    return [...runs].reduce((sum, it) => sum + it.count, 0);
+  }
+
+  forget() {
+    if (this.done.length > MOST_KEPT) this.done.shift();
+    if (this.branches.length > MOST_BRANCHES) this.branches.shift();
+    while (this.done.length + this.branches.length > 1 && this.rows > MOST_ROWS) {
+      if (this.branches.length > this.done.length) this.branches.shift();
+      else this.done.shift();
+    }
   }
 
   undo() {
@@ -5297,6 +5445,7 @@ return {
 })();
 const in_help = (() => {
 const { make } = in_dom;
+const { MEANINGS, PARTS, REQUESTS, formOf } = in_words;
 const KEYS = [
   ["← →", "the row before, the next row"], ["Home End", "the first row, the last"],
   ["a A", "the next alarm, the alarm before"], ["c C", "the next change, the change before"],
@@ -5305,10 +5454,24 @@ const KEYS = [
   ["u r", "undo, redo"], ["o e p s", "open, examples, plan, save"], ["?", "this help"],
 ];
 
+const TABLES = [
+  ["Core sets", "each job that is alive holds one of these blocks of memory; the running job is in "
+    + "set 0"],
+  ["VAC areas", "a job that findvac establishes also holds one of these"],
+  ["Waitlist", "tasks: short programs that begin at a set time, and may establish jobs"],
+  ["Phases", "what each of six restart groups begins again with after an alarm"],
+  ["FAILREG", "the codes of alarms: the first, the second and the latest"],
+  ["NEWJOB", "the job that is more urgent than the running one, if any"],
+];
+
+function listOf(rows, told) {
+  return make("dl", { class: "keys" }, ...rows.flatMap(([word, what]) =>
+    [make("dt", {}, ...told(word)), make("dd", {}, what)]));
+}
+
 function HELP() {
-  const keys = make("dl", { class: "keys" }, ...KEYS.flatMap(([key, what]) => [
-    make("dt", {}, ...key.split(" ").flatMap((it) => [make("kbd", {}, it), " "])),
-    make("dd", {}, what)]));
+  const keys = listOf(KEYS, (it) => it.split(" ").flatMap((key) => [make("kbd", {}, key), " "]));
+  const requests = REQUESTS.map((it) => [formOf(it), MEANINGS.get(it) ?? ""]);
   return [
     make("p", {}, "This page runs the proved job tables of the Apollo Guidance Computer: the "
       + "Executive's jobs, the Waitlist's tasks and the phases of the restart. Type a request, or "
@@ -5318,10 +5481,13 @@ function HELP() {
       + "before. Colours are the jobs' numbers."),
     make("p", {}, "The clock lets centiseconds pass: jobs with a cost end when they have had it, "
       + "and stolen time is taken away from them. The numbers can be changed while it runs."),
-    make("h3", {}, "Keys"), keys,
     make("p", {}, "An alarm comes when one more is asked for and the table is full: 1201 areas, "
       + "1202 core sets, 1203 the Waitlist. Then all jobs and tasks are gone, and the phases say "
       + "what begins again."),
+    make("h3", {}, "Tables"), listOf(TABLES, (it) => [it]),
+    make("h3", {}, "Keys"), keys,
+    make("h3", {}, "Requests"), listOf(requests, (it) => [make("code", {}, it)]),
+    make("p", {}, Object.values(PARTS).map((it) => `${it.name}: ${it.sentence}`).join("; ") + "."),
   ];
 }
 return {
@@ -5571,24 +5737,22 @@ return {
 };
 })();
 const in_tries = (() => {
+const { visible } = in_words;
 const MOST_EVENTS = 2;
 
 function atBeginning(workbench, shown) {
   const { run, count } = workbench.view;
   const actions = workbench.actions();
-  if (count === 0) return [["Open an example", actions.examples], ["Help", actions.help]];
+  if (count === 0) {
+    return [["A landing with alarm 1202", () => workbench.openKept("landing-1202")],
+      ["Open an example", actions.examples], ["Help", actions.help]];
+  }
   const alarm = run.alarms.find((/** @type {number} */ row) => row > shown.row && row <= count);
   return alarm === undefined ? [] : [["To the first alarm", () => workbench.go(alarm)]];
 }
 
 function fromBeginning(workbench, name, given) {
-  return [name, () => {
-    const ticks = workbench.view.run.ticksAt(workbench.view.at);
-    workbench.go(0);
-    workbench.clock.change(given);
-    const { run, count } = workbench.view;
-    workbench.go(run.rowAtTime(ticks, count));
-  }];
+  return [name, () => workbench.clock.change(given, true)];
 }
 
 function atAlarm(workbench, shown) {
@@ -5608,7 +5772,7 @@ function atAlarm(workbench, shown) {
   const later = bench.event.filter((/** @type {any} */ it) => it.name !== undefined && it.at > 0);
   for (const it of later.slice(0, MOST_EVENTS)) {
     const event = bench.event.filter((/** @type {any} */ other) => other !== it);
-    found.push(fromBeginning(workbench, `Without ${it.name}?`, { event }));
+    found.push(fromBeginning(workbench, `Without ${visible(it.name)}?`, { event }));
   }
   return found;
 }
@@ -5624,7 +5788,7 @@ return {
 })();
 const { start } = in_machine;
 const { Names, accountOf, sentenceOf } = in_account;
-const { emptyBench, readBench, requestsOf } = in_bench;
+const { countOf, emptyBench, readBench, requestsOf } = in_bench;
 const { Strip, drawLegend, drawStrip, outcomeOf } = in_chart;
 const { ClockPanel } = in_clock;
 const { button, by, closeDialog, fill, make, openDialog } = in_dom;
@@ -5633,12 +5797,12 @@ const { drawCommon } = in_forms;
 const { History, parting } = in_history;
 const { drawList, drawPrinted } = in_list;
 const { openPlan } = in_plan;
-const { Run } = in_run;
+const { MOST_ASKED, Run } = in_run;
 const { HELP } = in_help;
 const { drawSets, drawTables, drawWords } = in_tables;
 const { Prompt, completions } = in_typing;
 const { tries } = in_tries;
-const { counted, seconds } = in_words;
+const { counted, seconds, visible } = in_words;
 const STRIP_WIDE = 1200;
 
 class Workbench {
@@ -5681,8 +5845,8 @@ class Workbench {
     }
     this.document = text;
     this.opened = this.view.run;
-    this.about = question === "" ? files.questionOf(text).replaceAll("\n", " ") : "";
-    this.hide(question);
+    this.about = question === "" ? visible(files.questionOf(text)).replaceAll("\n", " ") : "";
+    this.hide(visible(question));
     closeDialog();
     return true;
   }
@@ -5699,14 +5863,20 @@ class Workbench {
   }
 
   tellFault(said) {
+    const text = visible(said);
     const place = by("dialog").open ? document.getElementById("open-fault") : null;
-    if (place !== null) place.textContent = said;
-    else openDialog("This isn't a bench or a scenario", [make("p", { class: "wrong" }, said)]);
+    if (place !== null) place.textContent = text;
+    else openDialog("It isn't opened", [make("p", { class: "wrong", id: "fault" }, text)]);
   }
 
   begin(bench, name) {
+    const count = countOf(bench);
+    if (count > MOST_ASKED) {
+      throw new Error(`It asks for ${counted(count, "request")}; this page takes at most `
+        + `${counted(MOST_ASKED, "request")}.`);
+    }
     const run = this.clock.runOf(bench, requestsOf(bench));
-    this.title = bench.title ?? name;
+    this.title = visible(bench.title ?? name);
     this.names = new Names(bench);
     this.beside = null;
     this.outcome = "";
@@ -5785,9 +5955,11 @@ class Workbench {
     by("slider").setAttribute("aria-valuetext", `request ${at} of ${count}`);
     by("sentence").textContent = sentenceOf(shown, count, this.names);
     by("sentence").className = shown.reply.includes("alarm") ? "alarm" : "";
-    const from = run.ticksAt(at) > 0 ? seconds(run.ticksAt(at)) : at > 0 ? `request ${at}`
-      : "the beginning";
+    const isWhole = at === 0 || this.clock.isWhole;
+    const from = isWhole ? "the beginning" : run.ticksAt(at) > 0 ? seconds(run.ticksAt(at))
+      : `request ${at}`;
     by("since").textContent = `A change here holds from ${from} on.`;
+    by("whole-box").hidden = run.bench.seconds === undefined;
     by("undo").disabled = this.history.done.length === 0;
     by("redo").disabled = this.history.undone.length === 0;
     by("alarm-next").disabled = this.isHidden;
@@ -5944,8 +6116,7 @@ class Workbench {
       ...{ undo: () => this.undo(), redo: () => this.redo(), plan: () => this.openPlan() },
       save: () => this.openSave(),
       open: () => files.openOpening((text, name) => this.open(text, name)),
-      examples: () => files.openExamples(this.kept, (text, name, question) =>
-        this.open(text, name, question)),
+      examples: () => files.openExamples(this.kept, (name) => this.openKept(name)),
       help: () => openDialog("Help", HELP()),
       ...this.clock.actions(),
     };
@@ -5961,6 +6132,7 @@ class Workbench {
       if (!by("dialog").open) fill("dialog-body", []);
     });
     by("slider").addEventListener("input", () => this.go(Number(by("slider").value)));
+    by("whole").addEventListener("change", () => this.drawRow());
     by("go").addEventListener("keydown", (/** @type {KeyboardEvent} */ event) => {
       if (event.key === "Enter") this.goTyped();
     });
@@ -5983,7 +6155,7 @@ class Workbench {
   key(event) {
     const on = /** @type {HTMLElement} */ (event.target);
     if (by("dialog").open) return;
-    const isTyped = on.matches("input:not([type=range]), textarea, select");
+    const isTyped = on.matches("input:not(#slider), textarea, select");
     const isPressed = on.matches("button, a, summary") && [" ", "Enter"].includes(event.key);
     const isControl = event.ctrlKey || event.metaKey;
     if (isTyped || isPressed || event.altKey || (isControl && event.key !== "z")) return;
@@ -6001,13 +6173,18 @@ class Workbench {
     event.preventDefault();
   }
 
+  openKept(name) {
+    const kept = this.kept.find((it) => it.name === name);
+    if (kept === undefined) return false;
+    const question = kept.kind === "exercise" ? files.questionOf(kept.text) : "";
+    return this.open(kept.text, kept.name, question);
+  }
+
   async fromAddress() {
     const mark = location.hash;
-    const kept = this.kept.find((it) => `#${it.name}` === mark);
     if (/^#[0-9]+$/.test(mark)) this.go(Number(mark.slice(1)));
-    else if (kept !== undefined) {
-      this.open(kept.text, kept.name, kept.kind === "exercise" ? files.questionOf(kept.text) : "");
-    } else if (mark.startsWith("#bench=")) {
+    else if (this.openKept(mark.slice(1))) return;
+    else if (mark.startsWith("#bench=")) {
       const text = await files.documentOf(mark).catch(() => null);
       if (text === null) this.say("The part of the link after # can't be read.");
       else this.open(text, files.firstSentence(text) || "From a link");
