@@ -213,8 +213,8 @@ function replySentence(run, shown, names) {
   switch (kind) {
     case SPENT: return [["The machine serves no more: its allowance is used up."]];
     case LOG_FULL:
-      return [[`The log holds ${run.bench.limit} requests since this era began, and no more: only `
-        + "restart and fresh are served now. A greater limit stands in the plan."]];
+      return [[`The log is full: it holds ${counted(run.bench.limit, "request")} of this era. Only `
+        + "restart and fresh are served now. The plan may have a greater limit."]];
     case Kind.ESTABLISHED: {
       const k = scene.sets.findIndex((it) => it?.number === step?.number);
       const job = scene.sets[k];

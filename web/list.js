@@ -136,7 +136,7 @@ export function drawPrinted(run, count, [title, outcome, plan], account) {
   let until = 0;
   for (const { from, to, isQuiet: isOne } of stretches(run, count)) {
     if (body.children.length >= MOST_PRINTED) break;
-    until = isOne ? to : Math.min(to, from + MOST_PRINTED);
+    until = isOne ? to : Math.min(to, from + MOST_PRINTED - body.children.length - 1);
     if (isOne) body.append(quietLine(run, from, to));
     else {
       for (const shown of run.show(from, until)) {

@@ -63,7 +63,7 @@ class Workbench {
     let bench;
     try {
       bench = readBench(text);
-      this.begin(bench, name);
+      this.begin(bench, files.firstSentence(text) || name);
     } catch (fault) {
       this.tellFault(`${name} can't be opened. ${/** @type {Error} */ (fault).message}`);
       return false;
@@ -253,7 +253,7 @@ class Workbench {
     const [shown] = other.run.show(row, row);
     const said = `request ${row}, ${shown.reply}. In all ${outcomeOf(other.run, other.count)}`;
     by("beside-name").textContent = `Beside it, ${other.name}: ${said}.`;
-    drawSets("beside-sets", shown.scene, shown.before, this.names);
+    drawSets("beside-sets", shown.scene, shown.last, this.names);
   }
 
   drawBranches() {
@@ -449,7 +449,7 @@ class Workbench {
     else if (mark.startsWith("#bench=")) {
       const text = await files.documentOf(mark).catch(() => null);
       if (text === null) this.say("The part of the link after # can't be read.");
-      else this.open(text, files.firstSentence(text) || "From a link");
+      else this.open(text, "From a link");
     }
   }
 }
@@ -462,7 +462,7 @@ function bytesOf(text) {
 await start(bytesOf(by("module").textContent));
 const workbench = new Workbench();
 const given = files.textOfData(by("document").textContent.replace(/^\n/, ""));
-if (given !== "") workbench.open(given, files.firstSentence(given) || "A run");
+if (given !== "") workbench.open(given, "A run");
 else workbench.drawAll();
 await workbench.fromAddress();
 document.documentElement.dataset.ready = "yes";

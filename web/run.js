@@ -9,7 +9,7 @@
  * @typedef {{ row: number, line: string, who: string, reply: string, kind: number,
  *   step: StepType | null, scene: Scene, words: Uint16Array, jobsSince: number[],
  *   tasksSince: number[], before: Scene | null, after: Scene | null, ticks: number, time: number,
- *   afterSince: number[], era: number, begun: number, ended: number }} Shown
+ *   afterSince: number[], last: Scene | null, era: number, begun: number, ended: number }} Shown
  */
 import { Kind, Machine, sceneOf } from "../libagc/js/machine.js";
 
@@ -454,7 +454,7 @@ export class Run {
       ...{ kind: Kind.RESTARTED, step: null, scene, words: state.machine.words },
       ...{ jobsSince: scene.sets.map(() => 1), tasksSince: scene.tasks.map(() => 1) },
       ...{ before: null, after: null, ticks: 0, time: 0, afterSince: [] },
-      ...{ era: 0, begun: state.begun, ended: state.ended },
+      ...{ last: null, era: 0, begun: state.begun, ended: state.ended },
     };
   }
 
@@ -469,6 +469,10 @@ export class Run {
     const kind = this.columns.kinds.items[row];
     const before = state.machine.scene();
     const { living, era, eraTicks, begun, ended } = state;
+    // (a row shows what was there as it was answered, before an era began)
+    const { machine } = state;
+    const wasServed = row > 1 && this.columns.kinds.items[row - 1] < SPENT;
+    const last = sceneOf(wasServed ? machine.moment : machine.words);
     const born = state.born.slice();
     const isServed = kind < SPENT;
     const older = isServed ? Object.assign(Object.create(Witness.prototype), state) : state;
@@ -480,7 +484,7 @@ export class Run {
     const after = step !== null && step.beginsEra ? state.machine.scene() : null;
     const fresh = scene.sets.filter((job) => job !== null && ((living >> job.number) & 1) === 0);
     return {
-      ...{ row, line, kind, step, scene, words, before, after },
+      ...{ row, line, kind, step, scene, words, before, after, last },
       who: this.whoAsked(row),
       reply: step !== null ? step.text : kind === SPENT ? "refused spent" : "refused log full",
       jobsSince: scene.sets.map((job) =>

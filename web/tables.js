@@ -84,7 +84,7 @@ function drawTasks({ tasks }, since, row, names) {
   fill("tasks", Array.from({ length: 9 }, (_, k) => {
     const task = tasks[k];
     if (task === undefined) return box(`place ${k + 1}`, "free", [], "free", false);
-    const isNew = row > 0 && since[k] >> 1 === row;
+    const isNew = row > 0 && (since[k] >> 1 === row || (row > 1 && since[k] === 2 * row - 1));
     const address = octal(task.at, 5);
     const name = names.short(task.at);
     const style = name === address ? "lit" : "lit named";
@@ -141,11 +141,11 @@ export function drawWords(words) {
  * @param {Names} names
  */
 export function drawTables(shown, names) {
-  const { scene, before } = shown;
-  drawSets("sets", scene, before, names);
-  drawAreas(scene, before);
+  const { scene, last } = shown;
+  drawSets("sets", scene, last, names);
+  drawAreas(scene, last);
   drawTasks(scene, shown.tasksSince, shown.row, names);
-  drawBase(scene, before);
+  drawBase(scene, last);
   markFull(shown.step?.alarm ?? 0);
   drawWords(shown.words);
 }

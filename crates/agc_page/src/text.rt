@@ -7,7 +7,7 @@ pub(crate) const PART_1: &str = r##"<!DOCTYPE html>
 <meta charset="utf-8">
 <meta http-equiv="Content-Security-Policy" content="default-src 'none';
 base-uri 'none'; form-action 'none';
-script-src 'sha256-AaxkedIBTuaZ2t+dNuk/DOs3D/vGG/Lo0WOuMNES8lk=' 'wasm-unsafe-eval';
+script-src 'sha256-4wSdpShJXbX5IK/4AxevsJLKLo2TyX6twkKYLS+UkDY=' 'wasm-unsafe-eval';
 style-src 'sha256-ftV82KQq+ndNwCxR7GcJEroyvcoByxRvoNsGC2Lig3I='">
 <meta name="viewport" content="width=device-width, initial-scale=1">
 <meta name="color-scheme" content="light dark">
@@ -719,11 +719,11 @@ AUEHIQMMBAsgBKdB//8BOwHCAUKqFSEFIASnLQCYAiIHQQFrQf8BcUEISQ0C
 CwALIACnQQA2AAggAKdCBDcAAAwCCyAEQg58IAUQCyAEp0EAOwHCAUEHIQMg
 BKctAA4hCAtCoAJCiAIgCBsiBVBFBEAgAacgBqcgBaf8CgAACyAApyAHQf8B
 cUEAIAJBgIABSRs2AAggAKcgAzYABCAAp0EANgAACyAEQrACfCQAC90HAgd/
+AX4CQAJAAn8CQAJ/AkACQCMAQhB9IglCEFkEQCAJp0EAOwEMIAmnQQA2Aggg
 "##;
 
 /// Part 2 of what stands before the data.
-pub(crate) const PART_2: &str = r##"AX4CQAJAAn8CQAJ/AkACQCMAQhB9IglCEFkEQCAJp0EAOwEMIAmnQQA2Aggg
-CadBADYCACAJp0EAOwEEAkACQAJAAkACQAJAAkACQAJAAkACQAJAAkAgAaco
+pub(crate) const PART_2: &str = r##"CadBADYCACAJp0EAOwEEAkACQAJAAkACQAJAAkACQAJAAkACQAJAAkAgAaco
 AgBBAWsODQABAgMEBQYHCAkKCwwUCyABQgR8pygCACIEQf8BSwRADBMLAn9B
 ACAEQQFrQf8BcUEeSw0AGiABQgx8pygCACIIQf//AUsNEyABQgh8pygCACIH
 Qf//A0sNE0EAIAdBAWtB//8DcUH+/wBLDQAaIAhBEHQgB3IhBUEBIQIgBAsh
@@ -1432,12 +1432,12 @@ AyADIAdJGyIDIAMgBkkbIgMgAyAFSRsiAyADIARJG8EhAyAMIApCCHwiClIN
 AAtBACEEIANBAEgNAiALQgGGIglQRQRAIAhCEHynIAGnIAmn/AoAAAsCQAJA
 IAhCDnwQAUUNACAIQg58EANFDQAgCEIOfBAEDQELQQMMBAtCiAJCoAIgAkEH
 RiIDGyEJQhhCACADGyIKUEUEQCAIQg58IAl8p0EAIAqn/AsACyAJUCIDRQRA
+IAhCDnynIAGnIAmn/AoAAAsCQCAIpy8B1AFFDQAgCKcvAcIBIgRFBEBBACEE
+QQYMBQsgBEH//wBGBEAgCKdBADsBwgFBASEEDAELIAinIARBAWo7AcIBQQAh
 "##;
 
 /// Part 3 of what stands before the data.
-pub(crate) const PART_3: &str = r##"IAhCDnynIAGnIAmn/AoAAAsCQCAIpy8B1AFFDQAgCKcvAcIBIgRFBEBBACEE
-QQYMBQsgBEH//wBGBEAgCKdBADsBwgFBASEEDAELIAinIARBAWo7AcIBQQAh
-BAsgA0UEQCABpyAIQg58pyAJp/wKAAALQQAMAwsAC0EBDAELQQILNgAAIABC
+pub(crate) const PART_3: &str = r##"BAsgA0UEQCABpyAIQg58pyAJp/wKAAALQQAMAwsAC0EBDAELQQILNgAAIABC
 BHynIAQ6AAAgCEKwAnwkAEEAJAELqQMCBX8FfhAABEAACyMAQrACfSIIJAAC
 QAJAAkAgCCIJQhBZBEBChAEhCwJAAkAgAkEHaw4CAQADC0EBIQRCkAEhCwsg
 CacgBDoADiAJQg58QgGEp0EAQaEC/AsAIAtCAYYhDANAIAEgCnwiCEIGfKcv
@@ -2514,15 +2514,15 @@ const decoder = new TextDecoder();
 
 function reach(end) {
   const lacking = Math.ceil((end - calls.memory.buffer.byteLength) / PAGE);
-"##;
-
-/// Part 4 of what stands before the data.
-pub(crate) const PART_4: &str = r##"  if (lacking > 0) {
+  if (lacking > 0) {
     try {
       calls.memory.grow(lacking);
     } catch {
       calls.memory.grow(BigInt(lacking));
-    }
+"##;
+
+/// Part 4 of what stands before the data.
+pub(crate) const PART_4: &str = r##"    }
   }
   if (bytes === undefined || bytes.buffer !== calls.memory.buffer) {
     bytes = new Uint8Array(calls.memory.buffer);
@@ -3446,7 +3446,7 @@ class Run {
       ...{ kind: Kind.RESTARTED, step: null, scene, words: state.machine.words },
       ...{ jobsSince: scene.sets.map(() => 1), tasksSince: scene.tasks.map(() => 1) },
       ...{ before: null, after: null, ticks: 0, time: 0, afterSince: [] },
-      ...{ era: 0, begun: state.begun, ended: state.ended },
+      ...{ last: null, era: 0, begun: state.begun, ended: state.ended },
     };
   }
 
@@ -3455,6 +3455,9 @@ class Run {
     const kind = this.columns.kinds.items[row];
     const before = state.machine.scene();
     const { living, era, eraTicks, begun, ended } = state;
+    const { machine } = state;
+    const wasServed = row > 1 && this.columns.kinds.items[row - 1] < SPENT;
+    const last = sceneOf(wasServed ? machine.moment : machine.words);
     const born = state.born.slice();
     const isServed = kind < SPENT;
     const older = isServed ? Object.assign(Object.create(Witness.prototype), state) : state;
@@ -3466,7 +3469,7 @@ class Run {
     const after = step !== null && step.beginsEra ? state.machine.scene() : null;
     const fresh = scene.sets.filter((job) => job !== null && ((living >> job.number) & 1) === 0);
     return {
-      ...{ row, line, kind, step, scene, words, before, after },
+      ...{ row, line, kind, step, scene, words, before, after, last },
       who: this.whoAsked(row),
       reply: step !== null ? step.text : kind === SPENT ? "refused spent" : "refused log full",
       jobsSince: scene.sets.map((job) =>
@@ -3782,8 +3785,8 @@ function replySentence(run, shown, names) {
   switch (kind) {
     case SPENT: return [["The machine serves no more: its allowance is used up."]];
     case LOG_FULL:
-      return [[`The log holds ${run.bench.limit} requests since this era began, and no more: only `
-        + "restart and fresh are served now. A greater limit stands in the plan."]];
+      return [[`The log is full: it holds ${counted(run.bench.limit, "request")} of this era. Only `
+        + "restart and fresh are served now. The plan may have a greater limit."]];
     case Kind.ESTABLISHED: {
       const k = scene.sets.findIndex((it) => it?.number === step?.number);
       const job = scene.sets[k];
@@ -3817,11 +3820,11 @@ function accountOf(run, shown, names, about = "") {
   if (shown.after !== null) lines.push(...beginsAgain(shown.after, names));
   const quiet = shown.kind === Kind.TICKED ? "A centisecond passes." : "Done.";
   if (lines.length === 0) lines.push([quiet]);
-  return { heading: "What happens", lines, isAlarm: false };
 "##;
 
 /// Part 5 of what stands before the data.
-pub(crate) const PART_5: &str = r##"}
+pub(crate) const PART_5: &str = r##"  return { heading: "What happens", lines, isAlarm: false };
+}
 
 function sentenceOf(shown, count, names) {
   const { running, sets } = shown.scene;
@@ -5083,13 +5086,13 @@ function openForm(word, bench, scene, ask) {
 
 function drawCommon(where, bench, scene, ask) {
   fill(where, COMMON.map((word) => {
-    const wants = (FORMS.get(word)?.length ?? 0) > 0;
-    const run = wants ? () => openForm(word, bench(), scene(), ask) : () => ask(word);
-    return button(wants ? `${word} …` : word, run, { title: MEANINGS.get(word) });
 "##;
 
 /// Part 6 of what stands before the data.
-pub(crate) const PART_6: &str = r##"  }));
+pub(crate) const PART_6: &str = r##"    const wants = (FORMS.get(word)?.length ?? 0) > 0;
+    const run = wants ? () => openForm(word, bench(), scene(), ask) : () => ask(word);
+    return button(wants ? `${word} …` : word, run, { title: MEANINGS.get(word) });
+  }));
 }
 return {
   drawCommon,
@@ -5267,7 +5270,7 @@ function drawPrinted(run, count, [title, outcome, plan], account) {
   let until = 0;
   for (const { from, to, isQuiet: isOne } of stretches(run, count)) {
     if (body.children.length >= MOST_PRINTED) break;
-    until = isOne ? to : Math.min(to, from + MOST_PRINTED);
+    until = isOne ? to : Math.min(to, from + MOST_PRINTED - body.children.length - 1);
     if (isOne) body.append(quietLine(run, from, to));
     else {
       for (const shown of run.show(from, until)) {
@@ -5541,7 +5544,7 @@ function drawTasks({ tasks }, since, row, names) {
   fill("tasks", Array.from({ length: 9 }, (_, k) => {
     const task = tasks[k];
     if (task === undefined) return box(`place ${k + 1}`, "free", [], "free", false);
-    const isNew = row > 0 && since[k] >> 1 === row;
+    const isNew = row > 0 && (since[k] >> 1 === row || (row > 1 && since[k] === 2 * row - 1));
     const address = octal(task.at, 5);
     const name = names.short(task.at);
     const style = name === address ? "lit" : "lit named";
@@ -5581,11 +5584,11 @@ function drawWords(words) {
 }
 
 function drawTables(shown, names) {
-  const { scene, before } = shown;
-  drawSets("sets", scene, before, names);
-  drawAreas(scene, before);
+  const { scene, last } = shown;
+  drawSets("sets", scene, last, names);
+  drawAreas(scene, last);
   drawTasks(scene, shown.tasksSince, shown.row, names);
-  drawBase(scene, before);
+  drawBase(scene, last);
   markFull(shown.step?.alarm ?? 0);
   drawWords(shown.words);
 }
@@ -5838,7 +5841,7 @@ class Workbench {
     let bench;
     try {
       bench = readBench(text);
-      this.begin(bench, name);
+      this.begin(bench, files.firstSentence(text) || name);
     } catch (fault) {
       this.tellFault(`${name} can't be opened. ${/** @type {Error} */ (fault).message}`);
       return false;
@@ -6001,7 +6004,7 @@ class Workbench {
     const [shown] = other.run.show(row, row);
     const said = `request ${row}, ${shown.reply}. In all ${outcomeOf(other.run, other.count)}`;
     by("beside-name").textContent = `Beside it, ${other.name}: ${said}.`;
-    drawSets("beside-sets", shown.scene, shown.before, this.names);
+    drawSets("beside-sets", shown.scene, shown.last, this.names);
   }
 
   drawBranches() {
@@ -6187,7 +6190,7 @@ class Workbench {
     else if (mark.startsWith("#bench=")) {
       const text = await files.documentOf(mark).catch(() => null);
       if (text === null) this.say("The part of the link after # can't be read.");
-      else this.open(text, files.firstSentence(text) || "From a link");
+      else this.open(text, "From a link");
     }
   }
 }
@@ -6199,7 +6202,7 @@ function bytesOf(text) {
 await start(bytesOf(by("module").textContent));
 const workbench = new Workbench();
 const given = files.textOfData(by("document").textContent.replace(/^\n/, ""));
-if (given !== "") workbench.open(given, files.firstSentence(given) || "A run");
+if (given !== "") workbench.open(given, "A run");
 else workbench.drawAll();
 await workbench.fromAddress();
 document.documentElement.dataset.ready = "yes";
