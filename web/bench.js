@@ -270,6 +270,7 @@ export function readBench(document) {
   if (new TextEncoder().encode(document).length > MOST_BYTES) {
     throw new Unread(1, `the document has more than ${MOST_BYTES} bytes`);
   }
+  if (/\p{Surrogate}/u.test(document)) throw new Unread(1, "the document isn't text");
   const table = readToml(document);
   const level = table.keys.has("seconds") ? "scenario" : "bench";
   const bench = { ...leftOut(level), ...tableOf(table, level, new Place(1, "")) };

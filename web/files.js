@@ -41,6 +41,18 @@ export function firstSentence(document) {
   return /^.*?[.!?](?= |$)/.exec(text)?.[0] ?? text;
 }
 
+/**
+ * The text that bytes are. What isn't UTF-8 is read as half a letter, which no document has.
+ * @param {Uint8Array | ArrayBuffer} bytes
+ */
+function textOf(bytes) {
+  try {
+    return new TextDecoder("utf-8", { fatal: true, ignoreBOM: true }).decode(bytes);
+  } catch {
+    return "\ud800";
+  }
+}
+
 /** @param {Uint8Array} bytes */
 function base64url(bytes) {
   let text = "";
@@ -84,7 +96,7 @@ export async function documentOf(mark) {
   if (found === null) return null;
   const packed = atob(found[1].replaceAll("-", "+").replaceAll("_", "/"));
   const bytes = Uint8Array.from(packed, (it) => it.charCodeAt(0));
-  return new TextDecoder().decode(await through(bytes, new DecompressionStream("deflate-raw")));
+  return textOf(await through(bytes, new DecompressionStream("deflate-raw")));
 }
 
 /**
@@ -123,7 +135,8 @@ export function download(name, text) {
 export function openOpening(open) {
   const file = make("input", { type: "file", accept: ".toml,.txt", id: "file" });
   file.addEventListener("change", async () => {
-    if (file.files.length === 1) open(await file.files[0].text(), file.files[0].name);
+    const [given] = file.files;
+    if (given !== undefined) open(textOf(await given.arrayBuffer()), given.name);
   });
   const area = make("textarea", { id: "pasted", spellcheck: false, "aria-label": "A document",
     maxLength: MOST_BYTES + 1 });
@@ -155,7 +168,7 @@ export function hearDrops(open) {
     body.classList.remove("drop");
     const file = event.dataTransfer?.files[0];
     const text = event.dataTransfer?.getData("text/plain") ?? "";
-    if (file !== undefined) open(await file.text(), file.name);
+    if (file !== undefined) open(textOf(await file.arrayBuffer()), file.name);
     else if (text !== "") open(text, "what was dropped");
   });
 }

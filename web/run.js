@@ -18,7 +18,7 @@ const APART = 256;
 
 /** How many rows a run has at most, and how many a bench may ask for. */
 export const MOST_ROWS = 4_000_000;
-export const MOST_ASKED = 1_000_000;
+export const MOST_ASKED = 2_000_000;
 
 /**
  * Each line that was asked, once: a run of many requests has few different lines.

@@ -236,12 +236,11 @@ class Reader {
   /** @param {number} depth */
   inline(depth) {
     const table = newTable(this.line);
-    this.spaces();
-    if (this.takes("}")) return table;
     for (;;) {
-      this.spaces();
+      this.blanks();
+      if (this.takes("}")) return table;
       this.entry(table, depth + 1);
-      this.spaces();
+      this.blanks();
       if (this.takes("}")) return table;
       if (!this.takes(",")) this.refuse("a comma or } is expected");
     }

@@ -7,7 +7,7 @@ pub(crate) const PART_1: &str = r##"<!DOCTYPE html>
 <meta charset="utf-8">
 <meta http-equiv="Content-Security-Policy" content="default-src 'none';
 base-uri 'none'; form-action 'none';
-script-src 'sha256-4wSdpShJXbX5IK/4AxevsJLKLo2TyX6twkKYLS+UkDY=' 'wasm-unsafe-eval';
+script-src 'sha256-NKXRz0IBccPftQc5MxHZv7ePKn5bgafb8lrhOmQeUPI=' 'wasm-unsafe-eval';
 style-src 'sha256-ftV82KQq+ndNwCxR7GcJEroyvcoByxRvoNsGC2Lig3I='">
 <meta name="viewport" content="width=device-width, initial-scale=1">
 <meta name="color-scheme" content="light dark">
@@ -306,8 +306,8 @@ autocapitalize="off" spellcheck="false" placeholder="findvac 20 02000 00005" max
 <button type="button" id="tick" title="One centisecond (.)">1 cs</button>
 <button type="button" id="event" title="To the next event or change (n)">Next event</button>
 <label>Speed <select id="speed"></select></label></div>
-<p class="since"><span id="since"></span> <label id="whole-box"><input type="checkbox" id="whole">
-From the beginning</label></p>
+<p class="since"><label id="whole-box"><input type="checkbox" id="whole">
+From the beginning.</label> <span id="since"></span></p>
 <div class="sliders" id="sliders"></div>
 </section>
 </div>
@@ -720,11 +720,11 @@ CwALIACnQQA2AAggAKdCBDcAAAwCCyAEQg58IAUQCyAEp0EAOwHCAUEHIQMg
 BKctAA4hCAtCoAJCiAIgCBsiBVBFBEAgAacgBqcgBaf8CgAACyAApyAHQf8B
 cUEAIAJBgIABSRs2AAggAKcgAzYABCAAp0EANgAACyAEQrACfCQAC90HAgd/
 AX4CQAJAAn8CQAJ/AkACQCMAQhB9IglCEFkEQCAJp0EAOwEMIAmnQQA2Aggg
+CadBADYCACAJp0EAOwEEAkACQAJAAkACQAJAAkACQAJAAkACQAJAAkAgAaco
 "##;
 
 /// Part 2 of what stands before the data.
-pub(crate) const PART_2: &str = r##"CadBADYCACAJp0EAOwEEAkACQAJAAkACQAJAAkACQAJAAkACQAJAAkAgAaco
-AgBBAWsODQABAgMEBQYHCAkKCwwUCyABQgR8pygCACIEQf8BSwRADBMLAn9B
+pub(crate) const PART_2: &str = r##"AgBBAWsODQABAgMEBQYHCAkKCwwUCyABQgR8pygCACIEQf8BSwRADBMLAn9B
 ACAEQQFrQf8BcUEeSw0AGiABQgx8pygCACIIQf//AUsNEyABQgh8pygCACIH
 Qf//A0sNE0EAIAdBAWtB//8DcUH+/wBLDQAaIAhBEHQgB3IhBUEBIQIgBAsh
 BiAJpyAFNgIIDBMLIAFCBHynKAIAIgRB/wFLDQ9BACAEQQFrQf8BcUEeSw0Q
@@ -1434,11 +1434,11 @@ IAhCDnwQAUUNACAIQg58EANFDQAgCEIOfBAEDQELQQMMBAtCiAJCoAIgAkEH
 RiIDGyEJQhhCACADGyIKUEUEQCAIQg58IAl8p0EAIAqn/AsACyAJUCIDRQRA
 IAhCDnynIAGnIAmn/AoAAAsCQCAIpy8B1AFFDQAgCKcvAcIBIgRFBEBBACEE
 QQYMBQsgBEH//wBGBEAgCKdBADsBwgFBASEEDAELIAinIARBAWo7AcIBQQAh
+BAsgA0UEQCABpyAIQg58pyAJp/wKAAALQQAMAwsAC0EBDAELQQILNgAAIABC
 "##;
 
 /// Part 3 of what stands before the data.
-pub(crate) const PART_3: &str = r##"BAsgA0UEQCABpyAIQg58pyAJp/wKAAALQQAMAwsAC0EBDAELQQILNgAAIABC
-BHynIAQ6AAAgCEKwAnwkAEEAJAELqQMCBX8FfhAABEAACyMAQrACfSIIJAAC
+pub(crate) const PART_3: &str = r##"BHynIAQ6AAAgCEKwAnwkAEEAJAELqQMCBX8FfhAABEAACyMAQrACfSIIJAAC
 QAJAAkAgCCIJQhBZBEBChAEhCwJAAkAgAkEHaw4CAQADC0EBIQRCkAEhCwsg
 CacgBDoADiAJQg58QgGEp0EAQaEC/AsAIAtCAYYhDANAIAEgCnwiCEIGfKcv
 AQAiBCAIQgR8py8BACIFIAhCAnynLwEAIgYgCKcvAQAiByADQf//A3EiAyAD
@@ -2519,13 +2519,13 @@ function reach(end) {
       calls.memory.grow(lacking);
     } catch {
       calls.memory.grow(BigInt(lacking));
+    }
+  }
+  if (bytes === undefined || bytes.buffer !== calls.memory.buffer) {
 "##;
 
 /// Part 4 of what stands before the data.
-pub(crate) const PART_4: &str = r##"    }
-  }
-  if (bytes === undefined || bytes.buffer !== calls.memory.buffer) {
-    bytes = new Uint8Array(calls.memory.buffer);
+pub(crate) const PART_4: &str = r##"    bytes = new Uint8Array(calls.memory.buffer);
     halves = new Uint16Array(calls.memory.buffer);
     numbers = new Uint32Array(calls.memory.buffer);
   }
@@ -3140,7 +3140,7 @@ const { Kind, Machine, sceneOf } = in_machine;
 const APART = 256;
 
 const MOST_ROWS = 4_000_000;
-const MOST_ASKED = 1_000_000;
+const MOST_ASKED = 2_000_000;
 
 const spelled = new Map();
 
@@ -3820,14 +3820,14 @@ function accountOf(run, shown, names, about = "") {
   if (shown.after !== null) lines.push(...beginsAgain(shown.after, names));
   const quiet = shown.kind === Kind.TICKED ? "A centisecond passes." : "Done.";
   if (lines.length === 0) lines.push([quiet]);
-"##;
-
-/// Part 5 of what stands before the data.
-pub(crate) const PART_5: &str = r##"  return { heading: "What happens", lines, isAlarm: false };
+  return { heading: "What happens", lines, isAlarm: false };
 }
 
 function sentenceOf(shown, count, names) {
-  const { running, sets } = shown.scene;
+"##;
+
+/// Part 5 of what stands before the data.
+pub(crate) const PART_5: &str = r##"  const { running, sets } = shown.scene;
   const where = shown.row === 0 ? "The beginning" : `Request ${shown.row} of ${count}`;
   const at = `at ${seconds(shown.ticks)}`;
   const job = sets[0];
@@ -4026,12 +4026,11 @@ class Reader {
 
   inline(depth) {
     const table = newTable(this.line);
-    this.spaces();
-    if (this.takes("}")) return table;
     for (;;) {
-      this.spaces();
+      this.blanks();
+      if (this.takes("}")) return table;
       this.entry(table, depth + 1);
-      this.spaces();
+      this.blanks();
       if (this.takes("}")) return table;
       if (!this.takes(",")) this.refuse("a comma or } is expected");
     }
@@ -4266,6 +4265,7 @@ function readBench(document) {
   if (new TextEncoder().encode(document).length > MOST_BYTES) {
     throw new Unread(1, `the document has more than ${MOST_BYTES} bytes`);
   }
+  if (/\p{Surrogate}/u.test(document)) throw new Unread(1, "the document isn't text");
   const table = readToml(document);
   const level = table.keys.has("seconds") ? "scenario" : "bench";
   const bench = { ...leftOut(level), ...tableOf(table, level, new Place(1, "")) };
@@ -4905,6 +4905,14 @@ function firstSentence(document) {
   return /^.*?[.!?](?= |$)/.exec(text)?.[0] ?? text;
 }
 
+function textOf(bytes) {
+  try {
+    return new TextDecoder("utf-8", { fatal: true, ignoreBOM: true }).decode(bytes);
+  } catch {
+    return "\ud800";
+  }
+}
+
 function base64url(bytes) {
   let text = "";
   for (const byte of bytes) text += String.fromCharCode(byte);
@@ -4932,7 +4940,7 @@ async function documentOf(mark) {
   if (found === null) return null;
   const packed = atob(found[1].replaceAll("-", "+").replaceAll("_", "/"));
   const bytes = Uint8Array.from(packed, (it) => it.charCodeAt(0));
-  return new TextDecoder().decode(await through(bytes, new DecompressionStream("deflate-raw")));
+  return textOf(await through(bytes, new DecompressionStream("deflate-raw")));
 }
 
 function benchOf(run, count) {
@@ -4956,7 +4964,8 @@ function download(name, text) {
 function openOpening(open) {
   const file = make("input", { type: "file", accept: ".toml,.txt", id: "file" });
   file.addEventListener("change", async () => {
-    if (file.files.length === 1) open(await file.files[0].text(), file.files[0].name);
+    const [given] = file.files;
+    if (given !== undefined) open(textOf(await given.arrayBuffer()), given.name);
   });
   const area = make("textarea", { id: "pasted", spellcheck: false, "aria-label": "A document",
     maxLength: MOST_BYTES + 1 });
@@ -4984,7 +4993,7 @@ function hearDrops(open) {
     body.classList.remove("drop");
     const file = event.dataTransfer?.files[0];
     const text = event.dataTransfer?.getData("text/plain") ?? "";
-    if (file !== undefined) open(await file.text(), file.name);
+    if (file !== undefined) open(textOf(await file.arrayBuffer()), file.name);
     else if (text !== "") open(text, "what was dropped");
   });
 }
@@ -5081,15 +5090,15 @@ function openForm(word, bench, scene, ask) {
     fields[k])), button("Ask", enter));
   const choices = addressChoices("addresses", bench, scene);
   openDialog(`${word}: ${MEANINGS.get(word)}`, [choices, form, said]);
-  fields[0]?.focus();
+"##;
+
+/// Part 6 of what stands before the data.
+pub(crate) const PART_6: &str = r##"  fields[0]?.focus();
 }
 
 function drawCommon(where, bench, scene, ask) {
   fill(where, COMMON.map((word) => {
-"##;
-
-/// Part 6 of what stands before the data.
-pub(crate) const PART_6: &str = r##"    const wants = (FORMS.get(word)?.length ?? 0) > 0;
+    const wants = (FORMS.get(word)?.length ?? 0) > 0;
     const run = wants ? () => openForm(word, bench(), scene(), ask) : () => ask(word);
     return button(wants ? `${word} …` : word, run, { title: MEANINGS.get(word) });
   }));
