@@ -60,7 +60,7 @@ export const LEVELS = {
   },
   scenario: {
     ...{ seconds: integer(1, 3600n, true), title: text("name"), ...SHARED, steal: key("steal") },
-    ...{ job: tables("job"), event: tables("event") },
+    ...{ job: tables("job", 100n), event: tables("event", 1000n) },
     ...{ task: tables("namedTask"), phase: tables("namedPhase") },
   },
   task: TASK,
@@ -198,7 +198,7 @@ function valueOf(given, row, place) {
     case "tables": return tablesOf(given, row, place);
     case "steal":
       return typeof given === "bigint" ? integerOf(given, integer(0, 100n), place)
-        : tablesOf(given, tables("steal"), place);
+        : tablesOf(given, tables("steal", 100n), place);
     default: return textsOf(given, row, place);
   }
 }

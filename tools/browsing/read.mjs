@@ -3,7 +3,7 @@
 // why the document isn't read. Of a document that asks for very much the report is "long", and of a
 // scenario it prints only that it is one.
 import { readFileSync } from "node:fs";
-import { start } from "../../libagc/js/machine.js";
+import { Clock, start } from "../../libagc/js/machine.js";
 import { readBench, requestsOf } from "../../web/bench.js";
 import { Run } from "../../web/run.js";
 
@@ -16,8 +16,12 @@ const MOST = 50_000;
 function read(text) {
   try {
     const bench = readBench(text);
-    if (bench.seconds !== undefined) return { scenario: true };
     const run = new Run(bench);
+    if (bench.seconds !== undefined) {
+      const { seconds, steal, job, event } = bench;
+      new Clock({ seconds, steal, job, event });
+      return { scenario: true };
+    }
     for (const [line, who] of requestsOf(run.bench)) {
       run.ask(line, who);
       if (run.count > MOST) return { report: "long" };

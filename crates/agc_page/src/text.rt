@@ -7,7 +7,7 @@ pub(crate) const PART_1: &str = r##"<!DOCTYPE html>
 <meta charset="utf-8">
 <meta http-equiv="Content-Security-Policy" content="default-src 'none';
 base-uri 'none'; form-action 'none';
-script-src 'sha256-NKXRz0IBccPftQc5MxHZv7ePKn5bgafb8lrhOmQeUPI=' 'wasm-unsafe-eval';
+script-src 'sha256-Z4OY16HsMwGuHMJtdu1Czn5KZjI7tZV0IQBhTv09n/I=' 'wasm-unsafe-eval';
 style-src 'sha256-ftV82KQq+ndNwCxR7GcJEroyvcoByxRvoNsGC2Lig3I='">
 <meta name="viewport" content="width=device-width, initial-scale=1">
 <meta name="color-scheme" content="light dark">
@@ -4121,7 +4121,7 @@ const LEVELS = {
   },
   scenario: {
     ...{ seconds: integer(1, 3600n, true), title: text("name"), ...SHARED, steal: key("steal") },
-    ...{ job: tables("job"), event: tables("event") },
+    ...{ job: tables("job", 100n), event: tables("event", 1000n) },
     ...{ task: tables("namedTask"), phase: tables("namedPhase") },
   },
   task: TASK,
@@ -4216,7 +4216,7 @@ function valueOf(given, row, place) {
     case "tables": return tablesOf(given, row, place);
     case "steal":
       return typeof given === "bigint" ? integerOf(given, integer(0, 100n), place)
-        : tablesOf(given, tables("steal"), place);
+        : tablesOf(given, tables("steal", 100n), place);
     default: return textsOf(given, row, place);
   }
 }
