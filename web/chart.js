@@ -101,7 +101,8 @@ function mostUsed(run, count) {
 function alarmsOf(run, count) {
   const alarms = run.alarms.filter((row) => row <= count);
   if (alarms.length === 0) return "no alarm";
-  return `${counted(alarms.length, "alarm")}, the first, ${alarmAt(run, alarms[0])}`;
+  const first = alarms.length > 1 ? ", the first one" : ":";
+  return `${counted(alarms.length, "alarm")}${first} ${alarmAt(run, alarms[0])}`;
 }
 
 /**

@@ -32,6 +32,15 @@ export function make(name, given = {}, ...children) {
 }
 
 /**
+ * The parts of a text: what stands between backquotes is code.
+ * @param {string} text
+ * @returns {(Node | string)[]}
+ */
+export function withCode(text) {
+  return text.split("`").map((it, k) => (k % 2 === 1 ? make("code", {}, it) : it));
+}
+
+/**
  * Gives an element just these children.
  * @param {string | HTMLElement} where
  * @param {(Node | string)[]} children

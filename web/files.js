@@ -129,23 +129,25 @@ export function download(name, text) {
 }
 
 /**
- * Opens the dialog in which a document is chosen or pasted.
+ * Opens the dialog in which a document is chosen, pasted, or changed and run again.
+ * @param {string} document the one that is open
  * @param {(text: string, name: string) => void} open
  */
-export function openOpening(open) {
+export function openOpening(document, open) {
   const file = make("input", { type: "file", accept: ".toml,.txt", id: "file" });
   file.addEventListener("change", async () => {
     const [given] = file.files;
     if (given !== undefined) open(textOf(await given.arrayBuffer()), given.name);
   });
   const area = make("textarea", { id: "pasted", spellcheck: false, "aria-label": "A document",
-    maxLength: MOST_BYTES + 1 });
+    maxLength: MOST_BYTES + 1, value: document });
   const paste = () => open(area.value, "what was pasted");
-  const pasted = button("Open it", paste, { id: "open-pasted" });
+  const pasted = button("Run it", paste, { id: "open-pasted" });
   const begin = () => open("", "an empty bench");
   openDialog("Open a bench or a scenario", [
     make("p", {}, make("label", {}, "A file: ", file)),
-    make("p", {}, "Or paste a document here. A file may also be dropped on the page."), area,
+    make("p", {}, "Or change the document that is open, or paste another one over it. "
+      + "A file may also be dropped on the page."), area,
     make("p", {}, pasted, " ", button("Begin with an empty bench", begin, { id: "open-empty" })),
     make("p", { class: "wrong", id: "open-fault", role: "status" }),
   ]);
@@ -181,6 +183,14 @@ export function questionOf(document) {
   const lines = document.split("\n");
   const end = lines.findIndex((it) => !it.startsWith("#"));
   return lines.slice(0, end < 0 ? lines.length : end).map((it) => it.slice(1).trim()).join("\n");
+}
+
+/**
+ * A document without the comment at its head.
+ * @param {string} document
+ */
+export function withoutQuestion(document) {
+  return document.replace(/^(#.*\n)*\n?/, "");
 }
 
 /**

@@ -4,7 +4,7 @@ import { Names, accountOf, sentenceOf } from "./account.js";
 import { countOf, emptyBench, readBench, requestsOf } from "./bench.js";
 import { Strip, drawLegend, drawStrip, outcomeOf } from "./chart.js";
 import { ClockPanel } from "./clock.js";
-import { button, by, closeDialog, fill, make, openDialog } from "./dom.js";
+import { button, by, closeDialog, fill, make, openDialog, withCode } from "./dom.js";
 import * as files from "./files.js";
 import { drawCommon } from "./forms.js";
 import { History, parting } from "./history.js";
@@ -65,7 +65,7 @@ class Workbench {
       bench = readBench(text);
       this.begin(bench, files.firstSentence(text) || name);
     } catch (fault) {
-      this.tellFault(`${name} can't be opened. ${/** @type {Error} */ (fault).message}`);
+      this.tellFault(`This can't be opened. ${/** @type {Error} */ (fault).message}`);
       return false;
     }
     this.document = text;
@@ -83,12 +83,23 @@ class Workbench {
   hide(question) {
     this.isHidden = question !== "";
     by("question").hidden = !this.isHidden;
-    fill("question", [make("p", {}, question), button("Show what happens", () => {
+    fill("question", this.isHidden ? this.exercise(question.split("\n")) : []);
+    this.drawAll();
+  }
+
+  /**
+   * What is shown of an exercise: its question, its document, and a button for the answer.
+   * @param {string[]} lines
+   */
+  exercise([_title, ...lines]) {
+    const answer = button("Show what happens", () => {
       this.isHidden = false;
       by("show-answer").remove();
       this.drawAll();
-    }, { id: "show-answer" })]);
-    this.drawAll();
+    }, { id: "show-answer" });
+    const asked = files.withoutQuestion(this.document);
+    return [make("p", {}, ...withCode(lines.join(" "))),
+      make("pre", { tabIndex: 0, "aria-label": "The document" }, asked), answer];
   }
 
   /** @param {string} said */
@@ -371,7 +382,7 @@ class Workbench {
       "change-back": () => this.seek((row) => run.isChange(row), -1, "change"),
       ...{ undo: () => this.undo(), redo: () => this.redo(), plan: () => this.openPlan() },
       save: () => this.openSave(),
-      open: () => files.openOpening((text, name) => this.open(text, name)),
+      open: () => files.openOpening(this.document, (text, name) => this.open(text, name)),
       examples: () => files.openExamples(this.kept, (name) => this.openKept(name)),
       help: () => openDialog("Help", HELP()),
       ...this.clock.actions(),

@@ -155,7 +155,7 @@ def unpacked(hostile, room, place):
     for what, end in WATCHED.items():
         hostile.expect(f"the {what} of an example", read(f"{top}/examples/bare.{end}") == f"{what}\n")
     said = read(f"{top}/PROVED-BY.txt")
-    wanted = (f"no kit logic {LOGIC}", git(room, "rev-parse", "HEAD"), "Gate:      not told", f"agc.wasm:  {VERDICT}\n")
+    wanted = (f"no kit logic {LOGIC}", git(room, "rev-parse", "HEAD"), "Gate:      not known", f"agc.wasm:  {VERDICT}\n")
     hostile.expect("a release has the module", read(f"{top}/{MODULE}") == "no module\n")
     hostile.expect("a release has the workbench", read(f"{top}/workbench.html") == "page\n")
     hostile.expect(f"PROVED-BY.txt: {said}", all(it in said for it in wanted))

@@ -7,8 +7,8 @@ pub(crate) const PART_1: &str = r##"<!DOCTYPE html>
 <meta charset="utf-8">
 <meta http-equiv="Content-Security-Policy" content="default-src 'none';
 base-uri 'none'; form-action 'none';
-script-src 'sha256-Z4OY16HsMwGuHMJtdu1Czn5KZjI7tZV0IQBhTv09n/I=' 'wasm-unsafe-eval';
-style-src 'sha256-ftV82KQq+ndNwCxR7GcJEroyvcoByxRvoNsGC2Lig3I='">
+script-src 'sha256-/OMxEEs0CIbWLsiLxKRw/bYVss+jyaSyWaYghlaaVTM=' 'wasm-unsafe-eval';
+style-src 'sha256-OXRqQbfFLVGRhTbqmy27RectEtz0IhhXMUAcBaXIftg='">
 <meta name="viewport" content="width=device-width, initial-scale=1">
 <meta name="color-scheme" content="light dark">
 <title>AGC workbench</title>
@@ -53,7 +53,10 @@ text-overflow:ellipsis}
 .where{display:flex;flex:1 1 18rem;gap:.6rem;align-items:center}
 #slider{width:6rem}.go{white-space:nowrap}.go input{width:8.2rem;min-height:2rem}
 .question{border:2px solid var(--focus);border-radius:.3rem;padding:.5rem .8rem;
-margin:.2rem 0 .6rem;white-space:pre-wrap}
+margin:.2rem 0 .6rem}
+.question p{margin:.2rem 0;max-width:60rem}
+.question pre{max-height:32vh;overflow:auto;margin:.4rem 0;padding:.3rem .6rem;font-size:.85rem;
+background:var(--bar)}
 .chart{margin:.5rem 0 0}
 .chart canvas{display:block;width:100%;height:7rem;cursor:crosshair;border:1px solid var(--line)}
 figcaption{font-size:.85rem;color:var(--soft);display:flex;flex-wrap:wrap;gap:0 1.2rem}
@@ -1435,13 +1438,13 @@ RiIDGyEJQhhCACADGyIKUEUEQCAIQg58IAl8p0EAIAqn/AsACyAJUCIDRQRA
 IAhCDnynIAGnIAmn/AoAAAsCQCAIpy8B1AFFDQAgCKcvAcIBIgRFBEBBACEE
 QQYMBQsgBEH//wBGBEAgCKdBADsBwgFBASEEDAELIAinIARBAWo7AcIBQQAh
 BAsgA0UEQCABpyAIQg58pyAJp/wKAAALQQAMAwsAC0EBDAELQQILNgAAIABC
+BHynIAQ6AAAgCEKwAnwkAEEAJAELqQMCBX8FfhAABEAACyMAQrACfSIIJAAC
+QAJAAkAgCCIJQhBZBEBChAEhCwJAAkAgAkEHaw4CAQADC0EBIQRCkAEhCwsg
+CacgBDoADiAJQg58QgGEp0EAQaEC/AsAIAtCAYYhDANAIAEgCnwiCEIGfKcv
 "##;
 
 /// Part 3 of what stands before the data.
-pub(crate) const PART_3: &str = r##"BHynIAQ6AAAgCEKwAnwkAEEAJAELqQMCBX8FfhAABEAACyMAQrACfSIIJAAC
-QAJAAkAgCCIJQhBZBEBChAEhCwJAAkAgAkEHaw4CAQADC0EBIQRCkAEhCwsg
-CacgBDoADiAJQg58QgGEp0EAQaEC/AsAIAtCAYYhDANAIAEgCnwiCEIGfKcv
-AQAiBCAIQgR8py8BACIFIAhCAnynLwEAIgYgCKcvAQAiByADQf//A3EiAyAD
+pub(crate) const PART_3: &str = r##"AQAiBCAIQgR8py8BACIFIAhCAnynLwEAIgYgCKcvAQAiByADQf//A3EiAyAD
 IAdJGyIDIAMgBkkbIgMgAyAFSRsiAyADIARJG8EhAyAMIApCCHwiClINAAtB
 ACEEIANBAEgNAiALQgGGIghQRQRAIAlCEHynIAGnIAin/AoAAAsCQAJAIAlC
 DnwQAUUNACAJQg58EANFDQAgCUIOfBAEDQELQQMhAwwEC0KIAkKgAiACQQdG
@@ -1881,11 +1884,11 @@ name = "monitor"
 at = 49
 do = "list 1 02100 00005"
 @ example comes-back-after-an-alarm
-# What survives an alarm: restart group 4 stands in phase 5, and the plan says that this phase h\
-as a job with a VAC area and
-# a task in ten centiseconds. Seven jobs without a phase take all core sets, and the eighth rais\
-es alarm 1202. After the
-# restart the seven are forgotten; the job and the task of group 4 are there again, and after te\
+# What survives an alarm: restart group 4 is in phase 5, and for this phase the plan names a job\
+ with a VAC area and a
+# task in ten centiseconds. Seven jobs without a phase take all core sets, and the eighth raises\
+ alarm 1202. After the
+# restart the seven are forgotten. The job and the task of group 4 are there again, and after te\
 n ticks the task fires.
 script = [
     "phase 4 5",
@@ -1915,12 +1918,12 @@ line = "timer"
 pulses = 10
 @ example jobs-faster-than-they-end
 # Alarm 1202, as in the landing: jobs come faster than they end. Each pass establishes two jobs,\
- and only one ends before
-# the next pass. One more core set is taken each time, until in the seventh pass all seven are, \
-and the next job finds
-# none. The alarm restarts the software: every job is gone, and the eighth pass begins with free\
- core sets. The bench
-# jobs-faster-with-eight-sets.toml has the same script, and one more core set.
+ and only one ends
+# before the next pass. So each pass takes one more core set. In the seventh pass all seven are \
+in use, and the next job
+# finds none. The alarm restarts the software: every job is gone, and the eighth pass begins wit\
+h free core sets. The
+# bench jobs-faster-with-eight-sets.toml has the same script, and one more core set.
 script = [
     "novac 20 02000 00005", "novac 20 02100 00005", "end",
     "novac 20 02000 00005", "novac 20 02100 00005", "end",
@@ -1933,12 +1936,12 @@ script = [
 ]
 @ example jobs-faster-with-eight-sets
 # The same script as jobs-faster-than-they-end.toml, with eight core sets: what does one more ch\
-ange? The seventh pass ends
-# well, with seven jobs that live, and the alarm comes in the eighth, a pass later. More is not \
-won: as long as two jobs
-# are begun for each that ends, every number of core sets is used up in as many passes. The repo\
-rt has a line SETS 8
-# before the others, and a line SET 7.
+ange? The seventh pass
+# ends well, with seven jobs alive, and the alarm comes one pass later, in the eighth. Nothing m\
+ore is gained: as long
+# as two jobs begin for each one that ends, any number of core sets is used up sooner or later. \
+The report has a line
+# SETS 8 before the others, and a line SET 7.
 sets = 8
 script = [
     "novac 20 02000 00005", "novac 20 02100 00005", "end",
@@ -1952,10 +1955,10 @@ script = [
 ]
 @ example no-vac-area
 # Alarm 1201: the astronaut presses a key again and again, and each press establishes a job with\
- a VAC area. There are five
-# areas, so the sixth press finds none, although two core sets are free. The restart frees all, \
-and the seventh press is
-# served again.
+ a VAC area. There are
+# five areas, so the sixth press finds none, although two core sets are free. The restart frees \
+them all, and the
+# seventh press is served again.
 key = "findvac 30 04000 00007"
 
 [[device]]
@@ -1963,10 +1966,10 @@ line = "key"
 pulses = 7
 @ example power-up-with-a-broken-pair
 # Power comes back, and the phase words are read. Group 3 was in phase 5, and its two words agre\
-e. The words of group 4 don't:
-# 77773 is the complement of 00004, not of 00005. So no phase can be trusted: all groups begin i\
-n phase 0, the job of group 3
-# isn't established, and FAILREG shows 01107.
+e. The words of group 4
+# don't: 77773 is the complement of 00004, not of 00005. So no phase can be trusted: all groups \
+begin in phase 0, the
+# job of group 3 isn't established, and FAILREG shows 01107.
 power = [
     "77777", "00000",
     "77777", "00000",
@@ -1996,10 +1999,11 @@ script = [
     "findvac 20 03000 00006", # worker 2
 ]
 @ example race
-# Alarm 1201 in some orders alone: each worker establishes three jobs with a VAC area and then e\
-nds three. There are five
-# areas. If one worker ends a job before the other has asked for its third, no alarm comes; of 9\
-24 orders 400 raise it.
+# Alarm 1201, but only in some orders: each worker establishes three jobs with a VAC area and th\
+en ends three. There are
+# five areas. If one worker ends a job before the other has asked for its third, no alarm comes.\
+ Of 924 orders 400 raise
+# it.
 [[worker]]
 script = ["findvac 20 02000 00005", "findvac 20 02000 00005", "findvac 20 02000 00005", "end", "\
 end", "end"]
@@ -2009,15 +2013,16 @@ script = ["findvac 20 03000 00006", "findvac 20 03000 00006", "findvac 20 03000 
 end", "end"]
 @ example sleepers-take-core-sets
 # Alarms 1202 and 1201 that nobody asks for, as in the landing. Let a tick stand for a second. E\
-ach two seconds the task at
+very two seconds the task at
 # 02000, the pass, establishes a job with a VAC area and lists itself again. Each such job shoul\
 d end before the next pass,
-# but something takes the computer's time, and each four seconds just one ends. Three other jobs\
- sleep, each in a core set of
-# its own. So the core sets run full, alarm 1202, while an area is free. Group 5 stands in phase\
- 1: the restart brings the
-# pass back with a job, but not the three sleepers. Now there are sets enough, and the areas run\
- full: alarm 1201.
+# but something takes the computer's time, and only one ends in every four seconds. Three other \
+jobs sleep, each in a core
+# set of its own. So the core sets fill up (alarm 1202) while an area is still free. Group 5 is \
+in phase 1: the restart
+# brings back the pass with a job, but not the three sleepers. Now there are enough core sets, a\
+nd the areas fill up: alarm
+# 1201.
 script = [
     "phase 5 1",
     "novac 15 06000 00011", "sleep 06000",
@@ -2047,12 +2052,13 @@ phase = 1
 job = "findvac 20 04000 00007"
 task = "list 2 02000 00005"
 @ example task-lists-itself
-# A task that runs again and again: as it fires, it lists itself for three centiseconds later. T\
-he script lists it once, for
-# the next tick, and the timer does the rest. With 1000 pulses and more the log would be full, s\
-ince no alarm empties it: it
-# holds 1000 requests, and each further tick is refused. Then a greater number is wanted, as lim\
-it = 100000.
+# A task that runs again and again: when it fires, it lists itself for three centiseconds later.\
+ The script lists it
+# once, for the next tick, and the timer does the rest. With 1000 pulses and more the log would \
+be full, since no alarm
+# empties it: it holds 1000 requests, and each further tick is refused. Then a greater limit is \
+needed, such as limit =
+# 100000.
 script = ["list 1 02000 00005"]
 
 [[task]]
@@ -2065,9 +2071,9 @@ line = "timer"
 pulses = 8
 @ example waitlist-full
 # Alarm 1203: nine tasks wait, as many as there is room for. Two centiseconds pass, and the task\
- that is due then makes room
-# for a tenth. The eleventh finds no room: the alarm restarts the software, and every task is go\
-ne.
+ that is due then makes
+# room for a tenth. The eleventh finds no room: the alarm restarts the software, and every task \
+is gone.
 script = [
     "list 2 02000 00005",
     "list 10 02010 00005",
@@ -2239,7 +2245,7 @@ script = [
 ry
 # fourth tick one job ends: too few. Three other jobs sleep. With seven core sets, which alarm c\
 omes
-# first, and when? Write `sets = 8` in the first line. Which alarm comes now, and when?
+# first, and when? Now add the line `sets = 8` above `script`. Which alarm comes now, and when?
 script = [
     "novac 15 06000 00011", "sleep 06000",
     "novac 15 06100 00011", "sleep 06100",
@@ -2259,14 +2265,16 @@ action = ["findvac 20 04000 00007", "list 2 02000 00005"]
 @ exercise exercise-9
 # Can it happen at all?
 # Two threads share one machine. Each starts three jobs with a VAC area and then ends three. Run\
- it by
-# `agc threads \l 9.toml`, several times: does an alarm come? Could one come, if the threads too\
-k turns
-# in another way? `agc_watch explore 9.toml` tries every order. Then change the order of the lin\
-es
-# within each thread so that `explore` says `never` of each alarm, although each thread still st\
-arts
-# three jobs and ends three.
+ it
+# several times with `agc threads \l 9.toml`: does an alarm come? Could one come if the threads \
+took
+# turns in another way? `agc_watch explore 9.toml` tries every order. (In the workbench, begin w\
+ith an
+# empty bench and type the twelve requests in an order of your own.) Then change the order of th\
+e
+# lines within each thread so that `explore` says `never` for each alarm, although each thread s\
+till
+# starts three jobs and ends three.
 [[worker]]
 script = [
     "findvac 20 02000 00005",
@@ -2293,9 +2301,11 @@ ng
 # else steals a part of the time: `steal` is its percentage. What is the greatest percentage for\
  which
 # no alarm comes in these two minutes? Work it out first; then try it with
-# `agc_watch sweep steal 15 25 10.toml`. Now let the run last ten minutes (`seconds = 600`). Wha\
-t is
-# the greatest percentage now? What do you conclude from a test run without an alarm?
+# `agc_watch sweep steal 15 25 10.toml`, or with the slider in the workbench. Now let the run la\
+st ten
+# minutes (`seconds = 600`). What is the greatest percentage now? What do you conclude from a te\
+st run
+# without an alarm?
 title = "No alarm so far"
 seconds = 120
 steal = 15
@@ -2351,13 +2361,13 @@ task = "list 200 02000 00005"
 y
 # begins one every second that needs 0.3 seconds. That is more than there is. How many alarms co\
 me in
-# two minutes, and when? Which table is full, and since when? (`agc_watch peaks 12.toml`.) Only \
-the
-# guidance has a phase, that of group 5. Now give the display one as well: write `"phase 3 1",` \
-in
-# front of `"phase 5 1"`. How many alarms come now? Which jobs would you let begin again after a\
-n
-# alarm?
+# two minutes, and when? Which table is full, and since when? (`agc_watch peaks 12.toml` says it\
+, and
+# the strip above the tables in the workbench shows it.) Only the guidance has a phase, that of \
+group
+# 5. Now give the display one as well: write `"phase 3 1",` in front of `"phase 5 1"`. How many \
+alarms
+# come now? Which jobs would you let begin again after an alarm?
 title = "A restart that restores the overload"
 seconds = 120
 
@@ -2522,13 +2532,13 @@ function reach(end) {
     }
   }
   if (bytes === undefined || bytes.buffer !== calls.memory.buffer) {
+    bytes = new Uint8Array(calls.memory.buffer);
+    halves = new Uint16Array(calls.memory.buffer);
+    numbers = new Uint32Array(calls.memory.buffer);
 "##;
 
 /// Part 4 of what stands before the data.
-pub(crate) const PART_4: &str = r##"    bytes = new Uint8Array(calls.memory.buffer);
-    halves = new Uint16Array(calls.memory.buffer);
-    numbers = new Uint32Array(calls.memory.buffer);
-  }
+pub(crate) const PART_4: &str = r##"  }
 }
 
 async function start(source) {
@@ -3824,17 +3834,17 @@ function accountOf(run, shown, names, about = "") {
 }
 
 function sentenceOf(shown, count, names) {
-"##;
-
-/// Part 5 of what stands before the data.
-pub(crate) const PART_5: &str = r##"  const { running, sets } = shown.scene;
+  const { running, sets } = shown.scene;
   const where = shown.row === 0 ? "The beginning" : `Request ${shown.row} of ${count}`;
   const at = `at ${seconds(shown.ticks)}`;
   const job = sets[0];
   const runs = running === 0 || job === null ? "No job is running."
     : `Job ${running} runs${names.all.has(octal(job.at, 5)) ? `: ${names.short(job.at)}` : ""}.`;
   return `${where}, ${at}: ${shown.line}. Reply: ${shown.reply}. ${runs}`;
-}
+"##;
+
+/// Part 5 of what stands before the data.
+pub(crate) const PART_5: &str = r##"}
 return {
   Names,
   sinceOf,
@@ -4385,6 +4395,10 @@ function make(name, given = {}, ...children) {
   return made;
 }
 
+function withCode(text) {
+  return text.split("`").map((it, k) => (k % 2 === 1 ? make("code", {}, it) : it));
+}
+
 function fill(where, children) {
   const parent = typeof where === "string" ? by(where) : where;
   parent.replaceChildren(...children);
@@ -4411,6 +4425,7 @@ function closeDialog() {
 return {
   by,
   make,
+  withCode,
   fill,
   button,
   labelled,
@@ -4491,7 +4506,8 @@ function mostUsed(run, count) {
 function alarmsOf(run, count) {
   const alarms = run.alarms.filter((row) => row <= count);
   if (alarms.length === 0) return "no alarm";
-  return `${counted(alarms.length, "alarm")}, the first, ${alarmAt(run, alarms[0])}`;
+  const first = alarms.length > 1 ? ", the first one" : ":";
+  return `${counted(alarms.length, "alarm")}${first} ${alarmAt(run, alarms[0])}`;
 }
 
 function outcomeOf(run, count) {
@@ -4961,20 +4977,21 @@ function download(name, text) {
   setTimeout(() => URL.revokeObjectURL(address), 1000);
 }
 
-function openOpening(open) {
+function openOpening(document, open) {
   const file = make("input", { type: "file", accept: ".toml,.txt", id: "file" });
   file.addEventListener("change", async () => {
     const [given] = file.files;
     if (given !== undefined) open(textOf(await given.arrayBuffer()), given.name);
   });
   const area = make("textarea", { id: "pasted", spellcheck: false, "aria-label": "A document",
-    maxLength: MOST_BYTES + 1 });
+    maxLength: MOST_BYTES + 1, value: document });
   const paste = () => open(area.value, "what was pasted");
-  const pasted = button("Open it", paste, { id: "open-pasted" });
+  const pasted = button("Run it", paste, { id: "open-pasted" });
   const begin = () => open("", "an empty bench");
   openDialog("Open a bench or a scenario", [
     make("p", {}, make("label", {}, "A file: ", file)),
-    make("p", {}, "Or paste a document here. A file may also be dropped on the page."), area,
+    make("p", {}, "Or change the document that is open, or paste another one over it. "
+      + "A file may also be dropped on the page."), area,
     make("p", {}, pasted, " ", button("Begin with an empty bench", begin, { id: "open-empty" })),
     make("p", { class: "wrong", id: "open-fault", role: "status" }),
   ]);
@@ -5004,6 +5021,10 @@ function questionOf(document) {
   return lines.slice(0, end < 0 ? lines.length : end).map((it) => it.slice(1).trim()).join("\n");
 }
 
+function withoutQuestion(document) {
+  return document.replace(/^(#.*\n)*\n?/, "");
+}
+
 function openExamples(kept, open) {
   const listOf = (/** @type {string} */ kind) => {
     const choices = kept.filter((it) => it.kind === kind).map((it) => {
@@ -5027,6 +5048,7 @@ return {
   openOpening,
   hearDrops,
   questionOf,
+  withoutQuestion,
   openExamples,
 };
 })();
@@ -5090,10 +5112,7 @@ function openForm(word, bench, scene, ask) {
     fields[k])), button("Ask", enter));
   const choices = addressChoices("addresses", bench, scene);
   openDialog(`${word}: ${MEANINGS.get(word)}`, [choices, form, said]);
-"##;
-
-/// Part 6 of what stands before the data.
-pub(crate) const PART_6: &str = r##"  fields[0]?.focus();
+  fields[0]?.focus();
 }
 
 function drawCommon(where, bench, scene, ask) {
@@ -5101,7 +5120,10 @@ function drawCommon(where, bench, scene, ask) {
     const wants = (FORMS.get(word)?.length ?? 0) > 0;
     const run = wants ? () => openForm(word, bench(), scene(), ask) : () => ask(word);
     return button(wants ? `${word} …` : word, run, { title: MEANINGS.get(word) });
-  }));
+"##;
+
+/// Part 6 of what stands before the data.
+pub(crate) const PART_6: &str = r##"  }));
 }
 return {
   drawCommon,
@@ -5803,7 +5825,7 @@ const { Names, accountOf, sentenceOf } = in_account;
 const { countOf, emptyBench, readBench, requestsOf } = in_bench;
 const { Strip, drawLegend, drawStrip, outcomeOf } = in_chart;
 const { ClockPanel } = in_clock;
-const { button, by, closeDialog, fill, make, openDialog } = in_dom;
+const { button, by, closeDialog, fill, make, openDialog, withCode } = in_dom;
 const files = in_files;
 const { drawCommon } = in_forms;
 const { History, parting } = in_history;
@@ -5852,7 +5874,7 @@ class Workbench {
       bench = readBench(text);
       this.begin(bench, files.firstSentence(text) || name);
     } catch (fault) {
-      this.tellFault(`${name} can't be opened. ${/** @type {Error} */ (fault).message}`);
+      this.tellFault(`This can't be opened. ${/** @type {Error} */ (fault).message}`);
       return false;
     }
     this.document = text;
@@ -5866,12 +5888,19 @@ class Workbench {
   hide(question) {
     this.isHidden = question !== "";
     by("question").hidden = !this.isHidden;
-    fill("question", [make("p", {}, question), button("Show what happens", () => {
+    fill("question", this.isHidden ? this.exercise(question.split("\n")) : []);
+    this.drawAll();
+  }
+
+  exercise([_title, ...lines]) {
+    const answer = button("Show what happens", () => {
       this.isHidden = false;
       by("show-answer").remove();
       this.drawAll();
-    }, { id: "show-answer" })]);
-    this.drawAll();
+    }, { id: "show-answer" });
+    const asked = files.withoutQuestion(this.document);
+    return [make("p", {}, ...withCode(lines.join(" "))),
+      make("pre", { tabIndex: 0, "aria-label": "The document" }, asked), answer];
   }
 
   tellFault(said) {
@@ -6127,7 +6156,7 @@ class Workbench {
       "change-back": () => this.seek((row) => run.isChange(row), -1, "change"),
       ...{ undo: () => this.undo(), redo: () => this.redo(), plan: () => this.openPlan() },
       save: () => this.openSave(),
-      open: () => files.openOpening((text, name) => this.open(text, name)),
+      open: () => files.openOpening(this.document, (text, name) => this.open(text, name)),
       examples: () => files.openExamples(this.kept, (name) => this.openKept(name)),
       help: () => openDialog("Help", HELP()),
       ...this.clock.actions(),
