@@ -1,4 +1,3 @@
-mod Fronts
 mod Calls
 mod Lanes
 mod Quiet
