@@ -1,7 +1,67 @@
-//! The kinds of lines.
+//! The kinds of lines, and the numbers in them.
 
 use crate::names::Named;
-use crate::part::Part;
+use agc_text::numbers::{address, delay, group, phase, place, priority, word};
+
+/// What a word of a line is, after the first. Source: profile.
+#[derive(Clone, Copy, PartialEq, Eq, Debug)]
+pub enum Part {
+    /// Two octal digits, 01 to 37.
+    Priority,
+    /// Five octal digits, 00001 to 37777.
+    Address,
+    /// Five octal digits.
+    Word,
+    /// 1 to 16250, decimal.
+    Delay,
+    /// 1 to 6.
+    Place,
+    /// 1 to 6.
+    Group,
+    /// 0 to 127, decimal.
+    Phase,
+}
+
+impl Part {
+    /// Whether a text is such a number.
+    pub(crate) fn is_spelled(self, text: &str) -> bool {
+        match self {
+            Part::Priority => priority(text).is_some(),
+            Part::Address => address(text).is_some(),
+            Part::Word => word(text).is_some(),
+            Part::Delay => delay(text).is_some(),
+            Part::Place => place(text).is_some(),
+            Part::Group => group(text).is_some(),
+            Part::Phase => phase(text).is_some(),
+        }
+    }
+
+    /// How it is spelled.
+    pub(crate) fn spelling(self) -> &'static str {
+        match self {
+            Part::Priority => "a priority is octal, 01 to 37",
+            Part::Address => "an address is five octal digits, 00001 to 37777",
+            Part::Word => "a word is five octal digits, 00000 to 77777",
+            Part::Delay => "a delay is decimal, 1 to 16250",
+            Part::Place => "a work word's place is 1 to 6",
+            Part::Group => "a group is 1 to 6",
+            Part::Phase => "a phase is decimal, 0 to 127",
+        }
+    }
+
+    /// The letter that stands for it in the form of a line.
+    pub(crate) fn letter(self) -> char {
+        match self {
+            Part::Priority => 'P',
+            Part::Address => 'A',
+            Part::Word => 'W',
+            Part::Delay => 'D',
+            Part::Place => 'K',
+            Part::Group => 'G',
+            Part::Phase => 'N',
+        }
+    }
+}
 
 /// What a line asks for, by its first word. Source: profile.
 #[derive(Clone, Copy, PartialEq, Eq, Debug)]
@@ -57,18 +117,6 @@ pub(crate) const LEAVINGS: [Kind; 2] = [Kind::EndOfJob, Kind::Sleep];
 /// What lists a task.
 pub(crate) const LISTINGS: [Kind; 1] = [Kind::Listing];
 
-const ENTRY: [Part; 3] = [Part::Priority, Part::Address, Part::Word];
-
-const LISTED: [Part; 3] = [Part::Delay, Part::Address, Part::Word];
-
-const STORED: [Part; 2] = [Part::Place, Part::Word];
-
-const PHASED: [Part; 2] = [Part::Group, Part::Phase];
-
-const PRIORITY: [Part; 1] = [Part::Priority];
-
-const ADDRESS: [Part; 1] = [Part::Address];
-
 impl Named for Kind {
     fn name(self) -> &'static str {
         match self {
@@ -91,31 +139,16 @@ impl Named for Kind {
 }
 
 impl Kind {
-    /// What follows it.
+    /// What follows its word.
     pub(crate) fn parts(self) -> &'static [Part] {
         match self {
-            Kind::Novac | Kind::Findvac => &ENTRY,
-            Kind::Sleep | Kind::Rouse => &ADDRESS,
-            Kind::Prio => &PRIORITY,
-            Kind::Store => &STORED,
-            Kind::Listing => &LISTED,
-            Kind::SetPhase => &PHASED,
+            Kind::Novac | Kind::Findvac => &[Part::Priority, Part::Address, Part::Word],
+            Kind::Sleep | Kind::Rouse => &[Part::Address],
+            Kind::Prio => &[Part::Priority],
+            Kind::Store => &[Part::Place, Part::Word],
+            Kind::Listing => &[Part::Delay, Part::Address, Part::Word],
+            Kind::SetPhase => &[Part::Group, Part::Phase],
             _ => &[],
-        }
-    }
-
-    /// How its line is written.
-    pub(crate) fn form(self) -> &'static str {
-        match self {
-            Kind::Novac => "novac P A W",
-            Kind::Findvac => "findvac P A W",
-            Kind::Sleep => "sleep A",
-            Kind::Rouse => "rouse A",
-            Kind::Prio => "prio P",
-            Kind::Store => "store K W",
-            Kind::Listing => "list D A W",
-            Kind::SetPhase => "phase G N",
-            _ => self.name(),
         }
     }
 }

@@ -2,20 +2,13 @@
 //! there. Source: profile.
 #![tactic(auto)]
 
-mod finding;
+mod bench;
 mod kind;
 mod line;
 mod names;
-mod part;
 mod script;
-mod sentences;
-mod telling;
-mod text;
 
-pub use finding::Finding;
-pub use kind::Kind;
+pub use bench::{add, add_decimal, add_where, bench_told};
+pub use kind::{Kind, Part};
 pub use line::LineFault;
-pub use part::Part;
-pub use script::script_findings;
-pub use telling::{bench_told, script_told};
-pub use text::{add, add_decimal, add_where};
+pub use script::{Finding, script_findings, script_told};

@@ -1,73 +1,74 @@
 //! What is wrong with a script.
-ghost use Rattle.std.specs.Prelude.{◌≡◌, ◌∷◌, ◌<◌, ◌≤◌, ◌+◌, ◌++◌, ℕ, List, IfOk, length};
-ghost use Rattle.std.specs.List.{AllByRecursion};
-ghost use Rattle.agc_text.specs.Script.{lines_of};
-ghost use Rattle.agc_lint.specs.Scripts.{found_from, script_findings, IsTold, IsFoundIn};
+ghost use Rattle.std.specs.Prelude.{◌≡◌, ℕ, List, IfOk};
+ghost use Rattle.agc_text.specs.Script.{IsFirstRefused, lines_of};
+ghost use Rattle.agc_lint.specs.Scripts.{IsTold};
 
-use crate::finding::Finding;
-use crate::line::script_fault;
-use agc_text::parse_line;
+use crate::line::{LineFault, Shown, script_fault};
+use agc_text::{ScriptFault, parse_line, read_script};
 use std::alloc::{AllocError, Global};
+use std::fmt::Write;
+use std::marker::Model;
 
 /// How many faults are told.
 pub(crate) const MOST_TOLD: usize = 20;
 
-/// The first line without its end, and what follows.
-fn first_line(text: &str) -> (&str, &str)
-    requires { 0 < length text.now }
-    ensures lines { lines_of text.now ≡ result.0.now ∷ lines_of result.1.now }
-    ensures shorter { length result.1.now < length text.now }
+/// A line by its number, from 1, its text, and what is wrong with it. Contracts see the number.
+/// Source: profile.
+#[derive(Drop)]
+pub struct Finding<'a> {
+    pub line: u64,
+    pub text: &'a str,
+    pub fault: LineFault,
+}
+
+impl<'a> Model for Finding<'a> {
+    ghost use Rattle.std.specs.Prelude.{ℕ};
+
+    ghost Value = { ℕ };
+
+    ghost view = { λ f. f.line };
+}
+
+/// What is wrong with a line of this number.
+fn finding_of<'a>(line: u64, text: &'a str) -> Finding<'a>
+    ensures { result ≡ line }
 {
-    match text.split_once('\n') {
-        Some(parts) => parts,
-        None => (text, ""),
+    Finding {
+        line,
+        text,
+        fault: script_fault(text),
     }
 }
 
-/// Notes a line that is no request, and returns how many more may be noted.
-fn note<'a>(
-    findings: &mut Vec<Finding<'a>>,
-    left: usize,
-    number: u64,
-    line: &'a str,
-) -> Result<usize, AllocError>
-    requires { 0 < left }
-    ensures found { IfOk result (λ k. (ls : List (List ℕ))
-        → findings.new.items ++ found_from k (number + 1) ls
-        ≡ findings.old.items ++ found_from left number (line.now ∷ ls)) }
-    ensures fewer { IfOk result (λ k. k ≤ left) }
-{
-    match parse_line(line) {
-        Some(_request) => Ok(left),
-        None => {
-            let fault = script_fault(line);
-            findings.push(Finding {
-                line: number,
-                text: line,
-                fault,
-            })?;
-            Ok(left - 1)
+/// The lines behind the first so many that are no requests, but one less than are told.
+fn others_behind<'a>(
+    alloc: Global,
+    text: &'a str,
+    count: u64,
+) -> Result<Vec<Finding<'a>>, AllocError> {
+    let mut findings = Vec::new(alloc);
+    for (number, line) in (1u64..).zip(text.split_terminator('\n')) {
+        if findings.len() + 1 >= MOST_TOLD {
+            break;
+        }
+        if number > count && parse_line(line).is_none() {
+            findings.push(finding_of(number, line))?;
         }
     }
+    Ok(findings)
 }
 
-/// The lines that are no requests.
-fn found_in<'a>(alloc: Global, text: &'a str) -> Result<Vec<Finding<'a>>, AllocError>
-    ensures { IfOk result (λ v. v.items ≡ script_findings text.now) }
+/// The line of this number, which is no request, and those behind it that are none.
+fn found_from<'a>(alloc: Global, text: &'a str, number: u64) -> Result<Vec<Finding<'a>>, AllocError>
+    ensures { IfOk result (λ v. (lines : List (List ℕ))
+        → IsFirstRefused lines number → IsTold lines v.items) }
 {
-    let mut findings: Vec<Finding<'a>> = Vec::new(alloc);
-    let mut number = 1u64;
-    let mut rest = text;
-    let mut left = MOST_TOLD;
-    while !rest.is_empty() {
-        if left == 0 {
-            return Ok(findings);
-        }
-        let (line, others) = first_line(rest);
-        left = note(&mut findings, left, number, line)?;
-        number += 1;
-        rest = others;
-    }
+    let line = text
+        .split('\n')
+        .nth((number as usize).saturating_sub(1))
+        .unwrap_or("");
+    let mut findings = others_behind(alloc, text, number)?;
+    findings.insert(0, finding_of(number, line))?;
     Ok(findings)
 }
 
@@ -78,11 +79,36 @@ fn found_in<'a>(alloc: Global, text: &'a str) -> Result<Vec<Finding<'a>>, AllocE
 ///
 /// Where there is no memory.
 pub fn script_findings<'a>(alloc: Global, text: &'a str) -> Result<Vec<Finding<'a>>, AllocError>
-    ensures exact { IfOk result (λ v. v.items ≡ script_findings text.now) }
-    // Nothing is found where the text is a script; else its first line that is no request.
-    ensures told { IfOk result (λ v. IsTold (lines_of text.now) v.items) }
-    ensures lines { IfOk result (λ v. AllByRecursion (IsFoundIn (lines_of text.now)) v.items) }
+    // Nothing is found where the text is a script; else first its first line that is no request.
+    ensures { IfOk result (λ v. IsTold (lines_of text.now) v.items) }
 {
-    let findings = found_in(alloc, text)?;
-    Ok(findings)
+    match read_script(alloc, text) {
+        Ok(_requests) => Ok(Vec::new(alloc)),
+        Err(ScriptFault::Line(number)) => found_from(alloc, text, number),
+        Err(ScriptFault::NoMemory) => Err(AllocError),
+    }
+}
+
+/// Tells of a line of a script.
+fn add_finding(told: &mut String, finding: &Finding<'_>) -> Result<(), AllocError> {
+    let (line, text, fault) = (finding.line, Shown(finding.text), finding.fault);
+    write!(told, "line {line}: \"{text}\": {fault}\n")
+}
+
+/// A line for each finding; one alone for a line of a bench, which is no script. Source: profile.
+///
+/// # Errors
+///
+/// Where there is no memory.
+pub fn script_told(alloc: Global, findings: &[Finding<'_>]) -> Result<String, AllocError> {
+    let mut told = String::new(alloc);
+    for finding in findings {
+        if finding.fault == LineFault::OfBench {
+            told.clear();
+            add_finding(&mut told, finding)?;
+            break;
+        }
+        add_finding(&mut told, finding)?;
+    }
+    Ok(told)
 }

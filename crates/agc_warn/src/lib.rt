@@ -1,21 +1,14 @@
-//! What is worth a second look in a bench that can be run, and where. Source: profile.
+//! What is worth a second look in a bench that can be run, and what a run comes to. Source:
+//! profile.
 #![tactic(auto)]
 
-mod index;
-mod listed;
-mod locating;
-mod noting;
-mod reasons;
-mod rows;
-mod running;
-mod summary;
-mod tasks;
+mod items;
+mod ran;
 mod telling;
-mod walk;
 mod warning;
+mod warnings;
 
-pub use locating::bench_warnings;
-pub use running::{Ran, run_bench, run_requests};
-pub use summary::{add_script_summary, add_summary};
-pub use telling::warnings_told;
-pub use warning::{Located, Warned, Warning};
+pub use ran::{Ran, run_bench};
+pub use telling::{add_script_summary, add_summary, warnings_told};
+pub use warning::{Warned, Warning};
+pub use warnings::{bench_warnings, run_warnings};

@@ -1,7 +1,9 @@
-//! What is warned of.
+//! What is warned of, and how it is worded.
 use agc_document::Place;
 use agc_plan::{Group, Limit, Line, Phase, Task};
+use agc_session::Source;
 use agc_word::Word;
+use std::fmt;
 
 /// What a bench may have that is no fault, and of which nothing comes, or less than it asks for.
 /// Source: profile.
@@ -36,9 +38,54 @@ pub struct Warned {
     pub warning: Warning,
 }
 
-/// A warning with the number of a line of the document, from 1. Source: profile.
-#[derive(Clone, Copy, PartialEq, Eq, Debug)]
-pub struct Located {
-    pub line: u64,
-    pub warned: Warned,
+const NO_ROWS: &str = "the bench has no task row, so nothing is done when a task fires";
+
+const CUT: &str = "only the first 200000 requests were run, so a later one may be refused too";
+
+/// Writes that no row has a task.
+fn write_rowless<W: fmt::Write>(f: &mut fmt::Formatter<W>, task: Task) -> fmt::Result {
+    let (at, bank) = (task.at.get(), task.bank.bits());
+    write!(f, "no task row has {at:05o} in bank {bank:05o}, ")
+}
+
+impl fmt::Display for Warning {
+    fn fmt<W: fmt::Write>(&self, f: &mut fmt::Formatter<W>) -> fmt::Result {
+        match *self {
+            Warning::NoRows => f.write_str(NO_ROWS),
+            Warning::NoRow(task) => {
+                write_rowless(f, task)?;
+                f.write_str("so nothing is done when it fires")
+            }
+            Warning::OtherBank(task, bank) => {
+                write_rowless(f, task)?;
+                write!(f, "but one has that address in bank {:05o}", bank.bits())
+            }
+            Warning::NeverListed => f.write_str("nothing else lists this task, so it never fires"),
+            Warning::NoEntry(group, phase) => {
+                write!(
+                    f,
+                    "group {} has no entry for phase {}, ",
+                    group.get(),
+                    phase.get()
+                )?;
+                f.write_str("so nothing begins again in it")
+            }
+            Warning::NoRequest(line) => {
+                let name = Source::Pulse(line);
+                write!(
+                    f,
+                    "a pulse asks for nothing, since the action of {name} is nothing"
+                )
+            }
+            Warning::LogFull(first, limit) => {
+                write!(f, "request {first} is the first that is refused: ")?;
+                write!(f, "log full (limit {})", limit.get())
+            }
+            Warning::Spent(first, allowance) => {
+                write!(f, "request {first} is the first that is refused: ")?;
+                write!(f, "spent (allowance {allowance}, all served)")
+            }
+            Warning::Cut => f.write_str(CUT),
+        }
+    }
 }

@@ -7,7 +7,7 @@ use agc_peaks::scenario_sum;
 use agc_plan::{Action, Actions, Address, JobStart, PhaseEntry, Request, Task, action_request};
 use agc_program::Fault;
 use agc_scenario::{Scenario, TimedJob, scenario_findings};
-use agc_warn::{Located, Ran, Warned, Warning, add_summary, warnings_told};
+use agc_warn::{add_summary, run_warnings, warnings_told};
 use std::alloc::{AllocError, Global};
 
 /// How many requests are run.
@@ -205,55 +205,17 @@ fn add_doubts(
     Ok(())
 }
 
-/// What is warned of in a run that came to this.
-fn warnings_of(
-    alloc: Global,
-    text: &str,
-    scenario: &Scenario,
-    ran: &Ran,
-) -> Result<Vec<Located>, AllocError> {
-    let bench = scenario.bench();
-    let [limit, allowance] = [Place::Value(Key::Limit), Place::Value(Key::Allowance)];
-    let lines = lines_of(alloc, text, &[limit, allowance])?;
-    let mut found = [
-        (
-            limit,
-            ran.log_full
-                .map(|first| Warning::LogFull(first, bench.limit())),
-        ),
-        (
-            allowance,
-            ran.spent
-                .map(|first| Warning::Spent(first, bench.allowance())),
-        ),
-    ];
-    let mut warnings = Vec::new(alloc);
-    for ((place, warning), line) in found.iter().zip(lines.iter()) {
-        if let Some(warning) = warning {
-            let warned = Warned {
-                place: *place,
-                warning: *warning,
-            };
-            warnings.push(Located {
-                line: *line,
-                warned,
-            })?;
-        }
-    }
-    Ok(warnings)
-}
-
 /// The report on a scenario in which nothing is wrong: warnings, and a summary of its run.
 fn told_of_scenario(alloc: Global, text: &str, scenario: &Scenario) -> Result<String, Fault> {
     let ran = match scenario_sum(alloc, scenario, MOST_RUN) {
         Ok(ran) => ran,
         Err(fault) => return Err(Fault::Run(fault)),
     };
-    let warnings = warnings_of(alloc, text, scenario, &ran)?;
+    let warnings = run_warnings(alloc, scenario.bench(), &ran)?;
     let mut told = String::new(alloc);
     let doubts = doubts_of(alloc, scenario)?;
     add_doubts(alloc, &mut told, text, doubts.as_slice())?;
-    let of_run = warnings_told(alloc, warnings.as_slice())?;
+    let of_run = warnings_told(alloc, text, warnings.as_slice())?;
     add(&mut told, &[of_run.as_str()])?;
     add_summary(&mut told, &ran)?;
     Ok(told)

@@ -142,9 +142,9 @@ fn check_script<W: Write>(alloc: Global, text: &str, writer: &mut W) -> Result<b
 fn told_of_bench(alloc: Global, text: &str, checked: &Checked) -> Result<String, AllocError> {
     match &checked.bench {
         Some(bench) => {
-            let ran = run_bench(alloc, bench)?;
-            let warnings = bench_warnings(alloc, text, bench, &ran)?;
-            let mut told = warnings_told(alloc, warnings.as_slice())?;
+            let (_machine, ran) = run_bench(alloc, bench)?;
+            let warnings = bench_warnings(alloc, bench, &ran)?;
+            let mut told = warnings_told(alloc, text, warnings.as_slice())?;
             add_summary(&mut told, &ran)?;
             Ok(told)
         }

@@ -1,13 +1,18 @@
-use Rattle.std.proofs.Common.{List, sym, subst}
+use Rattle.std.proofs.Common.{List, [], ◌∷◌, map, refl, sym, subst}
 use Rattle.std.specs.List.{AllByRecursion}
-use Rattle.agc_text.specs.Script.{lines_of}
-use Rattle.agc_lint.specs.Findings.{Found}
-use Rattle.agc_lint.specs.Scripts.{IsTold, IsFoundIn}
-use Rattle.agc_lint.proofs.Found.{told_of, lines_in}
+use Rattle.agc_plan.specs.declared.request.Request.{Request}
+use Rattle.agc_plan.specs.Ranges.{IsRequest}
+use Rattle.agc_text.specs.Lines.{line_of}
+use Rattle.agc_text.specs.Script.{IsLine, lines_of}
+use Rattle.agc_lint.specs.Scripts.{IsTold}
 use Rattle.agc_lint.proofs.script.script_findings.Goals as goal
 
-pub returns-clause-told : goal.returns-clause-told
-returns-clause-told c = subst (λ (fs : List Found). IsTold (lines_of c.args.text.now) fs) (sym c.in_ok-findings.ensures) (told_of (lines_of c.args.text.now))
+all_lines : (rs : List Request) → AllByRecursion IsRequest rs → AllByRecursion IsLine (map line_of rs)
+all_lines [] h = tt
+all_lines (r ∷ rs) h = ((r, h.0, refl), all_lines rs h.1)
 
-pub returns-clause-lines : goal.returns-clause-lines
-returns-clause-lines c = subst (λ (fs : List Found). AllByRecursion (IsFoundIn (lines_of c.args.text.now)) fs) (sym c.in_ok-findings.ensures) (lines_in (lines_of c.args.text.now))
+pub returns-in-Ok : goal.returns-in-Ok
+returns-in-Ok c =
+    let found = c.in-Ok.ensures.found in
+    subst (IsTold (lines_of c.args.text.now)) (sym c.new.ensures.items)
+    (subst (λ ls. AllByRecursion IsLine ls) (sym found.1) (all_lines c.in-Ok._requests.items found.0))

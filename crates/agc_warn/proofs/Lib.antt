@@ -1,4 +1,0 @@
-pub mod Walks
-pub mod Lists
-mod Runs
-mod Sets
