@@ -86,9 +86,6 @@ do = "rouse 04100"
 # written in parts already.
 SCENARIO_WORDS = ("trace --brief", "picture --time", "check", "bench", "peaks", "sweep steal 0 100 50")
 
-# Of these a scenario takes memory for a machine once more when something was written.
-FRONTS = {"trace", "bench", "sweep"}
-
 # Workers and devices of which each order leaves the same words and totals.
 THREADS = BENCH + b"""
 [[worker]]
@@ -156,15 +153,15 @@ def words(hostile):
 
 
 def growths(hostile):
-    """A run of which one growth is refused says so, and has written nothing, or what it writes of a scenario before it
-    takes memory again. Before it reads, the program takes memory for the command line, some of which it can do
-    without: then the run goes on as if nothing was refused."""
+    """A run of which one growth is refused says so, and has written nothing, or of a sweep its first rows. Before it
+    reads, the program takes memory for the command line, some of which it can do without: then the run goes on as if
+    nothing was refused."""
     for word, text, whole in words(hostile):
         refusals = {NO_MEMORY, NO_THREAD} if word == "threads" else {NO_MEMORY}
         spared = 0
         for k in range(1, whole.growths + 1):
             ended = hostile.run(word, text, fail_growth=k)
-            is_front = text == SCENARIO and word.split()[0] in FRONTS and whole.text.startswith(ended.text)
+            is_front = word.startswith("sweep") and whole.text.startswith(ended.text)
             is_told = ended.said in refusals and (not ended.text or is_front)
             is_spared = k <= whole.before_input and ended.said == DONE and ended.text == whole.text
             spared += is_spared

@@ -4,14 +4,14 @@
 
 mod counting;
 mod era;
-mod following;
 mod machine;
 mod peaks;
 mod running;
+mod summing;
 mod sweep;
 mod writing;
 
-pub use following::{follow_scenario, scenario_sum};
 pub use peaks::{bench_peaks, scenario_peaks};
+pub use summing::scenario_sum;
 pub use sweep::{Column, Sweep, Watches, run_sweep};
 pub use writing::{put_bench, scenario_bench};

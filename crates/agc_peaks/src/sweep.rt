@@ -183,7 +183,7 @@ fn put_row<W: Write>(name: &str, value: u64, found: &Found, writer: &mut W) -> i
 ///
 /// # Errors
 ///
-/// `NoMemory`. `Output`, where a write failed.
+/// `NoMemory`, and no further row is written. `Output`, where a write failed.
 pub fn run_sweep<P: Watches, W: Write>(
     alloc: Global,
     scenario: &mut Scenario,

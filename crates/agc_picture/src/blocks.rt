@@ -1,4 +1,6 @@
 // The blocks of lanes.
+use crate::labels::Labels;
+use agc_exec::Seat;
 use std::io::Write;
 use std::{fmt, io};
 
@@ -65,6 +67,19 @@ pub(crate) fn put_ground<W: Write>(
 /// Writes a number at the left of a block.
 pub(crate) fn put_label<W: Write>(writer: &mut W, x: u64, y: u64, number: u64) -> io::Result<()> {
     write!(writer, "<text x=\"{x}\" y=\"{y}\" dx=\"1\">{number}</text>")
+}
+
+/// Writes the name of a job at the left of a block, or its number.
+pub(crate) fn put_job_label<W: Write>(
+    writer: &mut W,
+    labels: &Labels,
+    x: u64,
+    y: u64,
+    seat: Seat,
+) -> io::Result<()> {
+    write!(writer, "<text x=\"{x}\" y=\"{y}\" dx=\"1\">")?;
+    labels.put_job(writer, u64::from(seat.number), seat.at)?;
+    write!(writer, "</text>")
 }
 
 /// Ends a block.

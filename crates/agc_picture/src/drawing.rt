@@ -4,24 +4,28 @@ ghost use Rattle.agc_scene.specs.Events.{watched, watching_from};
 
 use crate::blocks::column_at;
 use crate::frame::{put_head, width_of};
+use crate::labels::Labels;
 use crate::lanes::{Part, below, put_part};
 use crate::marks::{put_axis, put_mark};
+use agc_clock::Asked;
 use agc_machine::Machine;
 use agc_plan::Request;
 use agc_scene::{Event, Scene, Watched};
 use agc_session::{Follows, Source};
 use agc_text::Output;
+use agc_trace::FollowsClock;
 use std::io;
 use std::io::Write;
 use std::marker::Model;
 
-/// A run that is drawn: the machine that is watched, what was drawn last, and how many requests
-/// there are. Contracts see the machine.
+/// A run that is drawn: the machine that is watched, what was drawn last, how many requests there
+/// are, and what jobs are called. Contracts see the machine.
 #[derive(Drop)]
 pub(crate) struct Drawing {
     watched: Watched,
     drawn: Scene,
     count: u64,
+    labels: Labels,
 }
 
 impl Model for Drawing {
@@ -34,17 +38,23 @@ impl Model for Drawing {
 
 /// Writes the column of an event, after what was drawn last: in it what has changed. Where an era
 /// begins, its mark stands at the end of the column, and in the next what began.
-fn put_event<W: Write>(writer: &mut W, drawn: &Scene, width: u64, event: &Event) -> io::Result<()> {
+fn put_event<W: Write>(
+    writer: &mut W,
+    labels: &Labels,
+    drawn: &Scene,
+    width: u64,
+    event: &Event,
+) -> io::Result<()> {
     let column = column_at(width, event.number);
     put_axis(writer, column, event.time)?;
-    put_part(writer, column, drawn, Part::Changed, &event.scene)?;
+    put_part(writer, labels, column, drawn, Part::Changed, &event.scene)?;
     match &event.era {
         None => Ok(()),
         Some(era) => {
             let next = column_at(width, event.number.saturating_add(1));
             let end = below(era).saturating_add(170);
             put_mark(writer, event, next.x, end)?;
-            put_part(writer, next, &event.scene, Part::Begun, era)
+            put_part(writer, labels, next, &event.scene, Part::Begun, era)
         }
     }
 }
@@ -58,8 +68,8 @@ fn drawn_after(event: Event) -> Scene {
 }
 
 impl Drawing {
-    /// Nothing was asked of this machine, and so many requests will be.
-    pub(crate) fn new(machine: Machine, count: u64) -> Drawing
+    /// Nothing was asked of this machine, and so many requests will be; its jobs are called so.
+    pub(crate) fn new(machine: Machine, count: u64, labels: Labels) -> Drawing
         ensures { result ≡ watching_from machine }
     {
         let watched = Watched::new(machine);
@@ -68,6 +78,7 @@ impl Drawing {
             watched,
             drawn,
             count,
+            labels,
         }
     }
 
@@ -88,11 +99,28 @@ impl Drawing {
             writer,
             scene.seats().len(),
             below(scene),
+            &self.labels,
             self.count,
             right.x,
         )?;
         put_axis(writer, first, 0)?;
-        put_part(writer, first, scene, Part::All, scene)
+        put_part(writer, &self.labels, first, scene, Part::All, scene)
+    }
+}
+
+impl Drawing {
+    /// Asks for one request, and writes its column.
+    fn follow_one<W: Write>(&mut self, request: &Request, writer: &mut W) -> Result<(), Output>
+        ensures { self.new ≡ watched self.old request.now }
+    {
+        let event = self.watched.ask(request);
+        let width = width_of(self.count);
+        let put = put_event(writer, &self.labels, &self.drawn, width, &event);
+        self.drawn = drawn_after(event);
+        match put {
+            Ok(()) => Ok(()),
+            Err(_failed) => Err(Output),
+        }
     }
 }
 
@@ -101,19 +129,22 @@ impl Follows for Drawing {
 
     ghost next = { λ drawing request. watched drawing request };
 
-    /// Asks for one request, and writes its column.
     fn follow<W: Write>(
         &mut self,
         _source: Source,
         request: &Request,
         writer: &mut W,
     ) -> Result<(), Output> {
-        let event = self.watched.ask(request);
-        let put = put_event(writer, &self.drawn, width_of(self.count), &event);
-        self.drawn = drawn_after(event);
-        match put {
-            Ok(()) => Ok(()),
-            Err(_failed) => Err(Output),
-        }
+        self.follow_one(request, writer)
+    }
+}
+
+impl FollowsClock for Drawing {
+    ghost use Rattle.agc_scene.specs.Events.{watched};
+
+    ghost next = { λ drawing request. watched drawing request };
+
+    fn follow_asked<W: Write>(&mut self, asked: &Asked, writer: &mut W) -> Result<(), Output> {
+        self.follow_one(&asked.request, writer)
     }
 }

@@ -1,4 +1,5 @@
 // What stands around the lanes.
+use crate::labels::Labels;
 use std::io;
 use std::io::Write;
 
@@ -38,17 +39,18 @@ fn put_set_names<W: Write>(writer: &mut W, sets: usize) -> io::Result<()> {
 }
 
 /// Writes all names, and what the colours mean; the lanes below the core sets are this far down.
-fn put_names<W: Write>(writer: &mut W, sets: usize, below: u64) -> io::Result<()> {
+fn put_names<W: Write>(writer: &mut W, sets: usize, below: u64, labels: &Labels) -> io::Result<()> {
     put_name(writer, 30, "request")?;
     put_name(writer, 43, "time (cs)")?;
     put_set_names(writer, sets)?;
     put_name(writer, below.saturating_add(95), "VAC areas")?;
     put_name(writer, below.saturating_add(152), "tasks, of 9")?;
-    put_name(
+    let (base, told) = (below.saturating_add(190), labels.told());
+    write!(
         writer,
-        below.saturating_add(190),
-        "A block has its job's number, and is pale where the job sleeps.",
+        "<text x=\"8\" y=\"{base}\">A block has its job's {told}, and is pale where the job sleeps."
     )?;
+    write!(writer, "</text>\n")?;
     put_name(
         writer,
         below.saturating_add(206),
@@ -61,13 +63,15 @@ fn put_names<W: Write>(writer: &mut W, sets: usize, below: u64) -> io::Result<()
     )
 }
 
-/// Writes how many requests there are, as the picture's title.
-fn put_title<W: Write>(writer: &mut W, count: u64) -> io::Result<()> {
-    if count == 1 {
-        write!(writer, "<title>A run of 1 request</title>\n")
-    } else {
-        write!(writer, "<title>A run of {count} requests</title>\n")
+/// Writes the picture's title, or else how many requests there are.
+fn put_title<W: Write>(writer: &mut W, labels: &Labels, count: u64) -> io::Result<()> {
+    write!(writer, "<title>")?;
+    match labels.title() {
+        Some(title) => writer.write_all(title)?,
+        None if count == 1 => write!(writer, "A run of 1 request")?,
+        None => write!(writer, "A run of {count} requests")?,
     }
+    write!(writer, "</title>\n")
 }
 
 /// Writes the head of a picture of so many core sets and requests, and of this width; the lanes
@@ -76,6 +80,7 @@ pub(crate) fn put_head<W: Write>(
     writer: &mut W,
     sets: usize,
     below: u64,
+    labels: &Labels,
     count: u64,
     width: u64,
 ) -> io::Result<()> {
@@ -86,9 +91,9 @@ pub(crate) fn put_head<W: Write>(
         " viewBox=\"0 0 {width} {height}\" width=\"{width}\""
     )?;
     write!(writer, " height=\"{height}\">\n")?;
-    put_title(writer, count)?;
+    put_title(writer, labels, count)?;
     for rule in STYLE {
         write!(writer, "{rule}")?;
     }
-    put_names(writer, sets, below)
+    put_names(writer, sets, below, labels)
 }

@@ -1,9 +1,13 @@
 // A lane of a picture over time: what is in it, column by column.
 use crate::blocks::Look;
+use crate::labels::Labels;
 use crate::scale::{COLUMN, Scale, Seconds};
 use agc_exec::Seat;
 use std::io;
 use std::io::Write;
+
+/// How wide a letter of a name may be, in points.
+const LETTER: u64 = 18;
 
 /// What a lane is of.
 #[derive(Clone, Copy, PartialEq, Eq, Debug)]
@@ -32,11 +36,20 @@ pub(crate) enum Held {
     Tasks(u64),
 }
 
-/// What columns show: one thing and since when it is there; or several, of which none fills a
-/// column, whether there was nothing in between, and the most tasks that waited.
+/// One thing that is in a lane, where its job was when it came, if it is one, and since when it is
+/// there.
+#[derive(Clone, Copy, PartialEq, Eq, Debug)]
+struct Block {
+    held: Held,
+    at: Option<u16>,
+    since: u64,
+}
+
+/// What columns show: one thing; or several, of which none fills a column, whether there was
+/// nothing in between, and the most tasks that waited.
 #[derive(Clone, Copy, PartialEq, Eq, Debug)]
 enum Shown {
-    One { held: Held, since: u64 },
+    One(Block),
     Joined { has_gap: bool, most: u64 },
 }
 
@@ -48,13 +61,12 @@ struct Run {
     to: u64,
 }
 
-/// A lane: what is in it now and since when, the column that time has reached, what was there in
-/// it, and the columns that are not written yet.
+/// A lane: what is in it now, where its job was when it came, and since when; the column that time
+/// has reached, what was there in it, and the columns that are not written yet.
 #[derive(Clone, Copy)]
 pub(crate) struct Lane {
     pub(crate) strip: Strip,
-    held: Held,
-    since: u64,
+    block: Block,
     column: u64,
     is_new: bool,
     is_joined: bool,
@@ -105,7 +117,7 @@ pub(crate) fn put_name<W: Write>(writer: &mut W, place: Place) -> io::Result<()>
 }
 
 /// Writes what is in a lane, as a title.
-fn put_held<W: Write>(writer: &mut W, held: Held) -> io::Result<()> {
+fn put_held<W: Write>(writer: &mut W, labels: &Labels, held: Held) -> io::Result<()> {
     match held {
         Held::Nothing => write!(writer, "nothing"),
         Held::Runs(number) | Held::Owner(number) => write!(writer, "job {number}"),
@@ -118,11 +130,19 @@ fn put_held<W: Write>(writer: &mut W, held: Held) -> io::Result<()> {
                 ..
             } = seat;
             let sleeps = if seat.asleep { ", asleep" } else { "" };
-            write!(
-                writer,
-                "job {number}, priority {priority:02o}, at {at:05o}{sleeps}"
-            )
+            write!(writer, "job {number}, priority {priority:02o}, at ")?;
+            labels.put_place(writer, at)?;
+            write!(writer, "{sleeps}")
         }
+    }
+}
+
+/// Whether there is room in these columns for the name of a job at this address.
+fn has_room(labels: &Labels, at: u16, run: Run) -> bool {
+    let width = run.to.saturating_sub(run.from).saturating_mul(COLUMN);
+    match labels.letters(at) {
+        None => false,
+        Some(letters) => letters.saturating_mul(LETTER).saturating_add(6) <= width,
     }
 }
 
@@ -150,68 +170,82 @@ impl Strip {
         write!(writer, "d=\"M{x} {y}h{width}v{height}h-{width}z\"")
     }
 
-    /// Writes the number of a block: of tasks above the bar.
-    fn put_label<W: Write>(self, writer: &mut W, held: Held, x: u64) -> io::Result<()> {
+    /// Writes the number of a block, that of tasks above the bar; in its place the name of the job,
+    /// if it has one, and these columns have room for it.
+    fn put_label<W: Write>(
+        self,
+        writer: &mut W,
+        labels: &Labels,
+        block: Block,
+        run: Run,
+    ) -> io::Result<()> {
+        let Block { held, at, .. } = block;
         let Strip { place, y, height } = self.part(waiting(held));
+        let x = Scale::x(run.from).saturating_add(3);
         let Some(number) = label(held) else {
             return Ok(());
         };
         if place == Place::Tasks {
             let base = y.saturating_sub(4);
-            write!(writer, "<text x=\"{x}\" y=\"{base}\">{number}</text>\n")
-        } else {
-            let (look, base) = (look(held), y.saturating_add(height / 2 + 9));
-            write!(
-                writer,
-                "<text class=\"on-{look}\" x=\"{x}\" y=\"{base}\">{number}</text>\n"
-            )
+            return write!(writer, "<text x=\"{x}\" y=\"{base}\">{number}</text>\n");
         }
+        let (look, base) = (look(held), y.saturating_add(height / 2 + 9));
+        write!(writer, "<text class=\"on-{look}\" x=\"{x}\" y=\"{base}\">")?;
+        match at {
+            Some(at) if has_room(labels, at, run) => labels.put_job(writer, number, at)?,
+            _ => write!(writer, "{number}")?,
+        }
+        write!(writer, "</text>\n")
     }
 
-    /// Writes what a block tells: a title, and a number where there is room for it.
+    /// Writes what a block tells: a title, and a number or name where there is room for it.
     fn put_told<W: Write>(
         self,
         writer: &mut W,
-        held: Held,
-        since: u64,
+        labels: &Labels,
+        block: Block,
         run: Run,
     ) -> io::Result<()> {
         write!(writer, "><title>")?;
         put_name(writer, self.place)?;
         write!(writer, ": ")?;
-        put_held(writer, held)?;
+        put_held(writer, labels, block.held)?;
         write!(writer, ", from ")?;
-        Seconds(since).put(writer)?;
+        Seconds(block.since).put(writer)?;
         write!(writer, " s</title></path>\n")?;
         if run.to.saturating_sub(run.from) < 11 {
             return Ok(());
         }
-        self.put_label(writer, held, Scale::x(run.from).saturating_add(3))
+        self.put_label(writer, labels, block, run)
     }
 
     /// Writes the block of one thing.
-    fn put_one<W: Write>(self, writer: &mut W, held: Held, since: u64, run: Run) -> io::Result<()> {
-        let look = look(held);
+    fn put_one<W: Write>(
+        self,
+        writer: &mut W,
+        labels: &Labels,
+        block: Block,
+        run: Run,
+    ) -> io::Result<()> {
+        let look = look(block.held);
         write!(writer, "<path class=\"{look}\" ")?;
-        self.part(waiting(held)).put_path(writer, run.from, run.to)?;
+        self.part(waiting(block.held))
+            .put_path(writer, run.from, run.to)?;
         if run.to.saturating_sub(run.from) < 4 {
             write!(writer, "/>\n")
         } else {
-            self.put_told(writer, held, since, run)
+            self.put_told(writer, labels, block, run)
         }
     }
 
     /// Writes a run of columns. Nothing is written where nothing is there, or no column.
-    fn put_run<W: Write>(self, writer: &mut W, run: Run) -> io::Result<()> {
+    fn put_run<W: Write>(self, writer: &mut W, labels: &Labels, run: Run) -> io::Result<()> {
         if run.from >= run.to {
             return Ok(());
         }
         match run.shown {
-            Shown::One {
-                held: Held::Nothing,
-                ..
-            } => Ok(()),
-            Shown::One { held, since } => self.put_one(writer, held, since, run),
+            Shown::One(block) if block.held == Held::Nothing => Ok(()),
+            Shown::One(block) => self.put_one(writer, labels, block, run),
             Shown::Joined { has_gap, most } => {
                 let class = if has_gap { "y" } else { "x" };
                 write!(writer, "<path class=\"{class}\" ")?;
@@ -225,21 +259,21 @@ impl Strip {
 impl Lane {
     /// A lane in which nothing is yet.
     pub(crate) fn new(strip: Strip) -> Lane {
-        let shown = Shown::One {
+        let block = Block {
             held: Held::Nothing,
+            at: None,
             since: 0,
         };
         Lane {
             strip,
-            held: Held::Nothing,
-            since: 0,
+            block,
             column: 0,
             is_new: false,
             is_joined: false,
             has_gap: true,
             most: 0,
             run: Run {
-                shown,
+                shown: Shown::One(block),
                 from: 0,
                 to: 0,
             },
@@ -251,6 +285,7 @@ impl Lane {
     fn add<W: Write>(
         &mut self,
         writer: &mut W,
+        labels: &Labels,
         shown: Shown,
         from: u64,
         to: u64,
@@ -262,7 +297,7 @@ impl Lane {
             self.run.to = to;
             return Ok(());
         }
-        self.strip.put_run(writer, self.run)?;
+        self.strip.put_run(writer, labels, self.run)?;
         self.run = Run { shown, from, to };
         Ok(())
     }
@@ -271,12 +306,17 @@ impl Lane {
     pub(crate) fn begin(&mut self) {
         self.is_new = false;
         self.is_joined = false;
-        self.has_gap = self.held == Held::Nothing;
-        self.most = waiting(self.held);
+        self.has_gap = self.block.held == Held::Nothing;
+        self.most = waiting(self.block.held);
     }
 
     /// Time comes to a column.
-    pub(crate) fn pass<W: Write>(&mut self, writer: &mut W, column: u64) -> io::Result<()> {
+    pub(crate) fn pass<W: Write>(
+        &mut self,
+        writer: &mut W,
+        labels: &Labels,
+        column: u64,
+    ) -> io::Result<()> {
         if column <= self.column {
             return Ok(());
         }
@@ -287,34 +327,34 @@ impl Lane {
                 has_gap: self.has_gap,
                 most: self.most,
             };
-            self.add(writer, shown, self.column, own)?;
+            self.add(writer, labels, shown, self.column, own)?;
         }
-        let shown = Shown::One {
-            held: self.held,
-            since: self.since,
-        };
-        self.add(writer, shown, own, column)?;
+        self.add(writer, labels, Shown::One(self.block), own, column)?;
         self.column = column;
         self.begin();
         Ok(())
     }
 
-    /// From this time on this is in it. Where an era begins, what is there is another.
-    pub(crate) fn change(&mut self, held: Held, time: u64, is_era: bool) {
-        if held == self.held && (!is_era || held == Held::Nothing) {
+    /// From this time on this is in it, a job of this address, if it is one. Where an era begins,
+    /// what is there is another.
+    pub(crate) fn change(&mut self, held: Held, at: Option<u16>, time: u64, is_era: bool) {
+        if held == self.block.held && (!is_era || held == Held::Nothing) {
             return;
         }
         self.is_joined = self.is_joined || self.is_new;
         self.is_new = true;
         self.has_gap = self.has_gap || held == Held::Nothing;
         self.most = self.most.max(waiting(held));
-        self.held = held;
-        self.since = time;
+        self.block = Block {
+            held,
+            at,
+            since: time,
+        };
     }
 
     /// Writes the columns that are not written yet.
-    pub(crate) fn flush<W: Write>(&mut self, writer: &mut W) -> io::Result<()> {
-        self.strip.put_run(writer, self.run)?;
+    pub(crate) fn flush<W: Write>(&mut self, writer: &mut W, labels: &Labels) -> io::Result<()> {
+        self.strip.put_run(writer, labels, self.run)?;
         self.run.from = self.run.to;
         Ok(())
     }

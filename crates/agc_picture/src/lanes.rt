@@ -1,5 +1,6 @@
 // The lanes: core sets, the running job's mark, VAC areas, tasks.
-use crate::blocks::{Column, Look, put_close, put_ground, put_label, put_open};
+use crate::blocks::{Column, Look, put_close, put_ground, put_job_label, put_label, put_open};
+use crate::labels::Labels;
 use agc_exec::Seat;
 use agc_scene::Scene;
 use std::io;
@@ -52,6 +53,7 @@ fn put_free<W: Write>(writer: &mut W, column: Column, k: usize, y: u64) -> io::R
 /// Writes the block of a job in a core set.
 fn put_job<W: Write>(
     writer: &mut W,
+    labels: &Labels,
     column: Column,
     k: usize,
     y: u64,
@@ -73,16 +75,19 @@ fn put_job<W: Write>(
     put_open(writer, look)?;
     write!(
         writer,
-        "set {k}: job {number}, priority {priority:02o}, at {at:05o}{sleeps}"
+        "set {k}: job {number}, priority {priority:02o}, at "
     )?;
+    labels.put_place(writer, at)?;
+    write!(writer, "{sleeps}")?;
     put_ground(writer, column, y, 22)?;
-    put_label(writer, column.x, y.saturating_add(15), number as u64)?;
+    put_job_label(writer, labels, column.x, y.saturating_add(15), seat)?;
     put_close(writer)
 }
 
 /// Writes a core set's block.
 fn put_set<W: Write>(
     writer: &mut W,
+    labels: &Labels,
     column: Column,
     k: usize,
     seat: Option<Seat>,
@@ -90,7 +95,7 @@ fn put_set<W: Write>(
     let y = 54 + 27 * (k as u64).min(7);
     match seat {
         None => put_free(writer, column, k, y),
-        Some(seat) => put_job(writer, column, k, y, seat),
+        Some(seat) => put_job(writer, labels, column, k, y, seat),
     }
 }
 
@@ -166,6 +171,7 @@ pub(crate) fn runner(scene: &Scene) -> Option<u16> {
 /// Writes the blocks of core sets.
 fn put_sets<W: Write>(
     writer: &mut W,
+    labels: &Labels,
     column: Column,
     before: &Scene,
     part: Part,
@@ -174,7 +180,7 @@ fn put_sets<W: Write>(
     for k in 0..scene.seats().len() {
         let seat = seat_in(scene, k);
         if part.has(seat != seat_in(before, k), seat.is_some()) {
-            put_set(writer, column, k, seat)?;
+            put_set(writer, labels, column, k, seat)?;
         }
     }
     Ok(())
@@ -201,12 +207,13 @@ fn put_areas<W: Write>(
 /// Writes this part of a scene, after another.
 pub(crate) fn put_part<W: Write>(
     writer: &mut W,
+    labels: &Labels,
     column: Column,
     before: &Scene,
     part: Part,
     scene: &Scene,
 ) -> io::Result<()> {
-    put_sets(writer, column, before, part, scene)?;
+    put_sets(writer, labels, column, before, part, scene)?;
     let running = runner(scene);
     if part.has(running != runner(before), running.is_some()) {
         put_runs(writer, column, running)?;

@@ -5,9 +5,7 @@ use std::io::Write;
 /// What of a run is drawn over time, and how. Times are in centiseconds since the start. Source:
 /// profile.
 #[derive(Clone, Copy, Debug)]
-pub struct Span<'a> {
-    /// The picture's title; without one it says which seconds it shows.
-    pub title: Option<&'a str>,
+pub struct Span {
     /// How wide the picture is, in points, from 1,200 to 10,000; another width is the nearest of
     /// these.
     pub width: u64,
@@ -56,7 +54,7 @@ impl Seconds {
 
 impl Scale {
     /// The scale of what is to be drawn of a run that ends at this time: at least a centisecond.
-    pub(crate) fn new(span: Span<'_>, end: u64) -> Scale {
+    pub(crate) fn new(span: Span, end: u64) -> Scale {
         let width = span.width.max(1200).min(10_000);
         let to = match span.to {
             None => end,

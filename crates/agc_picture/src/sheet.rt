@@ -1,4 +1,5 @@
 // What stands around the lanes of a picture over time.
+use crate::labels::Labels;
 use crate::lane::{Lane, Place, Strip, put_name};
 use crate::scale::{LEFT, Scale, Seconds};
 use std::io;
@@ -26,10 +27,6 @@ const STYLE: [&str; 19] = [
     ".on-s1,.on-s2,.on-s3,.on-s4,.on-s5,.on-s6,.on-s7{fill:#111}\n",
     "}\n</style>\n",
 ];
-
-/// What the axis is, and what blocks show.
-const AXIS: &str =
-    "Along the top: seconds since the start. A block has its job's number; pale: the job sleeps.";
 
 /// What is joined.
 const BRIEF: &str = "too brief to be drawn: several within one column";
@@ -63,9 +60,9 @@ fn put_times<W: Write>(writer: &mut W, scale: Scale) -> io::Result<()> {
     write!(writer, " s")
 }
 
-/// Writes the title, as it is in markup.
-fn put_title<W: Write>(writer: &mut W, title: Option<&[u8]>, scale: Scale) -> io::Result<()> {
-    match title {
+/// Writes the title.
+fn put_title<W: Write>(writer: &mut W, labels: &Labels, scale: Scale) -> io::Result<()> {
+    match labels.title() {
         Some(title) => writer.write_all(title),
         None => put_times(writer, scale),
     }
@@ -74,7 +71,7 @@ fn put_title<W: Write>(writer: &mut W, title: Option<&[u8]>, scale: Scale) -> io
 /// Writes the head of a picture of so many core sets, up to the names of its lanes.
 pub(crate) fn put_head<W: Write>(
     writer: &mut W,
-    title: Option<&[u8]>,
+    labels: &Labels,
     sets: u64,
     scale: Scale,
 ) -> io::Result<()> {
@@ -85,7 +82,7 @@ pub(crate) fn put_head<W: Write>(
         writer,
         " viewBox=\"0 0 {width} {height}\" width=\"{width}\" height=\"{height}\">\n<title>"
     )?;
-    put_title(writer, title, scale)?;
+    put_title(writer, labels, scale)?;
     write!(writer, "</title>\n")?;
     for rule in STYLE {
         write!(writer, "{rule}")?;
@@ -95,7 +92,7 @@ pub(crate) fn put_head<W: Write>(
         "<rect class=\"p\" width=\"100%\" height=\"100%\"/>\n"
     )?;
     write!(writer, "<text class=\"h\" x=\"8\" y=\"42\">")?;
-    put_title(writer, title, scale)?;
+    put_title(writer, labels, scale)?;
     write!(writer, "</text>\n<text x=\"8\" y=\"84\">seconds</text>\n")?;
     Ok(())
 }
@@ -160,15 +157,28 @@ fn put_stroke<W: Write>(writer: &mut W, class: &str, x: u64, y: u64) -> io::Resu
     )
 }
 
+/// Writes what the axis is, and what blocks show.
+fn put_axis_line<W: Write>(writer: &mut W, labels: &Labels, y: u64) -> io::Result<()> {
+    let told = labels.told();
+    write!(
+        writer,
+        "<text x=\"8\" y=\"{y}\">Along the top: seconds since the start."
+    )?;
+    write!(
+        writer,
+        " A block has its job's {told}; pale: the job sleeps.</text>\n"
+    )
+}
+
 /// Writes what the axis and the colours mean.
-fn put_legend<W: Write>(writer: &mut W, y: u64, scale: Scale) -> io::Result<()> {
+fn put_legend<W: Write>(writer: &mut W, labels: &Labels, y: u64, scale: Scale) -> io::Result<()> {
     let (one, two, three) = (
         y.saturating_add(36),
         y.saturating_add(70),
         y.saturating_add(104),
     );
     let (high, low) = (y.saturating_add(51), y.saturating_add(85));
-    put_line(writer, 8, one, AXIS)?;
+    put_axis_line(writer, labels, one)?;
     put_square(writer, "x", 8, high)?;
     write!(writer, "<text x=\"36\" y=\"{two}\">{BRIEF} (")?;
     Seconds(scale.column_length()).put(writer)?;
@@ -191,6 +201,7 @@ fn put_legend<W: Write>(writer: &mut W, y: u64, scale: Scale) -> io::Result<()> 
 /// closes the picture.
 pub(crate) fn put_foot<W: Write>(
     writer: &mut W,
+    labels: &Labels,
     sets: u64,
     scale: Scale,
     end: u64,
@@ -207,6 +218,6 @@ pub(crate) fn put_foot<W: Write>(
         )?;
     }
     put_axis(writer, sets, scale)?;
-    put_legend(writer, low, scale)?;
+    put_legend(writer, labels, low, scale)?;
     write!(writer, "</svg>\n")
 }

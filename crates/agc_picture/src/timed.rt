@@ -1,19 +1,20 @@
 // A run that is drawn over time.
 ghost use Rattle.std.specs.Prelude.{◌≡◌, IfOk};
-ghost use Rattle.agc_clock.specs.Runs.{begins_with};
-ghost use Rattle.agc_machine.specs.Machines.{answer_of};
 ghost use Rattle.agc_scene.specs.Events.{watched, watching_from};
 
+use crate::labels::Labels;
 use crate::lane::{Held, Lane, Place};
 use crate::lanes::{runner, seat_in};
 use crate::marks::{code, full_table};
 use crate::scale::{Scale, Seconds};
 use crate::sheet::{put_foot, put_ground, put_head, strip_of};
-use agc_machine::{Machine, Refusal};
-use agc_plan::{Reply, Request};
+use agc_clock::Asked;
+use agc_machine::Machine;
+use agc_plan::Request;
 use agc_scene::{Event, Scene, Watched};
 use agc_session::{Follows, Source, written};
 use agc_text::Output;
+use agc_trace::FollowsClock;
 use std::alloc::{AllocError, Global};
 use std::io;
 use std::io::Write;
@@ -29,15 +30,15 @@ struct Room {
     high: u64,
 }
 
-/// A run that is drawn over time: the machine that is watched, the time that has passed, the lanes,
-/// and where marks have room. Contracts see the machine.
+/// A run that is drawn over time: the machine that is watched, the time that has passed, what jobs
+/// are called, the lanes, and where marks have room. Contracts see the machine.
 #[derive(Drop)]
 pub(crate) struct TimeDrawing {
     watched: Watched,
     time: u64,
     scale: Scale,
     sets: u64,
-    title: Option<Vec<u8>>,
+    labels: Labels,
     lanes: Vec<Lane>,
     room: Room,
 }
@@ -50,25 +51,16 @@ impl Model for TimeDrawing {
     ghost view = { λ d. d.watched };
 }
 
-/// Whether an era begins with an answer.
-fn begins_with(answer: &Result<Reply, Refusal>) -> bool
-    ensures { result ≡ begins_with answer.now }
-{
-    match answer {
-        Ok(reply) => reply.begins(),
-        Err(_refusal) => false,
+/// Where the job is that is in a lane, in a scene.
+fn address_of(scene: &Scene, held: Held) -> Option<u16> {
+    match held {
+        Held::Job(seat) => Some(seat.at),
+        Held::Owner(number) => {
+            let mut jobs = scene.seats().iter().flatten();
+            jobs.find(|seat| seat.number == number).map(|seat| seat.at)
+        }
+        Held::Nothing | Held::Runs(_) | Held::Tasks(_) => None,
     }
-}
-
-/// Asks a machine for one request. Returns its event, and whether an era began with it.
-#[tactic(auto, unfolding(agc_scene::specs::Events::event_of))]
-fn asked(machine: &mut Watched, request: &Request) -> (Event, bool)
-    ensures after { machine.new ≡ watched machine.old request.now }
-    ensures began { result.1 ≡ begins_with (answer_of machine.old.machine request.now) }
-{
-    let event = machine.ask(request);
-    let began = begins_with(&event.answer);
-    (event, began)
 }
 
 /// What is in a lane, in a scene.
@@ -150,13 +142,12 @@ impl Room {
 }
 
 impl TimeDrawing {
-    /// Nothing was asked of this machine, and it is to be drawn on this scale, with this title as
-    /// it is in markup.
+    /// Nothing was asked of this machine, and it is to be drawn on this scale, with these names.
     pub(crate) fn new(
         alloc: Global,
         machine: Machine,
         scale: Scale,
-        title: Option<Vec<u8>>,
+        labels: Labels,
     ) -> Result<TimeDrawing, AllocError>
         ensures { IfOk result (λ d. d ≡ watching_from machine) }
     {
@@ -168,7 +159,7 @@ impl TimeDrawing {
             time: 0,
             scale,
             sets,
-            title,
+            labels,
             lanes: lanes_of(alloc, sets)?,
             room: Room {
                 alarm: 0,
@@ -189,20 +180,9 @@ impl TimeDrawing {
         self.watched
     }
 
-    /// The machine that is watched.
-    pub(crate) fn machine(&self) -> &Machine
-        ensures { result.now ≡ self.now.machine }
-    {
-        self.watched.machine()
-    }
-
     /// Writes the head, and the grounds of all lanes.
     fn put_begin<W: Write>(&self, writer: &mut W) -> io::Result<()> {
-        let title = match &self.title {
-            None => None,
-            Some(title) => Some(title.as_slice()),
-        };
-        put_head(writer, title, self.sets, self.scale)?;
+        put_head(writer, &self.labels, self.sets, self.scale)?;
         for lane in self.lanes.iter() {
             put_ground(writer, lane, self.scale)?;
         }
@@ -220,7 +200,8 @@ impl TimeDrawing {
     {
         let time = self.time;
         for lane in self.lanes.iter_mut() {
-            lane.change(held_in(scene, lane.strip.place), time, is_era);
+            let held = held_in(scene, lane.strip.place);
+            lane.change(held, address_of(scene, held), time, is_era);
         }
     }
 
@@ -238,7 +219,7 @@ impl TimeDrawing {
         ensures { self.new ≡ self.old }
     {
         for lane in self.lanes.iter_mut() {
-            lane.pass(writer, column)?;
+            lane.pass(writer, &self.labels, column)?;
         }
         Ok(())
     }
@@ -248,7 +229,7 @@ impl TimeDrawing {
         ensures { self.new ≡ self.old }
     {
         for lane in self.lanes.iter_mut() {
-            lane.flush(writer)?;
+            lane.flush(writer, &self.labels)?;
         }
         Ok(())
     }
@@ -301,21 +282,6 @@ impl TimeDrawing {
         Ok(())
     }
 
-    /// Asks for one request, and draws it. Returns whether an era began with it.
-    pub(crate) fn ask<W: Write>(
-        &mut self,
-        request: &Request,
-        writer: &mut W,
-    ) -> Result<bool, Output>
-        ensures after { self.new ≡ watched self.old request.now }
-        ensures began { IfOk result (λ began.
-            began ≡ begins_with (answer_of self.old.machine request.now)) }
-    {
-        let (event, began) = asked(&mut self.watched, request);
-        written(self.draw(writer, &event))?;
-        Ok(began)
-    }
-
     /// Writes what is not written yet, and what stands around the lanes.
     fn put_end<W: Write>(&mut self, writer: &mut W) -> io::Result<()>
         ensures { self.new ≡ self.old }
@@ -327,7 +293,7 @@ impl TimeDrawing {
         };
         self.pass(writer, end)?;
         self.flush(writer)?;
-        put_foot(writer, self.sets, self.scale, end)
+        put_foot(writer, &self.labels, self.sets, self.scale, end)
     }
 
     /// Writes what is not written yet, and what stands around the lanes.
@@ -338,21 +304,37 @@ impl TimeDrawing {
     }
 }
 
+impl TimeDrawing {
+    /// Asks for one request, and draws it.
+    fn follow_one<W: Write>(&mut self, request: &Request, writer: &mut W) -> Result<(), Output>
+        ensures { self.new ≡ watched self.old request.now }
+    {
+        let event = self.watched.ask(request);
+        written(self.draw(writer, &event))
+    }
+}
+
 impl Follows for TimeDrawing {
     ghost use Rattle.agc_scene.specs.Events.{watched};
 
     ghost next = { λ drawing request. watched drawing request };
 
-    /// Asks for one request, and draws it.
     fn follow<W: Write>(
         &mut self,
         _source: Source,
         request: &Request,
         writer: &mut W,
     ) -> Result<(), Output> {
-        match self.ask(request, writer) {
-            Ok(_began) => Ok(()),
-            Err(failed) => Err(failed),
-        }
+        self.follow_one(request, writer)
+    }
+}
+
+impl FollowsClock for TimeDrawing {
+    ghost use Rattle.agc_scene.specs.Events.{watched};
+
+    ghost next = { λ drawing request. watched drawing request };
+
+    fn follow_asked<W: Write>(&mut self, asked: &Asked, writer: &mut W) -> Result<(), Output> {
+        self.follow_one(&asked.request, writer)
     }
 }

@@ -1,17 +1,31 @@
-// The picture of a bench: its head, the columns of its requests, and its end.
-ghost use Rattle.std.specs.Prelude.{◌≡◌, OnOk};
+// The picture of a run: its head, the columns of its requests, and its end.
+ghost use Rattle.std.specs.Prelude.{◌≡◌, IfErr, IfOk, OnOk};
 ghost use Rattle.std.specs.List.{fold};
 ghost use Rattle.agc_scene.specs.Events.{watched, watching_from};
 ghost use Rattle.agc_session.specs.Runs.{bench_machine, bench_requests};
 ghost use Rattle.agc_session.specs.Shown.{EndsIn};
+ghost use Rattle.agc_trace.specs.Following.{clock_requests};
 
 use crate::drawing::Drawing;
+use crate::labels::Labels;
+use crate::sizing::clock_size;
 use agc_document::Bench;
+use agc_machine::Machine;
+use agc_scenario::{Scenario, Timing};
 use agc_scene::Watched;
 use agc_session::{Progress, RunFault, count_requests, follow_bench, machine_of};
 use agc_text::{Output, put};
+use agc_trace::follow_clock;
 use std::alloc::Global;
 use std::io::Write;
+
+/// Draws the head.
+fn begin<W: Write>(drawing: &Drawing, writer: &mut W) -> Result<(), Output> {
+    match drawing.begin(writer) {
+        Ok(()) => Ok(()),
+        Err(_failed) => Err(Output),
+    }
+}
 
 /// Draws the requests of a bench: all of them, in order, are asked for.
 fn draw<P: Progress, W: Write>(
@@ -22,10 +36,7 @@ fn draw<P: Progress, W: Write>(
 ) -> Result<(), Output>
     ensures { OnOk result (drawing.new ≡ fold watched drawing.old (bench_requests bench.now)) }
 {
-    match drawing.begin(writer) {
-        Ok(()) => {}
-        Err(_failed) => return Err(Output),
-    }
+    begin(drawing, writer)?;
     follow_bench(drawing, progress, bench, writer)?;
     put(writer, "</svg>\n".as_bytes())
 }
@@ -53,7 +64,61 @@ pub fn picture<P: Progress, W: Write>(
     let machine = machine_of(alloc, bench)?;
     let count = count_requests(bench).requests;
     progress.expect(count);
-    let mut drawing = Drawing::new(machine, count);
+    let mut drawing = Drawing::new(machine, count, Labels::none(alloc));
     draw(&mut drawing, bench, progress, writer)?;
+    Ok(drawing.into_watched())
+}
+
+/// Draws the requests for which a scenario's clock asks this machine: all of them, in order.
+fn draw_clock<P: Progress, W: Write>(
+    machine: Machine,
+    drawing: Drawing,
+    timing: &Timing,
+    progress: &mut P,
+    writer: &mut W,
+) -> Result<Drawing, Output>
+    ensures { IfOk result
+        (λ d. d ≡ fold watched drawing (clock_requests timing.now machine)) }
+{
+    begin(&drawing, writer)?;
+    let drawing = follow_clock(machine, timing, drawing, progress, writer)?;
+    put(writer, "</svg>\n".as_bytes())?;
+    Ok(drawing)
+}
+
+/// A drawing of a scenario's machine, which was asked for nothing yet.
+fn begun(alloc: Global, scenario: &Scenario, count: u64) -> Result<Drawing, RunFault>
+    ensures begun { IfOk result (λ d. d ≡ watching_from (bench_machine scenario.now.bench)) }
+    ensures refused { IfErr result (λ e. e ≡ RunFault.NoMemory) }
+{
+    let labels = Labels::of(alloc, scenario)?;
+    let machine = machine_of(alloc, scenario.bench())?;
+    Ok(Drawing::new(machine, count, labels))
+}
+
+/// Writes the picture of a scenario in the same way, with its title, and with names of jobs in
+/// place of their numbers: a machine is asked for the requests for which the scenario's clock asks,
+/// and before that another one, to count them. Source: profile.
+///
+/// # Errors
+///
+/// `NoMemory`, and nothing was written. `Output`, where a write failed, or took nothing of what was
+/// left.
+pub fn scenario_picture<P: Progress, W: Write>(
+    alloc: Global,
+    scenario: &Scenario,
+    progress: &mut P,
+    writer: &mut W,
+) -> Result<Watched, RunFault>
+    ensures { EndsIn
+        (fold watched (watching_from (bench_machine scenario.now.bench))
+        (clock_requests scenario.now.timing (bench_machine scenario.now.bench)))
+        (W.contents writer.old) (W.contents writer.new) result }
+{
+    let count = clock_size(alloc, scenario)?;
+    progress.expect(count);
+    let drawing = begun(alloc, scenario, count)?;
+    let machine = machine_of(alloc, scenario.bench())?;
+    let drawing = draw_clock(machine, drawing, scenario.timing(), progress, writer)?;
     Ok(drawing.into_watched())
 }

@@ -12,7 +12,7 @@ use agc_plan::{Reply, Request};
 use agc_scene::{Event, Scene, Watched};
 use agc_session::{Follows, RunFault, Silent, Source, follow_all, machine_of};
 use agc_text::Output;
-use agc_trace::{Choice, Tracer};
+use agc_trace::{Choice, Columns, Tracer};
 use std::alloc::Global;
 use std::io;
 use std::io::Write;
@@ -161,7 +161,7 @@ fn tracer_of(alloc: Global, bench: &Bench, number: u64) -> Result<Tracer, RunFau
         to: None,
         brief: false,
     };
-    Ok(Tracer::new(machine, choice, false))
+    Ok(Tracer::new(machine, choice, Columns::of_bench(alloc, false)))
 }
 
 impl Player {

@@ -2,3 +2,4 @@ mod Fronts
 mod Runners
 mod Still
 mod Quieted
+mod Followed

@@ -1,8 +1,8 @@
 // What is told of an alarm: which table was full, what raised it, who held it, and what begins
 // again.
+use crate::columns::Columns;
 use crate::line::Line;
-use crate::rows::front_width;
-use crate::spelling::{code, put_action, put_since, put_task};
+use crate::spelling::{code, put_action, put_since};
 use crate::tables::put_tables;
 use agc_exec::Seat;
 use agc_plan::{Alarm, Phase, Plan, Task};
@@ -26,14 +26,20 @@ fn put_full<W: Write>(writer: &mut W, alarm: Alarm, scene: &Scene) -> io::Result
 
 /// Writes the task whose action raised the alarm, and that action, by its number where the task has
 /// several.
-fn put_raiser<W: Write>(writer: &mut W, plan: &Plan, task: Task, number: usize) -> io::Result<()> {
+fn put_raiser<W: Write>(
+    writer: &mut W,
+    columns: &Columns,
+    plan: &Plan,
+    task: Task,
+    number: usize,
+) -> io::Result<()> {
     let actions = plan.actions(&task);
     write!(writer, "        raised by ")?;
     if actions.len() > 1 {
         write!(writer, "action {number} of ")?;
     }
     write!(writer, "task ")?;
-    put_task(writer, task)?;
+    columns.put_task(writer, task)?;
     write!(writer, ": ")?;
     if let Some(action) = actions.get(number.saturating_sub(1)) {
         put_action(writer, *action)?;
@@ -53,7 +59,13 @@ fn put_known<W: Write>(writer: &mut W, since: Option<Since>) -> io::Result<()> {
 }
 
 /// Writes the line of the job in core set k.
-fn put_job<W: Write>(writer: &mut W, k: usize, seat: Seat, since: Option<Since>) -> io::Result<()> {
+fn put_job<W: Write>(
+    writer: &mut W,
+    columns: &Columns,
+    k: usize,
+    seat: Seat,
+    since: Option<Since>,
+) -> io::Result<()> {
     let Seat {
         number,
         at,
@@ -64,8 +76,9 @@ fn put_job<W: Write>(writer: &mut W, k: usize, seat: Seat, since: Option<Since>)
     let place = if asleep { "asleep at" } else { "at" };
     write!(
         writer,
-        "          set {k}: job {number}, priority {priority:02o}, {place} {at:05o}"
+        "          set {k}: job {number}, priority {priority:02o}, {place} "
     )?;
+    columns.put_place(writer, at)?;
     if area > 0 {
         write!(writer, ", area {area}")?;
     }
@@ -74,20 +87,20 @@ fn put_job<W: Write>(writer: &mut W, k: usize, seat: Seat, since: Option<Since>)
 }
 
 /// Writes the lines of all jobs in core sets.
-fn put_jobs<W: Write>(writer: &mut W, event: &Event) -> io::Result<()> {
+fn put_jobs<W: Write>(writer: &mut W, columns: &Columns, event: &Event) -> io::Result<()> {
     for (k, seat) in event.scene.seats().iter().enumerate() {
         if let Some(seat) = *seat {
-            put_job(writer, k, seat, event.jobs.of_job(seat.number))?;
+            put_job(writer, columns, k, seat, event.jobs.of_job(seat.number))?;
         }
     }
     Ok(())
 }
 
 /// Writes the lines of all tasks that wait.
-fn put_tasks<W: Write>(writer: &mut W, event: &Event) -> io::Result<()> {
+fn put_tasks<W: Write>(writer: &mut W, columns: &Columns, event: &Event) -> io::Result<()> {
     for (k, wait) in event.scene.waits().iter().enumerate() {
         write!(writer, "          task ")?;
-        put_task(writer, wait.task)?;
+        columns.put_task(writer, wait.task)?;
         write!(writer, ", due in {} cs", wait.distance)?;
         put_known(writer, event.tasks.as_slice().get(k).map(|one| one.since))?;
         write!(writer, "\n")?;
@@ -96,10 +109,15 @@ fn put_tasks<W: Write>(writer: &mut W, event: &Event) -> io::Result<()> {
 }
 
 /// Writes phases, after this text.
-pub(crate) fn put_phases<W: Write>(writer: &mut W, phases: &[Phase]) -> io::Result<()> {
+pub(crate) fn put_phases<W: Write>(
+    writer: &mut W,
+    columns: &Columns,
+    phases: &[Phase],
+) -> io::Result<()> {
     write!(writer, "        restart by phases")?;
-    for phase in phases {
-        write!(writer, " {}", phase.get())?;
+    for (k, phase) in phases.iter().enumerate() {
+        write!(writer, " ")?;
+        columns.put_phase(writer, k.saturating_add(1), *phase)?;
     }
     Ok(())
 }
@@ -107,21 +125,21 @@ pub(crate) fn put_phases<W: Write>(writer: &mut W, phases: &[Phase]) -> io::Resu
 /// Writes the phases with which the era begins, and its scene.
 fn put_again<W: Write>(
     writer: &mut W,
-    has_sources: bool,
+    columns: &Columns,
     event: &Event,
     era: &Scene,
 ) -> io::Result<()> {
     let mut line = Line::new(writer);
-    put_phases(&mut line, &event.scene.phases())?;
-    line.end_cell(front_width(has_sources))?;
-    put_tables(&mut line, era)
+    put_phases(&mut line, columns, &event.scene.phases())?;
+    line.end_cell(columns.front_width())?;
+    put_tables(&mut line, columns, era)
 }
 
 /// Writes the account of an event's alarm, if it has one.
 pub(crate) fn put_account<W: Write>(
     writer: &mut W,
     plan: &Plan,
-    has_sources: bool,
+    columns: &Columns,
     event: &Event,
 ) -> io::Result<()> {
     let Some(alarm) = event.alarm() else {
@@ -129,14 +147,14 @@ pub(crate) fn put_account<W: Write>(
     };
     put_full(writer, alarm, &event.scene)?;
     if let Some(task) = event.fired.get(event.fired.len().saturating_sub(1)) {
-        put_raiser(writer, plan, task, event.raised)?;
+        put_raiser(writer, columns, plan, task, event.raised)?;
     }
     match alarm {
-        Alarm::A1201 | Alarm::A1202 => put_jobs(writer, event)?,
-        Alarm::A1203 => put_tasks(writer, event)?,
+        Alarm::A1201 | Alarm::A1202 => put_jobs(writer, columns, event)?,
+        Alarm::A1203 => put_tasks(writer, columns, event)?,
     }
     match &event.era {
         None => Ok(()),
-        Some(era) => put_again(writer, has_sources, event, era),
+        Some(era) => put_again(writer, columns, event, era),
     }
 }

@@ -2,7 +2,14 @@
 use std::io;
 use std::io::Write;
 
-/// A line that is being written to a writer: how long it is, and where its last cell begins.
+/// How many letters begin in the first so many bytes of a text.
+fn letters(bytes: &[u8], count: usize) -> usize {
+    let all = bytes.iter().take(count);
+    all.filter(|byte| **byte & 0xC0 != 0x80).count()
+}
+
+/// A line that is being written to a writer: how many letters it has, and where its last cell
+/// begins.
 #[derive(Drop)]
 pub(crate) struct Line<'a, W> {
     writer: &'a mut W,
@@ -13,7 +20,7 @@ pub(crate) struct Line<'a, W> {
 impl<W: Write> Write for Line<'_, W> {
     fn write(&mut self, bytes: &[u8]) -> io::Result<usize> {
         let count = self.writer.write(bytes)?;
-        self.length = self.length.saturating_add(count);
+        self.length = self.length.saturating_add(letters(bytes, count));
         Ok(count)
     }
 

@@ -1,5 +1,6 @@
 // What is told of power-up.
 use crate::alarms::put_phases;
+use crate::columns::Columns;
 use crate::rows::put_power_row;
 use agc_phase::recover;
 use agc_scene::Scene;
@@ -38,17 +39,17 @@ fn put_broken<W: Write>(writer: &mut W, words: &[Word; 12]) -> io::Result<()> {
 /// Writes what came of power-up with these phase words: the scene with which the first era begins.
 pub(crate) fn put_power<W: Write>(
     writer: &mut W,
-    has_sources: bool,
+    columns: &Columns,
     words: &[Word; 12],
     scene: &Scene,
 ) -> io::Result<()> {
     match recover(words) {
-        Some(_phases) => put_power_row(writer, has_sources, "restarted", scene)?,
+        Some(_phases) => put_power_row(writer, columns, "restarted", scene)?,
         None => {
-            put_power_row(writer, has_sources, "alarm 1107", scene)?;
+            put_power_row(writer, columns, "alarm 1107", scene)?;
             put_broken(writer, words)?;
         }
     }
-    put_phases(writer, &scene.phases())?;
+    put_phases(writer, columns, &scene.phases())?;
     write!(writer, "\n")
 }

@@ -1,4 +1,5 @@
 // The columns of a scene: who runs, the core sets, the VAC areas, the tasks.
+use crate::columns::Columns;
 use crate::line::Line;
 use agc_exec::Seat;
 use agc_scene::Scene;
@@ -7,22 +8,31 @@ use std::io::Write;
 
 /// Writes what a core set holds: a job and its priority, in brackets where it sleeps, and behind
 /// `>` where NEWJOB names it.
-fn put_seat<W: Write>(writer: &mut W, named: Option<u16>, seat: Option<Seat>) -> io::Result<()> {
+fn put_seat<W: Write>(
+    writer: &mut W,
+    columns: &Columns,
+    named: Option<u16>,
+    seat: Option<Seat>,
+) -> io::Result<()> {
     let Some(seat) = seat else {
         return write!(writer, " .");
     };
     let Seat {
         number,
+        at,
         priority,
         ..
     } = seat;
-    if seat.asleep {
-        write!(writer, " ({number}/{priority:02o})")
+    let (before, behind) = if seat.asleep {
+        (" (", ")")
     } else if named == Some(number) {
-        write!(writer, " >{number}/{priority:02o}")
+        (" >", "")
     } else {
-        write!(writer, " {number}/{priority:02o}")
-    }
+        (" ", "")
+    };
+    write!(writer, "{before}")?;
+    columns.put_job(writer, number, at)?;
+    write!(writer, "/{priority:02o}{behind}")
 }
 
 /// Writes the number of an area's owner.
@@ -34,32 +44,38 @@ fn put_owner<W: Write>(writer: &mut W, owner: Option<u16>) -> io::Result<()> {
 }
 
 /// Writes all tasks in order, each with the centiseconds that it still has.
-fn put_waits<W: Write>(writer: &mut W, scene: &Scene) -> io::Result<()> {
+fn put_waits<W: Write>(writer: &mut W, columns: &Columns, scene: &Scene) -> io::Result<()> {
     if scene.waits().is_empty() {
         return write!(writer, " -");
     }
     for wait in scene.waits() {
-        write!(writer, " {:05o}+{}", wait.task.at.get(), wait.distance)?;
+        write!(writer, " ")?;
+        columns.put_waiting(writer, wait.task)?;
+        write!(writer, "+{}", wait.distance)?;
     }
     Ok(())
 }
 
 /// Writes the columns of a scene, and ends the line.
-pub(crate) fn put_tables<W: Write>(line: &mut Line<'_, W>, scene: &Scene) -> io::Result<()> {
+pub(crate) fn put_tables<W: Write>(
+    line: &mut Line<'_, W>,
+    columns: &Columns,
+    scene: &Scene,
+) -> io::Result<()> {
     match scene.running() {
         None => write!(line, "-")?,
         Some(number) => write!(line, "{}", number.get())?,
     }
     line.end_cell(7)?;
     for seat in scene.seats() {
-        put_seat(line, scene.named(), *seat)?;
+        put_seat(line, columns, scene.named(), *seat)?;
     }
     line.end_cell(56)?;
     for area in 1..6u16 {
         put_owner(line, scene.owner(area))?;
     }
     line.end_cell(10)?;
-    put_waits(line, scene)?;
+    put_waits(line, columns, scene)?;
     write!(line, "\n")
 }
 

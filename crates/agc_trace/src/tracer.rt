@@ -1,19 +1,24 @@
 // A run that is traced.
-ghost use Rattle.std.specs.Prelude.{◌≡◌, OnOk};
+ghost use Rattle.std.specs.Prelude.{◌≡◌, IfOk, OnOk};
 ghost use Rattle.std.specs.List.{fold};
 ghost use Rattle.agc_scene.specs.Events.{watched, watching_from};
 ghost use Rattle.agc_session.specs.Runs.{bench_machine, bench_requests, script_machine};
 ghost use Rattle.agc_session.specs.Shown.{EndsIn};
+ghost use Rattle.agc_trace.specs.Following.{clock_requests};
 
 use crate::alarms::put_account;
 use crate::brief::{Quiet, quiet_of};
 use crate::choice::Choice;
 use crate::closing::{Refused, put_idle, put_refused};
+use crate::columns::{By, Columns};
+use crate::following::{FollowsClock, follow_clock};
 use crate::power::put_power;
 use crate::rows::{put_heading, put_row};
+use agc_clock::Asked;
 use agc_document::Bench;
 use agc_machine::{Machine, Refusal};
 use agc_plan::Request;
+use agc_scenario::Scenario;
 use agc_scene::{Event, Scene, Watched};
 use agc_session::{
     Follows, Progress, RunFault, Source, count_requests, follow_all, follow_bench, machine_of,
@@ -33,14 +38,14 @@ struct Left {
     count: u64,
 }
 
-/// A run that is traced: the machine that is watched, which requests are told, whether it is told
-/// who asks, the quiet ones that were not told yet, and how many were refused. Contracts see the
-/// machine. Source: profile.
+/// A run that is traced: the machine that is watched, which requests are told, in which columns,
+/// the quiet ones that were not told yet, and how many were refused. Contracts see the machine.
+/// Source: profile.
 #[derive(Drop)]
 pub struct Tracer {
     watched: Watched,
     choice: Choice,
-    has_sources: bool,
+    columns: Columns,
     left: Option<Left>,
     refused: Refused,
 }
@@ -62,15 +67,15 @@ fn counted(left: Option<Left>, quiet: Quiet) -> u64 {
 }
 
 impl Tracer {
-    /// Nothing was asked of this machine. The requests of this choice will be told, and who asks
-    /// for them, if that is wanted. Source: profile.
-    pub fn new(machine: Machine, choice: Choice, has_sources: bool) -> Tracer
+    /// Nothing was asked of this machine. The requests of this choice will be told, in these
+    /// columns. Source: profile.
+    pub fn new(machine: Machine, choice: Choice, columns: Columns) -> Tracer
         ensures { result ≡ watching_from machine }
     {
         Tracer {
             watched: Watched::new(machine),
             choice,
-            has_sources,
+            columns,
             left: None,
             refused: Refused::default(),
         }
@@ -90,12 +95,12 @@ impl Tracer {
     ///
     /// Where a write fails.
     pub fn begin<W: Write>(&self, power: Option<[Word; 12]>, writer: &mut W) -> Result<(), Output> {
-        written(put_heading(writer, self.has_sources))?;
+        written(put_heading(writer, &self.columns))?;
         match power {
             None => Ok(()),
             Some(words) => {
                 let scene = self.watched.scene();
-                written(put_power(writer, self.has_sources, &words, &scene))
+                written(put_power(writer, &self.columns, &words, &scene))
             }
         }
     }
@@ -143,30 +148,19 @@ impl Tracer {
     }
 
     /// Writes the row of an event, and the account of its alarm.
-    fn put_loud<W: Write>(
-        &mut self,
-        source: Source,
-        event: &Event,
-        writer: &mut W,
-    ) -> io::Result<()>
+    fn put_loud<W: Write>(&mut self, by: By, event: &Event, writer: &mut W) -> io::Result<()>
         ensures { self.new ≡ self.old }
     {
         self.put_left(writer)?;
-        let source = if self.has_sources { Some(source) } else { None };
-        put_row(writer, source, event)?;
-        put_account(
-            writer,
-            self.watched.machine().plan(),
-            self.has_sources,
-            event,
-        )
+        put_row(writer, &self.columns, by, event)?;
+        put_account(writer, self.watched.machine().plan(), &self.columns, event)
     }
 
     /// Writes an event, or counts it: how it is quiet, is looked for only in brief.
     fn put_event<W: Write>(
         &mut self,
         before: Option<Scene>,
-        source: Source,
+        by: By,
         event: &Event,
         writer: &mut W,
     ) -> io::Result<()>
@@ -184,9 +178,22 @@ impl Tracer {
             return Ok(());
         }
         match before.and_then(|before| quiet_of(&before, event)) {
-            None => self.put_loud(source, event, writer),
+            None => self.put_loud(by, event, writer),
             Some(quiet) => self.put_quiet(quiet, writer),
         }
+    }
+
+    /// Asks for one request, and writes its row and account, if it is chosen.
+    fn tell<W: Write>(&mut self, by: By, request: &Request, writer: &mut W) -> Result<(), Output>
+        ensures { self.new ≡ watched self.old request.now }
+    {
+        let before = if self.choice.brief {
+            Some(self.watched.scene())
+        } else {
+            None
+        };
+        let event = self.watched.ask(request);
+        written(self.put_event(before, by, &event, writer))
     }
 }
 
@@ -195,20 +202,25 @@ impl Follows for Tracer {
 
     ghost next = { λ tracer request. watched tracer request };
 
-    /// Asks for one request, and writes its row and account, if it is chosen.
+    /// Asks for one request of a bench or script.
     fn follow<W: Write>(
         &mut self,
         source: Source,
         request: &Request,
         writer: &mut W,
     ) -> Result<(), Output> {
-        let before = if self.choice.brief {
-            Some(self.watched.scene())
-        } else {
-            None
-        };
-        let event = self.watched.ask(request);
-        written(self.put_event(before, source, &event, writer))
+        self.tell(By::Bench(source), request, writer)
+    }
+}
+
+impl FollowsClock for Tracer {
+    ghost use Rattle.agc_scene.specs.Events.{watched};
+
+    ghost next = { λ tracer request. watched tracer request };
+
+    /// Asks for one request of a scenario.
+    fn follow_asked<W: Write>(&mut self, asked: &Asked, writer: &mut W) -> Result<(), Output> {
+        self.tell(By::Scenario(asked.source), &asked.request, writer)
     }
 }
 
@@ -251,7 +263,7 @@ pub fn trace<P: Progress, W: Write>(
     let machine = machine_of(alloc, bench)?;
     let counts = count_requests(bench);
     progress.expect(counts.requests);
-    let mut tracer = Tracer::new(machine, choice, counts.is_shared);
+    let mut tracer = Tracer::new(machine, choice, Columns::of_bench(alloc, counts.is_shared));
     trace_asked(&mut tracer, bench, progress, writer)?;
     Ok(tracer.into_watched())
 }
@@ -275,9 +287,55 @@ pub fn trace_script<P: Progress, W: Write>(
 {
     let machine = script_machine(alloc)?;
     progress.expect(requests.len() as u64);
-    let mut tracer = Tracer::new(machine, choice, false);
+    let mut tracer = Tracer::new(machine, choice, Columns::of_bench(alloc, false));
     tracer.begin(None, writer)?;
     follow_all(&mut tracer, progress, Source::Script, requests, writer)?;
     tracer.end(1000, 1_000_000, writer)?;
+    Ok(tracer.into_watched())
+}
+
+/// Traces all requests of a scenario, in order, as its clock asks this machine for them.
+fn trace_clock<P: Progress, W: Write>(
+    machine: Machine,
+    tracer: Tracer,
+    scenario: &Scenario,
+    progress: &mut P,
+    writer: &mut W,
+) -> Result<Tracer, Output>
+    ensures { IfOk result (λ t. t
+        ≡ fold watched tracer (clock_requests scenario.now.timing machine)) }
+{
+    let bench = scenario.bench();
+    tracer.begin(bench.power(), writer)?;
+    let mut tracer = follow_clock(machine, scenario.timing(), tracer, progress, writer)?;
+    tracer.end(bench.limit().get(), bench.allowance(), writer)?;
+    Ok(tracer)
+}
+
+/// Writes the trace of a scenario in the same way, with its title, its names, who asks and times in
+/// seconds: a machine is asked for the requests for which the scenario's clock asks. Returns it
+/// after the last request. Source: profile.
+///
+/// # Errors
+///
+/// `NoMemory`, and nothing was written. `Output`, where a write failed, or took nothing of what was
+/// left.
+pub fn trace_scenario<P: Progress, W: Write>(
+    alloc: Global,
+    scenario: &Scenario,
+    choice: Choice,
+    progress: &mut P,
+    writer: &mut W,
+) -> Result<Watched, RunFault>
+    ensures { EndsIn
+        (fold watched (watching_from (bench_machine scenario.now.bench))
+        (clock_requests scenario.now.timing (bench_machine scenario.now.bench)))
+        (W.contents writer.old) (W.contents writer.new) result }
+{
+    let columns = Columns::of_scenario(alloc, scenario)?;
+    let machine = machine_of(alloc, scenario.bench())?;
+    let traced = machine_of(alloc, scenario.bench())?;
+    let tracer = Tracer::new(traced, choice, columns);
+    let tracer = trace_clock(machine, tracer, scenario, progress, writer)?;
     Ok(tracer.into_watched())
 }

@@ -11,15 +11,13 @@ use agc_document::{Bench, BenchFault, read_bench};
 use agc_findings::findings;
 use agc_lint::{add, add_decimal, bench_told};
 use agc_page::{PageFault, page};
-use agc_peaks::{
-    Column, Sweep, bench_peaks, follow_scenario, run_sweep, scenario_bench, scenario_peaks,
-};
-use agc_picture::{Span, picture, scenario_picture, time_picture};
+use agc_peaks::{Column, Sweep, bench_peaks, run_sweep, scenario_bench, scenario_peaks};
+use agc_picture::{Span, scenario_picture, scenario_time_picture, time_picture};
 use agc_program::{Fault, Program, buffered, ended, flushed};
 use agc_scenario::{Scenario, is_scenario, read_scenario, scenario_findings};
-use agc_session::{Progress, RunFault, machine_of};
+use agc_session::{Progress, RunFault};
 use agc_text::{Output, add_word, put, read_all};
-use agc_trace::{Choice, Tracer};
+use agc_trace::{Choice, trace_scenario};
 use arrayvec::ArrayString;
 use std::alloc::{AllocError, Global};
 use std::io::{Eprint, Print, Read, Write};
@@ -146,25 +144,13 @@ fn write_picture<H: AllocGlobal + Clock + Eprint, W: Write>(
         to,
         ..
     } = times;
+    let span = Span { width, from, to };
+    let mut progress = Teller::new(rt, times.has_progress);
     if is_scenario(alloc, text)? {
         let scenario = scenario_in(alloc, text)?;
-        let title = scenario.timing().title();
-        let span = Span {
-            title,
-            width,
-            from,
-            to,
-        };
-        scenario_picture(alloc, &scenario, span, writer)?;
+        scenario_time_picture(alloc, &scenario, span, &mut progress, writer)?;
     } else {
         let bench = bench_in(alloc, text)?;
-        let span = Span {
-            title: None,
-            width,
-            from,
-            to,
-        };
-        let mut progress = Teller::new(rt, times.has_progress);
         time_picture(alloc, &bench, span, &mut progress, writer)?;
     }
     Ok(())
@@ -269,7 +255,7 @@ fn tell_input<H: AllocGlobal + Clock + Print + Eprint, R: Read>(
 }
 
 /// Writes the trace of a text's scenario, of the requests that are chosen.
-fn trace_scenario<P: Progress, W: Write>(
+fn write_trace<P: Progress, W: Write>(
     alloc: Global,
     text: &str,
     choice: Choice,
@@ -277,25 +263,19 @@ fn trace_scenario<P: Progress, W: Write>(
     writer: &mut W,
 ) -> Result<(), Stop> {
     let scenario = scenario_in(alloc, text)?;
-    let bench = scenario.bench();
-    let mut tracer = Tracer::new(machine_of(alloc, bench)?, choice, false);
-    tracer.begin(bench.power(), writer)?;
-    follow_scenario(alloc, &scenario, &mut tracer, progress, writer)?;
-    tracer.end(bench.limit().get(), bench.allowance(), writer)?;
+    trace_scenario(alloc, &scenario, choice, progress, writer)?;
     Ok(())
 }
 
-/// Writes the picture of a text's scenario: that of the bench that it comes to.
+/// Writes the picture of a text's scenario.
 fn draw_scenario<P: Progress, W: Write>(
     alloc: Global,
     text: &str,
     progress: &mut P,
     writer: &mut W,
 ) -> Result<(), Stop> {
-    let mut bytes: Vec<u8> = Vec::new(alloc);
-    write_bench(alloc, text, &mut bytes)?;
-    let bench = bench_in(alloc, str::from_utf8(bytes.as_slice()).unwrap_or(""))?;
-    picture(alloc, &bench, progress, writer)?;
+    let scenario = scenario_in(alloc, text)?;
+    scenario_picture(alloc, &scenario, progress, writer)?;
     Ok(())
 }
 
@@ -330,7 +310,7 @@ fn show<H: AllocGlobal + Clock + Print + Eprint>(
     let mut progress = Teller::new(rt, has_progress);
     let mut is_well = true;
     match work {
-        Work::Trace(choice) => { trace_scenario(alloc, text, choice, &mut progress, &mut output)? }
+        Work::Trace(choice) => write_trace(alloc, text, choice, &mut progress, &mut output)?,
         Work::Picture => draw_scenario(alloc, text, &mut progress, &mut output)?,
         Work::Page => page_scenario(alloc, text, &mut output)?,
         Work::CheckBench => is_well = check_scenario(alloc, text, &mut output)?,

@@ -1,4 +1,4 @@
-//! Runs of a scenario that somebody follows, and what they come to.
+//! What the first requests of a scenario come to.
 ghost use Rattle.std.specs.Prelude.{◌≡◌};
 ghost use Rattle.agc_clock.specs.Runs.{by_machine};
 
@@ -6,77 +6,11 @@ use agc_clock::{Asked, Serves, run};
 use agc_machine::{Machine, Refusal};
 use agc_plan::Fired;
 use agc_scenario::Scenario;
-use agc_session::{Follows, Progress, RunFault, Source, machine_of};
-use agc_text::Output;
+use agc_session::{RunFault, machine_of};
 use agc_warn::Ran;
 use agc_word::Erasable;
 use std::alloc::Global;
-use std::io::Write;
 use std::marker::Model;
-
-/// A machine, and a follower that gets the same requests. Contracts see the machine.
-#[derive(Drop)]
-struct FollowedMachine<'f, 'p, 'w, F: Follows, P: Progress, W: Write> {
-    machine: Machine,
-    follower: &'f mut F,
-    progress: &'p mut P,
-    writer: &'w mut W,
-}
-
-impl<'f, 'p, 'w, F: Follows, P: Progress, W: Write> Model for FollowedMachine<'f, 'p, 'w, F, P, W> {
-    ghost use Rattle.agc_machine.specs.Machines.{Machined};
-
-    ghost Value = { Machined };
-
-    ghost view = { λ f. f.machine };
-}
-
-impl<'f, 'p, 'w, F: Follows, P: Progress, W: Write> Serves
-    for FollowedMachine<'f, 'p, 'w, F, P, W> {
-    ghost use Rattle.agc_clock.specs.Runs.{by_machine};
-
-    type Fault = Output;
-
-    ghost serving = { by_machine };
-
-    fn words(&self) -> &Erasable {
-        self.machine.erasable()
-    }
-
-    fn serve(&mut self, asked: &Asked) -> Result<bool, Output> {
-        self.follower
-            .follow(Source::Script, &asked.request, self.writer)?;
-        self.progress.asked();
-        match self.machine.ask(&asked.request, &mut Fired::new()) {
-            Ok(reply) => Ok(reply.begins()),
-            Err(_refusal) => Ok(false),
-        }
-    }
-}
-
-/// Asks who follows for all requests of a scenario, in order, as the clock asks its machine for
-/// them, and tells of each that it was asked. Source: profile.
-///
-/// # Errors
-///
-/// `NoMemory`, and nothing was asked. `Output`, where a write failed.
-pub fn follow_scenario<F: Follows, P: Progress, W: Write>(
-    alloc: Global,
-    scenario: &Scenario,
-    follower: &mut F,
-    progress: &mut P,
-    writer: &mut W,
-) -> Result<(), RunFault> {
-    let machine = machine_of(alloc, scenario.bench())?;
-    let mut followed = FollowedMachine {
-        machine,
-        follower,
-        progress,
-        writer,
-    };
-    run(scenario.timing(), &mut followed)?;
-    Ok(())
-}
 
 /// More requests came than were to be asked.
 #[derive(Clone, Copy, Debug)]

@@ -1,0 +1,117 @@
+// What a scenario calls itself and its jobs, as it is in markup.
+ghost use Rattle.std.specs.Prelude.{◌≡◌, IfErr};
+
+use crate::escaping::escaped;
+use agc_scenario::Scenario;
+use agc_session::RunFault;
+use std::alloc::{AllocError, Global};
+use std::io;
+use std::io::Write;
+
+/// What a job at an address is called, as it is in markup, and how many letters that has.
+#[derive(Drop)]
+struct Label {
+    at: u16,
+    text: Vec<u8>,
+    letters: u64,
+}
+
+/// The title of a scenario, and what its jobs are called, as they are in markup.
+#[derive(Drop)]
+pub(crate) struct Labels {
+    title: Option<Vec<u8>>,
+    jobs: Vec<Label>,
+}
+
+/// A title in markup.
+fn title_of(alloc: Global, title: Option<&str>) -> Result<Option<Vec<u8>>, AllocError> {
+    match title {
+        None => Ok(None),
+        Some(title) => Ok(Some(escaped(alloc, title)?)),
+    }
+}
+
+/// What a scenario calls itself and its jobs.
+fn read(alloc: Global, scenario: &Scenario) -> Result<Labels, AllocError> {
+    let timing = scenario.timing();
+    let mut jobs = Vec::new(alloc);
+    for job in timing.jobs() {
+        if let Some(name) = job.name() {
+            jobs.push(Label {
+                at: job.at().get(),
+                text: escaped(alloc, name)?,
+                letters: name.chars().count() as u64,
+            })?;
+        }
+    }
+    Ok(Labels {
+        title: title_of(alloc, timing.title())?,
+        jobs,
+    })
+}
+
+impl Labels {
+    /// A bench calls nothing by a name.
+    pub(crate) fn none(alloc: Global) -> Labels {
+        Labels {
+            title: None,
+            jobs: Vec::new(alloc),
+        }
+    }
+
+    /// What a scenario calls itself and its jobs.
+    pub(crate) fn of(alloc: Global, scenario: &Scenario) -> Result<Labels, RunFault>
+        ensures { IfErr result (λ e. e ≡ RunFault.NoMemory) }
+    {
+        match read(alloc, scenario) {
+            Ok(labels) => Ok(labels),
+            Err(_no_memory) => Err(RunFault::NoMemory),
+        }
+    }
+
+    /// The title.
+    pub(crate) fn title(&self) -> Option<&[u8]> {
+        match &self.title {
+            None => None,
+            Some(title) => Some(title.as_slice()),
+        }
+    }
+
+    /// What the text in a block is.
+    pub(crate) fn told(&self) -> &'static str {
+        if self.jobs.is_empty() {
+            "number"
+        } else {
+            "name or number"
+        }
+    }
+
+    /// What a job at this address is called.
+    fn job(&self, at: u16) -> Option<&Label> {
+        self.jobs.iter().find(|label| label.at == at)
+    }
+
+    /// How many letters the name of a job at this address has, if it has one.
+    pub(crate) fn letters(&self, at: u16) -> Option<u64> {
+        self.job(at).map(|label| label.letters)
+    }
+
+    /// Writes the name of a job at this address, or its number.
+    pub(crate) fn put_job<W: Write>(&self, writer: &mut W, number: u64, at: u16) -> io::Result<()> {
+        match self.job(at) {
+            None => write!(writer, "{number}"),
+            Some(label) => writer.write_all(label.text.as_slice()),
+        }
+    }
+
+    /// Writes where a job is: behind its name, if it has one.
+    pub(crate) fn put_place<W: Write>(&self, writer: &mut W, at: u16) -> io::Result<()> {
+        match self.job(at) {
+            None => write!(writer, "{at:05o}"),
+            Some(label) => {
+                writer.write_all(label.text.as_slice())?;
+                write!(writer, " ({at:05o})")
+            }
+        }
+    }
+}
