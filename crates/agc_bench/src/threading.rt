@@ -300,13 +300,13 @@ fn report_run<W: Write>(
 /// Runs a bench with threads: its machine is asked for the requests of the script, and then all
 /// workers and devices start at once, each in a thread of its own. A worker asks under a lock, and
 /// passes the gate before and after each call, under its number in the order of the bench from 0;
-/// the gate is told each call with its answer. A
-/// device posts its pulses on its line without the lock, and asks nothing; one more thread attends
-/// to the pulses as often as the bench says. When all have ended, the caller attends once more and
-/// settles, the shares are gathered, and the report is written: of the machine that some order of
-/// all these requests reaches, in which each worker's stand in its own order; and then the lines of
-/// how many pulses were posted, how many of these were applied, and how many are owed.
-/// The writer is not flushed. It may wait for the lock and for the threads. Source: profile.
+/// the gate is given the answer of each call. A device posts its pulses on its line without the
+/// lock, and asks nothing; one more thread attends to the pulses as often as the bench says. When
+/// all have ended, the caller attends once more and settles, the shares are gathered, and the
+/// report is written: of the machine that some order of all these requests reaches, in which each
+/// worker's requests keep their order. Then come the lines that say how many pulses were posted,
+/// how many of these were applied, and how many are owed. The writer is not flushed. It may wait
+/// for the lock and for the threads. Source: profile.
 ///
 /// # Errors
 ///

@@ -225,10 +225,11 @@ impl Clock {
         self.tick(table)
     }
 
-    /// Takes what came of a request: the machine's words after it, and whether an era began with
-    /// it, as with every alarm, restart and fresh start. Who ended, who sleeps, and with a new era
-    /// everybody, begins anew: it is tried for each request, also for one that somebody else asked.
-    /// A request that was refused changes nothing, and need not be told. Source: profile.
+    /// Takes the outcome of a request: the machine's words after it, and whether an era began with
+    /// it, as with every alarm, restart and fresh start. The time of a job that ended or that
+    /// sleeps, and with a new era that of every job, is counted from 0 again. Call it after each
+    /// request, including those of other callers. A request that was refused changes nothing, so it
+    /// need not be reported. Source: profile.
     pub fn served(&mut self, words: &Erasable, began: bool)
         requires { IsLawfulWords words.now }
         ensures { self.new ≡ record self.old {

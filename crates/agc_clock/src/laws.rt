@@ -1,5 +1,5 @@
-//! What is wanted of time that passes, as laws: each is the contract of a function that does
-//! nothing. Of a machine in whatever state, and of any timetable. Source: profile.
+//! What should hold while time passes, as laws: each is the contract of a function that does
+//! nothing. They hold for a machine in any state, and for any timetable. Source: profile.
 ghost use Rattle.std.specs.Prelude.{◌≡◌, ℕ, ◌+◌, ◌-◌, List, map};
 ghost use Rattle.agc_machine.specs.Machines.{Machined, after_all};
 ghost use Rattle.agc_clock.specs.declared.timetable.Cost.{Cost};
@@ -10,7 +10,7 @@ ghost use Rattle.agc_clock.specs.Runs.{Standing, by_machine, lived_all, run};
 ghost use Rattle.agc_clock.specs.Runs.{scenario_requests, standing_at};
 ghost use Rattle.agc_clock.specs.Timetables.{Schedule, stolen_at};
 
-/// A run of a scenario is the run of the machine over just the requests that the scenario asks for.
+/// The run of a scenario is the machine's run over exactly the requests that the scenario asks for.
 pub fn a_run_is_that_of_its_requests()
     ensures { (table : Schedule) (m : Machined) → (run by_machine table m).state
         ≡ after_all m (map (λ asked. asked.request) (scenario_requests by_machine table m)) }
@@ -22,8 +22,8 @@ pub fn a_run_has_a_tick_each_centisecond()
         → own_ticks (scenario_requests by_machine table m) ≡ table.lasts }
 {}
 
-/// Of a centisecond's hundredths each that isn't stolen is given once to a job with a cost, or none
-/// runs at it.
+/// Each hundredth of a centisecond that isn't stolen is given exactly once, to the running job, or
+/// no job with a cost is running at it.
 pub fn each_hundredth_is_given_once()
     ensures { (table : Schedule) (time : ℕ) (at : Standing Machined)
         → hundredths_given by_machine table.costs at (centisecond table time)
@@ -31,8 +31,8 @@ pub fn each_hundredth_is_given_once()
         ≡ 100 - stolen_at table.stolen time }
 {}
 
-/// Where a job is asked to end, or to sleep, since its cost is used up, the computing time that it
-/// was given is its cost, to the hundredth: at each hundredth, whatever came before.
+/// If a job is asked to end, or to sleep, because its cost is used up, the computing time that it
+/// was given is exactly its cost, to the hundredth: at each hundredth, whatever came before.
 pub fn a_job_ends_when_its_cost_is_used_up()
     ensures { (costs : List Cost) (m : Machined) (before : List Instant)
         → IsEachCostSome costs → (at : Standing Machined)

@@ -11,7 +11,7 @@ use agc_plan::Fired;
 use agc_word::Erasable;
 use std::convert::Infallible;
 
-/// Who is asked for requests: a machine, or whoever tells of one. Source: profile.
+/// Whatever is asked for requests: a machine, or something that follows one. Source: profile.
 pub trait Serves {
     /// Why it stops.
     type Fault: Drop;

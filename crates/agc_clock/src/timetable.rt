@@ -34,8 +34,8 @@ pub(crate) fn asked_then(then: Then) -> Request
     }
 }
 
-/// What a job costs that stands at an address, in hundredths of a centisecond of computing, from 1
-/// on (0 costs as much as 1), and what it does then. Source: profile.
+/// What a job at an address costs, in hundredths of a centisecond of computing time, from 1 on (0
+/// costs as much as 1), and what it does when that is used up. Source: profile.
 #[derive(Clone, Copy, PartialEq, Eq, Debug)]
 pub struct Cost {
     pub at: Address,
@@ -58,10 +58,10 @@ impl Model for Event {
     ghost view = { λ e. record { times = e.times; requests = e.requests.items } };
 }
 
-/// What is set down for a scenario, wherever it lies: how many centiseconds it lasts, rows of
-/// stolen time, what jobs cost, and events. Each is handed out by its number, from 0; None behind
-/// the last. Of two rows that hold at one time, and of two costs of one address, the first counts.
-/// Source: profile.
+/// What a scenario says, wherever it is stored: how many centiseconds it lasts, rows of stolen
+/// time, what jobs cost, and events. Each is returned by its number, from 0; None after the last.
+/// If two rows hold at the same time, or two costs have the same address, the first counts. Source:
+/// profile.
 pub trait Timetables {
     ghost set_down: { Self → Schedule };
 

@@ -82,10 +82,10 @@ impl<N: Sharing> Console for Caller<'_, N> {
     }
 }
 
-/// Asks the requests in order at the shared desk, all or up to a call at which the gate may stop,
-/// and hands back the share, whose holder asked just these; the gate is told each with its answer.
-/// `worker` is the number that the gate is told. It may wait for the lock, and as its gate does.
-/// Source: profile.
+/// Asks the requests in order at the shared desk, either all of them or those before a call at
+/// which the gate may stop. Returns the share, whose holder has asked exactly these; the gate is
+/// given each answer. `worker` is the number that the gate gets. It may wait for the lock, and
+/// wherever its gate waits. Source: profile.
 pub fn work<N: Sharing, G: Gate, W: Wait>(
     rt: &W,
     shared: &Shared<N>,

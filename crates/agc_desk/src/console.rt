@@ -19,15 +19,15 @@ pub trait Console {
         ensures led { leads self.old request result self.new };
 }
 
-/// Who is asked before each call of a worker, and told after it how it was answered. Workers and
+/// A gate is asked before each call of a worker, and is given the answer after it. Workers and
 /// calls are numbered from 0. Source: profile.
 pub trait Gate {
     /// Whether it may let the worker go on with a call, or may not, by worker and call. Source:
     /// profile.
     ghost may_answer: { Self → ℕ → ℕ → Bool → Type 0 };
 
-    /// What is known of a call once it was told with this answer, by worker, call and answer;
-    /// nothing, where an `impl` doesn't say. Source: profile.
+    /// What is known of a call once the gate was given this answer, by worker, call and answer;
+    /// nothing, if an `impl` doesn't say. Source: profile.
     ghost is_told: { Self → ℕ → ℕ → Said → Type 0 } = { λ _ _ _ _. Unit {0} };
 
     /// With what a worker goes on. It need not be a type that may be dropped, so that whoever has

@@ -155,9 +155,10 @@ impl<N: Names> Desk<N> {
         })
     }
 
-    /// Asks the machine, and books what its answer tells in the share and in the desk's books. The
-    /// request and its answer come into the history, as of no line's pulse, and to what the share's
-    /// holder was answered. A refusal is the answer's result, and books nothing. Source: profile.
+    /// Asks the machine, and books what its answer adds to the totals, in the share and in the
+    /// desk's books. The request and its answer are appended to the history, not on behalf of any
+    /// line's pulse, and to what the share's holder heard. A refusal is the answer's result, and
+    /// books nothing. Source: profile.
     pub fn serve(&mut self, share: &mut Share<N>, request: Request) -> Answer
         ensures answer { result ≡ said_of self.old.machine request }
         ensures lawful { IsLawful self.old.machine }

@@ -1,15 +1,15 @@
 //! The desk: a machine that several callers ask, the history of all that they asked, and five
 //! ledgers that book what each of them was told.
 //!
-//! A [`Desk`] gives out at most 64 shares. Each request is asked with a share, and comes with its
-//! answer into the desk's history, which stands in proofs alone; what the answer tells of the
+//! A [`Desk`] gives out at most 64 shares. Each request is asked with a share, and is appended with
+//! its answer to the desk's history, which exists only in proofs. What the answer adds to the
 //! machine's totals is added to that share and to the desk's books. Callers in several threads ask
 //! the desk under a lock ([`ask`], [`Caller`], [`work`]). When all shares are back, [`gather`]
-//! gives the machine, to which the history leads, and what all were told together.
+//! returns the machine, to which the history leads, and what all callers together were told.
 //!
 //! Devices post pulses without the lock, on the lines of a latch whose taker the desk has. The desk
 //! takes them and asks what they ask for ([`Desk::drain`], [`attend`]). When all devices are back,
-//! [`settle`] tells what became of each line's pulses. Source: profile.
+//! [`settle`] returns what became of each line's pulses. Source: profile.
 #![tactic(auto)]
 
 mod caller;

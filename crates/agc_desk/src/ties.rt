@@ -14,8 +14,8 @@ use std::alloc::Global;
 use std::collections::LinkedList;
 use std::marker::{Brand, PhantomData};
 
-/// With which share a request was asked, and what it was and was answered. No value of it is made:
-/// the history of a desk stands in proofs alone. Source: profile.
+/// With which share a request was asked, what it was, and its answer. No value of this type is ever
+/// made: the history of a desk exists only in proofs. Source: profile.
 pub struct Call {
     /// The share's number. Source: profile.
     pub by: u64,

@@ -153,8 +153,8 @@ impl Bench {
         self.parts.script.as_slice()
     }
 
-    /// The actions of each task that has some. With `entries` these rows make a plan, want of
-    /// memory aside. Source: profile.
+    /// The actions of each task that has some. Together with `entries` these rows make a plan,
+    /// unless memory runs out. Source: profile.
     pub fn rows(&self) -> &[(Task, Actions)]
         ensures value { result.now ≡ self.now.rows }
         ensures planned { fault_of self.now.rows self.now.entries ≡ None }
@@ -162,7 +162,7 @@ impl Bench {
         self.parts.rows.as_slice()
     }
 
-    /// What begins with each era while its group stands in its phase. Source: profile.
+    /// What begins with each era while its group is in its phase. Source: profile.
     pub fn entries(&self) -> &[PhaseEntry]
         ensures value { result.now ≡ self.now.entries }
         ensures planned { fault_of self.now.rows self.now.entries ≡ None }

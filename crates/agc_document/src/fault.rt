@@ -5,8 +5,8 @@ use agc_plan::PlanFault;
 use std::alloc::{AllocError, AllocFailed};
 use std::fmt;
 
-/// Why a bench is refused. Of several faults the first in this order is answered; want of memory
-/// may come in place of any. Source: profile.
+/// Why a bench is refused. If there are several faults, the first one in this order is returned; if
+/// memory runs out, `NoMemory` may come in place of any. Source: profile.
 #[derive(Clone, Copy, PartialEq, Eq, Debug)]
 pub enum BenchFault {
     NoMemory,

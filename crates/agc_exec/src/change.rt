@@ -10,8 +10,8 @@ use agc_plan::{JobNo, Place, Priority, Reply};
 use agc_word::layout::NEWJOB;
 use agc_word::{Erasable, Word};
 
-/// The number of the running job, None where nobody runs. Source: the listings' EXECUTIVE section;
-/// numbers: profile.
+/// The number of the running job, or None if no job is running. Source: the listings' EXECUTIVE
+/// section; numbers: profile.
 pub fn running(e: &Erasable) -> Option<JobNo>
     requires { IsLawfulWords e.now }
     ensures { result ≡ runner_in e.now }
@@ -19,9 +19,9 @@ pub fn running(e: &Erasable) -> Option<JobNo>
     runner(e)
 }
 
-/// Change of job: where NEWJOB names a set, its job takes set 0. `Runs` with who runs then, or
-/// `NoJob` where nobody ran, and then nothing changes. Source: the listings' EXECUTIVE section; of
-/// equal priorities the least number: profile.
+/// Change of job: if NEWJOB names a set, its job takes set 0. Returns `Runs` with the job that runs
+/// next. If no job was running, returns `NoJob` and changes nothing. Source: the listings'
+/// EXECUTIVE section; among equal priorities the lowest number: profile.
 pub fn change_job(e: &mut Erasable) -> Reply
     requires { IsLawfulWords e.old }
     ensures { DoesChange e.old e.new result }
@@ -39,10 +39,10 @@ pub fn change_job(e: &mut Erasable) -> Reply
     Reply::Runs(number)
 }
 
-/// PRIOCHNG: sets the running job's priority; where an awake job is then strictly more urgent, the
-/// best takes set 0. `Runs` with who runs then, or `NoJob` where nobody ran, and then nothing
-/// changes. Source: the listings' EXECUTIVE section; the change at once, and of equal priorities
-/// the least number: profile.
+/// PRIOCHNG: sets the running job's priority; if another awake job is then strictly more urgent,
+/// the best job takes set 0. Returns `Runs` with the job that runs next. If no job was running,
+/// returns `NoJob` and changes nothing. Source: the listings' EXECUTIVE section; that the change is
+/// immediate, and among equal priorities the lowest number: profile.
 pub fn prio_change(e: &mut Erasable, priority: Priority) -> Reply
     requires { IsLawfulWords e.old }
     ensures { DoesPrio priority e.old e.new result }
@@ -57,8 +57,8 @@ pub fn prio_change(e: &mut Erasable, priority: Priority) -> Reply
     change_job(e)
 }
 
-/// Sets a work word of the running job, MPAC+1 to MPAC+6. `Stored`, or `NoJob` where nobody runs,
-/// and then nothing changes. Source: profile.
+/// Sets a work word of the running job, MPAC+1 to MPAC+6. Returns `Stored`. If no job is running,
+/// returns `NoJob` and changes nothing. Source: profile.
 pub fn store(e: &mut Erasable, place: Place, word: Word) -> Reply
     requires { IsLawfulWords e.old }
     ensures { DoesStore place word e.old e.new result }

@@ -34,8 +34,8 @@ fn clear_areas(e: &mut Erasable)
     }
 }
 
-/// Frees all core sets and VAC areas, so nobody runs, from any words. Of a core set's words
-/// PRIORITY alone changes. Source: the listings' EXECUTIVE section.
+/// Frees all core sets and VAC areas, whatever the words were, so that no job runs. Of the words of
+/// a core set, only PRIORITY changes. Source: the listings' EXECUTIVE section.
 pub fn clear(e: &mut Erasable)
     ensures clears { Clears e.old e.new }
     ensures all { IsSized e.new }

@@ -62,10 +62,11 @@ fn reply_of(number: Option<JobNo>) -> Reply
     }
 }
 
-/// NOVAC: establishes a job without a VAC area, with work words 00000, which runs if nobody did.
-/// `Established` with its number, the least unused one, or `Alarmed` 1202 where as many jobs live
-/// as there are sets, and then nothing changes. Source: the listings' EXECUTIVE section; which
-/// number and set, work words 00000, and that it runs at once where nobody did: profile.
+/// NOVAC: establishes a job without a VAC area, with work words 00000; it runs at once if no job
+/// was running. Returns `Established` with its number, the lowest unused one. If there are as many
+/// jobs as core sets, returns `Alarmed` 1202 and changes nothing. Source: the listings' EXECUTIVE
+/// section; which number and set, work words 00000, and that it runs at once if no job was running:
+/// profile.
 pub fn novac(e: &mut Erasable, priority: Priority, entry: Entry) -> Reply
     requires { IsLawfulWords e.old }
     ensures { DoesNovac priority entry e.old e.new result }

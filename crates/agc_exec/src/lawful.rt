@@ -178,10 +178,10 @@ fn uses_agree(e: &Erasable, areas: &[bool; 9]) -> bool
 /// Whether core sets, use words and NEWJOB are lawful: PRIORITY of each set is 77777 (free), or 512
 /// times a priority from 1 to 31 plus an area's address or 0 (awake), or the complement of such a
 /// word (asleep); a job's number is from 1 to the number of sets, and its LOC 1 to 16383; no two
-/// jobs share a number or an area; where anybody is awake, the job in set 0 is; a use word is its
-/// area's address where nobody owns the area, else 00000; NEWJOB is 77777 where nobody is awake, 12
-/// times the best job's set where that is strictly more urgent than set 0's, else 00000. An image
-/// from outside is tested by this before any other call. Source: profile.
+/// jobs share a number or an area; if any job is awake, the job in set 0 is; a use word is its
+/// area's address if no job owns the area, and 00000 otherwise; NEWJOB is 77777 if no job is awake,
+/// 12 times the best job's set if that job is strictly more urgent than the one in set 0, and 00000
+/// otherwise. Test an image from outside with this before any other call. Source: profile.
 pub fn is_lawful(e: &Erasable) -> bool
     ensures { IsTrue result ↔ IsLawfulWords e.now }
 {

@@ -38,9 +38,9 @@ fn end_front(e: &mut Erasable) -> Option<JobNo>
     runner(e)
 }
 
-/// End of job: frees the running job's set and area; the best job takes set 0. `Left` with who runs
-/// then, or `NoJob` where nobody ran, and then nothing changes. Source: the listings' EXECUTIVE
-/// section; of equal priorities the least number: profile.
+/// End of job: frees the running job's set and area; the best job takes set 0. Returns `Left` with
+/// the job that runs next. If no job was running, returns `NoJob` and changes nothing. Source: the
+/// listings' EXECUTIVE section; among equal priorities the lowest number: profile.
 pub fn end_of_job(e: &mut Erasable) -> Reply
     requires { IsLawfulWords e.old }
     ensures { DoesEnd e.old e.new result }
@@ -76,9 +76,9 @@ fn sleep_front(e: &mut Erasable, at: Address) -> Option<JobNo>
     runner(e)
 }
 
-/// JOBSLEEP: the running job sleeps until this address is called; the best job takes set 0. `Left`
-/// with who runs then, or `NoJob` where nobody ran, and then nothing changes. Source: the listings'
-/// EXECUTIVE section; of equal priorities the least number: profile.
+/// JOBSLEEP: the running job sleeps until this address is called; the best job takes set 0. Returns
+/// `Left` with the job that runs next. If no job was running, returns `NoJob` and changes nothing.
+/// Source: the listings' EXECUTIVE section; among equal priorities the lowest number: profile.
 pub fn job_sleep(e: &mut Erasable, at: Address) -> Reply
     requires { IsLawfulWords e.old }
     ensures { DoesSleep at e.old e.new result }

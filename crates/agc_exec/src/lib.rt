@@ -1,6 +1,6 @@
-//! The Executive's core sets, VAC areas and NEWJOB, on the erasable words: which job stands in
-//! which set, and what each request does to them. Each call but `clear` wants lawful words; an
-//! image that comes from outside is tested first. Source: the listings' EXECUTIVE section.
+//! The Executive's core sets, VAC areas and NEWJOB, on the erasable words: which job is in which
+//! set, and what each request does to them. Every call except `clear` requires lawful words; test
+//! an image from outside first. Source: the listings' EXECUTIVE section.
 #![tactic(auto)]
 
 mod area;

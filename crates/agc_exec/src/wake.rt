@@ -41,9 +41,10 @@ fn wake_set(e: &mut Erasable, k: usize, at: Address, ran: bool) -> JobNo
     number
 }
 
-/// JOBWAKE: awakens the least-numbered sleeper of this address, which runs if nobody did. `Roused`
-/// with its number, or `NoSleeper`, and then nothing changes. Source: the listings' EXECUTIVE
-/// section; least number, and that it runs at once where nobody did: profile.
+/// JOBWAKE: awakens the job with the lowest number that sleeps at this address; it runs at once if
+/// no job was running. Returns `Roused` with its number. If no job sleeps there, returns
+/// `NoSleeper` and changes nothing. Source: the listings' EXECUTIVE section; lowest number, and
+/// that it runs at once if no job was running: profile.
 // In line in its caller no reply is handed on, which saves a tenth of a rouse of nobody.
 #[inline(always)]
 pub fn job_wake(e: &mut Erasable, at: Address) -> Reply

@@ -64,7 +64,8 @@ pub fn open(array: &[u16; 144], count: u32, image: &mut Erasable)
     read(array, known_sets(count), image);
 }
 
-/// Writes an image into the first places of an array; the numbers behind it stay. Source: profile.
+/// Writes an image into the first places of an array; the numbers after it do not change. Source:
+/// profile.
 pub fn write_back(image: &Erasable, array: &mut [u16; 144])
     ensures { IsWritten image.now array.old array.new }
 {

@@ -26,8 +26,7 @@ pub struct AgcRow {
     pub fourth: AgcRequest,
 }
 
-/// What begins again while a group stands in a phase: a job, a task, both or neither. Source:
-/// profile.
+/// What begins again while a group is in a phase: a job, a task, both or neither. Source: profile.
 #[repr(C)]
 #[derive(Clone, Copy)]
 pub struct AgcPhaseEntry {

@@ -46,8 +46,8 @@ fn put_last<W: Write>(counted: &CountedMachine, has_idle: bool, writer: &mut W) 
 
 /// Runs a scenario, and writes for each era when it began and why, how long it lasted, how many
 /// requests were served and jobs begun and ended in it, the most core sets, VAC areas and places of
-/// the Waitlist that were taken at once and since when, the percent of its ticks at which nobody
-/// ran, and what ended it. The writer is not flushed. Source: profile.
+/// the Waitlist that were in use at once and since when, the percentage of its ticks at which no
+/// job was running, and what ended it. The writer is not flushed. Source: profile.
 ///
 /// # Errors
 ///
@@ -96,9 +96,9 @@ impl Follows for BenchRun {
     }
 }
 
-/// Asks a bench's machine for all its requests, as `serial` does, and writes the same of each era,
-/// without the percent of its ticks at which nobody ran. The writer is not flushed. Source:
-/// profile.
+/// Asks a bench's machine for all its requests, as `serial` does, and writes the same for each era,
+/// without the percentage of its ticks at which no job was running. The writer is not flushed.
+/// Source: profile.
 ///
 /// # Errors
 ///

@@ -95,10 +95,9 @@ fn phase_of(minus: Word, phase: Word) -> Option<Phase>
     }
 }
 
-/// The phases that the twelve phase words tell: -PHASE1, PHASE1 to -PHASE6, PHASE6, as power-up
-/// finds them. None exactly where the words of a pair aren't complements of each other, or a phase
-/// is above 127. Source: the listings' FRESH START AND RESTART section; the greatest phase is
-/// profile.
+/// The phases in the twelve phase words -PHASE1, PHASE1 to -PHASE6, PHASE6, as power-up finds them.
+/// None exactly if the words of a pair aren't complements of each other, or a phase is above 127.
+/// Source: the listings' FRESH START AND RESTART section; the greatest phase is profile.
 pub fn recover(words: &[Word; 12]) -> Option<Phases>
     ensures valid { IsSome result ↔ ArePairs words.now }
     ensures phases { IfSome result (λ phases. phases ≡ phases_in words.now) }

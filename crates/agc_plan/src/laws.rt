@@ -1,8 +1,7 @@
-//! What a reader of the landing alarms wants to know of the plain model, as laws: each is the
-//! contract of a function that does nothing. Some speak of one call, on every list of jobs or of
-//! tasks, some of every state that a run of requests reaches, and some of a plan. Where the rules
-//! behind them come from, the listings or the profile, is said at the requests and in
-//! docs/MODEL.md.
+//! What a student of the landing alarms wants to know about the plain model, as laws: each is the
+//! contract of a function that does nothing. Some are about a single call, on every list of jobs or
+//! of tasks, some about every state that a run of requests reaches, and some about a plan. The
+//! requests, and docs/MODEL.md, say whether the rules come from the listings or from the profile.
 
 ghost use Rattle.std.specs.Prelude.{◌≡◌, ◌↔◌, ◌≤◌, ℕ, ◌+◌, List, Option, Some, None, IsSome, All};
 ghost use Rattle.std.specs.Prelude.{length, true, [], ◌∷◌};
@@ -43,16 +42,16 @@ pub fn best_job_is_most_urgent()
     ensures nobody { (slots : List (Option Job)) → (best slots ≡ None) ↔ NobodyIsAwake slots }
 {}
 
-/// The least unused number is a slot's in which nobody lives, and each lower number is somebody's.
-/// There is none exactly where each number is somebody's.
+/// The lowest unused number is that of a slot without a job, and each lower number is some job's.
+/// There is none exactly if each number is some job's.
 pub fn least_unused_number_is_least()
     ensures least { (slots : List (Option Job)) (number : ℕ) → (least_unused 1 slots ≡ Some number)
         ↔ IsLeastUnused slots number }
     ensures full { (slots : List (Option Job)) → (least_unused 1 slots ≡ None) ↔ IsEachUsed slots }
 {}
 
-/// The least unowned area is one of 1 to 5 that nobody owns, and each lower area is owned. There is
-/// none exactly where each of the five is owned.
+/// The lowest unowned area is one of 1 to 5 that no job owns, and each lower area is owned. There
+/// is none exactly if each of the five is owned.
 pub fn least_unowned_area_is_least()
     ensures least { (slots : List (Option Job)) (area : ℕ) → (least_unowned 5 1 slots ≡ Some area)
         ↔ IsLeastUnowned slots area }
@@ -60,8 +59,8 @@ pub fn least_unowned_area_is_least()
         ↔ IsEachOwned slots }
 {}
 
-/// A rouse finds the sleeper of least number whose address is called. It finds none exactly where
-/// nobody sleeps until this address is called.
+/// A rouse finds the sleeping job with the lowest number whose address is called. It finds none
+/// exactly if no job sleeps until this address is called.
 pub fn sleeper_is_least()
     ensures least { (at : ℕ) (slots : List (Option Job)) (number : ℕ)
         → (sleeper_from 1 at slots ≡ Some number) ↔ IsFirstSleeper at slots number }
@@ -69,8 +68,8 @@ pub fn sleeper_is_least()
         ↔ NobodySleepsAt at slots }
 {}
 
-/// A new job's number is the least unused one, whatever its area, and the area of FINDVAC's new job
-/// is the least that nobody owned.
+/// A new job's number is the lowest unused one, whatever its area, and the area of FINDVAC's new
+/// job is the lowest one that no job owned.
 pub fn new_job_has_least_number_and_area()
     ensures novac { (priority : ℕ) (entry : Entry) (jobs : Jobs) (number : ℕ)
         → ((novac priority entry jobs).reply ≡ Established number)
@@ -93,8 +92,8 @@ pub fn alarm_1201_where_five_areas_are_owned()
         ≡ Alarmed A1201 → ⊥ }
 {}
 
-/// NOVAC is answered by alarm 1202 exactly where as many jobs live as there are numbers, FINDVAC
-/// where besides one of the five areas is nobody's.
+/// NOVAC is answered by alarm 1202 exactly if there are as many jobs as numbers, and FINDVAC
+/// exactly if, in addition, one of the five areas is not owned.
 pub fn alarm_1202_where_each_number_is_used()
     ensures novac { (priority : ℕ) (entry : Entry) (jobs : Jobs)
         → ((novac priority entry jobs).reply ≡ Alarmed A1202)
@@ -105,8 +104,8 @@ pub fn alarm_1202_where_each_number_is_used()
 {}
 
 /// What the eighth core set changes. In every state that a run of requests reaches, NOVAC is
-/// answered by alarm 1202 exactly where as many jobs live as there are core sets, seven or eight;
-/// FINDVAC where besides one of the five areas is nobody's.
+/// answered by alarm 1202 exactly if there are as many jobs as core sets, seven or eight, and
+/// FINDVAC exactly if, in addition, one of the five areas is not owned.
 pub fn alarm_1202_with_as_many_jobs_as_sets()
     ensures novac { (plan : Planned) (base : Base) (log : List Request) (priority : ℕ)
         (entry : Entry) → ((step plan (Novac priority entry) (reached plan base log)).reply
@@ -117,26 +116,26 @@ pub fn alarm_1202_with_as_many_jobs_as_sets()
         × (living (reached plan base log).work.jobs.slots ≡ plan.sets)) }
 {}
 
-/// Where at most nine tasks wait, a listing is answered by alarm 1203 exactly where nine do.
+/// If at most nine tasks wait, a listing is answered by alarm 1203 exactly if nine do.
 pub fn alarm_1203_where_nine_tasks_wait()
     ensures { (delay : ℕ) (task : Task) (work : Work) → length work.agenda.tasks ≤ 9
         → ((with_listed delay task work).reply ≡ Alarmed A1203) ↔ (length work.agenda.tasks ≡ 9) }
 {}
 
-/// In every state that a run of requests reaches, a request is answered by alarm 1201 exactly where
-/// it is FINDVAC and each of the five areas is owned; by 1202 exactly where it is NOVAC and as many
-/// jobs live as there are numbers, or FINDVAC, so many live and an area is nobody's; by 1203
-/// exactly where it is a listing and nine tasks wait. So no other request is.
+/// In every state that a run of requests reaches, a request is answered by alarm 1201 exactly if it
+/// is FINDVAC and each of the five areas is owned; by 1202 exactly if there are as many jobs as
+/// numbers, and it is NOVAC, or it is FINDVAC and an area is not owned; by 1203 exactly if it is a
+/// listing and nine tasks wait. So no other request is answered by an alarm.
 pub fn request_is_alarmed_where_it_misses_something()
     ensures { (plan : Planned) (base : Base) (log : List Request) (asked : Request) (alarm : Alarm)
         → ((step plan asked (reached plan base log)).reply ≡ Alarmed alarm)
         ↔ Misses alarm (as_action asked) (reached plan base log).work }
 {}
 
-/// In every state that a run of requests reaches, a tick ends by the task that fired last: where it
-/// has an alarm, this tells what one of that task's actions missed, in the work in which it was
-/// done, and those before it missed nothing, nor did the tasks before it; where it has none, no
-/// action missed anything.
+/// In every state that a run of requests reaches, a tick ends by the task that fired last. If it
+/// has an alarm, the alarm says what one of that task's actions did not find, in the state in which
+/// it was done; the actions before it, and the tasks before that task, found what they needed. If
+/// it has no alarm, every action found what it needed.
 pub fn tick_ends_by_its_last_task()
     ensures { (plan : Planned) (base : Base) (log : List Request) (told : Option Alarm)
         → (step plan Tick (reached plan base log)).reply ≡ Ticked told

@@ -103,7 +103,8 @@ impl Model for JobNo {
 }
 
 impl JobNo {
-    /// A job's number. None outside 1 to 8. A computer of seven core sets gives nobody number 8.
+    /// A job's number. None outside 1 to 8. In a computer with seven core sets no job gets number
+    /// 8.
     pub fn new(value: u8) -> Option<JobNo>
         ensures valid { IsSome result ↔ ((1 ≤ value) × (value ≤ 8)) }
         ensures value { IfSome result (λ n. n ≡ value) }

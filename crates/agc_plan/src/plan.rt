@@ -319,8 +319,7 @@ impl Plan {
         }
     }
 
-    /// What begins again while a group stands in a phase. None where the plan has no entry for
-    /// them.
+    /// What begins again while a group is in a phase. None if the plan has no entry for them.
     pub fn entry(&self, group: Group, phase: Phase) -> Option<&PhaseEntry>
         ensures { option_copied result ≡ entry_at self.now.entries group phase }
     {

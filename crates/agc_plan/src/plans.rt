@@ -16,8 +16,8 @@ pub trait Plans {
     fn actions<'a>(&'a self, task: &Task, room: &'a mut Actions) -> &'a [Action]
         ensures { result.now ≡ actions_in (written self.now).rows task.now };
 
-    /// What begins again while a group stands in a phase other than 0. None where the plan has no
-    /// entry for them.
+    /// What begins again while a group is in a phase other than 0. None if the plan has no entry
+    /// for them.
     fn entry(&self, group: Group, phase: Phase) -> Option<PhaseEntry>
         requires { 0 < phase }
         ensures { result ≡ entry_at (written self.now).entries group phase };

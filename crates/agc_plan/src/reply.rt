@@ -61,8 +61,8 @@ pub enum Reply {
 }
 
 impl Reply {
-    /// The alarm that the reply tells: of the request itself, or of an action in a tick. None where
-    /// it tells none.
+    /// The alarm of the reply: that of the request itself, or of an action in a tick. None if there
+    /// was no alarm.
     pub fn alarm(&self) -> Option<Alarm>
         ensures { result ≡ alarm_of self.now }
     {

@@ -135,8 +135,8 @@ impl Request {
     }
 }
 
-/// What begins again with a restart while a group stands in a phase: a job, a task, both or
-/// neither. Contracts see its four parts. Source: profile.
+/// What begins again with a restart while a group is in a phase: a job, a task, both or neither.
+/// Contracts see its four parts. Source: profile.
 #[derive(Clone, Copy, PartialEq, Eq, Debug)]
 pub struct PhaseEntry {
     group: Group,

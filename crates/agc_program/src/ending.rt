@@ -16,7 +16,7 @@ pub struct Program {
     pub usage: &'static str,
 }
 
-/// A fault as a program tells it, in a line on standard error.
+/// A fault as a program prints it, as a line on standard error.
 #[derive(Clone, Copy, Debug)]
 pub struct FaultLine {
     pub program: Program,

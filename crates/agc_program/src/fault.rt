@@ -27,8 +27,8 @@ pub enum Fault {
 }
 
 impl Fault {
-    /// The exit status: 1 for input that is refused, 2 for the words, 3 for want of memory or a
-    /// thread, 4 for a read or write that failed, 5 where shares were lost.
+    /// The exit status: 1 if the input is refused, 2 if the words are wrong, 3 if memory ran out or
+    /// a thread couldn't be started, 4 if a read or write failed, 5 if shares were lost.
     pub fn status(self) -> u8
         ensures { result ≡ status_of self }
     {

@@ -1,5 +1,5 @@
-//! What the programs share: why one ends early, what it tells of that, the words of the command
-//! line, and standard output. Source: profile.
+//! What the programs share: why one ends early, the line that it prints about this, the words of
+//! the command line, and standard output. Source: profile.
 #![tactic(auto)]
 
 mod command;

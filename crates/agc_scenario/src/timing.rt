@@ -38,8 +38,8 @@ impl Name {
     }
 }
 
-/// What a job costs that stands at an address, in centiseconds of computing, what it is asked then,
-/// and its name. Source: profile.
+/// What a job at an address costs, in centiseconds of computing time, what it is asked when that is
+/// used up, and its name. Source: profile.
 #[derive(Drop)]
 pub struct TimedJob {
     pub(crate) at: Address,

@@ -65,7 +65,7 @@ pub(crate) fn scene_of(e: &Erasable) -> Scene
 }
 
 impl Scene {
-    /// The number of the job that runs, None where nobody does. Source: the listings' EXECUTIVE
+    /// The number of the running job, or None if no job is running. Source: the listings' EXECUTIVE
     /// section; numbers: profile.
     pub fn running(&self) -> Option<JobNo>
         ensures { result ≡ self.now.running }
@@ -91,7 +91,7 @@ impl Scene {
         self.seats.as_slice()
     }
 
-    /// The number of the job that owns an area, 1 to 5; None where nobody does. Source: the
+    /// The number of the job that owns an area, 1 to 5, or None if no job does. Source: the
     /// listings' EXECUTIVE section; numbers: profile.
     pub fn owner(&self, area: u16) -> Option<u16>
         ensures { result ≡ owner_of area self.now.seats }

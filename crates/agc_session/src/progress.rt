@@ -1,7 +1,7 @@
 // Who is told how far a run has come.
 
-/// Who is told how many requests will be asked, and of each that was, as one who shows how far a
-/// run has come. Source: profile.
+/// Whatever shows how far a run has come: it is given the number of requests that will be asked,
+/// and hears of each one that was. Source: profile.
 pub trait Progress {
     /// So many more requests will be asked. Source: profile.
     fn expect(&mut self, count: u64);

@@ -212,7 +212,7 @@ fn sets_count_line(sets: Sets) -> &'static str
 
 /// Writes the report of a machine's words and totals, of so many core sets: a line for each core
 /// set, the VAC areas' use words, NEWJOB, TIME3, LST1, LST2, the phase words, FAILREG, and the
-/// counts. With eight sets a line `SETS 8` stands before them. A set whose PRIORITY is 77777 is
+/// counts. With eight sets they come after a line `SETS 8`. A set whose PRIORITY is 77777 is
 /// written as `FREE`. Words are five octal digits, counts are decimal. The writer is not flushed.
 /// Source: profile.
 ///

@@ -1,6 +1,6 @@
 // Which requests a trace tells.
 
-/// Which requests a trace tells: those that all of this lets through. Source: profile.
+/// Which requests a trace shows: those that meet all of these conditions. Source: profile.
 #[derive(Clone, Copy, Debug, PartialEq, Eq)]
 pub struct Choice {
     /// Only those that raised an alarm.

@@ -88,9 +88,9 @@ fn first_task(e: &Erasable) -> Task
     }
 }
 
-/// Takes out the first task, which must be due: of those due now the earliest arrival. The others
-/// move up by one place, and leave 57777 and 00000 00000 behind. Source: the listings' WAITLIST
-/// section.
+/// Takes out the first task, which must be due: of the tasks that are due now, the one that arrived
+/// first. The others move up by one place, and the last place becomes 57777 and 00000 00000.
+/// Source: the listings' WAITLIST section.
 pub fn dispatch(e: &mut Erasable) -> Task
     requires lawful { IsLawfulTable e.old }
     requires due { is_due (waits_of e.old) ≡ true }
@@ -149,9 +149,9 @@ fn word_before(place: usize, before: u16, distance: u16) -> Word
     }
 }
 
-/// Lists a task, due this many centiseconds from now: after all that are due no later. It shortens
-/// the gap behind it, and the words of the tasks behind it move down by one place. Source: the
-/// listings' WAITLIST section.
+/// Lists a task that is due this many centiseconds from now: after all tasks that are due no later.
+/// This shortens the gap after it, and the words of the later tasks move down by one place. Source:
+/// the listings' WAITLIST section.
 ///
 /// # Errors
 ///

@@ -5,8 +5,8 @@ use std::alloc::{AllocError, Global};
 /// The text below the help of `sweep`.
 const SWEPT: &str = "\
 KEY is sets, steal, seconds, job.NAME.cost, event.NAME.at, event.NAME.every or
-event.NAME.until. A job without a name is called by its address. The word behind
-TO is the file, if it is no number.
+event.NAME.until. A job without a name is named by its address. If the word after
+TO isn't a number, it is the file.
 
 Example: agc_watch sweep steal 0 20 5 scenario.toml";
 
@@ -41,7 +41,7 @@ fn reading_command<'a>(
 
 /// The command, which may also tell how far it has come.
 fn with_progress<'a>(alloc: Global, command: Command<'a>) -> Result<Command<'a>, AllocError> {
-    let help = "Tells on standard error, once a second, how far it has come";
+    let help = "Says on standard error, once a second, how far it has come";
     command.arg(flag(alloc, "progress", help))
 }
 
@@ -57,15 +57,15 @@ pub(crate) fn trace_command<'a>(alloc: Global) -> Result<Command<'a>, AllocError
     .arg(flag(
         alloc,
         "alarms",
-        "Tells only the requests that raised an alarm",
+        "Shows only the requests that raised an alarm",
     ))?
     .arg(flag(
         alloc,
         "brief",
         "Counts requests after which nothing changed but the time",
     ))?
-    .arg(numbered(alloc, "from", "Tells only the requests from number N on"))?
-    .arg(numbered(alloc, "to", "Tells only the requests up to number N"))
+    .arg(numbered(alloc, "from", "Shows only the requests from number N on"))?
+    .arg(numbered(alloc, "to", "Shows only the requests up to number N"))
 }
 
 /// An option that takes seconds.
@@ -85,7 +85,7 @@ pub(crate) fn picture_command<'a>(alloc: Global) -> Result<Command<'a>, AllocErr
     .arg(numbered(
         alloc,
         "width",
-        "With --time: draws N points wide; 1600 if nothing is said",
+        "With --time: draws N points wide, or 1600 by default",
     ))?
     .arg(seconds(alloc, "from", "With --time: begins at second S"))?
     .arg(seconds(alloc, "to", "With --time: ends at second S"))
@@ -106,7 +106,7 @@ fn check_command<'a>(alloc: Global) -> Result<Command<'a>, AllocError> {
     reading_command(
         alloc,
         "check",
-        "Says what is wrong with an input, in which line",
+        "Says what is wrong with an input, and in which line",
         "Example: agc_watch check examples/no-vac-area.toml",
     )?
     .arg(flag(alloc, "script", "Reads a script"))
@@ -131,14 +131,18 @@ pub(crate) fn explore_command<'a>(alloc: Global) -> Result<Command<'a>, AllocErr
     .arg(numbered(
         alloc,
         "states",
-        "Gives up after N states; 200000 if nothing is said",
+        "Gives up after N states, or 200000 by default",
     ))?
-    .arg(alarm_option(alloc, "alarm", "Tells of one alarm: 1201, 1202 or 1203"))?
+    .arg(alarm_option(
+        alloc,
+        "alarm",
+        "Reports only this alarm: 1201, 1202 or 1203",
+    ))?
     .arg(flag(alloc, "through", "Goes on after an alarm"))?
     .arg(alarm_option(
         alloc,
         "bench",
-        "Writes a shortest order to this alarm, as a bench",
+        "Writes a shortest order that raises this alarm, as a bench",
     ))
 }
 
@@ -157,7 +161,7 @@ fn peaks_command<'a>(alloc: Global) -> Result<Command<'a>, AllocError> {
     reading_command(
         alloc,
         "peaks",
-        "Tells of each era how full the tables were, and what ended it",
+        "Says for each era how full the tables were, and what ended it",
         "Example: agc_watch peaks examples/no-vac-area.toml",
     )
 }
@@ -175,7 +179,7 @@ pub(crate) fn sweep_command<'a>(alloc: Global) -> Result<Command<'a>, AllocError
     let (from, to) = ("The first value", "The last value");
     let step = Arg::new(alloc, "step")
         .value_name("STEP")
-        .help("From one value to the next; 1 if nothing is said");
+        .help("The step from one value to the next, or 1 by default");
     let file = Arg::new(alloc, "file").value_name("FILE").help(
         "The scenario to read; standard input if none is named, or -",
     );

@@ -1,8 +1,8 @@
-//! `agc_watch trace`, `picture` and `page`: tell and draw what the requests of a bench do to the
-//! tables. `agc_watch check`: tells what is wrong with a bench, or with `--script` what is wrong
-//! with a script. `agc_watch bench`, `peaks` and `sweep`: tell what a scenario comes to. From the
-//! file that is named, or from standard input. `agc_watch play`: answers a line of standard input
-//! before it reads the next.
+//! `agc_watch trace`, `picture` and `page` show what the requests of a bench do to the tables.
+//! `agc_watch check` says what is wrong with a bench, or with `--script` what is wrong with a
+//! script. `agc_watch bench`, `peaks` and `sweep` say what a scenario comes to. They read the file
+//! that is named, or standard input. `agc_watch play` answers each line of standard input before it
+//! reads the next.
 #![tactic(auto)]
 
 mod checking;

@@ -1,4 +1,4 @@
-//! Where each table stands in the erasable words. Source: the listings' erasable assignments; the
+//! Where each table is among the erasable words. Source: the listings' erasable assignments; the
 //! places: profile.
 ghost use Rattle.std.specs.Prelude.{◌≡◌, ◌<◌, ◌≤◌};
 ghost use Rattle.agc_word.specs.Layout.{set_place, use_place, address_of, area_of};

@@ -60,9 +60,9 @@ fn ask_clock(
 }
 
 /// The next request of a clock, which counts time since `clock` was all zeros, for a machine with
-/// these words. `request` gets its numbers. The number tells who asks: 1 the clock itself, 2 and
-/// more an event, the first being 2; 0 where the time is over, and then the request stays. Codes: 1
-/// to 3 for the image, 15 to 17 for the timetable. Source: profile.
+/// these words. `request` gets its numbers. The number returned says who asks: 1 is the clock
+/// itself, 2 the first event, 3 the second and so on; 0 means that the time is over, and then the
+/// request is unchanged. Codes: 1 to 3 for the image, 15 to 17 for the timetable. Source: profile.
 #[unsafe(no_mangle)]
 pub extern "C" fn agc_clock_next(
     words: &[u16; 144],

@@ -138,11 +138,11 @@ fn rise(
     }
 }
 
-/// Power comes back with these phase words, -PHASE1, PHASE1 to -PHASE6, PHASE6, whatever stood in
-/// the array. An era begins with the phases that they tell and no codes; where they don't agree, it
-/// is a fresh start with code 01107, and the number is 01107, else 0. Codes: 1 for the number of
-/// core sets, 2 where a phase word is no word, 9, 11 or 12 for the entries. Source: the listings'
-/// FRESH START AND RESTART section; the codes are profile.
+/// Power comes back with these phase words, -PHASE1, PHASE1 to -PHASE6, PHASE6, whatever was in the
+/// array. An era begins with their phases and no codes, and the number returned is 0. If they don't
+/// agree, it is a fresh start with code 01107, and the number returned is 01107. Codes: 1 for the
+/// number of core sets, 2 if a phase word is not a word, 9, 11 or 12 for the entries. Source: the
+/// listings' FRESH START AND RESTART section; the codes are profile.
 #[unsafe(no_mangle)]
 pub extern "C" fn agc_power_up(
     words: &mut [u16; 144],

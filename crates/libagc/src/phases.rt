@@ -10,8 +10,8 @@ ghost use Rattle.libagc.specs.Phases.{Records};
 use agc_image::{Fault, blank, image_fault, open, twelve, write_back};
 use agc_phase::{Phases, record_alarm, recover, set_phase};
 
-/// The six phases that twelve phase words tell: a code, and the phases of groups 1 to 6, all 0
-/// where the code isn't. Source: profile.
+/// The six phases in twelve phase words: a code, and the phases of groups 1 to 6, which are all 0
+/// if the code isn't 0. Source: profile.
 #[repr(C)]
 #[derive(Clone, Copy)]
 pub struct AgcPhases {
@@ -124,10 +124,10 @@ fn numbers_of(phases: &Phases) -> [u8; 6]
     numbers
 }
 
-/// The phases that twelve phase words tell, -PHASE1, PHASE1 to -PHASE6, PHASE6, as they are found
-/// when power comes back. Code 2 where a number is no word, 3 where the words of a pair aren't
-/// complements of each other or a phase is above 127. Source: the listings' FRESH START AND RESTART
-/// section; the greatest phase: profile.
+/// The phases in the twelve phase words -PHASE1, PHASE1 to -PHASE6, PHASE6, as they are found when
+/// power comes back. Code 2 if a number is not a word, 3 if the words of a pair aren't complements
+/// of each other or a phase is above 127. Source: the listings' FRESH START AND RESTART section;
+/// the greatest phase: profile.
 #[unsafe(no_mangle)]
 pub extern "C" fn agc_recover(words: &[u16; 12]) -> AgcPhases
     ensures served { (result.code ≡ 0) ↔ (AreWords words.now × ArePairs words.now) }

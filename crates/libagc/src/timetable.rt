@@ -7,7 +7,7 @@ use agc_clock::{Cost, Stolen, Then, Times, Timetables};
 use agc_image::{AgcRequest, address, request_of};
 use agc_plan::{Address, Request};
 
-/// What a job costs that stands at an address, and what it does then. Source: profile.
+/// What a job at an address costs, and what it does when that is used up. Source: profile.
 #[repr(C)]
 #[derive(Clone, Copy)]
 pub struct AgcCost {
