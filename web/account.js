@@ -18,33 +18,88 @@ const TABLES = {
   0o1203: { text: "Nine tasks wait", part: "tasks" },
 };
 
-/** What names a bench has for its addresses. */
+/** How many letters of a name stand in a cell. */
+const MOST_LETTERS = 24;
+
+/**
+ * What is called by a name, in a cell: number or address, and behind it the name, without blanks.
+ * @param {string} told
+ * @param {string | undefined} name
+ */
+function joined(told, name) {
+  if (name === undefined) return told;
+  return `${told}:${[...name].slice(0, MOST_LETTERS).join("").replaceAll(" ", "_")}`;
+}
+
+/**
+ * What is called by a name, in a sentence: the name, and behind it the address.
+ * @param {string} told
+ * @param {string | undefined} name
+ */
+function named(told, name) {
+  return name === undefined ? told : `${name} (${told})`;
+}
+
+/** What names a scenario has: those of jobs by their addresses, those of tasks by their rows. */
 export class Names {
   /** @param {import("./bench.js").Bench} bench */
-  constructor(bench) {
+  constructor({ job, task }) {
     /** @type {Map<string, string>} */
-    this.all = new Map();
-    for (const it of [...bench.task, ...bench.job]) {
-      if (it.name !== undefined) this.all.set(it.at, visible(it.name));
+    this.jobs = new Map();
+    /** @type {Map<string, string>} */
+    this.tasks = new Map();
+    for (const it of job) if (it.name !== undefined) this.jobs.set(it.at, visible(it.name));
+    for (const it of task) {
+      if (it.name !== undefined) this.tasks.set(`${it.at} ${it.bank}`, visible(it.name));
     }
   }
 
   /**
-   * An address by its name, if it has one.
-   * @param {number | string} at
+   * What a job at this address is called.
+   * @param {number} at
    */
-  of(at) {
-    const digits = typeof at === "string" ? at : octal(at, 5);
-    const name = this.all.get(digits);
-    return name === undefined ? digits : `${name} (${digits})`;
+  job(at) {
+    return this.jobs.get(octal(at, 5));
   }
 
   /**
-   * The shortest that an address is called by.
+   * What a task is called.
+   * @param {{ at: number, bank: number }} task
+   */
+  task({ at, bank }) {
+    return this.tasks.get(`${octal(at, 5)} ${octal(bank, 5)}`);
+  }
+
+  /**
+   * Where a job is, in a sentence.
    * @param {number} at
    */
-  short(at) {
-    return this.all.get(octal(at, 5)) ?? octal(at, 5);
+  ofJob(at) {
+    return named(octal(at, 5), this.job(at));
+  }
+
+  /**
+   * A task in a sentence.
+   * @param {{ at: number, bank: number }} task
+   */
+  ofTask(task) {
+    return named(octal(task.at, 5), this.task(task));
+  }
+
+  /**
+   * A job in a cell.
+   * @param {{ number: number, at: number }} job
+   */
+  jobCell({ number, at }) {
+    return joined(String(number), this.job(at));
+  }
+
+  /**
+   * A task in a cell.
+   * @param {{ at: number, bank: number }} task
+   */
+  taskCell(task) {
+    return joined(octal(task.at, 5), this.task(task));
   }
 }
 
@@ -77,7 +132,7 @@ function raisedBy(run, { step, row }, names) {
   const task = run.bench.task.find((it) => it.at === at && it.bank === bank);
   const which = task === undefined || task.action.length === 1 ? "" : `action ${step.action} of `;
   const line = task === undefined ? "" : `: ${task.action[step.action - 1]}`;
-  const told = `${which}the task ${names.of(at)}${line}`;
+  const told = `${which}the task ${names.ofTask(last)}${line}`;
   return [[`It was asked in the tick of request ${row}, by ${told}.`]];
 }
 
@@ -92,13 +147,13 @@ function holders(run, { step, scene, jobsSince, tasksSince }, names) {
   if (step === null) return [];
   if (step.number === 0o1203) {
     return scene.tasks.map((it, k) =>
-      [`place ${k + 1}: task ${names.of(it.at)}, in ${it.left} cs`,
+      [`place ${k + 1}: task ${names.ofTask(it)}, in ${it.left} cs`,
         ...sinceOf(run, tasksSince[k])]);
   }
   const lines = scene.sets.map((job, k) => {
     if (job === null) return [];
     const area = job.area === 0 ? "" : `, area ${job.area}`;
-    const at = job.asleep ? `, asleep at ${names.of(job.at)}` : `, at ${names.of(job.at)}`;
+    const at = job.asleep ? `, asleep at ${names.ofJob(job.at)}` : `, at ${names.ofJob(job.at)}`;
     const told = `set ${k}: job ${job.number}, priority ${octal(job.priority, 2)}${at}${area}`;
     return [told, ...sinceOf(run, jobsSince[k])];
   });
@@ -128,9 +183,9 @@ function balance(run, { row, era, begun, ended, step }) {
  * @returns {Piece[][]}
  */
 function beginsAgain(after, names) {
-  const jobs = after.sets.filter((it) => it !== null)
-    .map((job) => `job ${job.number}, priority ${octal(job.priority, 2)}, at ${names.of(job.at)}`);
-  const tasks = after.tasks.map((it) => `task ${names.of(it.at)} in ${it.left} cs`);
+  const jobs = after.sets.filter((it) => it !== null).map((job) =>
+    `job ${job.number}, priority ${octal(job.priority, 2)}, at ${names.ofJob(job.at)}`);
+  const tasks = after.tasks.map((it) => `task ${names.ofTask(it)} in ${it.left} cs`);
   const phases = after.phases.join(" ");
   if (jobs.length + tasks.length === 0) {
     return [[`All jobs and tasks are gone. By the phases ${phases} nothing begins again.`]];
@@ -218,7 +273,7 @@ function replySentence(run, shown, names) {
     case Kind.ESTABLISHED: {
       const k = scene.sets.findIndex((it) => it?.number === step?.number);
       const job = scene.sets[k];
-      return [[`Job ${step?.number} begins at ${names.of(job?.at ?? 0)}, in core set ${k}`
+      return [[`Job ${step?.number} begins at ${names.ofJob(job?.at ?? 0)}, in core set ${k}`
         + `${job?.area ? ` with VAC area ${job.area}` : ""}. `
         + (scene.running === step?.number ? "It runs." : "It waits.")]];
     }
@@ -227,7 +282,7 @@ function replySentence(run, shown, names) {
     case Kind.ROUSED: return [[`Job ${step?.number} is awake.`]];
     case Kind.IDLE: return [["No job is left that is awake."]];
     case Kind.LEFT: case Kind.RUNS:
-      return [[`Job ${step?.number} runs${runner ? `, at ${names.of(runner.at)}` : ""}.`]];
+      return [[`Job ${step?.number} runs${runner ? `, at ${names.ofJob(runner.at)}` : ""}.`]];
     default: return [];
   }
 }
@@ -242,8 +297,8 @@ function firedSentences({ step, scene, before }, names) {
   if (step === null || step.fired.length === 0) return [];
   const had = new Set(before?.sets.map((it) => it?.number ?? 0));
   const jobs = scene.sets.filter((it) => it !== null && !had.has(it.number))
-    .map((it) => `Job ${it?.number} begins at ${names.of(it?.at ?? 0)}.`);
-  return [[`Due: the task ${step.fired.map((it) => names.of(it.at)).join(", then ")}.`],
+    .map((it) => `Job ${it?.number} begins at ${names.ofJob(it?.at ?? 0)}.`);
+  return [[`Due: the task ${step.fired.map((it) => names.ofTask(it)).join(", then ")}.`],
     ...jobs.map((it) => [it])];
 }
 
@@ -276,7 +331,8 @@ export function sentenceOf(shown, count, names) {
   const where = shown.row === 0 ? "The beginning" : `Request ${shown.row} of ${count}`;
   const at = `at ${seconds(shown.ticks)}`;
   const job = sets[0];
-  const runs = running === 0 || job === null ? "No job is running."
-    : `Job ${running} runs${names.all.has(octal(job.at, 5)) ? `: ${names.short(job.at)}` : ""}.`;
+  const name = job === null ? undefined : names.job(job.at);
+  const runs = running === 0 ? "No job is running."
+    : `Job ${running} runs${name === undefined ? "" : `: ${name}`}.`;
   return `${where}, ${at}: ${shown.line}. Reply: ${shown.reply}. ${runs}`;
 }

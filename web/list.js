@@ -4,6 +4,7 @@
  *
  * @typedef {import("./run.js").Shown} Shown
  * @typedef {import("../libagc/js/machine.js").Scene} Scene
+ * @typedef {import("./account.js").Names} Names
  */
 import { by, fill, make } from "./dom.js";
 import { octal } from "./words.js";
@@ -18,13 +19,15 @@ const LEAST_QUIET = 3;
 const MOST_PRINTED = 5000;
 
 /**
- * The core sets of a scene: number and priority, in brackets asleep, behind > whom NEWJOB names.
+ * The core sets of a scene: number, name and priority, in brackets asleep, behind > whom NEWJOB
+ * names.
  * @param {Scene} scene
+ * @param {Names} names
  */
-function setsCell(scene) {
+function setsCell(scene, names) {
   return scene.sets.map((job) => {
     if (job === null) return ".";
-    const told = `${job.number}/${octal(job.priority, 2)}`;
+    const told = `${names.jobCell(job)}/${octal(job.priority, 2)}`;
     if (job.asleep) return `(${told})`;
     return scene.next === job.number && scene.next !== scene.running ? `>${told}` : told;
   }).join(" ");
@@ -33,13 +36,14 @@ function setsCell(scene) {
 /**
  * The cells of a row, as a trace has them.
  * @param {Shown} shown
+ * @param {Names} names
  */
-export function cellsOf({ row, time, line, reply, scene, who }) {
-  const tasks = scene.tasks.map((it) => `${octal(it.at, 5)}+${it.left}`).join(" ");
+function cellsOf({ row, time, line, reply, scene, who }, names) {
+  const tasks = scene.tasks.map((it) => `${names.taskCell(it)}+${it.left}`).join(" ");
   return [
     ...[String(row), String(time), line, reply],
     scene.running === 0 ? "-" : String(scene.running),
-    setsCell(scene),
+    setsCell(scene, names),
     scene.areas.map((it) => (it === 0 ? "." : String(it))).join(" "),
     tasks === "" ? "-" : tasks,
     ...(who === "nobody" ? [""] : [who]),
@@ -49,12 +53,14 @@ export function cellsOf({ row, time, line, reply, scene, who }) {
 /**
  * @param {Shown} shown
  * @param {import("./run.js").Run} run
+ * @param {Names} names
  */
-function lineOf(shown, run) {
+function lineOf(shown, run, names) {
   const style = run.isRefused(shown.row) ? "refused" : run.isChange(shown.row) ? "change" : "";
   const isAlarm = shown.reply.includes("alarm");
   return make("tr", { class: style },
-    ...cellsOf(shown).map((it, k) => make("td", k === 3 && isAlarm ? { class: "alarm" } : {}, it)));
+    ...cellsOf(shown, names).map((it, k) =>
+      make("td", k === 3 && isAlarm ? { class: "alarm" } : {}, it)));
 }
 
 /**
@@ -62,12 +68,13 @@ function lineOf(shown, run) {
  * @param {import("./run.js").Run} run
  * @param {number} at
  * @param {number} count
+ * @param {Names} names
  * @param {(row: number) => void} go
  */
-export function drawList(run, at, count, go) {
+export function drawList(run, at, count, names, go) {
   const from = Math.max(0, Math.min(at - AROUND, count - 2 * AROUND));
   const rows = run.show(from, Math.min(count, from + 2 * AROUND)).map((it) => {
-    const line = lineOf(it, run);
+    const line = lineOf(it, run, names);
     if (it.row === at) line.setAttribute("aria-current", "true");
     line.addEventListener("click", () => go(it.row));
     return line;
@@ -110,11 +117,12 @@ function* stretches(run, count) {
  * @param {import("./run.js").Run} run
  * @param {number} from
  * @param {number} to
+ * @param {Names} names
  */
-function quietLine(run, from, to) {
+function quietLine(run, from, to, names) {
   const [first] = run.show(from, from);
   const [last] = run.show(to, to);
-  const line = lineOf(last, run);
+  const line = lineOf(last, run, names);
   const count = `tick, ${to - from + 1} times`;
   [`${from} to ${to}`, `${first.time} to ${last.time}`, count].forEach((it, k) => {
     line.children[k].textContent = it;
@@ -127,20 +135,21 @@ function quietLine(run, from, to) {
  * alarms. Rows in which only time goes by are one line.
  * @param {import("./run.js").Run} run
  * @param {number} count
+ * @param {Names} names
  * @param {string[]} heads the title, what came of the run, and the plan
  * @param {(shown: Shown) => string} account
  */
-export function drawPrinted(run, count, [title, outcome, plan], account) {
+export function drawPrinted(run, count, names, [title, outcome, plan], account) {
   const head = by("rows").querySelector("thead").cloneNode(true);
   const body = make("tbody");
   let until = 0;
   for (const { from, to, isQuiet: isOne } of stretches(run, count)) {
     if (body.children.length >= MOST_PRINTED) break;
     until = isOne ? to : Math.min(to, from + MOST_PRINTED - body.children.length - 1);
-    if (isOne) body.append(quietLine(run, from, to));
+    if (isOne) body.append(quietLine(run, from, to, names));
     else {
       for (const shown of run.show(from, until)) {
-        body.append(lineOf(shown, run));
+        body.append(lineOf(shown, run, names));
         if (!shown.reply.includes("alarm")) continue;
         body.append(make("tr", {}, make("td", { colSpan: 9 }, make("pre", {}, account(shown)))));
       }

@@ -25,11 +25,9 @@ class Workbench {
     this.clock = new ClockPanel(this);
     this.history = new History({ run: this.clock.runOf(emptyBench(), []), count: 0, at: 0 });
     this.names = new Names(emptyBench());
-    /** The document that was opened, the run that came of it, and what it says of itself. */
+    /** The document that was opened, and the run that came of it. */
     this.document = "";
     this.opened = this.view.run;
-    this.about = "";
-    this.title = "AGC workbench";
     /** What came of the run that was left by the last change, to compare. */
     this.outcome = "";
     /** The branch or the number of core sets that is compared with, if any. */
@@ -63,14 +61,14 @@ class Workbench {
     let bench;
     try {
       bench = readBench(text);
-      this.begin(bench, files.firstSentence(text) || name);
+      const about = question === "" ? visible(files.questionOf(text)).replaceAll("\n", " ") : "";
+      this.begin(bench, files.firstSentence(text) || name, about);
     } catch (fault) {
       this.tellFault(`This can't be opened. ${/** @type {Error} */ (fault).message}`);
       return false;
     }
     this.document = text;
     this.opened = this.view.run;
-    this.about = question === "" ? visible(files.questionOf(text)).replaceAll("\n", " ") : "";
     this.hide(visible(question));
     closeDialog();
     return true;
@@ -114,16 +112,16 @@ class Workbench {
    * Begins with a bench.
    * @param {import("./bench.js").Bench} bench
    * @param {string} name
+   * @param {string} about what the document says of itself
    */
-  begin(bench, name) {
+  begin(bench, name, about) {
     const count = countOf(bench);
     if (count > MOST_ASKED) {
       throw new Error(`It asks for ${counted(count, "request")}; this page takes at most `
         + `${counted(MOST_ASKED, "request")}.`);
     }
     const run = this.clock.runOf(bench, requestsOf(bench));
-    this.title = visible(bench.title ?? name);
-    this.names = new Names(bench);
+    Object.assign(run, { title: visible(bench.title ?? name), about });
     this.beside = null;
     this.outcome = "";
     this.history.show({ run, count: run.count, at: 0 });
@@ -189,8 +187,9 @@ class Workbench {
 
   drawAll() {
     const { run, count } = this.view;
-    by("title").textContent = this.title;
-    document.title = `${this.title} - AGC workbench`;
+    this.names = new Names(run.bench);
+    by("title").textContent = run.title;
+    document.title = `${run.title} - AGC workbench`;
     by("slider").max = String(count);
     by("chart-box").hidden = count === 0 || this.isHidden;
     if (count > 0) {
@@ -210,7 +209,7 @@ class Workbench {
     drawTables(shown, this.names);
     this.drawAccount(shown);
     this.drawBeside(at);
-    drawList(run, at, this.isHidden ? at : count, (row) => this.go(row));
+    drawList(run, at, this.isHidden ? at : count, this.names, (row) => this.go(row));
     by("slider").value = String(at);
     by("slider").setAttribute("aria-valuetext", `request ${at} of ${count}`);
     by("sentence").textContent = sentenceOf(shown, count, this.names);
@@ -229,8 +228,9 @@ class Workbench {
 
   /** @param {import("./run.js").Shown} shown */
   drawAccount(shown) {
-    const account = accountOf(this.view.run, shown, this.names, this.about);
-    fill("try", tries(this, shown).map(([text, run]) => button(text, run)));
+    const { run } = this.view;
+    const account = accountOf(run, shown, this.names, run.about);
+    fill("try", tries(this, shown).map(([text, change]) => button(text, change)));
     by("try").hidden = by("try").children.length === 0;
     by("told").classList.toggle("alarm", account.isAlarm);
     by("told-name").textContent = account.heading;
@@ -275,7 +275,6 @@ class Workbench {
         row <= it.count).length, "alarm")}; differs from request ${parting(this.view, it)} on. `,
       button("Show it", () => {
         this.history.exchange(k, this.view.at);
-        this.names = new Names(this.view.run.bench);
         this.drawAll();
       }), " ", button("Beside", () => this.compare(it)))));
   }
@@ -308,9 +307,9 @@ class Workbench {
       const { run, count, at } = this.view;
       const asked = bench.seconds === undefined ? run.requests(count) : [];
       const made = this.clock.runOf(bench, asked);
+      Object.assign(made, { title: visible(bench.title ?? run.title), about: run.about });
       this.keepOutcome();
       this.history.keep("as the plan was changed");
-      this.names = new Names(bench);
       this.history.show({ run: made, count: made.count, at: Math.min(at, made.count) });
       closeDialog();
       this.drawAll();
@@ -352,8 +351,8 @@ class Workbench {
   print() {
     const { run, count } = this.view;
     const plan = (this.clock.document(run) ?? files.benchOf(run, 0)).trim();
-    const outcome = `${new Strip(run, count, 1).text} ${this.about}`;
-    drawPrinted(run, count, [this.title, outcome, plan], (shown) =>
+    const outcome = `${new Strip(run, count, 1).text} ${run.about}`;
+    drawPrinted(run, count, this.names, [run.title, outcome, plan], (shown) =>
       accountOf(run, shown, this.names).lines.map((line) =>
         line.map((it) => (typeof it === "string" ? it : it.text)).join("")).join("\n"));
   }

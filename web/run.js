@@ -216,6 +216,9 @@ export class Run {
   constructor(bench) {
     this.bench = bench;
     this.sets = bench.sets ?? 7;
+    /** What the document is called that it came of, and what that says of itself. */
+    this.title = "AGC workbench";
+    this.about = "";
     /** @type {string[]} */
     this.lines = [""];
     /** Who asked, by number. */

@@ -42,7 +42,7 @@ function setBox(scene, k, names, isNew) {
   const stands = runs ? "runs" : job.asleep ? "asleep" : isNamed ? "NEWJOB" : "waits";
   const state = `${stands}${job.area > 0 ? `, area ${job.area}` : ""}`;
   const style = `${job.asleep ? `asleep s${job.number}` : `j${job.number}`}${runs ? " runs" : ""}`;
-  const more = [`priority ${octal(job.priority, 2)}`, names.short(job.at), state];
+  const more = [`priority ${octal(job.priority, 2)}`, names.job(job.at) ?? octal(job.at, 5), state];
   return box(`set ${k}`, `job ${job.number}`, more, style, isNew);
 }
 
@@ -86,10 +86,10 @@ function drawTasks({ tasks }, since, row, names) {
     if (task === undefined) return box(`place ${k + 1}`, "free", [], "free", false);
     const isNew = row > 0 && (since[k] >> 1 === row || (row > 1 && since[k] === 2 * row - 1));
     const address = octal(task.at, 5);
-    const name = names.short(task.at);
-    const style = name === address ? "lit" : "lit named";
-    const made = box(`place ${k + 1}`, name, [`in ${task.left} cs`], style, isNew);
-    if (name !== address) {
+    const name = names.task(task);
+    const style = name === undefined ? "lit" : "lit named";
+    const made = box(`place ${k + 1}`, name ?? address, [`in ${task.left} cs`], style, isNew);
+    if (name !== undefined) {
       made.title = `${name}, at ${address}`;
       made.append(make("span", { class: "hidden" }, `at ${address}`));
     }

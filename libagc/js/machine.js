@@ -792,7 +792,7 @@ export class Clock {
   #times;
   #state = new Uint8Array(SIZE.clock);
   // (where the timetable stands in the module's memory, part by part)
-  #places = { end: -1, stolen: 0n, costs: 0n, events: 0n, requests: 0n };
+  #places = { stolen: 0n, costs: 0n, events: 0n, requests: 0n };
   #counts = { stolen: 0n, costs: 0n, events: 0n, requests: 0n };
 
   static {
@@ -820,8 +820,9 @@ export class Clock {
    * @param {Machine} machine
    */
   #enter(machine) {
+    // (another machine, or another timetable, makes the clock leave)
     const end = machine.enter();
-    if (timed === this && this.#places.end === end) return;
+    if (timed === this) return;
     leaveClock();
     const { stolen, costs, events, requests } = this.#times;
     this.#times.lend(end);
@@ -830,7 +831,7 @@ export class Clock {
     const third = second + COST * costs.length;
     const fourth = third + EVENT * events.length;
     this.#places = {
-      ...{ end, stolen: BigInt(end), costs: BigInt(second) },
+      ...{ stolen: BigInt(end), costs: BigInt(second) },
       ...{ events: BigInt(third), requests: BigInt(fourth) },
     };
     this.#counts = {
@@ -917,7 +918,6 @@ export class Clock {
     const times = new LentTimes(told);
     this.#told = told;
     this.#times = times;
-    this.#places.end = -1;
   }
 
   /** A clock of its own with the same time, counts and timetable. */

@@ -7,7 +7,7 @@ pub(crate) const PART_1: &str = r##"<!DOCTYPE html>
 <meta charset="utf-8">
 <meta http-equiv="Content-Security-Policy" content="default-src 'none';
 base-uri 'none'; form-action 'none';
-script-src 'sha256-/OMxEEs0CIbWLsiLxKRw/bYVss+jyaSyWaYghlaaVTM=' 'wasm-unsafe-eval';
+script-src 'sha256-ebQWk/GO5dsSpsbpZIHWV55PC12V1u7NSIzjYZwFZY8=' 'wasm-unsafe-eval';
 style-src 'sha256-OXRqQbfFLVGRhTbqmy27RectEtz0IhhXMUAcBaXIftg='">
 <meta name="viewport" content="width=device-width, initial-scale=1">
 <meta name="color-scheme" content="light dark">
@@ -724,13 +724,13 @@ BKctAA4hCAtCoAJCiAIgCBsiBVBFBEAgAacgBqcgBaf8CgAACyAApyAHQf8B
 cUEAIAJBgIABSRs2AAggAKcgAzYABCAAp0EANgAACyAEQrACfCQAC90HAgd/
 AX4CQAJAAn8CQAJ/AkACQCMAQhB9IglCEFkEQCAJp0EAOwEMIAmnQQA2Aggg
 CadBADYCACAJp0EAOwEEAkACQAJAAkACQAJAAkACQAJAAkACQAJAAkAgAaco
+AgBBAWsODQABAgMEBQYHCAkKCwwUCyABQgR8pygCACIEQf8BSwRADBMLAn9B
+ACAEQQFrQf8BcUEeSw0AGiABQgx8pygCACIIQf//AUsNEyABQgh8pygCACIH
+Qf//A0sNE0EAIAdBAWtB//8DcUH+/wBLDQAaIAhBEHQgB3IhBUEBIQIgBAsh
 "##;
 
 /// Part 2 of what stands before the data.
-pub(crate) const PART_2: &str = r##"AgBBAWsODQABAgMEBQYHCAkKCwwUCyABQgR8pygCACIEQf8BSwRADBMLAn9B
-ACAEQQFrQf8BcUEeSw0AGiABQgx8pygCACIIQf//AUsNEyABQgh8pygCACIH
-Qf//A0sNE0EAIAdBAWtB//8DcUH+/wBLDQAaIAhBEHQgB3IhBUEBIQIgBAsh
-BiAJpyAFNgIIDBMLIAFCBHynKAIAIgRB/wFLDQ9BACAEQQFrQf8BcUEeSw0Q
+pub(crate) const PART_2: &str = r##"BiAJpyAFNgIIDBMLIAFCBHynKAIAIgRB/wFLDQ9BACAEQQFrQf8BcUEeSw0Q
 GiABQgx8pygCACIHQf//AUsNDyABQgh8pygCACIFQf//A0sND0EAIAVBAWtB
 //8DcUH+/wBLDRAaIAdBEHQgBXIhAkEBIQMgBAwQC0EBIQJBAiEDDBELIAmn
 IAFCBHynKAIAIgJBACACQYCABEkgAkEBa0H//wNxQf//AElxIgIbOwEIQQNB
@@ -1441,15 +1441,15 @@ BAsgA0UEQCABpyAIQg58pyAJp/wKAAALQQAMAwsAC0EBDAELQQILNgAAIABC
 BHynIAQ6AAAgCEKwAnwkAEEAJAELqQMCBX8FfhAABEAACyMAQrACfSIIJAAC
 QAJAAkAgCCIJQhBZBEBChAEhCwJAAkAgAkEHaw4CAQADC0EBIQRCkAEhCwsg
 CacgBDoADiAJQg58QgGEp0EAQaEC/AsAIAtCAYYhDANAIAEgCnwiCEIGfKcv
-"##;
-
-/// Part 3 of what stands before the data.
-pub(crate) const PART_3: &str = r##"AQAiBCAIQgR8py8BACIFIAhCAnynLwEAIgYgCKcvAQAiByADQf//A3EiAyAD
+AQAiBCAIQgR8py8BACIFIAhCAnynLwEAIgYgCKcvAQAiByADQf//A3EiAyAD
 IAdJGyIDIAMgBkkbIgMgAyAFSRsiAyADIARJG8EhAyAMIApCCHwiClINAAtB
 ACEEIANBAEgNAiALQgGGIghQRQRAIAlCEHynIAGnIAin/AoAAAsCQAJAIAlC
 DnwQAUUNACAJQg58EANFDQAgCUIOfBAEDQELQQMhAwwEC0KIAkKgAiACQQdG
 IgQbIQhBACEDQhhCACAEGyIKUEUEQCAJQg58IAh8p0EAIAqn/AsACyAIUEUE
-QCAJQg58pyABpyAIp/wKAAALIAmnLwHCAUUgCacvAdQBQQBHcSEEDAMLAAtB
+"##;
+
+/// Part 3 of what stands before the data.
+pub(crate) const PART_3: &str = r##"QCAJQg58pyABpyAIp/wKAAALIAmnLwHCAUUgCacvAdQBQQBHcSEEDAMLAAtB
 ASEDDAELQQIhAwsgAKcgAzYAACAAQgR8pyAEOgAAIAlCsAJ8JABBACQBC6wD
 AgF+Dn8QAARAAAsjAEIgfSIGJAACQAJAIAZCEFkEQEEBIQcCQAJAIAJBB2sO
 AgEABAtBASEJC0ECIQcgBacuAQAiAkEASA0CIAWnLgECIgpBAEgNAiAFpy4B
@@ -2535,10 +2535,7 @@ function reach(end) {
     bytes = new Uint8Array(calls.memory.buffer);
     halves = new Uint16Array(calls.memory.buffer);
     numbers = new Uint32Array(calls.memory.buffer);
-"##;
-
-/// Part 4 of what stands before the data.
-pub(crate) const PART_4: &str = r##"  }
+  }
 }
 
 async function start(source) {
@@ -2549,7 +2546,10 @@ async function start(source) {
   for (const [name, size] of Object.entries(SIZE)) {
     at[name] = place;
     to[name] = BigInt(place);
-    place += (size + 7) & ~7;
+"##;
+
+/// Part 4 of what stands before the data.
+pub(crate) const PART_4: &str = r##"    place += (size + 7) & ~7;
   }
   [at.plan, to.plan] = [place, BigInt(place)];
   reach(place);
@@ -2979,7 +2979,7 @@ class Clock {
   #told;
   #times;
   #state = new Uint8Array(SIZE.clock);
-  #places = { end: -1, stolen: 0n, costs: 0n, events: 0n, requests: 0n };
+  #places = { stolen: 0n, costs: 0n, events: 0n, requests: 0n };
   #counts = { stolen: 0n, costs: 0n, events: 0n, requests: 0n };
 
   static {
@@ -3002,7 +3002,7 @@ class Clock {
 
   #enter(machine) {
     const end = machine.enter();
-    if (timed === this && this.#places.end === end) return;
+    if (timed === this) return;
     leaveClock();
     const { stolen, costs, events, requests } = this.#times;
     this.#times.lend(end);
@@ -3011,7 +3011,7 @@ class Clock {
     const third = second + COST * costs.length;
     const fourth = third + EVENT * events.length;
     this.#places = {
-      ...{ end, stolen: BigInt(end), costs: BigInt(second) },
+      ...{ stolen: BigInt(end), costs: BigInt(second) },
       ...{ events: BigInt(third), requests: BigInt(fourth) },
     };
     this.#counts = {
@@ -3070,7 +3070,6 @@ class Clock {
     const times = new LentTimes(told);
     this.#told = told;
     this.#times = times;
-    this.#places.end = -1;
   }
 
   copy() {
@@ -3291,6 +3290,8 @@ class Run {
   constructor(bench) {
     this.bench = bench;
     this.sets = bench.sets ?? 7;
+    this.title = "AGC workbench";
+    this.about = "";
     this.lines = [""];
     this.who = ["nobody"];
     this.count = 0;
@@ -3668,22 +3669,49 @@ const TABLES = {
   0o1203: { text: "Nine tasks wait", part: "tasks" },
 };
 
+const MOST_LETTERS = 24;
+
+function joined(told, name) {
+  if (name === undefined) return told;
+  return `${told}:${[...name].slice(0, MOST_LETTERS).join("").replaceAll(" ", "_")}`;
+}
+
+function named(told, name) {
+  return name === undefined ? told : `${name} (${told})`;
+}
+
 class Names {
-  constructor(bench) {
-    this.all = new Map();
-    for (const it of [...bench.task, ...bench.job]) {
-      if (it.name !== undefined) this.all.set(it.at, visible(it.name));
+  constructor({ job, task }) {
+    this.jobs = new Map();
+    this.tasks = new Map();
+    for (const it of job) if (it.name !== undefined) this.jobs.set(it.at, visible(it.name));
+    for (const it of task) {
+      if (it.name !== undefined) this.tasks.set(`${it.at} ${it.bank}`, visible(it.name));
     }
   }
 
-  of(at) {
-    const digits = typeof at === "string" ? at : octal(at, 5);
-    const name = this.all.get(digits);
-    return name === undefined ? digits : `${name} (${digits})`;
+  job(at) {
+    return this.jobs.get(octal(at, 5));
   }
 
-  short(at) {
-    return this.all.get(octal(at, 5)) ?? octal(at, 5);
+  task({ at, bank }) {
+    return this.tasks.get(`${octal(at, 5)} ${octal(bank, 5)}`);
+  }
+
+  ofJob(at) {
+    return named(octal(at, 5), this.job(at));
+  }
+
+  ofTask(task) {
+    return named(octal(task.at, 5), this.task(task));
+  }
+
+  jobCell({ number, at }) {
+    return joined(String(number), this.job(at));
+  }
+
+  taskCell(task) {
+    return joined(octal(task.at, 5), this.task(task));
   }
 }
 
@@ -3703,7 +3731,7 @@ function raisedBy(run, { step, row }, names) {
   const task = run.bench.task.find((it) => it.at === at && it.bank === bank);
   const which = task === undefined || task.action.length === 1 ? "" : `action ${step.action} of `;
   const line = task === undefined ? "" : `: ${task.action[step.action - 1]}`;
-  const told = `${which}the task ${names.of(at)}${line}`;
+  const told = `${which}the task ${names.ofTask(last)}${line}`;
   return [[`It was asked in the tick of request ${row}, by ${told}.`]];
 }
 
@@ -3711,13 +3739,13 @@ function holders(run, { step, scene, jobsSince, tasksSince }, names) {
   if (step === null) return [];
   if (step.number === 0o1203) {
     return scene.tasks.map((it, k) =>
-      [`place ${k + 1}: task ${names.of(it.at)}, in ${it.left} cs`,
+      [`place ${k + 1}: task ${names.ofTask(it)}, in ${it.left} cs`,
         ...sinceOf(run, tasksSince[k])]);
   }
   const lines = scene.sets.map((job, k) => {
     if (job === null) return [];
     const area = job.area === 0 ? "" : `, area ${job.area}`;
-    const at = job.asleep ? `, asleep at ${names.of(job.at)}` : `, at ${names.of(job.at)}`;
+    const at = job.asleep ? `, asleep at ${names.ofJob(job.at)}` : `, at ${names.ofJob(job.at)}`;
     const told = `set ${k}: job ${job.number}, priority ${octal(job.priority, 2)}${at}${area}`;
     return [told, ...sinceOf(run, jobsSince[k])];
   });
@@ -3735,9 +3763,9 @@ function balance(run, { row, era, begun, ended, step }) {
 }
 
 function beginsAgain(after, names) {
-  const jobs = after.sets.filter((it) => it !== null)
-    .map((job) => `job ${job.number}, priority ${octal(job.priority, 2)}, at ${names.of(job.at)}`);
-  const tasks = after.tasks.map((it) => `task ${names.of(it.at)} in ${it.left} cs`);
+  const jobs = after.sets.filter((it) => it !== null).map((job) =>
+    `job ${job.number}, priority ${octal(job.priority, 2)}, at ${names.ofJob(job.at)}`);
+  const tasks = after.tasks.map((it) => `task ${names.ofTask(it)} in ${it.left} cs`);
   const phases = after.phases.join(" ");
   if (jobs.length + tasks.length === 0) {
     return [[`All jobs and tasks are gone. By the phases ${phases} nothing begins again.`]];
@@ -3800,7 +3828,7 @@ function replySentence(run, shown, names) {
     case Kind.ESTABLISHED: {
       const k = scene.sets.findIndex((it) => it?.number === step?.number);
       const job = scene.sets[k];
-      return [[`Job ${step?.number} begins at ${names.of(job?.at ?? 0)}, in core set ${k}`
+      return [[`Job ${step?.number} begins at ${names.ofJob(job?.at ?? 0)}, in core set ${k}`
         + `${job?.area ? ` with VAC area ${job.area}` : ""}. `
         + (scene.running === step?.number ? "It runs." : "It waits.")]];
     }
@@ -3809,7 +3837,7 @@ function replySentence(run, shown, names) {
     case Kind.ROUSED: return [[`Job ${step?.number} is awake.`]];
     case Kind.IDLE: return [["No job is left that is awake."]];
     case Kind.LEFT: case Kind.RUNS:
-      return [[`Job ${step?.number} runs${runner ? `, at ${names.of(runner.at)}` : ""}.`]];
+      return [[`Job ${step?.number} runs${runner ? `, at ${names.ofJob(runner.at)}` : ""}.`]];
     default: return [];
   }
 }
@@ -3818,8 +3846,8 @@ function firedSentences({ step, scene, before }, names) {
   if (step === null || step.fired.length === 0) return [];
   const had = new Set(before?.sets.map((it) => it?.number ?? 0));
   const jobs = scene.sets.filter((it) => it !== null && !had.has(it.number))
-    .map((it) => `Job ${it?.number} begins at ${names.of(it?.at ?? 0)}.`);
-  return [[`Due: the task ${step.fired.map((it) => names.of(it.at)).join(", then ")}.`],
+    .map((it) => `Job ${it?.number} begins at ${names.ofJob(it?.at ?? 0)}.`);
+  return [[`Due: the task ${step.fired.map((it) => names.ofTask(it)).join(", then ")}.`],
     ...jobs.map((it) => [it])];
 }
 
@@ -3838,13 +3866,14 @@ function sentenceOf(shown, count, names) {
   const where = shown.row === 0 ? "The beginning" : `Request ${shown.row} of ${count}`;
   const at = `at ${seconds(shown.ticks)}`;
   const job = sets[0];
-  const runs = running === 0 || job === null ? "No job is running."
-    : `Job ${running} runs${names.all.has(octal(job.at, 5)) ? `: ${names.short(job.at)}` : ""}.`;
-  return `${where}, ${at}: ${shown.line}. Reply: ${shown.reply}. ${runs}`;
+  const name = job === null ? undefined : names.job(job.at);
 "##;
 
 /// Part 5 of what stands before the data.
-pub(crate) const PART_5: &str = r##"}
+pub(crate) const PART_5: &str = r##"  const runs = running === 0 ? "No job is running."
+    : `Job ${running} runs${name === undefined ? "" : `: ${name}`}.`;
+  return `${where}, ${at}: ${shown.line}. Reply: ${shown.reply}. ${runs}`;
+}
 return {
   Names,
   sinceOf,
@@ -5225,38 +5254,39 @@ const LEAST_QUIET = 3;
 
 const MOST_PRINTED = 5000;
 
-function setsCell(scene) {
+function setsCell(scene, names) {
   return scene.sets.map((job) => {
     if (job === null) return ".";
-    const told = `${job.number}/${octal(job.priority, 2)}`;
+    const told = `${names.jobCell(job)}/${octal(job.priority, 2)}`;
     if (job.asleep) return `(${told})`;
     return scene.next === job.number && scene.next !== scene.running ? `>${told}` : told;
   }).join(" ");
 }
 
-function cellsOf({ row, time, line, reply, scene, who }) {
-  const tasks = scene.tasks.map((it) => `${octal(it.at, 5)}+${it.left}`).join(" ");
+function cellsOf({ row, time, line, reply, scene, who }, names) {
+  const tasks = scene.tasks.map((it) => `${names.taskCell(it)}+${it.left}`).join(" ");
   return [
     ...[String(row), String(time), line, reply],
     scene.running === 0 ? "-" : String(scene.running),
-    setsCell(scene),
+    setsCell(scene, names),
     scene.areas.map((it) => (it === 0 ? "." : String(it))).join(" "),
     tasks === "" ? "-" : tasks,
     ...(who === "nobody" ? [""] : [who]),
   ];
 }
 
-function lineOf(shown, run) {
+function lineOf(shown, run, names) {
   const style = run.isRefused(shown.row) ? "refused" : run.isChange(shown.row) ? "change" : "";
   const isAlarm = shown.reply.includes("alarm");
   return make("tr", { class: style },
-    ...cellsOf(shown).map((it, k) => make("td", k === 3 && isAlarm ? { class: "alarm" } : {}, it)));
+    ...cellsOf(shown, names).map((it, k) =>
+      make("td", k === 3 && isAlarm ? { class: "alarm" } : {}, it)));
 }
 
-function drawList(run, at, count, go) {
+function drawList(run, at, count, names, go) {
   const from = Math.max(0, Math.min(at - AROUND, count - 2 * AROUND));
   const rows = run.show(from, Math.min(count, from + 2 * AROUND)).map((it) => {
-    const line = lineOf(it, run);
+    const line = lineOf(it, run, names);
     if (it.row === at) line.setAttribute("aria-current", "true");
     line.addEventListener("click", () => go(it.row));
     return line;
@@ -5284,10 +5314,10 @@ function* stretches(run, count) {
   }
 }
 
-function quietLine(run, from, to) {
+function quietLine(run, from, to, names) {
   const [first] = run.show(from, from);
   const [last] = run.show(to, to);
-  const line = lineOf(last, run);
+  const line = lineOf(last, run, names);
   const count = `tick, ${to - from + 1} times`;
   [`${from} to ${to}`, `${first.time} to ${last.time}`, count].forEach((it, k) => {
     line.children[k].textContent = it;
@@ -5295,17 +5325,17 @@ function quietLine(run, from, to) {
   return line;
 }
 
-function drawPrinted(run, count, [title, outcome, plan], account) {
+function drawPrinted(run, count, names, [title, outcome, plan], account) {
   const head = by("rows").querySelector("thead").cloneNode(true);
   const body = make("tbody");
   let until = 0;
   for (const { from, to, isQuiet: isOne } of stretches(run, count)) {
     if (body.children.length >= MOST_PRINTED) break;
     until = isOne ? to : Math.min(to, from + MOST_PRINTED - body.children.length - 1);
-    if (isOne) body.append(quietLine(run, from, to));
+    if (isOne) body.append(quietLine(run, from, to, names));
     else {
       for (const shown of run.show(from, until)) {
-        body.append(lineOf(shown, run));
+        body.append(lineOf(shown, run, names));
         if (!shown.reply.includes("alarm")) continue;
         body.append(make("tr", {}, make("td", { colSpan: 9 }, make("pre", {}, account(shown)))));
       }
@@ -5317,7 +5347,6 @@ function drawPrinted(run, count, [title, outcome, plan], account) {
     make("h2", {}, "Requests"), ...more, make("table", {}, head, body)]);
 }
 return {
-  cellsOf,
   drawList,
   drawPrinted,
 };
@@ -5550,7 +5579,7 @@ function setBox(scene, k, names, isNew) {
   const stands = runs ? "runs" : job.asleep ? "asleep" : isNamed ? "NEWJOB" : "waits";
   const state = `${stands}${job.area > 0 ? `, area ${job.area}` : ""}`;
   const style = `${job.asleep ? `asleep s${job.number}` : `j${job.number}`}${runs ? " runs" : ""}`;
-  const more = [`priority ${octal(job.priority, 2)}`, names.short(job.at), state];
+  const more = [`priority ${octal(job.priority, 2)}`, names.job(job.at) ?? octal(job.at, 5), state];
   return box(`set ${k}`, `job ${job.number}`, more, style, isNew);
 }
 
@@ -5577,10 +5606,10 @@ function drawTasks({ tasks }, since, row, names) {
     if (task === undefined) return box(`place ${k + 1}`, "free", [], "free", false);
     const isNew = row > 0 && (since[k] >> 1 === row || (row > 1 && since[k] === 2 * row - 1));
     const address = octal(task.at, 5);
-    const name = names.short(task.at);
-    const style = name === address ? "lit" : "lit named";
-    const made = box(`place ${k + 1}`, name, [`in ${task.left} cs`], style, isNew);
-    if (name !== address) {
+    const name = names.task(task);
+    const style = name === undefined ? "lit" : "lit named";
+    const made = box(`place ${k + 1}`, name ?? address, [`in ${task.left} cs`], style, isNew);
+    if (name !== undefined) {
       made.title = `${name}, at ${address}`;
       made.append(make("span", { class: "hidden" }, `at ${address}`));
     }
@@ -5846,8 +5875,6 @@ class Workbench {
     this.names = new Names(emptyBench());
     this.document = "";
     this.opened = this.view.run;
-    this.about = "";
-    this.title = "AGC workbench";
     this.outcome = "";
     this.beside = null;
     this.isHidden = false;
@@ -5872,14 +5899,14 @@ class Workbench {
     let bench;
     try {
       bench = readBench(text);
-      this.begin(bench, files.firstSentence(text) || name);
+      const about = question === "" ? visible(files.questionOf(text)).replaceAll("\n", " ") : "";
+      this.begin(bench, files.firstSentence(text) || name, about);
     } catch (fault) {
       this.tellFault(`This can't be opened. ${/** @type {Error} */ (fault).message}`);
       return false;
     }
     this.document = text;
     this.opened = this.view.run;
-    this.about = question === "" ? visible(files.questionOf(text)).replaceAll("\n", " ") : "";
     this.hide(visible(question));
     closeDialog();
     return true;
@@ -5910,15 +5937,14 @@ class Workbench {
     else openDialog("It isn't opened", [make("p", { class: "wrong", id: "fault" }, text)]);
   }
 
-  begin(bench, name) {
+  begin(bench, name, about) {
     const count = countOf(bench);
     if (count > MOST_ASKED) {
       throw new Error(`It asks for ${counted(count, "request")}; this page takes at most `
         + `${counted(MOST_ASKED, "request")}.`);
     }
     const run = this.clock.runOf(bench, requestsOf(bench));
-    this.title = visible(bench.title ?? name);
-    this.names = new Names(bench);
+    Object.assign(run, { title: visible(bench.title ?? name), about });
     this.beside = null;
     this.outcome = "";
     this.history.show({ run, count: run.count, at: 0 });
@@ -5970,8 +5996,9 @@ class Workbench {
 
   drawAll() {
     const { run, count } = this.view;
-    by("title").textContent = this.title;
-    document.title = `${this.title} - AGC workbench`;
+    this.names = new Names(run.bench);
+    by("title").textContent = run.title;
+    document.title = `${run.title} - AGC workbench`;
     by("slider").max = String(count);
     by("chart-box").hidden = count === 0 || this.isHidden;
     if (count > 0) {
@@ -5991,7 +6018,7 @@ class Workbench {
     drawTables(shown, this.names);
     this.drawAccount(shown);
     this.drawBeside(at);
-    drawList(run, at, this.isHidden ? at : count, (row) => this.go(row));
+    drawList(run, at, this.isHidden ? at : count, this.names, (row) => this.go(row));
     by("slider").value = String(at);
     by("slider").setAttribute("aria-valuetext", `request ${at} of ${count}`);
     by("sentence").textContent = sentenceOf(shown, count, this.names);
@@ -6009,8 +6036,9 @@ class Workbench {
   }
 
   drawAccount(shown) {
-    const account = accountOf(this.view.run, shown, this.names, this.about);
-    fill("try", tries(this, shown).map(([text, run]) => button(text, run)));
+    const { run } = this.view;
+    const account = accountOf(run, shown, this.names, run.about);
+    fill("try", tries(this, shown).map(([text, change]) => button(text, change)));
     by("try").hidden = by("try").children.length === 0;
     by("told").classList.toggle("alarm", account.isAlarm);
     by("told-name").textContent = account.heading;
@@ -6053,7 +6081,6 @@ class Workbench {
         row <= it.count).length, "alarm")}; differs from request ${parting(this.view, it)} on. `,
       button("Show it", () => {
         this.history.exchange(k, this.view.at);
-        this.names = new Names(this.view.run.bench);
         this.drawAll();
       }), " ", button("Beside", () => this.compare(it)))));
   }
@@ -6083,9 +6110,9 @@ class Workbench {
       const { run, count, at } = this.view;
       const asked = bench.seconds === undefined ? run.requests(count) : [];
       const made = this.clock.runOf(bench, asked);
+      Object.assign(made, { title: visible(bench.title ?? run.title), about: run.about });
       this.keepOutcome();
       this.history.keep("as the plan was changed");
-      this.names = new Names(bench);
       this.history.show({ run: made, count: made.count, at: Math.min(at, made.count) });
       closeDialog();
       this.drawAll();
@@ -6127,8 +6154,8 @@ class Workbench {
   print() {
     const { run, count } = this.view;
     const plan = (this.clock.document(run) ?? files.benchOf(run, 0)).trim();
-    const outcome = `${new Strip(run, count, 1).text} ${this.about}`;
-    drawPrinted(run, count, [this.title, outcome, plan], (shown) =>
+    const outcome = `${new Strip(run, count, 1).text} ${run.about}`;
+    drawPrinted(run, count, this.names, [run.title, outcome, plan], (shown) =>
       accountOf(run, shown, this.names).lines.map((line) =>
         line.map((it) => (typeof it === "string" ? it : it.text)).join("")).join("\n"));
   }
