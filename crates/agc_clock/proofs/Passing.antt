@@ -1,5 +1,5 @@
 -- What is to come, and what is asked next.
-use Rattle.std.proofs.Common.{◌≡◌, ℕ, suc, ◌+◌, ◌-◌, ◌<◌, ◌≤◌, Bool, true, false, cond, List, [], ◌∷◌, ◌++◌, map, length, drop, replicate, Option, Some, None, slice_get, option_map, is_some, refl, sym, ap, subst, ◌∙◌, append_assoc, arith}
+use Rattle.std.proofs.Common.{◌≡◌, ℕ, suc, ◌+◌, ◌-◌, ◌<◌, ◌≤◌, Bool, true, false, ◌&&◌, cond, List, [], ◌∷◌, ◌++◌, map, length, drop, replicate, Option, Some, None, slice_get, option_map, is_some, refl, sym, ap, subst, ◌∙◌, append_assoc, arith}
 use Rattle.std.proofs.lemmas.List.{length-map}
 use Rattle.std.proofs.lemmas.Option.{slice_get-map}
 use Rattle.agc_plan.specs.declared.request.Request.{Request}
@@ -7,11 +7,11 @@ use Rattle.agc_plan.specs.declared.request.Request.TheVariants.{Change, Tick}
 use Rattle.agc_exec.specs.Seats.{named_of}
 use Rattle.agc_plan.specs.Jobs.{Jobs}
 use Rattle.agc_clock.specs.declared.asked.Asked.{Asked}
-use Rattle.agc_clock.specs.Clocks.{AsksNext, Clocked, Next, events_left, look_left, next_of, to_come}
+use Rattle.agc_clock.specs.Clocks.{AsksNext, Clocked, Next, events_left, look_left, next_of, time_after, to_come}
 use Rattle.agc_clock.specs.Coming.{comes}
 use Rattle.agc_clock.specs.Events.{Event}
-use Rattle.agc_clock.specs.Instants.{Instant, Asks, Looks, Works, asks_of, by_clock, by_event, centisecond, centiseconds, events_at}
-use Rattle.agc_clock.specs.Reading.{AsksOrPasses, first_of}
+use Rattle.agc_clock.specs.Instants.{Instant, Asks, Looks, Works, asks_of, by_clock, by_event, centisecond, centiseconds, events_at, is_tick}
+use Rattle.agc_clock.specs.Reading.{AsksOrPasses, Passes, first_of}
 use Rattle.agc_clock.specs.Timetables.{Schedule, share_at}
 use Rattle.agc_clock.proofs.Scanning.{next_row, past_rows, no_row}
 
@@ -46,11 +46,12 @@ events_ask time number asked events (Some event) request is some =
     rw (next_row events number event is, asks_first time number asked event request (comes event.times time) refl some) refl
 
 -- the first instant asks for this
-pub asks_now : (table : Schedule) (jobs : Jobs) (old new : Clocked) (asked : Asked) → to_come table old ≡ Asks asked ∷ to_come table new → new.given ≡ old.given → AsksNext table jobs old (Some asked) new
-asks_now table jobs old new asked first same = record {
+pub asks_now : (table : Schedule) (jobs : Jobs) (old new : Clocked) (asked : Asked) → to_come table old ≡ Asks asked ∷ to_come table new → new.given ≡ old.given → new.time ≡ time_after old.time (Some asked) → AsksNext table jobs old (Some asked) new
+asks_now table jobs old new asked first same time = record {
   asked_is = ap (λ (l : List Instant). (next_of table.costs jobs l old.given).asked) (sym first);
   to_come_is = ap (λ (l : List Instant). (next_of table.costs jobs l old.given).behind) (sym first);
   given_is = same ∙ ap (λ (l : List Instant). (next_of table.costs jobs l old.given).given) (sym first);
+  time_is = time;
 }
 
 -- what comes behind the events
@@ -78,13 +79,25 @@ moved_events table old new before moved is =
     ∙ append_assoc before rest (behind table old.time old.looks old.left)
     ∙ ap (λ (l : List Instant). before ++ l) (ap (λ (l : List Instant). rest ++ l) (sym (same_behind table old new moved)) ∙ sym (to_come_is table new rest (ap (λ (t : ℕ). events_left t new.event new.asked (drop new.event table.events)) moved.time_is)))
 
-pub event_asked : (table : Schedule) (jobs : Jobs) (old new : Clocked) (asked : Asked) → IsMoved old new → events_left old.time old.event old.asked (drop old.event table.events) ≡ Asks asked ∷ events_left old.time new.event new.asked (drop new.event table.events) → AsksNext table jobs old (Some asked) new
-event_asked table jobs old new asked moved is = asks_now table jobs old new asked (moved_events table old new (Asks asked ∷ []) moved is) moved.given_is
+not_both : (b : Bool) → b && false ≡ false
+not_both true = refl
+not_both false = refl
+
+by_no_tick : (time number : ℕ) (request : Request) → time_after time (Some (by_event number request)) ≡ time
+by_no_tick time number request = ap (λ (b : Bool). cond b (time + 1) time) (not_both (is_tick request))
+
+pub event_asked : (table : Schedule) (jobs : Jobs) (old new : Clocked) (number : ℕ) (request : Request) → IsMoved old new → events_left old.time old.event old.asked (drop old.event table.events) ≡ Asks (by_event number request) ∷ events_left old.time new.event new.asked (drop new.event table.events) → AsksNext table jobs old (Some (by_event number request)) new
+event_asked table jobs old new number request moved is =
+    let asked = by_event number request in
+    asks_now table jobs old new asked (moved_events table old new (Asks asked ∷ []) moved is) moved.given_is (moved.time_is ∙ sym (by_no_tick old.time number request))
 
 pub events_passed : (table : Schedule) (jobs : Jobs) (old new : Clocked) → IsMoved old new → events_left old.time old.event old.asked (drop old.event table.events) ≡ events_left old.time new.event new.asked (drop new.event table.events) → AsksOrPasses table jobs old None new
-events_passed table jobs old new moved is =
-    ap (λ (l : List Instant). next_of table.costs jobs l old.given) (moved_events table old new [] moved is)
-    ∙ ap (λ (g : List ℕ). next_of table.costs jobs (to_come table new) g) (sym moved.given_is)
+events_passed table jobs old new moved is = record {
+  next_is =
+      ap (λ (l : List Instant). next_of table.costs jobs l old.given) (moved_events table old new [] moved is)
+      ∙ ap (λ (g : List ℕ). next_of table.costs jobs (to_come table new) g) (sym moved.given_is);
+  time_is = moved.time_is;
+}
 
 pub nothing_left : (time number asked : ℕ) (events : List Event) → length events ≤ number → events_left time number asked (drop number events) ≡ []
 nothing_left time number asked events le = ap (events_left time number asked) (past_rows events number le)
@@ -93,21 +106,20 @@ nothing_left time number asked events le = ap (events_left time number asked) (p
 pub behind_is : (table : Schedule) (clock : Clocked) → length table.events ≤ clock.event → to_come table clock ≡ behind table clock.time clock.looks clock.left
 behind_is table clock passed = to_come_is table clock [] (nothing_left clock.time clock.event clock.asked table.events passed)
 
-abbrev pub Passes : Schedule → Jobs → Clocked → Clocked → Type 0
-Passes table jobs old new = AsksOrPasses table jobs old None new
-
-pub next_asks : (table : Schedule) (jobs : Jobs) (old new : Clocked) (asked : Option Asked) → next_of table.costs jobs (to_come table old) old.given ≡ record { asked = asked; behind = to_come table new; given = new.given } → AsksNext table jobs old asked new
-next_asks table jobs old new asked is = record {
+pub next_asks : (table : Schedule) (jobs : Jobs) (old new : Clocked) (asked : Option Asked) → next_of table.costs jobs (to_come table old) old.given ≡ record { asked = asked; behind = to_come table new; given = new.given } → new.time ≡ time_after old.time asked → AsksNext table jobs old asked new
+next_asks table jobs old new asked is time = record {
   asked_is = sym (ap (λ (n : Next). n.asked) is);
   to_come_is = sym (ap (λ (n : Next). n.behind) is);
   given_is = sym (ap (λ (n : Next). n.given) is);
+  time_is = time;
 }
 
 pub then_asks : (table : Schedule) (jobs : Jobs) (old mid new : Clocked) (asked : Option Asked) → Passes table jobs old mid → AsksNext table jobs mid asked new → AsksNext table jobs old asked new
 then_asks table jobs old mid new asked first then = record {
-  asked_is = then.asked_is ∙ ap (λ (n : Next). n.asked) (sym first);
-  to_come_is = then.to_come_is ∙ ap (λ (n : Next). n.behind) (sym first);
-  given_is = then.given_is ∙ ap (λ (n : Next). n.given) (sym first);
+  asked_is = then.asked_is ∙ ap (λ (n : Next). n.asked) (sym first.next_is);
+  to_come_is = then.to_come_is ∙ ap (λ (n : Next). n.behind) (sym first.next_is);
+  given_is = then.given_is ∙ ap (λ (n : Next). n.given) (sym first.next_is);
+  time_is = then.time_is ∙ ap (λ (t : ℕ). time_after t asked) first.time_is;
 }
 
 pub is_none : (asked : Option Asked) → is_some asked ≡ false → asked ≡ None
@@ -141,15 +153,19 @@ look_comes table old new passed looks looked =
 pub look_asks : (table : Schedule) (jobs : Jobs) (old new : Clocked) → length table.events ≤ old.event → old.looks ≡ true → IsLooked old new → is_some (named_of jobs) ≡ true → AsksNext table jobs old (Some (by_clock Change)) new
 look_asks table jobs old new passed looks looked some =
     next_asks table jobs old new (Some (by_clock Change))
-    (rw (look_comes table old new passed looks looked, some, looked.given_is) refl)
+    (rw (look_comes table old new passed looks looked, some, looked.given_is) refl) looked.time_is
 
 pub look_passes : (table : Schedule) (jobs : Jobs) (old new : Clocked) → length table.events ≤ old.event → old.looks ≡ true → IsLooked old new → is_some (named_of jobs) ≡ false → Passes table jobs old new
-look_passes table jobs old new passed looks looked none =
-    rw (look_comes table old new passed looks looked, none, looked.given_is) refl
+look_passes table jobs old new passed looks looked none = record {
+  next_is = rw (look_comes table old new passed looks looked, none, looked.given_is) refl;
+  time_is = looked.time_is;
+}
 
 pub looks_no_more : (table : Schedule) (jobs : Jobs) (old new : Clocked) → length table.events ≤ old.event → old.looks ≡ false → IsLooked old new → Passes table jobs old new
-looks_no_more table jobs old new passed looks looked =
-    rw (looked_on table old new passed looked, looked.given_is) (ap (λ (l : List Instant). next_of table.costs jobs l old.given) (behind_is table old passed ∙ rw looks refl))
+looks_no_more table jobs old new passed looks looked = record {
+  next_is = rw (looked_on table old new passed looked, looked.given_is) (ap (λ (l : List Instant). next_of table.costs jobs l old.given) (behind_is table old passed ∙ rw looks refl));
+  time_is = looked.time_is;
+}
 
 -- a tick
 pub ticks : (table : Schedule) (jobs : Jobs) (old : Clocked) → length table.events ≤ old.event → old.looks ≡ false → old.left ≡ 0 → old.time < table.lasts → (new : Clocked) → new ≡ record { time = old.time + 1; event = 0; asked = 0; looks = true; left = share_at table (old.time + 1); given = old.given } → AsksNext table jobs old (Some (by_clock Tick)) new
@@ -161,10 +177,10 @@ ticks table jobs old passed looks left more new is =
     let events : events_left now 0 0 (drop 0 table.events) ≡ events_at now 0 table.events = left_none now 0 table.events in
     let then : to_come table (record { time = now; event = 0; asked = 0; looks = true; left = share_at table now; given = old.given }) ≡ events_at now 0 table.events ++ (Looks ∷ (replicate (share_at table now) Works ++ after)) = to_come_is table _ (events_at now 0 table.events) events in
     rw is (asks_now table jobs old _ (by_clock Tick)
-    (comes ∙ ap (λ (l : List Instant). Asks (by_clock Tick) ∷ l) (append_assoc (events_at now 0 table.events) (Looks ∷ replicate (share_at table now) Works) after ∙ sym then)) refl)
+    (comes ∙ ap (λ (l : List Instant). Asks (by_clock Tick) ∷ l) (append_assoc (events_at now 0 table.events) (Looks ∷ replicate (share_at table now) Works) after ∙ sym then)) refl refl)
 
 pub time_is_over : (table : Schedule) (jobs : Jobs) (old : Clocked) → length table.events ≤ old.event → old.looks ≡ false → old.left ≡ 0 → table.lasts ≤ old.time → AsksNext table jobs old None old
 time_is_over table jobs old passed looks left over =
     let none : table.lasts - old.time ≡ 0 = omega arith in
     let comes : to_come table old ≡ [] = behind_is table old passed ∙ rw (looks, left, none) refl in
-    next_asks table jobs old old None (rw comes refl)
+    next_asks table jobs old old None (rw comes refl) refl

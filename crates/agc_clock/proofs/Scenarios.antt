@@ -15,8 +15,8 @@ use Rattle.agc_exec.specs.Seats.{named_of}
 use Rattle.agc_clock.specs.Coming.{comes}
 use Rattle.agc_clock.specs.Counts.{Passed, given_to, passed, with_given, worked, worker_of}
 use Rattle.agc_clock.specs.Events.{Event}
-use Rattle.agc_clock.specs.Instants.{Instant, Asks, Looks, Works, asks_of, by_clock, by_event, centisecond, centiseconds, events_at, instants}
-use Rattle.agc_clock.specs.Laws.{is_own_tick, is_tick, own_ticks, works_for, works_for_nobody, hundredths_given, hundredths_left}
+use Rattle.agc_clock.specs.Instants.{Instant, Asks, Looks, Works, asks_of, by_clock, by_event, centisecond, centiseconds, events_at, instants, is_own_tick, is_tick}
+use Rattle.agc_clock.specs.Laws.{own_ticks, works_for, works_for_nobody, hundredths_given, hundredths_left}
 use Rattle.agc_clock.specs.Runs.{Serving, Standing, by_machine, goes_on, lived, lived_all, run, scenario_requests, standing_at}
 use Rattle.agc_clock.specs.Timetables.{Schedule, asked_then, share_at}
 

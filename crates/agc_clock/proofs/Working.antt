@@ -7,11 +7,14 @@ use Rattle.std.proofs.lemmas.List.{set-set, set-get_or}
 use Rattle.agc_plan.specs.Jobs.{Jobs}
 use Rattle.agc_clock.specs.declared.counting.JobCost.{JobCost}
 use Rattle.agc_clock.specs.declared.timetable.Cost.{Cost}
-use Rattle.agc_clock.specs.Clocks.{AsksNext, Clocked, next_of, to_come}
+use Rattle.agc_clock.specs.declared.timetable.Then.{Then}
+use Rattle.agc_clock.specs.declared.timetable.Then.TheVariants as then
+use Rattle.agc_clock.specs.Clocks.{AsksNext, Clocked, next_of, time_after, to_come}
 use Rattle.agc_clock.specs.Counts.{given_to, with_given, worker_of}
 use Rattle.agc_clock.specs.Instants.{Instant, Works, by_clock, centiseconds}
 use Rattle.agc_clock.specs.Timetables.{Schedule, asked_then}
-use Rattle.agc_clock.proofs.Passing.{Passes, behind_is, next_asks}
+use Rattle.agc_clock.specs.Reading.{Passes}
+use Rattle.agc_clock.proofs.Passing.{behind_is, next_asks}
 
 -- with nobody to work they pass
 pub idle : (costs : List Cost) (jobs : Jobs) (left : ℕ) (after : List Instant) (given : List ℕ) → worker_of costs jobs ≡ None → next_of costs jobs (replicate left Works ++ after) given ≡ next_of costs jobs after given
@@ -81,6 +84,10 @@ worked_left : (table : Schedule) (old new : Clocked) (left : ℕ) (given : List 
 worked_left table old new left given passed is =
     worked_comes table new (let e : new.event ≡ old.event = is.event_is in omega arith) is.looks_is ∙ rw (is.left_is, is.time_is) refl
 
+leaves_no_tick : (time : ℕ) (t : Then) → time_after time (Some (by_clock (asked_then t))) ≡ time
+leaves_no_tick time then.End = refl
+leaves_no_tick time (then.Sleep at) = refl
+
 pub give_ends : (table : Schedule) (jobs : Jobs) (w : JobCost) (old new : Clocked) (rest : ℕ) → length table.events ≤ old.event → old.looks ≡ false → worker_of table.costs jobs ≡ Some w → w.number - 1 < length old.given → 1 ≤ rest → rest ≤ old.left → w.cost.hundredths ≤ given_to w.number old.given + rest → (1 < rest → given_to w.number old.given + rest ≡ w.cost.hundredths) → IsWorked old new (old.left - rest) (with_given w.number 0 old.given) → AsksNext table jobs old (Some (by_clock (asked_then w.cost.then))) new
 give_ends table jobs w old new rest passed looked works place some few used exact is =
     next_asks table jobs old new (Some (by_clock (asked_then w.cost.then)))
@@ -88,20 +95,27 @@ give_ends table jobs w old new rest passed looked works place some few used exac
     ∙ ends table.costs jobs w (after_it table old) old.left rest old.given works place some few used exact
     ∙ ap (λ (l : List Instant). record { asked = Some (by_clock (asked_then w.cost.then)); behind = l; given = with_given w.number 0 old.given }) (sym (worked_left table old new (old.left - rest) (with_given w.number 0 old.given) passed is))
     ∙ ap (λ (g : List ℕ). record { asked = Some (by_clock (asked_then w.cost.then)); behind = to_come table new; given = g }) (sym is.given_is))
+    (is.time_is ∙ sym (leaves_no_tick old.time w.cost.then))
 
 pub give_passes : (table : Schedule) (jobs : Jobs) (w : JobCost) (old new : Clocked) → length table.events ≤ old.event → old.looks ≡ false → worker_of table.costs jobs ≡ Some w → w.number - 1 < length old.given → (0 < old.left → given_to w.number old.given + old.left < w.cost.hundredths) → IsWorked old new 0 (with_given w.number (given_to w.number old.given + old.left) old.given) → Passes table jobs old new
-give_passes table jobs w old new passed looked works place less is =
-    ap (λ (l : List Instant). next_of table.costs jobs l old.given) (worked_comes table old passed looked)
-    ∙ works_on table.costs jobs w (after_it table old) old.left old.given works place less
-    ∙ ap (next_of table.costs jobs (after_it table old)) (sym is.given_is)
-    ∙ ap (λ (l : List Instant). next_of table.costs jobs l new.given) (sym (worked_left table old new 0 (with_given w.number (given_to w.number old.given + old.left) old.given) passed is))
+give_passes table jobs w old new passed looked works place less is = record {
+  next_is =
+      ap (λ (l : List Instant). next_of table.costs jobs l old.given) (worked_comes table old passed looked)
+      ∙ works_on table.costs jobs w (after_it table old) old.left old.given works place less
+      ∙ ap (next_of table.costs jobs (after_it table old)) (sym is.given_is)
+      ∙ ap (λ (l : List Instant). next_of table.costs jobs l new.given) (sym (worked_left table old new 0 (with_given w.number (given_to w.number old.given + old.left) old.given) passed is));
+  time_is = is.time_is;
+}
 
 pub nobody_works : (table : Schedule) (jobs : Jobs) (old new : Clocked) → length table.events ≤ old.event → old.looks ≡ false → worker_of table.costs jobs ≡ None → IsWorked old new 0 old.given → Passes table jobs old new
-nobody_works table jobs old new passed looked none is =
-    ap (λ (l : List Instant). next_of table.costs jobs l old.given) (worked_comes table old passed looked)
-    ∙ idle table.costs jobs old.left (after_it table old) old.given none
-    ∙ ap (next_of table.costs jobs (after_it table old)) (sym is.given_is)
-    ∙ ap (λ (l : List Instant). next_of table.costs jobs l new.given) (sym (worked_left table old new 0 old.given passed is))
+nobody_works table jobs old new passed looked none is = record {
+  next_is =
+      ap (λ (l : List Instant). next_of table.costs jobs l old.given) (worked_comes table old passed looked)
+      ∙ idle table.costs jobs old.left (after_it table old) old.given none
+      ∙ ap (next_of table.costs jobs (after_it table old)) (sym is.given_is)
+      ∙ ap (λ (l : List Instant). next_of table.costs jobs l new.given) (sym (worked_left table old new 0 old.given passed is));
+  time_is = is.time_is;
+}
 
 -- what is still to be given before the cost is used up: at least one
 pub record IsRest (cost given rest : ℕ) : Type 0 where

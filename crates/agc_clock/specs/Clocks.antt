@@ -7,6 +7,7 @@ use Rattle.agc_clock.specs.declared.timetable.Cost.{Cost}
 use Rattle.agc_clock.specs.Counts.{Passed, none_given, passed}
 use Rattle.agc_clock.specs.Events.{Event}
 use Rattle.agc_clock.specs.Instants.{Instant, Looks, Works, asks_of, centiseconds, events_at}
+use Rattle.agc_clock.specs.Instants.{is_own_tick}
 use Rattle.agc_clock.specs.Timetables.{Schedule}
 
 -- a clock: its centisecond; which event is next, and how many of its requests were asked; whether
@@ -65,6 +66,11 @@ next_of costs jobs [] given = record { asked = None; behind = []; given = given 
 next_of costs jobs (instant ∷ behind) given =
     unless_asked (passed costs jobs instant given) behind (next_of costs jobs behind)
 
+-- the centisecond after this was asked: a tick of the clock's own begins the next one
+abbrev pub time_after : ℕ → Option Asked → ℕ
+time_after time None = time
+time_after time (Some asked) = if is_own_tick asked then time + 1 else time
+
 -- a clock asks for this, and is then this one
 pub record AsksNext (table : Schedule) (jobs : Jobs) (old : Clocked) (asked : Option Asked)
     (new : Clocked) : Type 0 where
@@ -72,3 +78,4 @@ pub record AsksNext (table : Schedule) (jobs : Jobs) (old : Clocked) (asked : Op
   pub to_come_is : to_come table new
       ≡ (next_of table.costs jobs (to_come table old) old.given).behind
   pub given_is : new.given ≡ (next_of table.costs jobs (to_come table old) old.given).given
+  pub time_is : new.time ≡ time_after old.time asked

@@ -1,9 +1,11 @@
 -- A scenario is a list of instants, which its timetable alone fixes.
-use Rattle.std.specs.Prelude.{ℕ, ◌+◌, if◌then◌else◌, List, [], ◌∷◌, ◌++◌, map, replicate}
+use Rattle.std.specs.Prelude.{ℕ, ◌+◌, ◌&&◌, Bool, true, false, if◌then◌else◌, List, [], ◌∷◌}
+use Rattle.std.specs.Prelude.{◌++◌, map, replicate}
 use Rattle.std.specs.List.{flat_map, range_with_len}
 use Rattle.agc_plan.specs.declared.request.Request.{Request}
 use Rattle.agc_plan.specs.declared.request.Request.TheVariants.{Tick}
 use Rattle.agc_clock.specs.declared.asked.Asked.{Asked}
+use Rattle.agc_clock.specs.declared.asked.Source.{Source}
 use Rattle.agc_clock.specs.declared.asked.Source.TheVariants as source
 use Rattle.agc_clock.specs.Coming.{comes}
 use Rattle.agc_clock.specs.Events.{Event}
@@ -22,6 +24,18 @@ by_clock request = record { request = request; source = source.Clock }
 
 abbrev pub by_event : ℕ → Request → Asked
 by_event number request = record { request = request; source = source.Event number }
+
+-- a tick that the clock itself asks for
+abbrev pub is_tick : Request → Bool
+is_tick Tick = true
+is_tick request = false
+
+abbrev pub is_clock : Source → Bool
+is_clock source.Clock = true
+is_clock (source.Event number) = false
+
+abbrev pub is_own_tick : Asked → Bool
+is_own_tick asked = is_tick asked.request && is_clock asked.source
 
 -- the instants of an event, if it comes at this time
 abbrev pub asks_of : ℕ → ℕ → Event → List Instant

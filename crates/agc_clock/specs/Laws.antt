@@ -1,33 +1,16 @@
 -- What is wanted of time that passes, in the field's words.
-use Rattle.std.specs.Prelude.{◌≡◌, ℕ, ◌+◌, ◌≤◌, ◌&&◌, Bool, true, false}
-use Rattle.std.specs.Prelude.{List, [], ◌∷◌, Option, Some, None, IsSome}
+use Rattle.std.specs.Prelude.{◌≡◌, ℕ, ◌+◌, ◌≤◌, List, [], ◌∷◌, Option, Some, None, IsSome}
 use Rattle.std.specs.List.{count_by}
 use Rattle.agc_plan.specs.Jobs.{Jobs}
-use Rattle.agc_plan.specs.declared.request.Request.{Request}
-use Rattle.agc_plan.specs.declared.request.Request.TheVariants.{Tick}
 use Rattle.agc_clock.specs.declared.asked.Asked.{Asked}
-use Rattle.agc_clock.specs.declared.asked.Source.{Source}
-use Rattle.agc_clock.specs.declared.asked.Source.TheVariants as source
 use Rattle.agc_clock.specs.declared.counting.JobCost.{JobCost}
 use Rattle.agc_clock.specs.declared.timetable.Cost.{Cost}
 use Rattle.agc_clock.specs.Counts.{given_to, passed, worker_of}
-use Rattle.agc_clock.specs.Instants.{Instant, Works}
+use Rattle.agc_clock.specs.Instants.{Instant, Works, is_own_tick}
 use Rattle.agc_clock.specs.Runs.{Serving, Standing, lived}
 use Rattle.agc_clock.specs.Timetables.{cost_at}
 
--- a tick that the clock itself asks for
-abbrev pub is_tick : Request → Bool
-is_tick Tick = true
-is_tick request = false
-
-abbrev pub is_clock : Source → Bool
-is_clock source.Clock = true
-is_clock (source.Event number) = false
-
-abbrev pub is_own_tick : Asked → Bool
-is_own_tick asked = is_tick asked.request && is_clock asked.source
-
--- how many there are
+-- how many ticks of its own a clock asks for
 abbrev pub own_ticks : List Asked → ℕ
 own_ticks asked = count_by is_own_tick asked
 

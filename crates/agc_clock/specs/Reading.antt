@@ -25,10 +25,13 @@ first_of time asked None = None
 first_of time asked (Some event) =
     if comes event.times time then slice_get event.requests asked else None
 
--- a stage of the clock asks for the next request; or it asks for nothing, and what is asked next
--- stays the same
+-- a stage of the clock asks for nothing, and what is asked next stays the same
+pub record Passes (table : Schedule) (jobs : Jobs) (old new : Clocked) : Type 0 where
+  pub next_is : next_of table.costs jobs (to_come table old) old.given
+      ≡ next_of table.costs jobs (to_come table new) new.given
+  pub time_is : new.time ≡ old.time
+
+-- or it asks for the next request
 abbrev pub AsksOrPasses : Schedule → Jobs → Clocked → Option Asked → Clocked → Type 0
 AsksOrPasses table jobs old (Some asked) new = AsksNext table jobs old (Some asked) new
-AsksOrPasses table jobs old None new =
-    next_of table.costs jobs (to_come table old) old.given
-    ≡ next_of table.costs jobs (to_come table new) new.given
+AsksOrPasses table jobs old None new = Passes table jobs old new

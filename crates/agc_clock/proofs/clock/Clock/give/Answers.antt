@@ -4,7 +4,7 @@ use Rattle.agc_clock.specs.Clocks.{AsksNext, Clocked}
 use Rattle.agc_clock.specs.Counts.{given_to, with_given}
 use Rattle.agc_clock.specs.Instants.{by_clock}
 use Rattle.agc_clock.specs.Timetables.{asked_then}
-use Rattle.agc_clock.proofs.Passing.{Passes}
+use Rattle.agc_clock.specs.Reading.{Passes}
 use Rattle.agc_clock.proofs.Working.{IsRest, IsWorked, give_ends, give_passes, rest_is}
 use Rattle.agc_clock.proofs.clock.Clock.give.Goals as goal
 

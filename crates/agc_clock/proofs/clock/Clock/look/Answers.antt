@@ -5,8 +5,8 @@ use Rattle.agc_plan.specs.declared.request.Request.TheVariants.{Change}
 use Rattle.agc_clock.specs.declared.asked.Asked.{Asked}
 use Rattle.agc_clock.specs.Clocks.{Clocked}
 use Rattle.agc_clock.specs.Instants.{by_clock}
-use Rattle.agc_clock.specs.Reading.{AsksOrPasses}
-use Rattle.agc_clock.proofs.Passing.{IsLooked, Passes, look_asks, look_passes, looks_no_more}
+use Rattle.agc_clock.specs.Reading.{AsksOrPasses, Passes}
+use Rattle.agc_clock.proofs.Passing.{IsLooked, look_asks, look_passes, looks_no_more}
 use Rattle.agc_clock.proofs.clock.Clock.look.Goals as goal
 use Rattle.agc_clock.proofs.clock.Clock.look.Goals.{then-looks+then-is_some, else-looks, else-looks-via-then-looks+else-is_some, else-looks-via-else-looks}
 

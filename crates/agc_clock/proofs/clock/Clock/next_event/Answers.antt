@@ -1,6 +1,5 @@
 use Rattle.std.proofs.Common.{◌+◌, ℕ, slice_get, refl, sym, ap, ◌∙◌, arith}
 use Rattle.agc_clock.specs.Clocks.{Clocked}
-use Rattle.agc_clock.specs.Instants.{by_event}
 use Rattle.agc_clock.specs.Reading.{first_of}
 use Rattle.agc_clock.proofs.Passing.{event_asked, events_ask, events_pass, events_passed, nothing_left}
 use Rattle.agc_clock.proofs.clock.Clock.next_event.Goals as goal
@@ -10,7 +9,7 @@ returns-in-Some-clause-stage g c = λ jobs.
     let table = g.T.Timetables.set_down c.args.table.now in
     let old = c.args.self.now in
     let new : Clocked = record { time = c.loop-event.self-inside.time; event = c.loop-event.event; asked = c.loop-event.asked + 1; looks = c.loop-event.self-inside.looks; left = c.loop-event.self-inside.left; given = c.loop-event.self-inside.given } in
-    event_asked table jobs old new (by_event c.loop-event.event c.in-Some.request)
+    event_asked table jobs old new c.loop-event.event c.in-Some.request
     (record {
       time_is = ap (λ s. s.time) c.loop-event.invariant.same ∙ ap (λ (s : Clocked). s.time) c.self.view_is;
       looks_is = ap (λ s. s.looks) c.loop-event.invariant.same ∙ ap (λ (s : Clocked). s.looks) c.self.view_is;

@@ -1,7 +1,7 @@
 use Rattle.std.proofs.Common.{◌≡◌, false, refl, sym, ap, subst, ◌∙◌, arith}
 use Rattle.agc_exec.specs.Image.{jobs_in}
 use Rattle.agc_clock.specs.Clocks.{Clocked}
-use Rattle.agc_clock.proofs.Passing.{Passes}
+use Rattle.agc_clock.specs.Reading.{Passes}
 use Rattle.agc_clock.proofs.Working.{nobody_works}
 use Rattle.agc_clock.proofs.clock.Clock.work.Goals as goal
 
