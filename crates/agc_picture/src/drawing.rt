@@ -91,9 +91,7 @@ impl Drawing {
 
     /// Writes the head, and column 0, of the scene with which the machine begins.
     pub(crate) fn begin<W: Write>(&self, writer: &mut W) -> io::Result<()> {
-        let width = width_of(self.count);
-        let right = column_at(width, self.count.saturating_add(2));
-        let first = column_at(width, 0);
+        let first = column_at(width_of(self.count), 0);
         let scene = &self.drawn;
         put_head(
             writer,
@@ -101,7 +99,6 @@ impl Drawing {
             below(scene),
             &self.labels,
             self.count,
-            right.x,
         )?;
         put_axis(writer, first, 0)?;
         put_part(writer, &self.labels, first, scene, Part::All, scene)

@@ -8,26 +8,40 @@ use std::alloc::{AllocError, Global};
 use std::io;
 use std::io::Write;
 
-/// What a job at an address is called, as it is in markup, and how many letters that has.
+/// A text as it is in markup, and how many letters it has.
+#[derive(Drop)]
+struct Told {
+    markup: Vec<u8>,
+    letters: u64,
+}
+
+/// What a job at an address is called.
 #[derive(Drop)]
 struct Label {
     at: u16,
-    text: Vec<u8>,
-    letters: u64,
+    name: Told,
 }
 
 /// The title of a scenario, and what its jobs are called, as they are in markup.
 #[derive(Drop)]
 pub(crate) struct Labels {
-    title: Option<Vec<u8>>,
+    title: Option<Told>,
     jobs: Vec<Label>,
 }
 
+/// A text in markup.
+fn told_of(alloc: Global, text: &str) -> Result<Told, AllocError> {
+    Ok(Told {
+        markup: escaped(alloc, text)?,
+        letters: text.chars().count() as u64,
+    })
+}
+
 /// A title in markup.
-fn title_of(alloc: Global, title: Option<&str>) -> Result<Option<Vec<u8>>, AllocError> {
+fn title_of(alloc: Global, title: Option<&str>) -> Result<Option<Told>, AllocError> {
     match title {
         None => Ok(None),
-        Some(title) => Ok(Some(escaped(alloc, title)?)),
+        Some(title) => Ok(Some(told_of(alloc, title)?)),
     }
 }
 
@@ -39,8 +53,7 @@ fn read(alloc: Global, scenario: &Scenario) -> Result<Labels, AllocError> {
         if let Some(name) = job.name() {
             jobs.push(Label {
                 at: job.at().get(),
-                text: escaped(alloc, name)?,
-                letters: name.chars().count() as u64,
+                name: told_of(alloc, name)?,
             })?;
         }
     }
@@ -73,8 +86,25 @@ impl Labels {
     pub(crate) fn title(&self) -> Option<&[u8]> {
         match &self.title {
             None => None,
-            Some(title) => Some(title.as_slice()),
+            Some(title) => Some(title.markup.as_slice()),
         }
+    }
+
+    /// How many letters the title has.
+    pub(crate) fn title_letters(&self) -> u64 {
+        match &self.title {
+            None => 0,
+            Some(title) => title.letters,
+        }
+    }
+
+    /// How many letters the longest name of a job has.
+    pub(crate) fn longest(&self) -> u64 {
+        let mut longest = 0u64;
+        for job in self.jobs.iter() {
+            longest = longest.max(job.name.letters);
+        }
+        longest
     }
 
     /// What the text in a block is.
@@ -93,14 +123,14 @@ impl Labels {
 
     /// How many letters the name of a job at this address has, if it has one.
     pub(crate) fn letters(&self, at: u16) -> Option<u64> {
-        self.job(at).map(|label| label.letters)
+        self.job(at).map(|label| label.name.letters)
     }
 
     /// Writes the name of a job at this address, or its number.
     pub(crate) fn put_job<W: Write>(&self, writer: &mut W, number: u64, at: u16) -> io::Result<()> {
         match self.job(at) {
             None => write!(writer, "{number}"),
-            Some(label) => writer.write_all(label.text.as_slice()),
+            Some(label) => writer.write_all(label.name.markup.as_slice()),
         }
     }
 
@@ -109,7 +139,7 @@ impl Labels {
         match self.job(at) {
             None => write!(writer, "{at:05o}"),
             Some(label) => {
-                writer.write_all(label.text.as_slice())?;
+                writer.write_all(label.name.markup.as_slice())?;
                 write!(writer, " ({at:05o})")
             }
         }

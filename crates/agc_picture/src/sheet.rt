@@ -29,7 +29,10 @@ const STYLE: [&str; 19] = [
 ];
 
 /// What is joined.
-const BRIEF: &str = "too brief to be drawn: several within one column";
+const BRIEF: &str = "too brief to draw: several blocks in one column";
+
+/// How high the letters of a title are, in points; less where the picture has no room for them.
+const TITLE: u64 = 36;
 
 /// How far down the lanes begin, in points.
 const TOP: u64 = 142;
@@ -68,6 +71,20 @@ fn put_title<W: Write>(writer: &mut W, labels: &Labels, scale: Scale) -> io::Res
     }
 }
 
+/// Writes the title above the lanes, in letters so high that it isn't cut.
+fn put_heading<W: Write>(writer: &mut W, labels: &Labels, scale: Scale) -> io::Result<()> {
+    let letters = labels.title_letters().saturating_mul(18).max(1);
+    let size = scale.width.saturating_sub(16).saturating_mul(25) / letters;
+    write!(writer, "<text class=\"h\" x=\"8\" y=\"42\"")?;
+    if size < TITLE {
+        let size = size.max(1);
+        write!(writer, " style=\"font-size:{size}px\"")?;
+    }
+    write!(writer, ">")?;
+    put_title(writer, labels, scale)?;
+    write!(writer, "</text>\n")
+}
+
 /// Writes the head of a picture of so many core sets, up to the names of its lanes.
 pub(crate) fn put_head<W: Write>(
     writer: &mut W,
@@ -91,10 +108,8 @@ pub(crate) fn put_head<W: Write>(
         writer,
         "<rect class=\"p\" width=\"100%\" height=\"100%\"/>\n"
     )?;
-    write!(writer, "<text class=\"h\" x=\"8\" y=\"42\">")?;
-    put_title(writer, labels, scale)?;
-    write!(writer, "</text>\n<text x=\"8\" y=\"84\">seconds</text>\n")?;
-    Ok(())
+    put_heading(writer, labels, scale)?;
+    write!(writer, "<text x=\"8\" y=\"84\">seconds</text>\n")
 }
 
 /// Writes a lane's name and its ground.
@@ -110,12 +125,24 @@ pub(crate) fn put_ground<W: Write>(writer: &mut W, lane: &Lane, scale: Scale) ->
     )
 }
 
+/// Where the middle of a number of the axis is, whose line is here: a long one is never cut, nor
+/// over the word to the left of the axis.
+fn number_at(scale: Scale, x: u64, time: u64) -> u64 {
+    let short = if time % 100 == 0 { 1_000_000 } else { 1_000 };
+    if time < short {
+        x
+    } else {
+        x.max(LEFT + 28).min(scale.width.saturating_sub(54))
+    }
+}
+
 /// Writes a number of the axis, and its line through the lanes.
 fn put_number<W: Write>(writer: &mut W, scale: Scale, time: u64, end: u64) -> io::Result<()> {
     let x = Scale::x(scale.column(time));
+    let middle = number_at(scale, x, time);
     write!(
         writer,
-        "<path class=\"g\" d=\"M{x} 92V{end}\"/><text class=\"a\" x=\"{x}\" y=\"84\">"
+        "<path class=\"g\" d=\"M{x} 92V{end}\"/><text class=\"a\" x=\"{middle}\" y=\"84\">"
     )?;
     Seconds(time).put_short(writer)?;
     write!(writer, "</text>\n")
@@ -157,20 +184,7 @@ fn put_stroke<W: Write>(writer: &mut W, class: &str, x: u64, y: u64) -> io::Resu
     )
 }
 
-/// Writes what the axis is, and what blocks show.
-fn put_axis_line<W: Write>(writer: &mut W, labels: &Labels, y: u64) -> io::Result<()> {
-    let told = labels.told();
-    write!(
-        writer,
-        "<text x=\"8\" y=\"{y}\">Along the top: seconds since the start."
-    )?;
-    write!(
-        writer,
-        " A block has its job's {told}; pale: the job sleeps.</text>\n"
-    )
-}
-
-/// Writes what the axis and the colours mean.
+/// Writes what blocks and colours mean.
 fn put_legend<W: Write>(writer: &mut W, labels: &Labels, y: u64, scale: Scale) -> io::Result<()> {
     let (one, two, three) = (
         y.saturating_add(36),
@@ -178,13 +192,17 @@ fn put_legend<W: Write>(writer: &mut W, labels: &Labels, y: u64, scale: Scale) -
         y.saturating_add(104),
     );
     let (high, low) = (y.saturating_add(51), y.saturating_add(85));
-    put_axis_line(writer, labels, one)?;
+    let told = labels.told();
+    write!(
+        writer,
+        "<text x=\"8\" y=\"{one}\">Each block shows its job's {told}; pale means asleep.</text>\n"
+    )?;
     put_square(writer, "x", 8, high)?;
     write!(writer, "<text x=\"36\" y=\"{two}\">{BRIEF} (")?;
     Seconds(scale.column_length()).put(writer)?;
     write!(writer, " s)</text>\n")?;
     put_square(writer, "y", 790, high)?;
-    put_line(writer, 818, two, "the same, and free in between")?;
+    put_line(writer, 818, two, "the same, with gaps")?;
     put_stroke(writer, "m", 18, low)?;
     put_line(writer, 36, three, "alarm")?;
     put_stroke(writer, "n", 140, low)?;
@@ -193,7 +211,7 @@ fn put_legend<W: Write>(writer: &mut W, labels: &Labels, y: u64, scale: Scale) -
         writer,
         510,
         three,
-        "Grey tasks: the most at once within a column.",
+        "Grey in the tasks lane: the most waiting at once.",
     )
 }
 

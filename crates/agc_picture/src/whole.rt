@@ -42,10 +42,11 @@ fn draw<P: Progress, W: Write>(
 }
 
 /// Writes the picture of a bench, an SVG: its machine is asked for the requests in the order of
-/// `serial`, and each has a column, 24 points wide, or 8 where there are more than 60. In it what
-/// has changed since the column before is drawn, to the right edge, over what was there: at an
-/// alarm the full table, before the era begins. Where an era begins, each block ends. Returns the
-/// machine after the last request. The writer is not flushed. Source: profile.
+/// `serial`, and each has a column, 24 points wide, or 8 where there are more than 60, or more than
+/// 24 where there are so few that the legend wouldn't fit. In it what has changed since the column
+/// before is drawn, to the right edge, over what was there: at an alarm the full table, before the
+/// era begins. Where an era begins, each block ends. Returns the machine after the last request.
+/// The writer is not flushed. Source: profile.
 ///
 /// # Errors
 ///
