@@ -126,6 +126,10 @@ function keeps() {
   }
   const turns = pairs.map(([, , texts]) => texts.filter((it) => !it.endsWith("tick")).join(", "));
   want(same(turns, ["1 novac, 2 restart, 3 novac, 7 end", "1 novac, 2 restart, 3 novac, 6 end"]), turns.join("; "));
+  // Two clocks take turns over one machine, and each keeps its time and its timetable.
+  const both = [new Machine(), new Clock({ event: [{ at: 2, do: "phase 1 1" }] }), new Clock({ event: [{ at: 1, do: "phase 2 2" }] })];
+  const counts = [1, 2, 1, 2].map((k) => both[0].run(both[k], 1));
+  want(same([counts, both[1].time, both[2].time, both[0].scene().phases.slice(0, 2)], [[1, 2, 2, 1], 2, 2, [1, 2]]), `two clocks: ${counts}`);
   // What isn't changed stays, also where it was changed before, and in a copy.
   const [changed, copied] = [new Clock(timetable), new Clock(timetable).copy()];
   changed.change({ steal: 0 });
