@@ -1,2 +1,4 @@
 mod Made
 pub mod Quiet
+mod Walked
+pub mod Firsts

@@ -1,4 +1,5 @@
 mod Calls
 mod Lanes
+mod Opening
 mod Quiet
 mod Reaching
