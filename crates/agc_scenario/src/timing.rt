@@ -30,7 +30,9 @@ impl Name {
     }
 
     /// The name, if it is there. Source: profile.
-    pub fn as_str(&self) -> Option<&str> {
+    pub fn as_str(&self) -> Option<&str>
+        ensures { option_map (λ s. s.now) result ≡ self.now }
+    {
         match &self.text {
             None => None,
             Some(text) => Some(text.as_str()),
@@ -83,7 +85,9 @@ impl TimedJob {
     }
 
     /// Its name, if it has one. Source: profile.
-    pub fn name(&self) -> Option<&str> {
+    pub fn name(&self) -> Option<&str>
+        ensures { option_map (λ s. s.now) result ≡ self.now.name }
+    {
         self.name.as_str()
     }
 
@@ -155,7 +159,9 @@ impl TimedEvent {
     }
 
     /// Its name, if it has one. Source: profile.
-    pub fn name(&self) -> Option<&str> {
+    pub fn name(&self) -> Option<&str>
+        ensures { option_map (λ s. s.now) result ≡ self.now.name }
+    {
         self.name.as_str()
     }
 
@@ -215,7 +221,9 @@ impl Timing {
     }
 
     /// Its title, if it has one. Source: profile.
-    pub fn title(&self) -> Option<&str> {
+    pub fn title(&self) -> Option<&str>
+        ensures { option_map (λ s. s.now) result ≡ self.now.title }
+    {
         self.title.as_str()
     }
 
