@@ -75,7 +75,8 @@ fn add_expected(told: &mut String, key: Key) -> Result<(), AllocError> {
         Valued::Texts(_form, 0, _most) => told.push_str("an array of strings"),
         Valued::Texts(_form, count, _most) => write!(told, "an array of {count} strings"),
         Valued::IntegerOrTables(_level, low, high) => {
-            write!(told, "an integer, {}, or an array of ", Range(low, high))
+            let range = Range(low, high);
+            write!(told, "an integer, {range}, or an array of at most {high} ")
         }
         Valued::Tables(_level, _least, u64::MAX) => told.push_str("an array of "),
         Valued::Tables(_level, _least, most) => write!(told, "at most {most} "),

@@ -14,4 +14,4 @@ mod writing;
 pub use peaks::{bench_peaks, scenario_peaks};
 pub use summing::scenario_sum;
 pub use sweep::{Column, Sweep, Watches, run_sweep};
-pub use writing::{put_bench, scenario_bench};
+pub use writing::scenario_bench;

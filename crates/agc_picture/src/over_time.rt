@@ -1,6 +1,7 @@
 // The picture of a run over time.
 ghost use Rattle.std.specs.Prelude.{◌≡◌, IfErr, IfOk, OnOk};
 ghost use Rattle.std.specs.List.{fold};
+ghost use Rattle.agc_scenario.specs.Scenarios.{schedule_of};
 ghost use Rattle.agc_scene.specs.Events.{watched, watching_from};
 ghost use Rattle.agc_session.specs.Runs.{bench_machine, bench_requests};
 ghost use Rattle.agc_session.specs.Shown.{EndsIn};
@@ -102,7 +103,7 @@ fn draw_clock<P: Progress, W: Write>(
     writer: &mut W,
 ) -> Result<TimeDrawing, Output>
     ensures { IfOk result
-        (λ d. d ≡ fold watched drawing (clock_requests timing.now machine)) }
+        (λ d. d ≡ fold watched drawing (clock_requests (schedule_of timing.now) machine)) }
 {
     drawing.begin(writer)?;
     let mut drawing = follow_clock(machine, timing, drawing, progress, writer)?;
@@ -128,7 +129,7 @@ pub fn scenario_time_picture<P: Progress, W: Write>(
 ) -> Result<Watched, RunFault>
     ensures { EndsIn
         (fold watched (watching_from (bench_machine scenario.now.bench))
-        (clock_requests scenario.now.timing (bench_machine scenario.now.bench)))
+        (clock_requests (schedule_of scenario.now.timing) (bench_machine scenario.now.bench)))
         (W.contents writer.old) (W.contents writer.new) result }
 {
     let timing = scenario.timing();

@@ -1,6 +1,7 @@
 // The picture of a run: its head, the columns of its requests, and its end.
 ghost use Rattle.std.specs.Prelude.{◌≡◌, IfErr, IfOk, OnOk};
 ghost use Rattle.std.specs.List.{fold};
+ghost use Rattle.agc_scenario.specs.Scenarios.{schedule_of};
 ghost use Rattle.agc_scene.specs.Events.{watched, watching_from};
 ghost use Rattle.agc_session.specs.Runs.{bench_machine, bench_requests};
 ghost use Rattle.agc_session.specs.Shown.{EndsIn};
@@ -79,7 +80,7 @@ fn draw_clock<P: Progress, W: Write>(
     writer: &mut W,
 ) -> Result<Drawing, Output>
     ensures { IfOk result
-        (λ d. d ≡ fold watched drawing (clock_requests timing.now machine)) }
+        (λ d. d ≡ fold watched drawing (clock_requests (schedule_of timing.now) machine)) }
 {
     begin(&drawing, writer)?;
     let drawing = follow_clock(machine, timing, drawing, progress, writer)?;
@@ -113,7 +114,7 @@ pub fn scenario_picture<P: Progress, W: Write>(
 ) -> Result<Watched, RunFault>
     ensures { EndsIn
         (fold watched (watching_from (bench_machine scenario.now.bench))
-        (clock_requests scenario.now.timing (bench_machine scenario.now.bench)))
+        (clock_requests (schedule_of scenario.now.timing) (bench_machine scenario.now.bench)))
         (W.contents writer.old) (W.contents writer.new) result }
 {
     let count = clock_size(alloc, scenario)?;

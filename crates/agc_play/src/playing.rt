@@ -6,9 +6,9 @@ use crate::line::{Asked, asked_by, not_text_told, wrong_told};
 use crate::player::{Came, Player};
 use agc_document::Bench;
 use agc_machine::Refusal;
-use agc_peaks::put_bench;
 use agc_plan::Request;
 use agc_session::{Follows, RunFault, Silent, Source, follow_bench, written};
+use agc_spelling::put_bench;
 use agc_text::Output;
 use std::alloc::{AllocError, AllocFailed, Global};
 use std::io::{BufRead, Eprint, ErrorKind, Read, Write};
@@ -289,7 +289,7 @@ impl<'a> Played<'a> {
         writer: &mut W,
     ) -> Result<(), PlayFault> {
         let mut text = Vec::new(rt.alloc());
-        if let Err(_lacking) = put_bench(self.bench, self.requests.as_slice(), &mut text) {
+        if let Err(_lacking) = put_bench(&mut text, self.bench, self.requests.as_slice()) {
             return Err(PlayFault::NoMemory);
         }
         let (count, length) = (self.requests.len(), text.len());

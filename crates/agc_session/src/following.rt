@@ -71,6 +71,7 @@ pub fn asks_nothing(bench: &Bench, line: Line) -> bool
 /// # Errors
 ///
 /// Where a write fails. No further request is then asked.
+#[inline(always)]
 pub fn follow_all<F: Follows, P: Progress, W: Write>(
     follower: &mut F,
     progress: &mut P,

@@ -8,7 +8,7 @@ use Rattle.agc_clock.specs.declared.timetable.Cost.{Cost}
 use Rattle.agc_clock.specs.Counts.{kept, passed}
 use Rattle.agc_clock.specs.Instants.{Instant, instants}
 use Rattle.agc_clock.specs.Runs.{Standing, by_machine, goes_on, lived, lived_all, run, standing_at}
-use Rattle.agc_scenario.specs.Scenarios.{Timed, schedule_of}
+use Rattle.agc_clock.specs.Timetables.{Schedule}
 use Rattle.agc_trace.specs.Following.{clock_requests, followed_by}
 
 abbrev told : List Asked → List Request
@@ -35,7 +35,7 @@ all_beside {F} next f costs at (instant ∷ all) =
     ap (λ (s : Standing (Machined × F)). lived_all (followed_by next) costs s all) (went_on next f at did.asked did.given)
     ∙ all_beside next f costs (lived by_machine costs at instant) all
 
-pub follower_is : {F : Type 0} (next : F → Request → F) (f : F) (timing : Timed) (m : Machined) → (run (followed_by next) (schedule_of timing) (m, f)).state.1 ≡ fold next f (clock_requests timing m)
+pub follower_is : {F : Type 0} (next : F → Request → F) (f : F) (table : Schedule) (m : Machined) → (run (followed_by next) table (m, f)).state.1 ≡ fold next f (clock_requests table m)
 unfolding run clock_requests
-follower_is {F} next f timing m =
-    ap (λ (s : Standing (Machined × F)). s.state.1) (all_beside next f (schedule_of timing).costs (standing_at m) (instants (schedule_of timing)))
+follower_is {F} next f table m =
+    ap (λ (s : Standing (Machined × F)). s.state.1) (all_beside next f table.costs (standing_at m) (instants table))

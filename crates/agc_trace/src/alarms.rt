@@ -2,17 +2,17 @@
 // again.
 use crate::columns::Columns;
 use crate::line::Line;
-use crate::spelling::{code, put_action, put_since};
 use crate::tables::put_tables;
 use agc_exec::Seat;
 use agc_plan::{Alarm, Phase, Plan, Task};
 use agc_scene::{Event, Scene, Since};
+use agc_spelling::{alarm_code, put_action};
 use std::io;
 use std::io::Write;
 
 /// Writes which table was full.
 fn put_full<W: Write>(writer: &mut W, alarm: Alarm, scene: &Scene) -> io::Result<()> {
-    write!(writer, "        alarm {}: ", code(alarm))?;
+    write!(writer, "        alarm {}: ", alarm_code(alarm))?;
     match alarm {
         Alarm::A1201 => write!(writer, "all five VAC areas are owned\n"),
         Alarm::A1202 if scene.seats().len() == 8 => write!(
@@ -45,6 +45,18 @@ fn put_raiser<W: Write>(
         put_action(writer, *action)?;
     }
     write!(writer, "\n")
+}
+
+/// Writes with which request a job or a task came.
+fn put_since<W: Write>(writer: &mut W, since: Since) -> io::Result<()> {
+    let Since { request, restart } = since;
+    if request == 0 {
+        write!(writer, "since power-up")
+    } else if restart {
+        write!(writer, "since the restart of request {request}")
+    } else {
+        write!(writer, "since request {request}")
+    }
 }
 
 /// Writes since when something is there, where that is known.

@@ -1,13 +1,10 @@
 // Which columns rows have, and what is called by a name in them.
-ghost use Rattle.std.specs.Prelude.{◌≡◌, IfErr};
-
 use crate::line::Line;
 use crate::names::Names;
-use crate::spelling::put_task;
 use agc_clock::Source as Asker;
 use agc_plan::{Phase, Task};
-use agc_scenario::Scenario;
-use agc_session::{RunFault, Source};
+use agc_session::Source;
+use agc_spelling::put_task;
 use std::alloc::Global;
 use std::io;
 use std::io::Write;
@@ -62,22 +59,13 @@ impl Columns {
         }
     }
 
-    /// Those of a scenario, of whose requests it is told who asks, with its names, and with times
-    /// in seconds. Source: profile.
-    ///
-    /// # Errors
-    ///
-    /// Where there is no memory.
-    pub fn of_scenario(alloc: Global, scenario: &Scenario) -> Result<Columns, RunFault>
-        ensures { IfErr result (λ e. e ≡ RunFault.NoMemory) }
-    {
-        match Names::of(alloc, scenario) {
-            Ok(names) => Ok(Columns {
-                source: Some(source_width(&names, scenario.timing().all_events().len())),
-                has_seconds: true,
-                names,
-            }),
-            Err(_no_memory) => Err(RunFault::NoMemory),
+    /// Those of a scenario with so many events, of whose requests it is told who asks, with these
+    /// names, and with times in seconds. Source: profile.
+    pub fn of_scenario(names: Names, events: usize) -> Columns {
+        Columns {
+            source: Some(source_width(&names, events)),
+            has_seconds: true,
+            names,
         }
     }
 

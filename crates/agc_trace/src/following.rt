@@ -4,10 +4,9 @@ ghost use Rattle.std.specs.List.{fold};
 ghost use Rattle.agc_plan.specs.declared.request.Request.{Request};
 ghost use Rattle.agc_trace.specs.Following.{clock_requests};
 
-use agc_clock::{Asked, Serves, run};
+use agc_clock::{Asked, Serves, Timetables, run};
 use agc_machine::Machine;
 use agc_plan::Fired;
-use agc_scenario::Timing;
 use agc_session::Progress;
 use agc_text::Output;
 use agc_word::Erasable;
@@ -69,21 +68,22 @@ impl<'p, 'w, F: FollowsClock, P: Progress, W: Write> Serves for Followed<'p, 'w,
     }
 }
 
-/// Asks a follower for all requests for which a scenario's clock asks this machine, in order, and
-/// for no others, and tells of each that it was asked. Returns the follower. Source: profile.
+/// Asks a follower for all requests for which a clock asks this machine by a scenario's timetable,
+/// in order, and for no others, and tells of each that it was asked. Returns the follower. Source:
+/// profile.
 ///
 /// # Errors
 ///
 /// Where a write fails. No further request is then asked.
-pub fn follow_clock<F: FollowsClock, P: Progress, W: Write>(
+pub fn follow_clock<T: Timetables, F: FollowsClock, P: Progress, W: Write>(
     machine: Machine,
-    timing: &Timing,
+    table: &T,
     follower: F,
     progress: &mut P,
     writer: &mut W,
 ) -> Result<F, Output>
     ensures { IfOk result
-        (λ f. f ≡ fold F.next follower (clock_requests timing.now machine)) }
+        (λ f. f ≡ fold F.next follower (clock_requests (T.set_down table.now) machine)) }
 {
     let mut followed = Followed {
         machine,
@@ -91,6 +91,6 @@ pub fn follow_clock<F: FollowsClock, P: Progress, W: Write>(
         progress,
         writer,
     };
-    run(timing, &mut followed)?;
+    run(table, &mut followed)?;
     Ok(followed.follower)
 }

@@ -1,6 +1,5 @@
 // What a scenario calls itself, its jobs, tasks, phases and events.
 use agc_plan::{Phase, Task};
-use agc_scenario::Scenario;
 use std::alloc::{AllocError, Global};
 
 /// What something is called.
@@ -10,9 +9,10 @@ struct Named<T> {
     name: String,
 }
 
-/// The names that a scenario has, in memory of their own; a bench has none.
+/// What a scenario calls itself, its jobs, tasks, phases and events, in memory of its own; a bench
+/// calls nothing by a name. Source: profile.
 #[derive(Drop)]
-pub(crate) struct Names {
+pub struct Names {
     title: Option<String>,
     jobs: Vec<Named<u16>>,
     tasks: Vec<Named<Task>>,
@@ -20,21 +20,10 @@ pub(crate) struct Names {
     events: Vec<Named<usize>>,
 }
 
-/// Adds a name, if it is there.
-fn add<T: Drop>(
-    alloc: Global,
-    all: &mut Vec<Named<T>>,
-    what: T,
-    name: Option<&str>,
-) -> Result<(), AllocError> {
-    match name {
-        None => Ok(()),
-        Some(name) => {
-            let name = String::from_str(alloc, name)?;
-            all.push(Named { what, name })?;
-            Ok(())
-        }
-    }
+/// What is called by this name.
+fn with_name<T: Drop>(alloc: Global, what: T, name: &str) -> Result<Named<T>, AllocError> {
+    let name = String::from_str(alloc, name)?;
+    Ok(Named { what, name })
 }
 
 /// The first of these that is called by a name, and is this.
@@ -46,8 +35,8 @@ fn found<T: Copy + PartialEq>(all: &[Named<T>], what: T) -> Option<&str> {
 }
 
 impl Names {
-    /// Those of a bench: none.
-    pub(crate) fn none(alloc: Global) -> Names {
+    /// No names. Source: profile.
+    pub fn none(alloc: Global) -> Names {
         Names {
             title: None,
             jobs: Vec::new(alloc),
@@ -57,44 +46,65 @@ impl Names {
         }
     }
 
-    /// Copies those of the jobs and events.
-    fn add_timed(&mut self, alloc: Global, scenario: &Scenario) -> Result<(), AllocError> {
-        let timing = scenario.timing();
-        for job in timing.jobs() {
-            add(alloc, &mut self.jobs, job.at().get(), job.name())?;
-        }
-        for (k, event) in timing.all_events().iter().enumerate() {
-            add(alloc, &mut self.events, k, event.name())?;
-        }
-        Ok(())
-    }
-
-    /// Copies those of the tasks and phases.
-    fn add_planned(&mut self, alloc: Global, scenario: &Scenario) -> Result<(), AllocError> {
-        let bench = scenario.bench();
-        for (row, name) in bench.rows().iter().zip(scenario.row_names().iter()) {
-            add(alloc, &mut self.tasks, row.0, name.as_str())?;
-        }
-        for (entry, name) in bench.entries().iter().zip(scenario.entry_names().iter()) {
-            let phase = (usize::from(entry.group().get()), entry.phase());
-            add(alloc, &mut self.phases, phase, name.as_str())?;
-        }
-        Ok(())
-    }
-
-    /// Those of a scenario.
+    /// Gives a title. Source: profile.
     ///
     /// # Errors
     ///
-    /// Where there is no memory.
-    pub(crate) fn of(alloc: Global, scenario: &Scenario) -> Result<Names, AllocError> {
-        let mut names = Names::none(alloc);
-        if let Some(title) = scenario.timing().title() {
-            names.title = Some(String::from_str(alloc, title)?);
-        }
-        names.add_timed(alloc, scenario)?;
-        names.add_planned(alloc, scenario)?;
-        Ok(names)
+    /// Where there is no memory; nothing is changed.
+    pub fn set_title(&mut self, alloc: Global, title: &str) -> Result<(), AllocError> {
+        self.title = Some(String::from_str(alloc, title)?);
+        Ok(())
+    }
+
+    /// Names the jobs that are established at this address. Source: profile.
+    ///
+    /// # Errors
+    ///
+    /// Where there is no memory; nothing is changed.
+    pub fn name_job(&mut self, alloc: Global, at: u16, name: &str) -> Result<(), AllocError> {
+        self.jobs.push(with_name(alloc, at, name)?)?;
+        Ok(())
+    }
+
+    /// Names a task. Source: profile.
+    ///
+    /// # Errors
+    ///
+    /// Where there is no memory; nothing is changed.
+    pub fn name_task(&mut self, alloc: Global, task: Task, name: &str) -> Result<(), AllocError> {
+        self.tasks.push(with_name(alloc, task, name)?)?;
+        Ok(())
+    }
+
+    /// Names a phase of the restart group of this number, 1 to 6. Source: profile.
+    ///
+    /// # Errors
+    ///
+    /// Where there is no memory; nothing is changed.
+    pub fn name_phase(
+        &mut self,
+        alloc: Global,
+        group: usize,
+        phase: Phase,
+        name: &str,
+    ) -> Result<(), AllocError> {
+        self.phases.push(with_name(alloc, (group, phase), name)?)?;
+        Ok(())
+    }
+
+    /// Names the event of this index. Source: profile.
+    ///
+    /// # Errors
+    ///
+    /// Where there is no memory; nothing is changed.
+    pub fn name_event(
+        &mut self,
+        alloc: Global,
+        event: usize,
+        name: &str,
+    ) -> Result<(), AllocError> {
+        self.events.push(with_name(alloc, event, name)?)?;
+        Ok(())
     }
 
     /// What the scenario itself is called.

@@ -1,9 +1,9 @@
 // The row of a request: its columns, and those of its scene.
 use crate::columns::{By, Columns};
 use crate::line::Line;
-use crate::spelling::{put_answer, put_request};
 use crate::tables::{put_names, put_tables};
 use agc_scene::{Event, Scene};
+use agc_spelling::{put_answer, put_request};
 use std::io;
 use std::io::Write;
 

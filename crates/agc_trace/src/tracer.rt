@@ -8,17 +8,14 @@ ghost use Rattle.agc_trace.specs.Following.{clock_requests};
 
 use crate::alarms::put_account;
 use crate::brief::{Quiet, quiet_of};
-use crate::choice::Choice;
-use crate::closing::{Refused, put_idle, put_refused};
 use crate::columns::{By, Columns};
+use crate::ends::{Refused, put_idle, put_power, put_refused};
 use crate::following::{FollowsClock, follow_clock};
-use crate::power::put_power;
 use crate::rows::{put_heading, put_row};
-use agc_clock::Asked;
+use agc_clock::{Asked, Timetables};
 use agc_document::Bench;
 use agc_machine::{Machine, Refusal};
 use agc_plan::Request;
-use agc_scenario::Scenario;
 use agc_scene::{Event, Scene, Watched};
 use agc_session::{
     Follows, Progress, RunFault, Source, count_requests, follow_all, follow_bench, machine_of,
@@ -30,6 +27,29 @@ use std::alloc::Global;
 use std::io;
 use std::io::Write;
 use std::marker::Model;
+
+/// Which requests a trace shows: those that meet all of these conditions. Source: profile.
+#[derive(Clone, Copy, Debug, PartialEq, Eq)]
+pub struct Choice {
+    /// Only those that raised an alarm.
+    pub alarms: bool,
+    /// Only those from this number on.
+    pub from: Option<u64>,
+    /// Only those up to this number.
+    pub to: Option<u64>,
+    /// Neighbours that are quiet in the same way are counted: nothing changed with them but the
+    /// time.
+    pub brief: bool,
+}
+
+impl Choice {
+    /// Whether the request of this number has a row, if it raised an alarm or not. Source: profile.
+    pub fn tells(&self, number: u64, is_alarmed: bool) -> bool {
+        (is_alarmed || !self.alarms)
+            && self.from.is_none_or(|from| from <= number)
+            && self.to.is_none_or(|to| number <= to)
+    }
+}
 
 /// Quiet requests in a row that have not been written yet.
 #[derive(Clone, Copy)]
@@ -295,47 +315,48 @@ pub fn trace_script<P: Progress, W: Write>(
 }
 
 /// Traces all requests of a scenario, in order, as its clock asks this machine for them.
-fn trace_clock<P: Progress, W: Write>(
+fn trace_clock<T: Timetables, P: Progress, W: Write>(
     machine: Machine,
     tracer: Tracer,
-    scenario: &Scenario,
+    bench: &Bench,
+    table: &T,
     progress: &mut P,
     writer: &mut W,
 ) -> Result<Tracer, Output>
     ensures { IfOk result (λ t. t
-        ≡ fold watched tracer (clock_requests scenario.now.timing machine)) }
+        ≡ fold watched tracer (clock_requests (T.set_down table.now) machine)) }
 {
-    let bench = scenario.bench();
     tracer.begin(bench.power(), writer)?;
-    let mut tracer = follow_clock(machine, scenario.timing(), tracer, progress, writer)?;
+    let mut tracer = follow_clock(machine, table, tracer, progress, writer)?;
     tracer.end(bench.limit().get(), bench.allowance(), writer)?;
     Ok(tracer)
 }
 
-/// Writes the trace of a scenario in the same way, with its title, its names, who asks and times in
-/// seconds: a machine is asked for the requests for which the scenario's clock asks. Returns it
-/// after the last request. Source: profile.
+/// Writes the trace of a scenario in the same way, in these columns: the machine of this bench is
+/// asked for the requests for which a clock asks by this timetable. Returns it after the last
+/// request. Source: profile.
 ///
 /// # Errors
 ///
 /// `NoMemory`, and nothing was written. `Output`, where a write failed, or took nothing of what was
 /// left.
-pub fn trace_scenario<P: Progress, W: Write>(
+pub fn trace_timetable<T: Timetables, P: Progress, W: Write>(
     alloc: Global,
-    scenario: &Scenario,
+    bench: &Bench,
+    table: &T,
+    columns: Columns,
     choice: Choice,
     progress: &mut P,
     writer: &mut W,
 ) -> Result<Watched, RunFault>
     ensures { EndsIn
-        (fold watched (watching_from (bench_machine scenario.now.bench))
-        (clock_requests scenario.now.timing (bench_machine scenario.now.bench)))
+        (fold watched (watching_from (bench_machine bench.now))
+        (clock_requests (T.set_down table.now) (bench_machine bench.now)))
         (W.contents writer.old) (W.contents writer.new) result }
 {
-    let columns = Columns::of_scenario(alloc, scenario)?;
-    let machine = machine_of(alloc, scenario.bench())?;
-    let traced = machine_of(alloc, scenario.bench())?;
+    let machine = machine_of(alloc, bench)?;
+    let traced = machine_of(alloc, bench)?;
     let tracer = Tracer::new(traced, choice, columns);
-    let tracer = trace_clock(machine, tracer, scenario, progress, writer)?;
+    let tracer = trace_clock(machine, tracer, bench, table, progress, writer)?;
     Ok(tracer.into_watched())
 }

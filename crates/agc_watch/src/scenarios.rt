@@ -17,7 +17,7 @@ use agc_program::{Fault, Program, buffered, ended, flushed};
 use agc_scenario::{Scenario, is_scenario, read_scenario, scenario_findings};
 use agc_session::{Progress, RunFault};
 use agc_text::{Output, add_word, put, read_all};
-use agc_trace::{Choice, trace_scenario};
+use agc_trace::{Choice, Columns, Names, trace_timetable};
 use arrayvec::ArrayString;
 use std::alloc::{AllocError, Global};
 use std::io::{Eprint, Print, Read, Write};
@@ -254,6 +254,51 @@ fn tell_input<H: AllocGlobal + Clock + Print + Eprint, R: Read>(
     Ok(())
 }
 
+/// Adds the names of jobs and events.
+fn name_timed(alloc: Global, names: &mut Names, scenario: &Scenario) -> Result<(), AllocError> {
+    let timing = scenario.timing();
+    if let Some(title) = timing.title() {
+        names.set_title(alloc, title)?;
+    }
+    for job in timing.jobs() {
+        if let Some(name) = job.name() {
+            names.name_job(alloc, job.at().get(), name)?;
+        }
+    }
+    for (k, event) in timing.all_events().iter().enumerate() {
+        if let Some(name) = event.name() {
+            names.name_event(alloc, k, name)?;
+        }
+    }
+    Ok(())
+}
+
+/// Adds the names of tasks and phases.
+fn name_planned(alloc: Global, names: &mut Names, scenario: &Scenario) -> Result<(), AllocError> {
+    let bench = scenario.bench();
+    for (row, name) in bench.rows().iter().zip(scenario.row_names().iter()) {
+        if let Some(name) = name.as_str() {
+            names.name_task(alloc, row.0, name)?;
+        }
+    }
+    for (entry, name) in bench.entries().iter().zip(scenario.entry_names().iter()) {
+        if let Some(name) = name.as_str() {
+            let group = usize::from(entry.group().get());
+            names.name_phase(alloc, group, entry.phase(), name)?;
+        }
+    }
+    Ok(())
+}
+
+/// The columns of a scenario's trace.
+fn columns_of(alloc: Global, scenario: &Scenario) -> Result<Columns, AllocError> {
+    let mut names = Names::none(alloc);
+    name_timed(alloc, &mut names, scenario)?;
+    name_planned(alloc, &mut names, scenario)?;
+    let events = scenario.timing().all_events().len();
+    Ok(Columns::of_scenario(names, events))
+}
+
 /// Writes the trace of a text's scenario, of the requests that are chosen.
 fn write_trace<P: Progress, W: Write>(
     alloc: Global,
@@ -263,7 +308,9 @@ fn write_trace<P: Progress, W: Write>(
     writer: &mut W,
 ) -> Result<(), Stop> {
     let scenario = scenario_in(alloc, text)?;
-    trace_scenario(alloc, &scenario, choice, progress, writer)?;
+    let columns = columns_of(alloc, &scenario)?;
+    let (bench, timing) = (scenario.bench(), scenario.timing());
+    trace_timetable(alloc, bench, timing, columns, choice, progress, writer)?;
     Ok(())
 }
 
