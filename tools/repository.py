@@ -101,7 +101,8 @@ def exports_of(crate):
         return None, set()
     root = text_of(path)
     names = {it.strip() for group in re.findall(r"pub use \w+::\{([^}]*)\}", root) for it in group.split(",")}
-    return names | set(re.findall(r"pub use \w+::(\w+);", root)), set(re.findall(r"pub mod (\w+);", root))
+    names |= {*re.findall(r"pub use \w+::(\w+);", root), *re.findall(r"(?m)^pub fn (\w+)", root)}
+    return names, set(re.findall(r"pub mod (\w+);", root))
 
 
 def unnamed_uses():
