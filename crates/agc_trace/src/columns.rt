@@ -46,7 +46,7 @@ fn source_width(names: &Names, events: usize) -> usize {
 }
 
 impl Columns {
-    /// Those of a bench or script, of whose requests it is told who asks, or not. Source: profile.
+    /// The columns of a bench or script; one of them says who asks, or none does. Source: profile.
     pub fn of_bench(alloc: Global, has_sources: bool) -> Columns {
         Columns {
             source: if has_sources {
@@ -59,8 +59,8 @@ impl Columns {
         }
     }
 
-    /// Those of a scenario with so many events, of whose requests it is told who asks, with these
-    /// names, and with times in seconds. Source: profile.
+    /// The columns of a scenario with so many events: one of them says who asks, these names are
+    /// shown, and times are in seconds. Source: profile.
     pub fn of_scenario(names: Names, events: usize) -> Columns {
         Columns {
             source: Some(source_width(&names, events)),
@@ -121,7 +121,7 @@ impl Columns {
         line.end_cell(8)
     }
 
-    /// Writes the number of a job, and behind it its name, if its address has one.
+    /// Writes the number of a job, followed by its name, if its address has one.
     pub(crate) fn put_job<W: Write>(&self, writer: &mut W, number: u16, at: u16) -> io::Result<()> {
         write!(writer, "{number}")?;
         match self.names.job(at) {
@@ -133,7 +133,7 @@ impl Columns {
         }
     }
 
-    /// Writes the address of a task, and behind it its name, if it has one.
+    /// Writes the address of a task, followed by its name, if it has one.
     pub(crate) fn put_waiting<W: Write>(&self, writer: &mut W, task: Task) -> io::Result<()> {
         write!(writer, "{:05o}", task.at.get())?;
         match self.names.task(&task) {
@@ -145,7 +145,7 @@ impl Columns {
         }
     }
 
-    /// Writes where a job is: behind its name, if it has one.
+    /// Writes where a job is: its name, if it has one, and its address.
     pub(crate) fn put_place<W: Write>(&self, writer: &mut W, at: u16) -> io::Result<()> {
         match self.names.job(at) {
             None => write!(writer, "{at:05o}"),
@@ -153,7 +153,7 @@ impl Columns {
         }
     }
 
-    /// Writes a task: its address and its bank, behind its name, if it has one.
+    /// Writes a task: its name, if it has one, its address and its bank.
     pub(crate) fn put_task<W: Write>(&self, writer: &mut W, task: Task) -> io::Result<()> {
         match self.names.task(&task) {
             None => put_task(writer, task),

@@ -1,4 +1,4 @@
-// What a trace tells before the first request: what came of power-up; and behind the last: how many
+// What a trace says before the first request, about power-up, and after the last: how many requests
 // were refused, and which pulses asked for nothing.
 use crate::alarms::put_phases;
 use crate::columns::Columns;
