@@ -1,13 +1,15 @@
 /**
- * What a row tells in sentences: at an alarm which table was full, who holds it since when, and
- * what begins again; else what changed. A sentence is a list of pieces, texts and links.
+ * What is said of a row, in sentences: at an alarm which table was full, what begins again, and who
+ * holds the table since when; otherwise what changed. A sentence is a list of pieces: texts, links,
+ * and prose in which code is between backquotes.
  *
- * @typedef {{ text: string, row?: number, part?: string }} Link
+ * @typedef {{ text: string, row?: number, part?: string, isProse?: boolean }} Link
  * @typedef {string | Link} Piece
  * @typedef {{ heading: string, lines: Piece[][], isAlarm: boolean }} Account
  * @typedef {import("./run.js").Shown} Shown
  */
 import { Kind } from "../libagc/js/machine.js";
+import { alarmsOf } from "./chart.js";
 import { LOG_FULL, SPENT } from "./run.js";
 import { counted, octal, seconds, visible } from "./words.js";
 
@@ -18,26 +20,26 @@ const TABLES = {
   0o1203: { text: "Nine tasks wait", part: "tasks" },
 };
 
-/** How many letters of a name stand in a cell. */
+/** How many letters of a name are shown in a cell. */
 const MOST_LETTERS = 24;
 
 /**
- * What is called by a name, in a cell: number or address, and behind it the name, without blanks.
- * @param {string} told
+ * A number or an address in a cell, and after it the name, if there is one, without blanks.
+ * @param {string} number
  * @param {string | undefined} name
  */
-function joined(told, name) {
-  if (name === undefined) return told;
-  return `${told}:${[...name].slice(0, MOST_LETTERS).join("").replaceAll(" ", "_")}`;
+function joined(number, name) {
+  if (name === undefined) return number;
+  return `${number}:${[...name].slice(0, MOST_LETTERS).join("").replaceAll(" ", "_")}`;
 }
 
 /**
- * What is called by a name, in a sentence: the name, and behind it the address.
- * @param {string} told
+ * An address in a sentence: after its name, if there is one.
+ * @param {string} address
  * @param {string | undefined} name
  */
-function named(told, name) {
-  return name === undefined ? told : `${name} (${told})`;
+function named(address, name) {
+  return name === undefined ? address : `${name} (${address})`;
 }
 
 /** What names a scenario has: those of jobs by their addresses, those of tasks by their rows. */
@@ -177,21 +179,66 @@ function balance(run, { row, era, begun, ended, step }) {
 }
 
 /**
+ * The jobs and tasks that are there as an era begins.
+ * @param {import("./run.js").Scene} scene
+ * @param {Names} names
+ */
+function everyone({ sets, tasks }, names) {
+  return [
+    ...sets.filter((it) => it !== null).map((job) =>
+      `job ${job.number}, priority ${octal(job.priority, 2)}, at ${names.ofJob(job.at)}`),
+    ...tasks.map((it) => `task ${names.ofTask(it)} in ${it.left} cs`),
+  ];
+}
+
+/**
  * What begins again with an era.
  * @param {import("./run.js").Scene} after
  * @param {Names} names
  * @returns {Piece[][]}
  */
 function beginsAgain(after, names) {
-  const jobs = after.sets.filter((it) => it !== null).map((job) =>
-    `job ${job.number}, priority ${octal(job.priority, 2)}, at ${names.ofJob(job.at)}`);
-  const tasks = after.tasks.map((it) => `task ${names.ofTask(it)} in ${it.left} cs`);
+  const all = everyone(after, names);
   const phases = after.phases.join(" ");
-  if (jobs.length + tasks.length === 0) {
-    return [[`All jobs and tasks are gone. By the phases ${phases} nothing begins again.`]];
-  }
-  return [[`All jobs and tasks are gone. By the phases ${phases} these begin again: `
-    + `${[...jobs, ...tasks].join("; ")}.`]];
+  return [[`All jobs and tasks are gone. By the phases ${phases} `
+    + (all.length === 0 ? "nothing begins again." : `these begin again: ${all.join("; ")}.`)]];
+}
+
+/**
+ * What is there after the restart that a row ended with: each job and task on its own line.
+ * @param {Shown} shown
+ * @param {Names} names
+ * @returns {Account}
+ */
+function accountOfRestart({ line, scene }, names) {
+  const all = everyone(scene, names);
+  const lines = [
+    [`All jobs and tasks from before are gone. The phases are ${scene.phases.join(" ")}.`],
+    [all.length === 0 ? "By these nothing begins again." : "By these there begin again:"],
+    ...all.map((it) => [it]),
+  ];
+  return { heading: `After the ${nameOfRestart(line)}`, lines, isAlarm: false };
+}
+
+/**
+ * What a request that begins an era is called.
+ * @param {string} line
+ */
+export function nameOfRestart(line) {
+  return line === "fresh" ? "fresh start" : "restart";
+}
+
+/**
+ * What is to be said of a bench whose threads could take turns in several orders.
+ * @param {import("./bench.js").Bench} bench
+ */
+export function orderOf({ worker, device }) {
+  const names = [...worker.map((_, k) => `worker ${k + 1}`),
+    ...device.map(({ line }, k) => `device ${k + 1} (${line})`)];
+  if (names.length < 2) return "";
+  const [first, ...others] = names;
+  return `The threads may take turns in many orders. This is only one of them: first all requests `
+    + `of ${first}, ${others.map((it) => `then all of ${it}`).join(", ")}.`;
 }
 
 /**
@@ -214,26 +261,46 @@ function brokenPairs(power) {
 }
 
 /**
+ * The beginning of a run, where its answer is shown.
  * @param {import("./run.js").Run} run
  * @param {Shown} shown
  * @param {Names} names
- * @param {string} about what the document says of itself
+ * @param {Given} given
  * @returns {Account}
  */
-function accountOfBeginning(run, shown, names, about) {
+function accountOfBeginning(run, shown, names, { about, count }) {
   const { power } = run.bench;
-  const said = about === "" ? [] : [[about]];
+  const said = about === "" ? [] : [[{ text: about, isProse: true }]];
+  const order = count > 0 && run.source.run === run ? orderOf(run.bench) : "";
+  const follow = count === 0 ? [] : [[`${counted(count, "request")} `
+    + `${count === 1 ? "follows" : "follow"}, with ${alarmsOf(run, count)}.`],
+  ...(order === "" ? [] : [[order]])];
   if (power === undefined) {
+    const asked = count === 0 ? "Nothing has been asked" : "No request has been served yet";
     const lines = about !== "" ? said
-      : [["Nothing has been asked. There is no job, no task waits, and all phases are 0."]];
-    return { heading: "The beginning", lines, isAlarm: false };
+      : [[`${asked}: there is no job, no task waits, and all phases are 0.`]];
+    return { heading: "The beginning", lines: [...lines, ...follow], isAlarm: false };
   }
   const isBroken = shown.reply.startsWith("alarm");
   const lines = isBroken
     ? [["No phase can be trusted, and nothing begins again."], ...brokenPairs(power)]
     : beginsAgain(shown.scene, names);
   const heading = isBroken ? "Alarm 1107: why" : "Power is back";
-  return { heading, lines: [...said, ...lines], isAlarm: isBroken };
+  return { heading, lines: [...said, ...lines, ...follow], isAlarm: isBroken };
+}
+
+/**
+ * The beginning of an exercise whose answer is hidden.
+ * @param {import("./run.js").Run} run
+ * @returns {Account}
+ */
+function accountOfQuestion({ bench }) {
+  const isPower = bench.power !== undefined;
+  const lines = [[isPower
+    ? "Power comes back, and the computer looks at the phase words that are in the document."
+    : "No request has been served yet: there is no job, no task waits, and all phases are 0."],
+  [isPower ? "What it does isn't shown yet." : "Next serves one request after the other."]];
+  return { heading: isPower ? "Power comes back" : "The beginning", lines, isAlarm: false };
 }
 
 /**
@@ -245,12 +312,14 @@ function accountOfBeginning(run, shown, names, about) {
 function accountOfAlarm(run, shown, names) {
   const number = /** @type {1} */ (shown.step?.number ?? 0);
   const table = TABLES[/** @type {keyof typeof TABLES} */ (/** @type {unknown} */ (number))];
+  const { running } = shown.scene;
   const lines = [
-    [{ text: table.text, part: table.part }, ".", ...balance(run, shown)],
+    ...(shown.after === null ? [] : beginsAgain(shown.after, names)),
+    [{ text: table.text, part: table.part }, ".", ...balance(run, shown),
+      running === 0 ? " No job was running." : ` Job ${running} ran.`],
     ...raisedBy(run, shown, names),
     [number === 0o1203 ? "These wait:" : "These hold them:"],
     ...holders(run, shown, names),
-    ...(shown.after === null ? [] : beginsAgain(shown.after, names)),
   ];
   return { heading: `Alarm ${octal(number, 4)}: why`, lines, isAlarm: true };
 }
@@ -273,8 +342,8 @@ function replySentence(run, shown, names) {
     case Kind.ESTABLISHED: {
       const k = scene.sets.findIndex((it) => it?.number === step?.number);
       const job = scene.sets[k];
-      return [[`Job ${step?.number} begins at ${names.ofJob(job?.at ?? 0)}, in core set ${k}`
-        + `${job?.area ? ` with VAC area ${job.area}` : ""}. `
+      return [[`Job ${step?.number} is established at ${names.ofJob(job?.at ?? 0)}, in core set `
+        + `${k}${job?.area ? ` with VAC area ${job.area}` : ""}. `
         + (scene.running === step?.number ? "It runs." : "It waits.")]];
     }
     case Kind.NO_JOB: return [["No job is running, so there is none to act on."]];
@@ -297,21 +366,29 @@ function firedSentences({ step, scene, before }, names) {
   if (step === null || step.fired.length === 0) return [];
   const had = new Set(before?.sets.map((it) => it?.number ?? 0));
   const jobs = scene.sets.filter((it) => it !== null && !had.has(it.number))
-    .map((it) => `Job ${it?.number} begins at ${names.ofJob(it?.at ?? 0)}.`);
+    .map((it) => `Job ${it?.number} is established at ${names.ofJob(it?.at ?? 0)}.`);
   return [[`Due: the task ${step.fired.map((it) => names.ofTask(it)).join(", then ")}.`],
     ...jobs.map((it) => [it])];
 }
+
+/**
+ * What the account of the beginning needs to know: what the document says of itself, how many rows
+ * follow, and whether these are hidden.
+ * @typedef {{ about: string, count: number, isHidden: boolean }} Given
+ */
 
 /**
  * The account of a row.
  * @param {import("./run.js").Run} run
  * @param {Shown} shown
  * @param {Names} names
- * @param {string} [about] what the document says of itself, at its beginning
+ * @param {Given} given
  * @returns {Account}
  */
-export function accountOf(run, shown, names, about = "") {
-  if (shown.row === 0) return accountOfBeginning(run, shown, names, about);
+export function accountOf(run, shown, names, given = { about: "", count: 0, isHidden: false }) {
+  if (shown.row === 0 && given.isHidden) return accountOfQuestion(run);
+  if (shown.row === 0) return accountOfBeginning(run, shown, names, given);
+  if (shown.isAfter) return accountOfRestart(shown, names);
   if (shown.step !== null && shown.step.alarm !== 0) return accountOfAlarm(run, shown, names);
   const lines = [...replySentence(run, shown, names), ...firedSentences(shown, names)];
   if (shown.after !== null) lines.push(...beginsAgain(shown.after, names));
@@ -321,7 +398,7 @@ export function accountOf(run, shown, names, about = "") {
 }
 
 /**
- * A row in a sentence, as the live region says it.
+ * A row in a sentence, as the live region says it. With a restart its jobs are gone: so they ran.
  * @param {Shown} shown
  * @param {number} count
  * @param {Names} names
@@ -332,7 +409,10 @@ export function sentenceOf(shown, count, names) {
   const at = `at ${seconds(shown.ticks)}`;
   const job = sets[0];
   const name = job === null ? undefined : names.job(job.at);
-  const runs = running === 0 ? "No job is running."
-    : `Job ${running} runs${name === undefined ? "" : `: ${name}`}.`;
+  const isOver = shown.after !== null && !shown.isAfter;
+  const runs = running === 0 ? `No job ${isOver ? "was" : "is"} running.`
+    : `Job ${running} ${isOver ? "ran" : "runs"}${name === undefined ? "" : `: ${name}`}.`;
+  const restart = `After the ${nameOfRestart(shown.line)} of request ${shown.row}`;
+  if (shown.isAfter) return `${restart}, ${at}. ${runs}`;
   return `${where}, ${at}: ${shown.line}. Reply: ${shown.reply}. ${runs}`;
 }

@@ -13,6 +13,10 @@ const LANES = [
   ...[{ name: "idle time", light: "#767676", dark: "#9a9a9a" }],
 ];
 
+/** How many steps an axis has at most, and from where on a mark has its number on its left. */
+const MOST_STEPS = 6;
+const LAST_PART = 0.94;
+
 /** How wide a picture of the used tables is at most, in points. */
 const MOST_WIDE = 2400;
 
@@ -98,7 +102,7 @@ function mostUsed(run, count) {
  * @param {import("./run.js").Run} run
  * @param {number} count
  */
-function alarmsOf(run, count) {
+export function alarmsOf(run, count) {
   const alarms = run.alarms.filter((row) => row <= count);
   if (alarms.length === 0) return "no alarm";
   const first = alarms.length > 1 ? ", the first one" : ":";
@@ -186,15 +190,47 @@ function drawAlarms(pen, strip, wide, high, colour) {
 }
 
 /**
- * The names of the lanes, from the top, and what the strip shows in words.
+ * How far two marks of an axis are apart: a round number, so that there are at most seven marks.
+ * @param {number} end
+ */
+function markStep(end) {
+  for (let ten = 1; ; ten *= 10) {
+    const step = [1, 2, 5].find((it) => it * ten * MOST_STEPS >= end);
+    if (step !== undefined) return step * ten;
+  }
+}
+
+/**
+ * The axis along the bottom: seconds or requests.
+ * @param {Strip} strip
+ */
+function drawAxis({ end, isTime }) {
+  const step = markStep(end);
+  const marks = Array.from({ length: Math.floor(end / step) + 1 }, (_, k) => k * step);
+  by("unit").textContent = isTime ? "seconds" : "requests";
+  fill("axis", marks.map((it) => {
+    const part = it / end;
+    const mark = make("span", part > LAST_PART ? { class: "last" } : {},
+      String(isTime ? it / 100 : it));
+    mark.style.left = `${100 * part}%`;
+    return mark;
+  }));
+}
+
+/**
+ * The names of the lanes from the top, each with its least and its greatest number; the axis; and
+ * what the strip shows in words.
  * @param {Strip} strip
  */
 export function drawLegend(strip) {
   const isDark = matchMedia("(prefers-color-scheme: dark)").matches;
   by("chart").setAttribute("aria-label", strip.text);
-  fill("legend", [...LANES.map((it) => {
+  const most = [strip.run.sets, 5, 9, "100 %"];
+  fill("lanes", LANES.map((it, k) => {
     const swatch = make("span", { class: "swatch" });
     swatch.style.background = isDark ? it.dark : it.light;
-    return make("span", {}, swatch, it.name);
-  }), make("span", { id: "summary" }, strip.text)]);
+    return make("li", {}, swatch, `${it.name} 0–${most[k]}`);
+  }));
+  drawAxis(strip);
+  fill("legend", [make("span", { id: "summary" }, strip.text)]);
 }

@@ -323,7 +323,7 @@ export class ClockPanel {
   }
 
   /**
-   * Stolen time that is changed later on is told with its times.
+   * Stolen time that is changed later on has its times with it.
    * @param {Run} run
    * @param {number} at
    * @param {any} given

@@ -32,12 +32,13 @@ export function make(name, given = {}, ...children) {
 }
 
 /**
- * The parts of a text: what stands between backquotes is code.
+ * The parts of a text: what stands between backquotes is code, and between asterisks, emphasized.
  * @param {string} text
  * @returns {(Node | string)[]}
  */
 export function withCode(text) {
-  return text.split("`").map((it, k) => (k % 2 === 1 ? make("code", {}, it) : it));
+  return text.split("`").flatMap((it, k) => (k % 2 === 1 ? [make("code", {}, it)]
+    : it.split(/\*([^*]+)\*/).map((one, n) => (n % 2 === 1 ? make("em", {}, one) : one))));
 }
 
 /**

@@ -17,7 +17,7 @@ export function textOfData(data) {
 }
 
 /**
- * Kept texts of the page: each begins with a line `@ KIND NAME`, followed by its data.
+ * The texts that the page carries: each begins with a line `@ KIND NAME`, followed by its data.
  * @param {string} data
  * @returns {{ kind: string, name: string, text: string }[]}
  */
@@ -30,7 +30,7 @@ export function keptTexts(data) {
 }
 
 /**
- * What the comment at a document's head says, up to its first point.
+ * The first sentence of the comment at a document's head.
  * @param {string} document
  */
 export function firstSentence(document) {
@@ -130,28 +130,33 @@ export function download(name, text) {
 
 /**
  * Opens the dialog in which a document is chosen, pasted, or changed and run again.
- * @param {string} document the one that is open
- * @param {(text: string, name: string) => void} open
+ * @param {import("./run.js").Source} source what is open
+ * @param {(text: string, name: string, isExercise: boolean) => void} open
  */
-export function openOpening(document, open) {
+export function openOpening({ document, question }, open) {
+  const isExercise = question !== "";
   const file = make("input", { type: "file", accept: ".toml,.txt", id: "file" });
   file.addEventListener("change", async () => {
     const [given] = file.files;
-    if (given !== undefined) open(textOf(await given.arrayBuffer()), given.name);
+    if (given !== undefined) open(textOf(await given.arrayBuffer()), given.name, false);
   });
+  const keep = make("input", { type: "checkbox", id: "keep-question", checked: isExercise });
   const area = make("textarea", { id: "pasted", spellcheck: false, "aria-label": "A document",
     maxLength: MOST_BYTES + 1, value: document });
-  const paste = () => open(area.value, "what was pasted");
+  const paste = () => open(area.value, "what was pasted", keep.checked);
   const pasted = button("Run it", paste, { id: "open-pasted" });
-  const begin = () => open("", "an empty bench");
+  const begin = () => open("", "an empty bench", false);
   openDialog("Open a bench or a scenario", [
     make("p", {}, make("label", {}, "A file: ", file)),
     make("p", {}, "Or change the document that is open, or paste another one over it. "
       + "A file may also be dropped on the page."), area,
+    make("p", { hidden: !isExercise }, make("label", {}, keep,
+      " This is still the exercise: keep its question on the page.")),
     make("p", {}, pasted, " ", button("Begin with an empty bench", begin, { id: "open-empty" })),
     make("p", { class: "wrong", id: "open-fault", role: "status" }),
   ]);
-  file.focus();
+  (isExercise ? area : file).focus();
+  area.setSelectionRange(0, 0);
 }
 
 /**

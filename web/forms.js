@@ -1,5 +1,8 @@
-/** Buttons for the common requests: those that want numbers open a small form. */
-import { button, closeDialog, fill, labelled, make, openDialog } from "./dom.js";
+/**
+ * Buttons for the common requests: those that need numbers open a small form. And buttons for the
+ * requests of a bench's workers.
+ */
+import { button, by, closeDialog, fill, labelled, make, openDialog } from "./dom.js";
 import { FORMS, MEANINGS, octal } from "./words.js";
 
 const COMMON = ["tick", "change", "end", "novac", "findvac", "sleep", "rouse", "list", "prio",
@@ -78,6 +81,29 @@ function openForm(word, bench, scene, ask) {
   const choices = addressChoices("addresses", bench, scene);
   openDialog(`${word}: ${MEANINGS.get(word)}`, [choices, form, said]);
   fields[0]?.focus();
+}
+
+/**
+ * The next request of each worker of a bench, as buttons: so they take turns in an order of one's
+ * own.
+ * @param {import("./run.js").Run} run
+ * @param {number} at
+ * @param {(line: string, who: string) => void} ask
+ */
+export function drawTurns(run, at, ask) {
+  const { worker } = run.bench;
+  by("turns").hidden = worker.length === 0;
+  const old = [...by("turns").children];
+  const place = old.findIndex((it) => it === document.activeElement);
+  const counts = worker.length === 0 ? new Map() : run.counts(at);
+  fill("turns", worker.map(({ script }, k) => {
+    const name = `worker ${k + 1}`;
+    const line = script[counts.get(name) ?? 0];
+    const isDone = line === undefined;
+    return button(isDone ? `${name} has asked for all` : `${name}: ${line}`, () => ask(line, name),
+      { disabled: isDone });
+  }));
+  by("turns").children[place]?.focus();
 }
 
 /**

@@ -1,6 +1,6 @@
 /**
  * What was done on the workbench: the run that is shown and how much of it, undo, redo, and the
- * branches that were left behind.
+ * branches: runs that were left when something else was asked.
  *
  * @typedef {import("./run.js").Run} Run
  * @typedef {{ run: Run, count: number, at: number }} View
@@ -86,18 +86,18 @@ export class History {
    */
   exchange(k, at) {
     const [branch] = this.branches.splice(k, 1);
-    this.keep("for another");
+    this.keep("for another branch");
     this.show({ run: branch.run, count: branch.count, at: Math.min(at, branch.count) });
   }
 
   /**
-   * A run whose next row may be asked behind the row that is shown: the same, where that is its
-   * last row, and else one of its own. The other is kept as a branch.
+   * A run that can go on after the row that is shown: the same run if that is its last row, and
+   * otherwise a copy up to there. The other is kept as a branch.
    */
   runToGoOn() {
     const { run, count, at } = this.now;
     if (at === count && count === run.count) return run;
-    if (at < count) this.keep("to go on otherwise");
+    if (at < count) this.keep("to ask something else");
     return run.fork(at);
   }
 }

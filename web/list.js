@@ -19,8 +19,8 @@ const LEAST_QUIET = 3;
 const MOST_PRINTED = 5000;
 
 /**
- * The core sets of a scene: number, name and priority, in brackets asleep, behind > whom NEWJOB
- * names.
+ * The core sets of a scene: number, name and priority. A job that is asleep is in brackets, and the
+ * one that NEWJOB names has a > before it.
  * @param {Scene} scene
  * @param {Names} names
  */
@@ -69,12 +69,13 @@ function lineOf(shown, run, names) {
  * @param {number} at
  * @param {number} count
  * @param {Names} names
- * @param {(row: number) => void} go
+ * @param {{ go: (row: number) => void, veiled: (shown: Shown) => Shown }} hands what is done when a
+ *   row is clicked, and what of it may be seen
  */
-export function drawList(run, at, count, names, go) {
+export function drawList(run, at, count, names, { go, veiled }) {
   const from = Math.max(0, Math.min(at - AROUND, count - 2 * AROUND));
   const rows = run.show(from, Math.min(count, from + 2 * AROUND)).map((it) => {
-    const line = lineOf(it, run, names);
+    const line = lineOf(veiled(it), run, names);
     if (it.row === at) line.setAttribute("aria-current", "true");
     line.addEventListener("click", () => go(it.row));
     return line;

@@ -1,16 +1,16 @@
 /** The workbench: what its controls do. */
 import { start } from "../libagc/js/machine.js";
-import { Names, accountOf, sentenceOf } from "./account.js";
-import { countOf, emptyBench, readBench, requestsOf } from "./bench.js";
+import { Names, accountOf, orderOf, sentenceOf } from "./account.js";
+import { countOf, emptyBench, readBench, requestsOf, writeBench } from "./bench.js";
 import { Strip, drawLegend, drawStrip, outcomeOf } from "./chart.js";
 import { ClockPanel } from "./clock.js";
 import { button, by, closeDialog, fill, make, openDialog, withCode } from "./dom.js";
 import * as files from "./files.js";
-import { drawCommon } from "./forms.js";
+import { drawCommon, drawTurns } from "./forms.js";
 import { History, parting } from "./history.js";
 import { drawList, drawPrinted } from "./list.js";
 import { openPlan } from "./plan.js";
-import { MOST_ASKED, Run } from "./run.js";
+import { MOST_ASKED, NO_SOURCE, Run, afterOf } from "./run.js";
 import { HELP } from "./help.js";
 import { drawSets, drawTables, drawWords } from "./tables.js";
 import { Prompt, completions } from "./typing.js";
@@ -25,15 +25,14 @@ class Workbench {
     this.clock = new ClockPanel(this);
     this.history = new History({ run: this.clock.runOf(emptyBench(), []), count: 0, at: 0 });
     this.names = new Names(emptyBench());
-    /** The document that was opened, and the run that came of it. */
-    this.document = "";
-    this.opened = this.view.run;
+    /** The row of which the tables are shown as its restart left them, and its run. */
+    this.restarted = { run: this.view.run, at: -1 };
+    /** The exercise whose question was drawn last, and whether its answer was hidden. */
+    this.drawn = { source: NO_SOURCE, isHidden: false };
     /** What came of the run that was left by the last change, to compare. */
     this.outcome = "";
     /** The branch or the number of core sets that is compared with, if any. */
     this.beside = null;
-    /** Whether an exercise's answer is hidden. */
-    this.isHidden = false;
     this.kept = files.keptTexts(by("kept").textContent.trim());
     this.prompt = new Prompt((line) => this.ask(line, "you"), (typed) =>
       completions(typed, this.view.run.bench, this.scene));
@@ -51,53 +50,87 @@ class Workbench {
     return shown.after ?? shown.scene;
   }
 
+  /** The document that the run came of which is shown. */
+  get source() {
+    return this.view.run.source;
+  }
+
+  /** Whether an exercise's answer is hidden still. */
+  get isHidden() {
+    return this.source.isHidden;
+  }
+
+  /** What is shown of the row: as it was answered, or after the restart that it ended with. */
+  get shown() {
+    const { run, at } = this.view;
+    const [shown] = run.show(at, at);
+    const isAfter = this.restarted.run === run && this.restarted.at === at;
+    return isAfter ? afterOf(shown) : this.veiled(shown);
+  }
+
+  /**
+   * A row, or if it would answer a hidden exercise, the same row without what came of it.
+   * @param {import("./run.js").Shown} shown
+   */
+  veiled(shown) {
+    const { run, at } = this.view;
+    if (!this.isHidden || at > 0 || run.bench.power === undefined) return shown;
+    const [plain] = new Run({ ...run.bench, power: undefined }).show(0, 0);
+    return { ...plain, line: shown.line, reply: "not shown yet" };
+  }
+
   /**
    * Opens a document: runs what it asks for, and shows its beginning.
    * @param {string} text
    * @param {string} name
-   * @param {string} question of an exercise, whose answer is hidden
+   * @param {import("./run.js").Source} source the exercise that it is, if any
    */
-  open(text, name, question = "") {
-    let bench;
+  open(text, name, source = NO_SOURCE) {
     try {
-      bench = readBench(text);
-      const about = question === "" ? visible(files.questionOf(text)).replaceAll("\n", " ") : "";
-      this.begin(bench, files.firstSentence(text) || name, about);
+      const bench = readBench(text);
+      const isOwn = source.question === "";
+      const about = isOwn ? visible(files.questionOf(text)).replaceAll("\n", " ") : "";
+      const title = isOwn ? files.firstSentence(text) || name : source.question.split("\n")[0];
+      this.begin(bench, title, about, { ...source, document: text });
     } catch (fault) {
       this.tellFault(`This can't be opened. ${/** @type {Error} */ (fault).message}`);
       return false;
     }
-    this.document = text;
-    this.opened = this.view.run;
-    this.hide(visible(question));
     closeDialog();
     return true;
   }
 
-  /**
-   * Shows an exercise's question, and hides what would answer it, until it is asked for.
-   * @param {string} question
-   */
-  hide(question) {
-    this.isHidden = question !== "";
-    by("question").hidden = !this.isHidden;
-    fill("question", this.isHidden ? this.exercise(question.split("\n")) : []);
-    this.drawAll();
+  /** Draws the question of the exercise that is shown, if it is one. */
+  drawQuestion() {
+    const { source, drawn } = this;
+    by("question").hidden = source.question === "";
+    if (drawn.source === source && drawn.isHidden === source.isHidden) return;
+    this.drawn = { source, isHidden: source.isHidden };
+    fill("question", source.question === "" ? [] : this.exercise(source));
   }
 
   /**
-   * What is shown of an exercise: its question, its document, and a button for the answer.
-   * @param {string[]} lines
+   * What is shown of an exercise: its question, its document, and what may be done.
+   * @param {import("./run.js").Source} source
    */
-  exercise([_title, ...lines]) {
+  exercise({ question, document, exercise, isHidden, isChanged }) {
+    const [, ...lines] = question.split("\n");
+    const parts = document.trim().split(/\n\n+/);
+    const order = isHidden ? "" : orderOf(this.view.run.bench);
     const answer = button("Show what happens", () => {
-      this.isHidden = false;
-      by("show-answer").remove();
+      this.source.isHidden = false;
       this.drawAll();
     }, { id: "show-answer" });
-    const asked = files.withoutQuestion(this.document);
-    return [make("p", {}, ...withCode(lines.join(" "))),
-      make("pre", { tabIndex: 0, "aria-label": "The document" }, asked), answer];
+    return [
+      make("p", {}, ...withCode(lines.join(" "))),
+      make("div", { class: "parts", role: "group", "aria-label": "The document" },
+        ...parts.map((it) => make("pre", {}, it))),
+      ...(order === "" ? [] : [make("p", { id: "order" }, order)]),
+      make("div", { class: "steps" }, ...(isHidden ? [answer] : []),
+        button("Change it", this.actions().open, { id: "change-exercise" }),
+        ...(isChanged ? [button("Back to the exercise as it was", () => this.openKept(exercise),
+          { id: "exercise-again" }), "You have changed this exercise."] : [])),
+    ];
   }
 
   /** @param {string} said */
@@ -113,15 +146,16 @@ class Workbench {
    * @param {import("./bench.js").Bench} bench
    * @param {string} name
    * @param {string} about what the document says of itself
+   * @param {import("./run.js").Source} source
    */
-  begin(bench, name, about) {
+  begin(bench, name, about, source) {
     const count = countOf(bench);
     if (count > MOST_ASKED) {
       throw new Error(`It asks for ${counted(count, "request")}; this page takes at most `
         + `${counted(MOST_ASKED, "request")}.`);
     }
     const run = this.clock.runOf(bench, requestsOf(bench));
-    Object.assign(run, { title: visible(bench.title ?? name), about });
+    Object.assign(run, { title: visible(bench.title ?? name), about, source: { ...source, run } });
     this.beside = null;
     this.outcome = "";
     this.history.show({ run, count: run.count, at: 0 });
@@ -150,7 +184,27 @@ class Workbench {
   /** @param {number} row */
   go(row) {
     this.history.now = { ...this.view, at: Math.max(0, Math.min(row, this.view.count)) };
+    this.restarted.at = -1;
     this.drawRow();
+  }
+
+  /** Shows the tables as they are after the restart that the row ended with. */
+  goAfter() {
+    const { run, at } = this.view;
+    this.restarted = { run, at };
+    this.drawRow();
+  }
+
+  /** To the next row. After the last one comes what its restart left, if it ended with one. */
+  goNext() {
+    const { at, count } = this.view;
+    const { after, isAfter } = this.shown;
+    if (at === count && after !== null && !isAfter) this.goAfter();
+    else if (!isAfter || at < count) this.go(at + 1);
+  }
+
+  goBack() {
+    this.go(this.view.at - (this.shown.isAfter ? 0 : 1));
   }
 
   /**
@@ -179,7 +233,7 @@ class Workbench {
   goTyped() {
     const text = by("go").value.trim();
     const found = /^([0-9]+(?:\.[0-9]+)?) ?(s?)$/.exec(text);
-    if (found === null) this.say("Go to a request by its number, as 20, or to a time, as 38.01 s.");
+    if (found === null) this.say("Type the number of a request (20), or a time (38.01 s).");
     else if (found[2] === "s" || found[1].includes(".")) {
       this.go(this.view.run.rowAtTime(Math.round(Number(found[1]) * 100), this.view.count));
     } else this.go(Number(found[1]));
@@ -188,6 +242,7 @@ class Workbench {
   drawAll() {
     const { run, count } = this.view;
     this.names = new Names(run.bench);
+    this.drawQuestion();
     by("title").textContent = run.title;
     document.title = `${run.title} - AGC workbench`;
     by("slider").max = String(count);
@@ -205,15 +260,18 @@ class Workbench {
 
   drawRow() {
     const { run, count, at } = this.view;
-    const [shown] = run.show(at, at);
+    const { shown } = this;
     drawTables(shown, this.names);
     this.drawAccount(shown);
     this.drawBeside(at);
-    drawList(run, at, this.isHidden ? at : count, this.names, (row) => this.go(row));
+    drawTurns(run, at, (line, who) => this.ask(line, who));
+    drawList(run, at, this.isHidden ? at : count, this.names, {
+      go: (row) => this.go(row), veiled: (it) => this.veiled(it),
+    });
     by("slider").value = String(at);
     by("slider").setAttribute("aria-valuetext", `request ${at} of ${count}`);
     by("sentence").textContent = sentenceOf(shown, count, this.names);
-    by("sentence").className = shown.reply.includes("alarm") ? "alarm" : "";
+    by("sentence").className = !shown.isAfter && shown.reply.includes("alarm") ? "alarm" : "";
     const isWhole = at === 0 || this.clock.isWhole;
     const from = isWhole ? "the beginning" : run.ticksAt(at) > 0 ? seconds(run.ticksAt(at))
       : `request ${at}`;
@@ -229,12 +287,15 @@ class Workbench {
   /** @param {import("./run.js").Shown} shown */
   drawAccount(shown) {
     const { run } = this.view;
-    const account = accountOf(run, shown, this.names, run.about);
+    const { about } = run;
+    const account = accountOf(run, shown, this.names,
+      { about, count: this.view.count, isHidden: this.isHidden });
     fill("try", tries(this, shown).map(([text, change]) => button(text, change)));
     by("try").hidden = by("try").children.length === 0;
     by("told").classList.toggle("alarm", account.isAlarm);
     by("told-name").textContent = account.heading;
-    const who = shown.who === "nobody" ? [] : [[`Asked by ${shown.who}.`]];
+    const isAsked = shown.who !== "nobody" && !shown.isAfter;
+    const who = isAsked ? [[`Asked by ${shown.who}.`]] : [];
     fill("account", [...account.lines, ...who].map((line) =>
       make("li", {}, ...line.map((it) => this.piece(it)))));
     by("account").scrollTop = 0;
@@ -243,6 +304,7 @@ class Workbench {
   /** @param {import("./account.js").Piece} piece */
   piece(piece) {
     if (typeof piece === "string") return piece;
+    if (piece.isProse) return make("span", {}, ...withCode(piece.text));
     const href = piece.part ? `#${piece.part}-name` : `#${piece.row}`;
     const link = make("a", { href }, piece.text);
     link.addEventListener("click", (/** @type {Event} */ event) => {
@@ -269,7 +331,7 @@ class Workbench {
 
   drawBranches() {
     const { branches } = this.history;
-    by("branches-box").hidden = branches.length === 0;
+    by("branches-box").hidden = branches.length === 0 || this.isHidden;
     fill("branches", branches.map((it, k) => make("li", {},
       `${it.name}: ${counted(it.count, "request")}, ${counted(it.run.alarms.filter((row) =>
         row <= it.count).length, "alarm")}; differs from request ${parting(this.view, it)} on. `,
@@ -307,7 +369,8 @@ class Workbench {
       const { run, count, at } = this.view;
       const asked = bench.seconds === undefined ? run.requests(count) : [];
       const made = this.clock.runOf(bench, asked);
-      Object.assign(made, { title: visible(bench.title ?? run.title), about: run.about });
+      const source = { ...run.source, document: writeBench(bench), run: null, isChanged: true };
+      Object.assign(made, { title: visible(bench.title ?? run.title), about: run.about, source });
       this.keepOutcome();
       this.history.keep("as the plan was changed");
       this.history.show({ run: made, count: made.count, at: Math.min(at, made.count) });
@@ -330,21 +393,22 @@ class Workbench {
     const isTimed = run.bench.seconds !== undefined;
     const isMore = run.changes.length > 0 || count < run.count || run.who.some((it) =>
       it.startsWith("you") || (!isTimed && it === "the clock"));
-    const isOpened = run === this.opened && this.document !== "" && !isMore;
-    const exercise = isOpened && this.kept.find((it) => it.text === this.document);
-    const mark = exercise ? `#${exercise.name}`
-      : await files.markOf(isOpened ? this.document : whole).catch(() => "");
+    const { source } = run;
+    const isOpened = run === source.run && source.document !== "" && !isMore;
+    const kept = isOpened && !source.isChanged && this.kept.find((it) =>
+      it.text === source.document || it.name === source.exercise);
+    const mark = kept ? `#${kept.name}`
+      : await files.markOf(isOpened ? source.document : whole).catch(() => "");
     const area = make("textarea", { readOnly: true, value: bench, "aria-label": "The bench" });
     const link = make("input", { type: "text", readOnly: true, "aria-label": "The link",
       value: mark.length > 8000 ? "" : `${location.href.split("#")[0]}${mark}` });
     openDialog("Save", [
-      make("p", {}, "This bench asks for what was asked up to the last row, and agc serial comes "
-        + "to the same tables."), area,
+      make("p", {}, "This bench has all requests up to the last row: agc serial comes to the same "
+        + "tables with it."), area,
       make("p", {}, button("Save the bench", () => files.download("bench.toml", bench)), " ",
         ...(whole === bench ? [] : [button("Save the scenario", () =>
           files.download("scenario.toml", whole))])),
-      make("p", {}, link.value === "" ? "It is too long for a link." : "A link that carries it: ",
-        link),
+      make("p", {}, link.value === "" ? "It is too long for a link." : "A link to it: ", link),
     ]);
   }
 
@@ -374,14 +438,15 @@ class Workbench {
     const { run } = this.view;
     return {
       ...{ first: () => this.go(0), last: () => this.go(this.view.count) },
-      ...{ back: () => this.go(this.view.at - 1), next: () => this.go(this.view.at + 1) },
+      ...{ back: () => this.goBack(), next: () => this.goNext() },
       "alarm-next": () => this.seek((row) => run.isAlarm(row), 1, "alarm"),
       "alarm-back": () => this.seek((row) => run.isAlarm(row), -1, "alarm"),
       "change-next": () => this.seek((row) => run.isChange(row), 1, "change"),
       "change-back": () => this.seek((row) => run.isChange(row), -1, "change"),
       ...{ undo: () => this.undo(), redo: () => this.redo(), plan: () => this.openPlan() },
       save: () => this.openSave(),
-      open: () => files.openOpening(this.document, (text, name) => this.open(text, name)),
+      open: () => files.openOpening(this.source, (text, name, isExercise) =>
+        this.open(text, name, isExercise ? this.changedTo(text) : NO_SOURCE)),
       examples: () => files.openExamples(this.kept, (name) => this.openKept(name)),
       help: () => openDialog("Help", HELP()),
       ...this.clock.actions(),
@@ -406,10 +471,7 @@ class Workbench {
       const box = by("chart").getBoundingClientRect();
       if (this.strip) this.go(this.strip.rowAt((event.clientX - box.left) / box.width));
     });
-    by("words-box").addEventListener("toggle", () => {
-      const [shown] = this.view.run.show(this.view.at, this.view.at);
-      drawWords(shown.words);
-    });
+    by("words-box").addEventListener("toggle", () => drawWords(this.shown.words));
     document.addEventListener("keydown", (event) => this.key(event));
     window.addEventListener("resize", () => this.drawRow());
     window.addEventListener("beforeprint", () => this.print());
@@ -447,11 +509,24 @@ class Workbench {
   openKept(name) {
     const kept = this.kept.find((it) => it.name === name);
     if (kept === undefined) return false;
-    const question = kept.kind === "exercise" ? files.questionOf(kept.text) : "";
-    return this.open(kept.text, kept.name, question);
+    if (kept.kind !== "exercise") return this.open(kept.text, name);
+    const question = visible(files.questionOf(kept.text));
+    const source = { ...NO_SOURCE, exercise: name, question, isHidden: true };
+    return this.open(files.withoutQuestion(kept.text), name, source);
   }
 
-  /** Opens the part of the link after `#`: a request's number, an example, an exercise, a document. */
+  /**
+   * The exercise that is open, with another document.
+   * @param {string} text
+   */
+  changedTo(text) {
+    const { source } = this;
+    const kept = this.kept.find((it) => it.name === source.exercise)?.text ?? "";
+    const isChanged = text.trim() !== files.withoutQuestion(kept).trim();
+    return { ...source, isHidden: false, isChanged };
+  }
+
+  /** Opens what the link has after `#`: a request's number, an example, an exercise, a document. */
   async fromAddress() {
     const mark = location.hash;
     if (/^#[0-9]+$/.test(mark)) this.go(Number(mark.slice(1)));

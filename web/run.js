@@ -9,7 +9,8 @@
  * @typedef {{ row: number, line: string, who: string, reply: string, kind: number,
  *   step: StepType | null, scene: Scene, words: Uint16Array, jobsSince: number[],
  *   tasksSince: number[], before: Scene | null, after: Scene | null, ticks: number, time: number,
- *   afterSince: number[], last: Scene | null, era: number, begun: number, ended: number }} Shown
+ *   afterWords: Uint16Array, last: Scene | null, era: number, begun: number, ended: number,
+ *   isAfter?: boolean }} Shown
  */
 import { Kind, Machine, sceneOf } from "../libagc/js/machine.js";
 
@@ -41,6 +42,20 @@ function once(line) {
 /** What came of a request that was not served. */
 export const SPENT = 100;
 export const LOG_FULL = 101;
+
+/**
+ * The document that a run came of, the run that was made of all of it, and the exercise that it is,
+ * if any: name and question, whether the answer is hidden still, and whether the document isn't the
+ * exercise's own. A run that goes on from another has the same source.
+ *
+ * @typedef {{ document: string, run: Run | null, exercise: string, question: string,
+ *   isHidden: boolean, isChanged: boolean }} Source
+ */
+
+/** @type {Source} */
+export const NO_SOURCE = {
+  ...{ document: "", run: null, exercise: "", question: "", isHidden: false, isChanged: false },
+};
 
 // What is kept of each row: bits of `marks`.
 const ALARM = 1;
@@ -211,6 +226,19 @@ function isChange(step, line, before, after) {
   return step.kind !== Kind.NO_JOB && step.kind !== Kind.NO_SLEEPER;
 }
 
+/**
+ * What is there after the restart that a row ended with.
+ * @param {Shown} shown
+ * @returns {Shown}
+ */
+export function afterOf(shown) {
+  const { row, after, scene, afterWords } = shown;
+  if (after === null) return shown;
+  const since = after.tasks.map(() => 2 * row + 1);
+  const words = afterWords;
+  return { ...shown, scene: after, last: scene, words, tasksSince: since, isAfter: true };
+}
+
 export class Run {
   /** @param {import("./bench.js").Bench} bench */
   constructor(bench) {
@@ -219,6 +247,7 @@ export class Run {
     /** What the document is called that it came of, and what that says of itself. */
     this.title = "AGC workbench";
     this.about = "";
+    this.source = NO_SOURCE;
     /** @type {string[]} */
     this.lines = [""];
     /** Who asked, by number. */
@@ -231,7 +260,7 @@ export class Run {
     };
     /** @type {number[]} */
     this.alarms = [];
-    /** Behind which rows the clock was given another timetable, and the bench before that. */
+    /** After which rows the clock was given another timetable, and the bench before that. */
     /** @type {{ row: number, given: any, before: import("./bench.js").Bench }[]} */
     this.changes = [];
     const plan = { task: bench.task, phase: bench.phase };
@@ -285,7 +314,7 @@ export class Run {
   }
 
   /**
-   * The witness as it was behind a row: to show it, or with its clock, to go on from there.
+   * The witness as it was after a row: to show it, or with its clock, to go on from there.
    * @param {number} row
    * @param {boolean} goesOn
    */
@@ -305,7 +334,7 @@ export class Run {
   }
 
   /**
-   * Gives a state's clock the timetable that it was given behind a row.
+   * Gives a state's clock the timetable that it was given after a row.
    * @param {Witness} state
    * @param {number} row
    */
@@ -326,7 +355,7 @@ export class Run {
   }
 
   /**
-   * Whether a row was asked by the clock, or by an event of its.
+   * Whether a row was asked by the clock, or by one of its events.
    * @param {number} row
    */
   isByClock(row) {
@@ -361,6 +390,16 @@ export class Run {
    */
   *requests(count) {
     for (let row = 1; row <= count; row++) yield [this.lines[row], this.whoAsked(row)];
+  }
+
+  /**
+   * How many of the first rows each one asked.
+   * @param {number} count
+   */
+  counts(count) {
+    const found = new Uint32Array(this.who.length);
+    for (let row = 1; row <= count; row++) found[this.columns.by.items[row]] += 1;
+    return new Map(this.who.map((it, k) => [it, found[k]]));
   }
 
   /** @param {number} row */
@@ -429,7 +468,7 @@ export class Run {
   }
 
   /**
-   * The rows from one to another, with all that is told of them.
+   * The rows from one to another, with all that is shown of them.
    * @param {number} from
    * @param {number} to
    * @returns {Shown[]}
@@ -456,13 +495,13 @@ export class Run {
       reply: isBroken ? "alarm 1107" : "restarted",
       ...{ kind: Kind.RESTARTED, step: null, scene, words: state.machine.words },
       ...{ jobsSince: scene.sets.map(() => 1), tasksSince: scene.tasks.map(() => 1) },
-      ...{ before: null, after: null, ticks: 0, time: 0, afterSince: [] },
+      ...{ before: null, after: null, ticks: 0, time: 0, afterWords: state.machine.words },
       ...{ last: null, era: 0, begun: state.begun, ended: state.ended },
     };
   }
 
   /**
-   * Asks the next request of a state, and tells of it: as it was when it was answered.
+   * Asks the next request of a state, and describes it as it was when it was answered.
    * @param {Witness} state
    * @param {number} row
    * @returns {Shown}
@@ -495,7 +534,7 @@ export class Run {
       tasksSince: tasks.map((it) => it.since),
       ticks: state.now,
       time: state.now - eraTicks,
-      afterSince: after === null ? [] : after.sets.map(() => 2 * row + 1),
+      afterWords: state.machine.words,
       ...{ era, begun: begun + fresh.length, ended },
     };
   }

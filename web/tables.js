@@ -5,6 +5,7 @@
  * @typedef {import("../libagc/js/machine.js").Scene} Scene
  * @typedef {import("./account.js").Names} Names
  */
+import { nameOfRestart } from "./account.js";
 import { by, fill, make } from "./dom.js";
 import { octal, wordName } from "./words.js";
 
@@ -136,16 +137,29 @@ export function drawWords(words) {
 }
 
 /**
+ * The tables' headings: they say so if the tables are those after a restart.
+ * @param {Shown} shown
+ */
+function drawHeadings({ isAfter, line }) {
+  const more = isAfter ? `, after the ${nameOfRestart(line)}` : "";
+  for (const [id, name] of [["sets", "Core sets"], ["areas", "VAC areas"], ["tasks", "Waitlist"]]) {
+    by(`${id}-name`).textContent = `${name}${more}`;
+  }
+  by("sets").parentElement.classList.toggle("after", isAfter === true);
+}
+
+/**
  * Draws the tables of a row.
  * @param {Shown} shown
  * @param {Names} names
  */
 export function drawTables(shown, names) {
   const { scene, last } = shown;
+  drawHeadings(shown);
   drawSets("sets", scene, last, names);
   drawAreas(scene, last);
   drawTasks(scene, shown.tasksSince, shown.row, names);
   drawBase(scene, last);
-  markFull(shown.step?.alarm ?? 0);
+  markFull(shown.isAfter ? 0 : shown.step?.alarm ?? 0);
   drawWords(shown.words);
 }

@@ -1,10 +1,11 @@
 /**
- * What may be tried at a row, as buttons below its account: how one gets on from the beginning, and
- * at an alarm what might have prevented it.
+ * What may be tried at a row, as buttons below its account: at the beginning, how to go on; at an
+ * alarm, the tables after its restart, and what might have prevented it.
  *
  * @typedef {[string, () => void]} Try
  * @typedef {import("./run.js").Shown} Shown
  */
+import { nameOfRestart } from "./account.js";
 import { visible } from "./words.js";
 
 /** How many events may be left out. */
@@ -65,13 +66,27 @@ function atAlarm(workbench, shown) {
 }
 
 /**
- * What may be tried at a row; nothing where an exercise's answer is hidden.
+ * From a row that ended with a restart to the tables after that, and back.
+ * @param {any} workbench
+ * @param {Shown} shown
+ * @returns {Try[]}
+ */
+function atRestart(workbench, shown) {
+  if (shown.after === null) return [];
+  const name = nameOfRestart(shown.line);
+  return [shown.isAfter ? [`Before the ${name}`, () => workbench.go(shown.row)]
+    : [`After the ${name}`, () => workbench.goAfter()]];
+}
+
+/**
+ * What may be tried at a row: where an exercise's answer is hidden, only what doesn't give it away.
  * @param {any} workbench
  * @param {Shown} shown
  * @returns {Try[]}
  */
 export function tries(workbench, shown) {
-  if (workbench.isHidden) return [];
-  if (shown.row === 0) return atBeginning(workbench, shown);
-  return shown.step !== null && shown.step.alarm !== 0 ? atAlarm(workbench, shown) : [];
+  if (shown.row === 0) return workbench.isHidden ? [] : atBeginning(workbench, shown);
+  const isAlarm = shown.step !== null && shown.step.alarm !== 0 && !shown.isAfter;
+  const more = isAlarm && !workbench.isHidden ? atAlarm(workbench, shown) : [];
+  return [...atRestart(workbench, shown), ...more];
 }

@@ -7,8 +7,8 @@ pub(crate) const PART_1: &str = r##"<!DOCTYPE html>
 <meta charset="utf-8">
 <meta http-equiv="Content-Security-Policy" content="default-src 'none';
 base-uri 'none'; form-action 'none';
-script-src 'sha256-ebQWk/GO5dsSpsbpZIHWV55PC12V1u7NSIzjYZwFZY8=' 'wasm-unsafe-eval';
-style-src 'sha256-OXRqQbfFLVGRhTbqmy27RectEtz0IhhXMUAcBaXIftg='">
+script-src 'sha256-Im2nBLhno5I15DfdHYOEdWoiBp5M4El6+MjEWV/9DAs=' 'wasm-unsafe-eval';
+style-src 'sha256-rV1ymy+qtB1umjGIdnEQmKxL5NCHrH1wu03nQPevj4Y='">
 <meta name="viewport" content="width=device-width, initial-scale=1">
 <meta name="color-scheme" content="light dark">
 <title>AGC workbench</title>
@@ -55,10 +55,21 @@ text-overflow:ellipsis}
 .question{border:2px solid var(--focus);border-radius:.3rem;padding:.5rem .8rem;
 margin:.2rem 0 .6rem}
 .question p{margin:.2rem 0;max-width:60rem}
-.question pre{max-height:32vh;overflow:auto;margin:.4rem 0;padding:.3rem .6rem;font-size:.85rem;
-background:var(--bar)}
+.question .parts{display:flex;flex-wrap:wrap;gap:.4rem;margin:.4rem 0}
+.question pre{margin:0;padding:.3rem .6rem;font-size:.85rem;background:var(--bar);
+white-space:pre-wrap}
+.question .steps{gap:.3rem .6rem}
 .chart{margin:.5rem 0 0}
+.strip{display:grid;grid-template-columns:auto minmax(0,1fr);gap:0 .5rem;font-size:.8rem;
+line-height:1;color:var(--soft)}
 .chart canvas{display:block;width:100%;height:7rem;cursor:crosshair;border:1px solid var(--line)}
+.lanes{list-style:none;margin:0;padding:0;display:grid;grid-template-rows:repeat(4,1fr);
+align-items:center;white-space:nowrap}
+.unit{text-align:right;padding-top:.15rem}
+.axis{position:relative;height:1.15rem;margin:0 1px}
+.axis span{position:absolute;border-left:1px solid var(--line);padding:.15rem 0 0 .2rem}
+.axis .last{transform:translateX(-100%);border-left:0;border-right:1px solid var(--line);
+padding:.15rem .2rem 0 0}
 figcaption{font-size:.85rem;color:var(--soft);display:flex;flex-wrap:wrap;gap:0 1.2rem}
 .swatch{display:inline-block;width:1.6em;height:.7em;margin-right:.3em;border:1px solid var(--line)}
 main{display:grid;gap:0 1.5rem;grid-template-columns:minmax(0,1fr)}
@@ -116,6 +127,9 @@ background:var(--paper);border:1px solid var(--line);max-height:14rem;overflow:a
 .hint.wrong{color:var(--alarm);font-weight:bold}
 .common button,.events button{min-height:2.2rem}
 .events{margin-top:.3rem}
+.turns{display:grid;gap:.3rem;margin-top:.3rem}
+.turns button{min-height:2.2rem;text-align:left;overflow:hidden;text-overflow:ellipsis}
+.state.after>.boxes,.state.after .pair .boxes{outline:2px dotted var(--line);outline-offset:.12rem}
 .sliders{display:grid;gap:.2rem .6rem;margin-top:.4rem}
 .sliders label{display:grid;grid-template-columns:minmax(7rem,1fr) 2fr 4.5rem;gap:.5rem;
 align-items:center;font-size:.9rem}
@@ -141,6 +155,7 @@ width:min(64rem,calc(100vw - 1rem));max-height:calc(100vh - 1rem);padding:.8rem 
 dialog::backdrop{background:rgb(0 0 0/.5)}
 .dialog-top{display:flex;justify-content:space-between;align-items:center;gap:1rem}
 .dialog-top h2{font-size:1.15rem;margin:0;color:var(--ink)}
+#pasted{height:min(36rem,50vh)}
 textarea{width:100%;min-height:14rem;font-family:ui-monospace,monospace;padding:.5rem}
 .choices{list-style:none;padding:0;margin:0}
 .choices li{display:grid;grid-template-columns:minmax(8rem,17rem) 1fr;gap:.8rem;
@@ -168,7 +183,8 @@ body{padding:0 .6rem 1rem}.bar{margin:0 -.6rem;padding:.15rem .6rem .25rem;gap:.
 .bar .steps{gap:.15rem;flex-wrap:nowrap}.bar .steps button{min-height:2.3rem}
 .where{flex-basis:100%}.go input{width:8.6rem}
 #outcome{font-size:.85rem}h2{margin:.2rem 0 .05rem;font-size:.82rem}
-.chart{margin-top:.3rem}.chart canvas{height:4rem}figcaption{font-size:.72rem;gap:0 .7rem}
+.chart{margin-top:.3rem}.chart canvas{height:5rem}figcaption{font-size:.72rem;gap:0 .7rem}
+.strip{font-size:.68rem;gap:0 .3rem}.lanes .swatch{width:.7em}
 .boxes{gap:.2rem}
 .sets{grid-template-columns:repeat(4,minmax(0,1fr))}.sets li{min-height:5.9rem}
 .tasks{grid-template-columns:repeat(5,minmax(0,1fr))}.tasks li{min-height:3.95rem}
@@ -224,8 +240,8 @@ white-space:normal;height:auto;vertical-align:top}
 <button type="button" id="help">Help</button>
 </nav>
 </header>
-<noscript><p>This page runs the machine by its script, and shows nothing without it. What it was
-given stands at the end of its source.</p></noscript>
+<noscript><p>This page needs JavaScript, and shows nothing without it. The document that it was made
+of is at the end of its source.</p></noscript>
 <div class="question" id="question" hidden></div>
 <section class="bar" aria-label="The request that is shown">
 <p id="sentence" role="status" aria-live="polite"></p>
@@ -259,7 +275,9 @@ placeholder="20 or 38.01 s"></label>
 </div>
 </section>
 <figure class="chart" id="chart-box" hidden>
+<div class="strip"><ul class="lanes" id="lanes" aria-label="Rows of the picture"></ul>
 <canvas id="chart" role="img" aria-label="Used core sets, areas and tasks"></canvas>
+<span class="unit" id="unit"></span><div class="axis" id="axis"></div></div>
 <figcaption id="legend"></figcaption>
 <p id="outcome" role="status" aria-live="polite"></p>
 </figure>
@@ -301,6 +319,7 @@ autocapitalize="off" spellcheck="false" placeholder="findvac 20 02000 00005" max
 <p class="hint" id="hint" role="status" aria-live="polite"></p>
 <div class="common" id="common" role="group" aria-label="Common requests"></div>
 <div class="events" id="events" role="group" aria-label="Events" hidden></div>
+<div class="turns" id="turns" role="group" aria-label="The workers' next requests" hidden></div>
 </section>
 <section class="clock" id="clock" aria-labelledby="clock-name">
 <h2 id="clock-name">Clock</h2>
@@ -727,10 +746,7 @@ CadBADYCACAJp0EAOwEEAkACQAJAAkACQAJAAkACQAJAAkACQAJAAkAgAaco
 AgBBAWsODQABAgMEBQYHCAkKCwwUCyABQgR8pygCACIEQf8BSwRADBMLAn9B
 ACAEQQFrQf8BcUEeSw0AGiABQgx8pygCACIIQf//AUsNEyABQgh8pygCACIH
 Qf//A0sNE0EAIAdBAWtB//8DcUH+/wBLDQAaIAhBEHQgB3IhBUEBIQIgBAsh
-"##;
-
-/// Part 2 of what stands before the data.
-pub(crate) const PART_2: &str = r##"BiAJpyAFNgIIDBMLIAFCBHynKAIAIgRB/wFLDQ9BACAEQQFrQf8BcUEeSw0Q
+BiAJpyAFNgIIDBMLIAFCBHynKAIAIgRB/wFLDQ9BACAEQQFrQf8BcUEeSw0Q
 GiABQgx8pygCACIHQf//AUsNDyABQgh8pygCACIFQf//A0sND0EAIAVBAWtB
 //8DcUH+/wBLDRAaIAdBEHQgBXIhAkEBIQMgBAwQC0EBIQJBAiEDDBELIAmn
 IAFCBHynKAIAIgJBACACQYCABEkgAkEBa0H//wNxQf//AElxIgIbOwEIQQNB
@@ -739,7 +755,10 @@ AElxIgIbOwEIQQRBACACGyEDDA8LIAmnIAmnKAIANgIIIAmnIAmnLwEEOwEM
 IAFCBHynKAIAIgJBACACQYACSSACQQFrQf8BcUEfSXEiAhshBkEFQQAgAhsh
 AwwOC0EBIQJBBiEDDA0LIAFCBHynKAIAIgRB/wFLDQYgBEEBa0H/AXFBBUsN
 BiABQgh8pygCACIFQf//AUsNDCAJpyAFOwEIQQEhAkEHIQMgBCEGDAwLIAFC
-BHynKAIAIgdB//8DSwRADAcLQQAgB0EBa0H//wNxQfn+AEsNBxogAUIMfKco
+"##;
+
+/// Part 2 of what stands before the data.
+pub(crate) const PART_2: &str = r##"BHynKAIAIgdB//8DSwRADAcLQQAgB0EBa0H//wNxQfn+AEsNBxogAUIMfKco
 AgAiBEH//wFLDQYgAUIIfKcoAgAiCEH//wNLDQZBACAIQQFrQf//A3FB/v8A
 Sw0HGiAEQRB0IAhyIQVBCCEDQQEhAiAHDAcLQQEhAkEJIQMMCgsgAUIEfKco
 AgAiBEH/AUsNAyAEQQFrQf8BcUEFSw0DIAFCCHynKAIAIgVB/wBLDQkgCadB
@@ -1446,10 +1465,7 @@ IAdJGyIDIAMgBkkbIgMgAyAFSRsiAyADIARJG8EhAyAMIApCCHwiClINAAtB
 ACEEIANBAEgNAiALQgGGIghQRQRAIAlCEHynIAGnIAin/AoAAAsCQAJAIAlC
 DnwQAUUNACAJQg58EANFDQAgCUIOfBAEDQELQQMhAwwEC0KIAkKgAiACQQdG
 IgQbIQhBACEDQhhCACAEGyIKUEUEQCAJQg58IAh8p0EAIAqn/AsACyAIUEUE
-"##;
-
-/// Part 3 of what stands before the data.
-pub(crate) const PART_3: &str = r##"QCAJQg58pyABpyAIp/wKAAALIAmnLwHCAUUgCacvAdQBQQBHcSEEDAMLAAtB
+QCAJQg58pyABpyAIp/wKAAALIAmnLwHCAUUgCacvAdQBQQBHcSEEDAMLAAtB
 ASEDDAELQQIhAwsgAKcgAzYAACAAQgR8pyAEOgAAIAlCsAJ8JABBACQBC6wD
 AgF+Dn8QAARAAAsjAEIgfSIGJAACQAJAIAZCEFkEQEEBIQcCQAJAIAJBB2sO
 AgEABAtBASEJC0ECIQcgBacuAQAiAkEASA0CIAWnLgECIgpBAEgNAiAFpy4B
@@ -1488,7 +1504,10 @@ ADYAACADQrACfCQADAELAAtBACQBC70EAgV/BX4QAARAAAsjAEKwAn0iCSQA
 IACnAn8CQAJAIAkiCEIQUw0AQoQBIQsCQAJAAkACQCACQQdrDgIBAAILQQEh
 BEKQASELCyAIpyAEOgAOIAhCDnxCAYSnQQBBoQL8CwAgC0IBhiEMA0AgASAK
 fCIJQgZ8py8BACIEIAlCBHynLwEAIgUgCUICfKcvAQAiByAJpy8BACIGIANB
-//8DcSIDIAMgBkkbIgMgAyAHSRsiAyADIAVJGyIDIAMgBEkbwSEDIAwgCkII
+"##;
+
+/// Part 3 of what stands before the data.
+pub(crate) const PART_3: &str = r##"//8DcSIDIAMgBkkbIgMgAyAHSRsiAyADIAVJGyIDIAMgBEkbwSEDIAwgCkII
 fCIKUg0AC0EAIQQgA0EASA0BIAtCAYYiCVBFBEAgCEIQfKcgAacgCaf8CgAA
 CwJAAkAgCEIOfBABRQ0AIAhCDnwQA0UNACAIQg58EAQNAQtBAyEDDAQLQQAh
 BSAIQg58p0EAQaIC/AsAIAinIAJBB0ciAzoADiAIQhB8IQlCiAJCoAIgAkEH
@@ -2149,8 +2168,9 @@ script = [
 # How many ends are missing?
 # Each pass of this program starts two jobs and ends one. The alarm's request is only the last s\
 traw.
-# How many more `end` lines does the script need, so that no alarm comes? Find the smallest numb\
-er.
+# How many more `end` lines must be put in, each where a job is running and before the alarm, so\
+ that
+# no alarm comes? Find the smallest number.
 script = [
     "novac 20 02000 00005", "novac 20 02100 00005", "end",
     "novac 20 02000 00005", "novac 20 02100 00005", "end",
@@ -2181,12 +2201,17 @@ script = [
 ]
 @ exercise exercise-6
 # What does each phase save?
-# At an alarm all jobs and tasks are lost. What begins again is what the plan names for the phas\
-es
-# that are set at that moment. Which jobs and which tasks are there after the alarm of request 1\
-3? Now
-# remove the request `phase 3 2`: what is no longer saved? What if `phase 1 1` is removed instea\
-d?
+# At an alarm all jobs and tasks are lost, and a restart follows. Below the script each `[[phase\
+]]`
+# table names, for one group in one phase, the job and the task that a restart begins again. It \
+counts
+# only if the group is in that phase at the alarm: `phase 3 2` puts group 3 into phase 2. Which \
+jobs
+# and which tasks are there after the alarm of request 13? Now remove the request `phase 3 2`: w\
+hat is
+# no longer saved? What if `phase 1 1` is removed instead? (In the workbench, go to the alarm an\
+d
+# press *After the restart*: the tables then show what has begun again.)
 script = [
     "phase 1 1",
     "phase 3 2",
@@ -2222,9 +2247,12 @@ task = "list 10 04100 00007"
 # The urgent job waits.
 # A new job doesn't interrupt the running one, however urgent it is: the running job must ask fo\
 r a
-# change of job from time to time. Job 2 is the most urgent. At which request does it begin to r\
-un,
-# and how many requests did it wait? What happens to the least urgent job?
+# change of job from time to time. `store 1 00002` is work for the running job, whichever it is:\
+ it
+# writes 00002 into that job's own work word 1. Job 2 is the most urgent, and is established by
+# request 3. Which request makes it run, and how many requests later is that? What happens to th\
+e
+# least urgent job?
 script = [
     "novac 05 02000 00005",
     "store 1 00001",
@@ -2268,10 +2296,12 @@ action = ["findvac 20 04000 00007", "list 2 02000 00005"]
  it
 # several times with `agc threads \l 9.toml`: does an alarm come? Could one come if the threads \
 took
-# turns in another way? `agc_watch explore 9.toml` tries every order. (In the workbench, begin w\
-ith an
-# empty bench and type the twelve requests in an order of your own.) Then change the order of th\
-e
+# turns in another way? `agc_watch explore 9.toml` tries every order. In the workbench you take \
+the
+# turns yourself: below *Ask* are two buttons, *worker 1* and *worker 2*, and each one asks for \
+the
+# next request of that thread. Find an order in which an alarm comes. Then change the order of t\
+he
 # lines within each thread so that `explore` says `never` for each alarm, although each thread s\
 till
 # starts three jobs and ends three.
@@ -2300,12 +2330,14 @@ script = [
 ng
 # else steals a part of the time: `steal` is its percentage. What is the greatest percentage for\
  which
-# no alarm comes in these two minutes? Work it out first; then try it with
-# `agc_watch sweep steal 15 25 10.toml`, or with the slider in the workbench. Now let the run la\
-st ten
-# minutes (`seconds = 600`). What is the greatest percentage now? What do you conclude from a te\
-st run
-# without an alarm?
+# no alarm comes in these two minutes? Work it out first: how much work is left over each second\
+, and
+# how much must be left over until a job finds no VAC area? Then try it with
+# `agc_watch sweep steal 15 25 10.toml`, or in the workbench with the slider *Stolen time*, belo\
+w
+# *Clock*. Now let the run last ten minutes (`seconds = 600`). What is the greatest percentage n\
+ow?
+# What do you conclude from a test run without an alarm?
 title = "No alarm so far"
 seconds = 120
 steal = 15
@@ -2333,9 +2365,11 @@ f one
 n the
 # complement every bit is turned over: 0 becomes 7, 1 becomes 6 and so on.) Which group's words \
 are
-# damaged? What does the computer do, and why not simply go on with the other groups? Mend the w\
-ord
-# that is wrong. What begins again now?
+# damaged? What does the computer do, and why not simply go on with the other groups? (`agc seri\
+al`
+# has this alarm only as a code in its line FAILREG; `agc_watch trace` says what is wrong.) Supp\
+ose
+# that the phase is right and its complement is damaged, and mend it. What begins again now?
 power = [
     "77777", "00000",
     "77775", "00002",
@@ -2361,13 +2395,16 @@ task = "list 200 02000 00005"
 y
 # begins one every second that needs 0.3 seconds. That is more than there is. How many alarms co\
 me in
-# two minutes, and when? Which table is full, and since when? (`agc_watch peaks 12.toml` says it\
-, and
-# the strip above the tables in the workbench shows it.) Only the guidance has a phase, that of \
-group
-# 5. Now give the display one as well: write `"phase 3 1",` in front of `"phase 5 1"`. How many \
-alarms
-# come now? Which jobs would you let begin again after an alarm?
+# two minutes, and when? Which table is full, and when was it full for the first time? Was it fu\
+ll
+# from then on? (The strip above the tables in the workbench shows it, and so do
+# `agc_watch peaks 12.toml` and `agc_watch trace 12.toml`. `agc serial` takes only benches, and \
+this
+# is a scenario.) Only the guidance has a phase, that of group 5. Now give the display one as we\
+ll:
+# write `"phase 3 1",` in front of `"phase 5 1"`. How many alarms come now? Which jobs would you\
+ let
+# begin again after an alarm?
 title = "A restart that restores the overload"
 seconds = 120
 
@@ -2546,10 +2583,7 @@ async function start(source) {
   for (const [name, size] of Object.entries(SIZE)) {
     at[name] = place;
     to[name] = BigInt(place);
-"##;
-
-/// Part 4 of what stands before the data.
-pub(crate) const PART_4: &str = r##"    place += (size + 7) & ~7;
+    place += (size + 7) & ~7;
   }
   [at.plan, to.plan] = [place, BigInt(place)];
   reach(place);
@@ -2644,7 +2678,10 @@ class Lent {
     this.rowCount = BigInt(rows.length);
     this.entries = to.plan + BigInt(rows.length * ROW);
     this.entryCount = BigInt(entries.length);
-    this.lend();
+"##;
+
+/// Part 4 of what stands before the data.
+pub(crate) const PART_4: &str = r##"    this.lend();
     served(calls.agc_plan_check(this.rows, this.rowCount, this.entries, this.entryCount));
   }
 
@@ -3144,361 +3181,63 @@ return {
   sceneOf,
 };
 })();
-const in_run = (() => {
-const { Kind, Machine, sceneOf } = in_machine;
-const APART = 256;
-
-const MOST_ROWS = 4_000_000;
-const MOST_ASKED = 2_000_000;
-
-const spelled = new Map();
-
-const MOST_SPELLED = 10_000;
-
-function once(line) {
-  const found = spelled.get(line);
-  if (found !== undefined) return found;
-  if (spelled.size >= MOST_SPELLED) spelled.clear();
-  spelled.set(line, line);
-  return line;
-}
-
-const SPENT = 100;
-const LOG_FULL = 101;
-
-const ALARM = 1;
-const CHANGE = 2;
-
-const FREE = 0o77777;
-const MOST_RUNNING = 0o37777;
-
-function waiting(words) {
-  const found = [];
-  let left = words[90] === 0 ? 0 : 16384 - words[90];
-  for (let k = 0; k < 9 && words[99 + 2 * k] !== 0; k++) {
-    const gap = k === 0 ? 1 : words[90 + k];
-    left += 1 - (gap <= MOST_RUNNING ? gap : gap - FREE);
-    found.push({ at: words[99 + 2 * k], bank: words[100 + 2 * k], left });
-  }
+const in_dom = (() => {
+function by(id) {
+  const found = document.getElementById(id);
+  if (found === null) throw new Error(`the page has no ${id}`);
   return found;
 }
 
-class Witness {
-  constructor(machine) {
-    this.machine = machine;
-    this.born = new Float64Array(9);
-    this.tasks = [];
-    this.living = 0;
-    this.running = 0;
-    this.use = 0;
-    this.begun = 0;
-    this.ended = 0;
-    this.now = 0;
-    this.served = 0;
-    this.log = 0;
-    this.era = 0;
-    this.eraTicks = 0;
-    this.clock = /** @type {any} */ (null);
+function make(name, given = {}, ...children) {
+  const made = document.createElement(name);
+  for (const [key, value] of Object.entries(given)) {
+    if (value === undefined || value === null) continue;
+    if (key === "class") made.className = value;
+    else if (key.startsWith("on")) made.addEventListener(key.slice(2), value);
+    else if (key.includes("-") || key === "role" || key === "for") made.setAttribute(key, value);
+    else Object.assign(made, { [key]: value });
   }
-
-  copy() {
-    const made = Object.assign(Object.create(Witness.prototype), this);
-    made.machine = this.machine.copy();
-    made.born = this.born.slice();
-    made.clock = this.clock === null ? null : this.clock.copy();
-    return /** @type {Witness} */ (made);
-  }
-
-  look(row, beginsEra, movesTasks) {
-    const { words } = this.machine;
-    let living = 0;
-    let used = 0;
-    for (let k = 0; k < words.length - 11; k += k === 72 ? 60 : 12) {
-      if (words[k + 11] !== FREE) {
-        living |= 1 << words[k];
-        used += 1;
-      }
-    }
-    const fresh = beginsEra ? living : living & ~this.living;
-    const gone = beginsEra ? 0 : this.living & ~living;
-    if (beginsEra) [this.begun, this.ended] = [0, 0];
-    for (let job = 1; (fresh | gone) !== 0 && job <= 8; job++) {
-      if ((fresh >> job) & 1) this.born[job] = 2 * row + (beginsEra ? 1 : 0);
-      this.begun += (fresh >> job) & 1;
-      this.ended += (gone >> job) & 1;
-    }
-    if (movesTasks) this.tasks = this.tasksIn(waiting(words), row, beginsEra);
-    this.living = living;
-    this.running = words[11] <= MOST_RUNNING ? words[0] : 0;
-    let areas = 0;
-    for (let k = 84; k < 89; k++) if (words[k] === 0) areas += 1;
-    this.use = used | (areas << 4) | (this.tasks.length << 8) | (this.running === 0 ? 1 << 12 : 0);
-  }
-
-  tasksIn(tasks, row, beginsEra) {
-    const older = beginsEra ? [] : [...this.tasks];
-    return tasks.map((it) => {
-      const due = this.now + it.left;
-      const isIt = (/** @type {HeldTask} */ one) =>
-        one.at === it.at && one.bank === it.bank && one.due === due;
-      const k = older.findIndex(isIt);
-      return k < 0 ? { ...it, due, since: 2 * row + (beginsEra ? 1 : 0) } : older.splice(k, 1)[0];
-    });
-  }
-
-  ask(line, row) {
-    const step = this.machine.ask(line);
-    this.served += 1;
-    this.log += 1;
-    if (step.kind === Kind.TICKED || step.kind === Kind.TICK_ALARMED) this.now += 1;
-    const beginsEra = step.beginsEra;
-    this.look(row, beginsEra, beginsEra || step.kind === Kind.LISTED || step.fired.length > 0);
-    if (beginsEra) [this.log, this.era, this.eraTicks] = [0, row, this.now];
-    return step;
-  }
+  made.append(...children);
+  return made;
 }
 
-class Column {
-  constructor(kind) {
-    this.kind = kind;
-    this.items = new kind(1024);
-  }
-
-  set(at, value) {
-    if (at >= this.items.length) {
-      const longer = new this.kind(2 * this.items.length);
-      longer.set(this.items);
-      this.items = longer;
-    }
-    this.items[at] = value;
-  }
-
-  front(count) {
-    const made = new Column(this.kind);
-    made.items = /** @type {T} */ (this.items.slice(0, Math.max(1024, count)));
-    return made;
-  }
+function withCode(text) {
+  return text.split("`").flatMap((it, k) => (k % 2 === 1 ? [make("code", {}, it)]
+    : it.split(/\*([^*]+)\*/).map((one, n) => (n % 2 === 1 ? make("em", {}, one) : one))));
 }
 
-function isChange(step, line, before, after) {
-  if (step.kind === Kind.RUNS) return before !== after || line.startsWith("prio");
-  if (step.kind === Kind.TICKED) return step.fired.length > 0;
-  return step.kind !== Kind.NO_JOB && step.kind !== Kind.NO_SLEEPER;
+function fill(where, children) {
+  const parent = typeof where === "string" ? by(where) : where;
+  parent.replaceChildren(...children);
 }
 
-class Run {
-  constructor(bench) {
-    this.bench = bench;
-    this.sets = bench.sets ?? 7;
-    this.title = "AGC workbench";
-    this.about = "";
-    this.lines = [""];
-    this.who = ["nobody"];
-    this.count = 0;
-    this.columns = {
-      ...{ kinds: new Column(Uint8Array), numbers: new Column(Uint16Array) },
-      ...{ by: new Column(Uint16Array), marks: new Column(Uint8Array) },
-      ...{ ticks: new Column(Uint32Array), uses: new Column(Uint16Array) },
-    };
-    this.alarms = [];
-    this.changes = [];
-    const plan = { task: bench.task, phase: bench.phase };
-    this.head = new Witness(new Machine({ sets: this.sets, plan, power: bench.power }));
-    this.head.look(0, true, true);
-    this.columns.uses.set(0, this.head.use);
-    this.checkpoints = [this.head.copy()];
-  }
+function button(text, run, given = {}) {
+  return make("button", { type: "button", onclick: run, ...given }, text);
+}
 
-  refusal(line) {
-    if (BigInt(this.head.served) >= this.bench.allowance) return SPENT;
-    const isBound = line !== "restart" && line !== "fresh";
-    return isBound && this.head.log >= this.bench.limit ? LOG_FULL : 0;
-  }
+function labelled(text, field) {
+  return make("label", {}, text, field);
+}
 
-  asker(who) {
-    const k = this.who.lastIndexOf(who);
-    return k >= 0 ? k : this.who.push(who) - 1;
-  }
+function openDialog(heading, children) {
+  by("dialog-name").textContent = heading;
+  fill("dialog-body", children);
+  if (!by("dialog").open) by("dialog").showModal();
+  by("dialog").scrollTop = 0;
+}
 
-  ask(line, who) {
-    const row = this.count + 1;
-    const { kinds, numbers, by, marks, ticks, uses } = this.columns;
-    const before = this.head.running;
-    const refused = this.refusal(line);
-    const step = refused === 0 ? this.head.ask(line, row) : null;
-    if (step !== null) this.head.clock?.served(this.head.machine, step);
-    this.count = row;
-    this.lines.push(once(line));
-    by.set(row, this.asker(who));
-    kinds.set(row, step === null ? refused : step.kind);
-    numbers.set(row, step === null ? 0 : step.number);
-    ticks.set(row, this.head.now);
-    uses.set(row, this.head.use);
-    const changes = step !== null && isChange(step, line, before, this.head.running);
-    marks.set(row, (changes ? CHANGE : 0) | (step !== null && step.alarm !== 0 ? ALARM : 0));
-    if (step !== null && step.alarm !== 0) this.alarms.push(row);
-    if (row % APART === 0) this.checkpoints.push(this.head.copy());
-    return step;
-  }
-
-  stateAt(row, goesOn = false) {
-    const k = Math.floor(row / APART);
-    const state = this.checkpoints[k].copy();
-    if (!goesOn) state.clock = null;
-    this.changeAt(state, k * APART);
-    for (let at = k * APART + 1; at <= row; at++) {
-      if (this.columns.kinds.items[at] >= SPENT) continue;
-      if (state.clock !== null && this.isByClock(at)) state.clock.next(state.machine);
-      const step = state.ask(this.lines[at], at);
-      state.clock?.served(state.machine, step);
-      this.changeAt(state, at);
-    }
-    return state;
-  }
-
-  changeAt(state, row) {
-    if (state.clock === null) return;
-    for (const it of this.changes) if (it.row === row) state.clock.change(it.given);
-  }
-
-  change(bench, given) {
-    this.changes.push({ row: this.count, given, before: this.bench });
-    this.bench = { ...this.bench, ...bench };
-    this.head.clock.change(given);
-  }
-
-  isByClock(row) {
-    return /^the clock|^event/.test(this.whoAsked(row));
-  }
-
-  fork(row) {
-    const made = Object.create(Run.prototype);
-    Object.assign(made, this);
-    made.lines = this.lines.slice(0, row + 1);
-    made.who = [...this.who];
-    made.count = row;
-    made.columns = Object.fromEntries(
-      Object.entries(this.columns).map(([name, it]) => [name, it.front(row + 1)]),
-    );
-    made.bench = this.changes.find((it) => it.row > row)?.before ?? this.bench;
-    made.changes = this.changes.filter((it) => it.row <= row);
-    made.alarms = this.alarms.filter((it) => it <= row);
-    made.head = this.stateAt(row, true);
-    made.checkpoints = this.checkpoints.slice(0, Math.floor(row / APART) + 1);
-    return /** @type {Run} */ (made);
-  }
-
-  *requests(count) {
-    for (let row = 1; row <= count; row++) yield [this.lines[row], this.whoAsked(row)];
-  }
-
-  whoAsked(row) {
-    return this.who[this.columns.by.items[row]];
-  }
-
-  isAlarm(row) {
-    return (this.columns.marks.items[row] & ALARM) !== 0;
-  }
-
-  isChange(row) {
-    return (this.columns.marks.items[row] & CHANGE) !== 0;
-  }
-
-  isRefused(row) {
-    return row > 0 && this.columns.kinds.items[row] >= SPENT;
-  }
-
-  ticksAt(row) {
-    return this.columns.ticks.items[row];
-  }
-
-  idlePercent(from, to) {
-    const { ticks, uses } = this.columns;
-    let [count, idle] = [0, 0];
-    for (let row = from + 1; row <= to; row++) {
-      if (ticks.items[row] === ticks.items[row - 1]) continue;
-      count += 1;
-      idle += uses.items[row - 1] >> 12;
-    }
-    return count === 0 ? 0 : Math.round((100 * idle) / count);
-  }
-
-  useAt(row) {
-    const use = this.columns.uses.items[row];
-    return { sets: use & 15, areas: (use >> 4) & 15, tasks: (use >> 8) & 15, idle: use >> 12 };
-  }
-
-  rowAtTime(ticks, count) {
-    let [low, high] = [0, count];
-    while (low < high) {
-      const middle = (low + high) >> 1;
-      if (this.columns.ticks.items[middle] < ticks) low = middle + 1;
-      else high = middle;
-    }
-    return low;
-  }
-
-  show(from, to) {
-    const found = [];
-    const state = this.stateAt(Math.max(from - 1, 0));
-    if (from === 0) found.push(this.showFirst(state));
-    for (let row = Math.max(from, 1); row <= to; row++) found.push(this.showNext(state, row));
-    return found;
-  }
-
-  showFirst(state) {
-    const scene = state.machine.scene();
-    const isBroken = scene.codes[0] !== 0;
-    return {
-      row: 0,
-      line: this.bench.power === undefined ? "fresh start" : "power-up",
-      who: "nobody",
-      reply: isBroken ? "alarm 1107" : "restarted",
-      ...{ kind: Kind.RESTARTED, step: null, scene, words: state.machine.words },
-      ...{ jobsSince: scene.sets.map(() => 1), tasksSince: scene.tasks.map(() => 1) },
-      ...{ before: null, after: null, ticks: 0, time: 0, afterSince: [] },
-      ...{ last: null, era: 0, begun: state.begun, ended: state.ended },
-    };
-  }
-
-  showNext(state, row) {
-    const line = this.lines[row];
-    const kind = this.columns.kinds.items[row];
-    const before = state.machine.scene();
-    const { living, era, eraTicks, begun, ended } = state;
-    const { machine } = state;
-    const wasServed = row > 1 && this.columns.kinds.items[row - 1] < SPENT;
-    const last = sceneOf(wasServed ? machine.moment : machine.words);
-    const born = state.born.slice();
-    const isServed = kind < SPENT;
-    const older = isServed ? Object.assign(Object.create(Witness.prototype), state) : state;
-    const step = isServed ? state.ask(line, row) : null;
-    older.now = state.now;
-    const words = isServed ? state.machine.moment : state.machine.words;
-    const scene = sceneOf(words);
-    const tasks = older.tasksIn(scene.tasks, row, false);
-    const after = step !== null && step.beginsEra ? state.machine.scene() : null;
-    const fresh = scene.sets.filter((job) => job !== null && ((living >> job.number) & 1) === 0);
-    return {
-      ...{ row, line, kind, step, scene, words, before, after, last },
-      who: this.whoAsked(row),
-      reply: step !== null ? step.text : kind === SPENT ? "refused spent" : "refused log full",
-      jobsSince: scene.sets.map((job) =>
-        job === null ? 0 : (living >> job.number) & 1 ? born[job.number] : 2 * row),
-      tasksSince: tasks.map((it) => it.since),
-      ticks: state.now,
-      time: state.now - eraTicks,
-      afterSince: after === null ? [] : after.sets.map(() => 2 * row + 1),
-      ...{ era, begun: begun + fresh.length, ended },
-    };
-  }
+function closeDialog() {
+  if (by("dialog").open) by("dialog").close();
 }
 return {
-  MOST_ROWS,
-  MOST_ASKED,
-  SPENT,
-  LOG_FULL,
-  Run,
+  by,
+  make,
+  withCode,
+  fill,
+  button,
+  labelled,
+  openDialog,
+  closeDialog,
 };
 })();
 const in_words = (() => {
@@ -3659,8 +3398,567 @@ return {
   counted,
 };
 })();
+const in_chart = (() => {
+const { by, fill, make } = in_dom;
+const { counted, octal, seconds } = in_words;
+const LANES = [
+  ...[{ name: "core sets", light: "#0072b2", dark: "#56b4e9" }],
+  ...[{ name: "VAC areas", light: "#009e73", dark: "#2fd3a3" }],
+  ...[{ name: "tasks", light: "#b35c00", dark: "#e69f00" }],
+  ...[{ name: "idle time", light: "#767676", dark: "#9a9a9a" }],
+];
+
+const MOST_STEPS = 6;
+const LAST_PART = 0.94;
+
+const MOST_WIDE = 2400;
+
+class Strip {
+  constructor(run, count, wide) {
+    this.run = run;
+    this.count = count;
+    this.wide = Math.max(1, Math.min(MOST_WIDE, wide));
+    this.isTime = run.ticksAt(count) >= 20;
+    this.end = Math.max(1, this.isTime ? run.ticksAt(count) : count);
+    this.most = LANES.map(() => new Float32Array(this.wide));
+    this.ticks = new Float32Array(this.wide);
+    for (let row = 0; row <= count; row++) this.add(row);
+    this.spread();
+  }
+
+  xOf(row) {
+    const place = this.isTime ? this.run.ticksAt(row) : row;
+    return Math.min(this.wide - 1, Math.floor((place * this.wide) / this.end));
+  }
+
+  add(row) {
+    const x = this.xOf(row);
+    const use = this.run.columns.uses.items[row];
+    const [sets, areas, tasks, idle] = this.most;
+    sets[x] = Math.max(sets[x], (use & 15) / this.run.sets);
+    areas[x] = Math.max(areas[x], ((use >> 4) & 15) / 5);
+    tasks[x] = Math.max(tasks[x], ((use >> 8) & 15) / 9);
+    idle[x] += use >> 12;
+    this.ticks[x] += 1;
+  }
+
+  spread() {
+    for (let x = 0; x < this.wide; x++) {
+      if (this.ticks[x] > 0) this.most[3][x] /= this.ticks[x];
+      else if (x > 0) for (const lane of this.most) lane[x] = lane[x - 1];
+    }
+  }
+
+  rowAt(part) {
+    const place = Math.round(part * this.end);
+    return this.isTime ? this.run.rowAtTime(place, this.count) : Math.min(this.count, place);
+  }
+
+  get text() {
+    const most = mostUsed(this.run, this.count);
+    return `Over ${this.isTime ? seconds(this.end) : counted(this.count, "request")}: at most `
+      + `${most[0]} of ${this.run.sets} core sets, ${most[1]} of 5 areas and ${most[2]} of 9 tasks `
+      + `at once; ${alarmsOf(this.run, this.count)}.`;
+  }
+}
+
+function mostUsed(run, count) {
+  const most = [0, 0, 0];
+  for (let row = 0; row <= count; row++) {
+    const use = run.columns.uses.items[row];
+    for (let k = 0; k < 3; k++) most[k] = Math.max(most[k], (use >> (4 * k)) & 15);
+  }
+  return most;
+}
+
+function alarmsOf(run, count) {
+  const alarms = run.alarms.filter((row) => row <= count);
+  if (alarms.length === 0) return "no alarm";
+  const first = alarms.length > 1 ? ", the first one" : ":";
+  return `${counted(alarms.length, "alarm")}${first} ${alarmAt(run, alarms[0])}`;
+}
+
+function outcomeOf(run, count) {
+  return `${alarmsOf(run, count)}; at most ${mostUsed(run, count)[0]} of ${run.sets} core sets`;
+}
+
+function alarmAt(run, row) {
+  const code = octal(run.columns.numbers.items[row], 4);
+  const time = run.ticksAt(row) > 0 ? ` at ${seconds(run.ticksAt(row))}` : "";
+  return `${code}, in request ${row}${time}`;
+}
+
+function drawStrip(strip, at) {
+  const canvas = by("chart");
+  const scale = window.devicePixelRatio || 1;
+  const [wide, high] = [canvas.clientWidth, canvas.clientHeight];
+  [canvas.width, canvas.height] = [Math.max(1, wide * scale), Math.max(1, high * scale)];
+  const pen = canvas.getContext("2d");
+  const isDark = matchMedia("(prefers-color-scheme: dark)").matches;
+  const ink = isDark ? "#eee" : "#111";
+  pen.scale(scale, scale);
+  const lane = high / LANES.length;
+  LANES.forEach((it, k) => {
+    pen.fillStyle = isDark ? it.dark : it.light;
+    for (let x = 0; x < strip.wide; x++) {
+      const tall = strip.most[k][x] * (lane - 3);
+      const left = Math.floor((x * wide) / strip.wide);
+      pen.fillRect(left, (k + 1) * lane - tall, Math.ceil(wide / strip.wide), tall);
+    }
+    pen.fillStyle = isDark ? "#444" : "#ccc";
+    pen.fillRect(0, (k + 1) * lane - 1, wide, 1);
+  });
+  drawAlarms(pen, strip, wide, high, isDark ? "#ff6b5b" : "#c00");
+  const x = (strip.xOf(at) * wide) / strip.wide;
+  pen.fillStyle = ink;
+  pen.fillRect(Math.min(wide - 2, x), 0, 2, high);
+  pen.beginPath();
+  pen.moveTo(x - 5, 0);
+  pen.lineTo(x + 7, 0);
+  pen.lineTo(x + 1, 8);
+  pen.fill();
+}
+
+function drawAlarms(pen, strip, wide, high, colour) {
+  pen.fillStyle = colour;
+  const tall = Math.round(0.85 * parseFloat(getComputedStyle(document.documentElement).fontSize));
+  pen.font = `bold ${tall}px system-ui, sans-serif`;
+  let free = -99;
+  for (const row of strip.run.alarms) {
+    if (row > strip.count) break;
+    const x = (strip.xOf(row) * wide) / strip.wide;
+    pen.fillRect(x, 0, 1.5, high);
+    if (x > free) {
+      const text = octal(strip.run.columns.numbers.items[row], 4);
+      pen.fillText(text, Math.min(x + 3, wide - 2.8 * tall), tall);
+      free = x + 3 * tall;
+    }
+  }
+}
+
+function markStep(end) {
+  for (let ten = 1; ; ten *= 10) {
+    const step = [1, 2, 5].find((it) => it * ten * MOST_STEPS >= end);
+    if (step !== undefined) return step * ten;
+  }
+}
+
+function drawAxis({ end, isTime }) {
+  const step = markStep(end);
+  const marks = Array.from({ length: Math.floor(end / step) + 1 }, (_, k) => k * step);
+  by("unit").textContent = isTime ? "seconds" : "requests";
+  fill("axis", marks.map((it) => {
+    const part = it / end;
+    const mark = make("span", part > LAST_PART ? { class: "last" } : {},
+      String(isTime ? it / 100 : it));
+    mark.style.left = `${100 * part}%`;
+    return mark;
+  }));
+}
+
+function drawLegend(strip) {
+  const isDark = matchMedia("(prefers-color-scheme: dark)").matches;
+  by("chart").setAttribute("aria-label", strip.text);
+  const most = [strip.run.sets, 5, 9, "100 %"];
+  fill("lanes", LANES.map((it, k) => {
+    const swatch = make("span", { class: "swatch" });
+    swatch.style.background = isDark ? it.dark : it.light;
+    return make("li", {}, swatch, `${it.name} 0–${most[k]}`);
+  }));
+  drawAxis(strip);
+  fill("legend", [make("span", { id: "summary" }, strip.text)]);
+}
+return {
+  Strip,
+  alarmsOf,
+  outcomeOf,
+  alarmAt,
+  drawStrip,
+  drawLegend,
+};
+})();
+const in_run = (() => {
+const { Kind, Machine, sceneOf } = in_machine;
+const APART = 256;
+
+const MOST_ROWS = 4_000_000;
+const MOST_ASKED = 2_000_000;
+
+const spelled = new Map();
+
+const MOST_SPELLED = 10_000;
+
+function once(line) {
+  const found = spelled.get(line);
+  if (found !== undefined) return found;
+  if (spelled.size >= MOST_SPELLED) spelled.clear();
+  spelled.set(line, line);
+  return line;
+}
+
+const SPENT = 100;
+const LOG_FULL = 101;
+
+
+const NO_SOURCE = {
+  ...{ document: "", run: null, exercise: "", question: "", isHidden: false, isChanged: false },
+};
+
+const ALARM = 1;
+const CHANGE = 2;
+
+const FREE = 0o77777;
+const MOST_RUNNING = 0o37777;
+
+function waiting(words) {
+  const found = [];
+  let left = words[90] === 0 ? 0 : 16384 - words[90];
+  for (let k = 0; k < 9 && words[99 + 2 * k] !== 0; k++) {
+    const gap = k === 0 ? 1 : words[90 + k];
+    left += 1 - (gap <= MOST_RUNNING ? gap : gap - FREE);
+    found.push({ at: words[99 + 2 * k], bank: words[100 + 2 * k], left });
+  }
+  return found;
+}
+
+class Witness {
+  constructor(machine) {
+    this.machine = machine;
+    this.born = new Float64Array(9);
+    this.tasks = [];
+    this.living = 0;
+    this.running = 0;
+    this.use = 0;
+    this.begun = 0;
+    this.ended = 0;
+    this.now = 0;
+    this.served = 0;
+    this.log = 0;
+    this.era = 0;
+    this.eraTicks = 0;
+    this.clock = /** @type {any} */ (null);
+  }
+
+  copy() {
+    const made = Object.assign(Object.create(Witness.prototype), this);
+    made.machine = this.machine.copy();
+    made.born = this.born.slice();
+    made.clock = this.clock === null ? null : this.clock.copy();
+    return /** @type {Witness} */ (made);
+  }
+
+  look(row, beginsEra, movesTasks) {
+    const { words } = this.machine;
+    let living = 0;
+    let used = 0;
+    for (let k = 0; k < words.length - 11; k += k === 72 ? 60 : 12) {
+      if (words[k + 11] !== FREE) {
+        living |= 1 << words[k];
+        used += 1;
+      }
+    }
+    const fresh = beginsEra ? living : living & ~this.living;
+    const gone = beginsEra ? 0 : this.living & ~living;
+    if (beginsEra) [this.begun, this.ended] = [0, 0];
+    for (let job = 1; (fresh | gone) !== 0 && job <= 8; job++) {
+      if ((fresh >> job) & 1) this.born[job] = 2 * row + (beginsEra ? 1 : 0);
+      this.begun += (fresh >> job) & 1;
+      this.ended += (gone >> job) & 1;
+    }
+    if (movesTasks) this.tasks = this.tasksIn(waiting(words), row, beginsEra);
+    this.living = living;
+    this.running = words[11] <= MOST_RUNNING ? words[0] : 0;
+    let areas = 0;
+    for (let k = 84; k < 89; k++) if (words[k] === 0) areas += 1;
+    this.use = used | (areas << 4) | (this.tasks.length << 8) | (this.running === 0 ? 1 << 12 : 0);
+  }
+
+  tasksIn(tasks, row, beginsEra) {
+    const older = beginsEra ? [] : [...this.tasks];
+    return tasks.map((it) => {
+      const due = this.now + it.left;
+      const isIt = (/** @type {HeldTask} */ one) =>
+        one.at === it.at && one.bank === it.bank && one.due === due;
+      const k = older.findIndex(isIt);
+      return k < 0 ? { ...it, due, since: 2 * row + (beginsEra ? 1 : 0) } : older.splice(k, 1)[0];
+    });
+  }
+
+  ask(line, row) {
+    const step = this.machine.ask(line);
+    this.served += 1;
+    this.log += 1;
+    if (step.kind === Kind.TICKED || step.kind === Kind.TICK_ALARMED) this.now += 1;
+    const beginsEra = step.beginsEra;
+    this.look(row, beginsEra, beginsEra || step.kind === Kind.LISTED || step.fired.length > 0);
+    if (beginsEra) [this.log, this.era, this.eraTicks] = [0, row, this.now];
+    return step;
+  }
+}
+
+class Column {
+  constructor(kind) {
+    this.kind = kind;
+    this.items = new kind(1024);
+  }
+
+  set(at, value) {
+    if (at >= this.items.length) {
+      const longer = new this.kind(2 * this.items.length);
+      longer.set(this.items);
+      this.items = longer;
+    }
+    this.items[at] = value;
+  }
+
+  front(count) {
+    const made = new Column(this.kind);
+    made.items = /** @type {T} */ (this.items.slice(0, Math.max(1024, count)));
+    return made;
+  }
+}
+
+function isChange(step, line, before, after) {
+  if (step.kind === Kind.RUNS) return before !== after || line.startsWith("prio");
+  if (step.kind === Kind.TICKED) return step.fired.length > 0;
+  return step.kind !== Kind.NO_JOB && step.kind !== Kind.NO_SLEEPER;
+}
+
+function afterOf(shown) {
+  const { row, after, scene, afterWords } = shown;
+  if (after === null) return shown;
+  const since = after.tasks.map(() => 2 * row + 1);
+  const words = afterWords;
+  return { ...shown, scene: after, last: scene, words, tasksSince: since, isAfter: true };
+}
+
+class Run {
+  constructor(bench) {
+    this.bench = bench;
+    this.sets = bench.sets ?? 7;
+    this.title = "AGC workbench";
+    this.about = "";
+    this.source = NO_SOURCE;
+    this.lines = [""];
+    this.who = ["nobody"];
+    this.count = 0;
+    this.columns = {
+      ...{ kinds: new Column(Uint8Array), numbers: new Column(Uint16Array) },
+      ...{ by: new Column(Uint16Array), marks: new Column(Uint8Array) },
+      ...{ ticks: new Column(Uint32Array), uses: new Column(Uint16Array) },
+    };
+    this.alarms = [];
+    this.changes = [];
+    const plan = { task: bench.task, phase: bench.phase };
+    this.head = new Witness(new Machine({ sets: this.sets, plan, power: bench.power }));
+    this.head.look(0, true, true);
+    this.columns.uses.set(0, this.head.use);
+    this.checkpoints = [this.head.copy()];
+  }
+
+  refusal(line) {
+    if (BigInt(this.head.served) >= this.bench.allowance) return SPENT;
+    const isBound = line !== "restart" && line !== "fresh";
+    return isBound && this.head.log >= this.bench.limit ? LOG_FULL : 0;
+  }
+
+  asker(who) {
+    const k = this.who.lastIndexOf(who);
+    return k >= 0 ? k : this.who.push(who) - 1;
+  }
+
+  ask(line, who) {
+    const row = this.count + 1;
+    const { kinds, numbers, by, marks, ticks, uses } = this.columns;
+    const before = this.head.running;
+    const refused = this.refusal(line);
+    const step = refused === 0 ? this.head.ask(line, row) : null;
+    if (step !== null) this.head.clock?.served(this.head.machine, step);
+    this.count = row;
+    this.lines.push(once(line));
+    by.set(row, this.asker(who));
+    kinds.set(row, step === null ? refused : step.kind);
+    numbers.set(row, step === null ? 0 : step.number);
+    ticks.set(row, this.head.now);
+    uses.set(row, this.head.use);
+    const changes = step !== null && isChange(step, line, before, this.head.running);
+    marks.set(row, (changes ? CHANGE : 0) | (step !== null && step.alarm !== 0 ? ALARM : 0));
+    if (step !== null && step.alarm !== 0) this.alarms.push(row);
+    if (row % APART === 0) this.checkpoints.push(this.head.copy());
+    return step;
+  }
+
+  stateAt(row, goesOn = false) {
+    const k = Math.floor(row / APART);
+    const state = this.checkpoints[k].copy();
+    if (!goesOn) state.clock = null;
+    this.changeAt(state, k * APART);
+    for (let at = k * APART + 1; at <= row; at++) {
+      if (this.columns.kinds.items[at] >= SPENT) continue;
+      if (state.clock !== null && this.isByClock(at)) state.clock.next(state.machine);
+      const step = state.ask(this.lines[at], at);
+      state.clock?.served(state.machine, step);
+      this.changeAt(state, at);
+    }
+    return state;
+  }
+
+  changeAt(state, row) {
+    if (state.clock === null) return;
+    for (const it of this.changes) if (it.row === row) state.clock.change(it.given);
+  }
+
+  change(bench, given) {
+    this.changes.push({ row: this.count, given, before: this.bench });
+    this.bench = { ...this.bench, ...bench };
+    this.head.clock.change(given);
+  }
+
+  isByClock(row) {
+    return /^the clock|^event/.test(this.whoAsked(row));
+  }
+
+  fork(row) {
+    const made = Object.create(Run.prototype);
+    Object.assign(made, this);
+    made.lines = this.lines.slice(0, row + 1);
+    made.who = [...this.who];
+    made.count = row;
+    made.columns = Object.fromEntries(
+      Object.entries(this.columns).map(([name, it]) => [name, it.front(row + 1)]),
+    );
+    made.bench = this.changes.find((it) => it.row > row)?.before ?? this.bench;
+    made.changes = this.changes.filter((it) => it.row <= row);
+    made.alarms = this.alarms.filter((it) => it <= row);
+    made.head = this.stateAt(row, true);
+    made.checkpoints = this.checkpoints.slice(0, Math.floor(row / APART) + 1);
+    return /** @type {Run} */ (made);
+  }
+
+  *requests(count) {
+    for (let row = 1; row <= count; row++) yield [this.lines[row], this.whoAsked(row)];
+  }
+
+  counts(count) {
+    const found = new Uint32Array(this.who.length);
+    for (let row = 1; row <= count; row++) found[this.columns.by.items[row]] += 1;
+    return new Map(this.who.map((it, k) => [it, found[k]]));
+  }
+
+  whoAsked(row) {
+    return this.who[this.columns.by.items[row]];
+  }
+
+  isAlarm(row) {
+    return (this.columns.marks.items[row] & ALARM) !== 0;
+  }
+
+  isChange(row) {
+    return (this.columns.marks.items[row] & CHANGE) !== 0;
+  }
+
+  isRefused(row) {
+    return row > 0 && this.columns.kinds.items[row] >= SPENT;
+  }
+
+  ticksAt(row) {
+    return this.columns.ticks.items[row];
+  }
+
+  idlePercent(from, to) {
+    const { ticks, uses } = this.columns;
+    let [count, idle] = [0, 0];
+    for (let row = from + 1; row <= to; row++) {
+      if (ticks.items[row] === ticks.items[row - 1]) continue;
+      count += 1;
+      idle += uses.items[row - 1] >> 12;
+    }
+    return count === 0 ? 0 : Math.round((100 * idle) / count);
+  }
+
+  useAt(row) {
+    const use = this.columns.uses.items[row];
+    return { sets: use & 15, areas: (use >> 4) & 15, tasks: (use >> 8) & 15, idle: use >> 12 };
+  }
+
+  rowAtTime(ticks, count) {
+    let [low, high] = [0, count];
+    while (low < high) {
+      const middle = (low + high) >> 1;
+      if (this.columns.ticks.items[middle] < ticks) low = middle + 1;
+      else high = middle;
+    }
+    return low;
+  }
+
+  show(from, to) {
+    const found = [];
+    const state = this.stateAt(Math.max(from - 1, 0));
+    if (from === 0) found.push(this.showFirst(state));
+    for (let row = Math.max(from, 1); row <= to; row++) found.push(this.showNext(state, row));
+    return found;
+  }
+
+  showFirst(state) {
+    const scene = state.machine.scene();
+    const isBroken = scene.codes[0] !== 0;
+    return {
+      row: 0,
+      line: this.bench.power === undefined ? "fresh start" : "power-up",
+      who: "nobody",
+      reply: isBroken ? "alarm 1107" : "restarted",
+      ...{ kind: Kind.RESTARTED, step: null, scene, words: state.machine.words },
+      ...{ jobsSince: scene.sets.map(() => 1), tasksSince: scene.tasks.map(() => 1) },
+      ...{ before: null, after: null, ticks: 0, time: 0, afterWords: state.machine.words },
+      ...{ last: null, era: 0, begun: state.begun, ended: state.ended },
+    };
+  }
+
+  showNext(state, row) {
+    const line = this.lines[row];
+    const kind = this.columns.kinds.items[row];
+    const before = state.machine.scene();
+    const { living, era, eraTicks, begun, ended } = state;
+    const { machine } = state;
+    const wasServed = row > 1 && this.columns.kinds.items[row - 1] < SPENT;
+    const last = sceneOf(wasServed ? machine.moment : machine.words);
+    const born = state.born.slice();
+    const isServed = kind < SPENT;
+    const older = isServed ? Object.assign(Object.create(Witness.prototype), state) : state;
+    const step = isServed ? state.ask(line, row) : null;
+    older.now = state.now;
+    const words = isServed ? state.machine.moment : state.machine.words;
+    const scene = sceneOf(words);
+    const tasks = older.tasksIn(scene.tasks, row, false);
+    const after = step !== null && step.beginsEra ? state.machine.scene() : null;
+    const fresh = scene.sets.filter((job) => job !== null && ((living >> job.number) & 1) === 0);
+    return {
+      ...{ row, line, kind, step, scene, words, before, after, last },
+      who: this.whoAsked(row),
+      reply: step !== null ? step.text : kind === SPENT ? "refused spent" : "refused log full",
+      jobsSince: scene.sets.map((job) =>
+        job === null ? 0 : (living >> job.number) & 1 ? born[job.number] : 2 * row),
+      tasksSince: tasks.map((it) => it.since),
+      ticks: state.now,
+      time: state.now - eraTicks,
+      afterWords: state.machine.words,
+      ...{ era, begun: begun + fresh.length, ended },
+    };
+  }
+}
+return {
+  MOST_ROWS,
+  MOST_ASKED,
+  SPENT,
+  LOG_FULL,
+  NO_SOURCE,
+  afterOf,
+  Run,
+};
+})();
 const in_account = (() => {
 const { Kind } = in_machine;
+const { alarmsOf } = in_chart;
 const { LOG_FULL, SPENT } = in_run;
 const { counted, octal, seconds, visible } = in_words;
 const TABLES = {
@@ -3671,13 +3969,13 @@ const TABLES = {
 
 const MOST_LETTERS = 24;
 
-function joined(told, name) {
-  if (name === undefined) return told;
-  return `${told}:${[...name].slice(0, MOST_LETTERS).join("").replaceAll(" ", "_")}`;
+function joined(number, name) {
+  if (name === undefined) return number;
+  return `${number}:${[...name].slice(0, MOST_LETTERS).join("").replaceAll(" ", "_")}`;
 }
 
-function named(told, name) {
-  return name === undefined ? told : `${name} (${told})`;
+function named(address, name) {
+  return name === undefined ? address : `${name} (${address})`;
 }
 
 class Names {
@@ -3762,23 +4060,52 @@ function balance(run, { row, era, begun, ended, step }) {
   return [` Since ${since} ${jobs}${idle}.`];
 }
 
+function everyone({ sets, tasks }, names) {
+  return [
+    ...sets.filter((it) => it !== null).map((job) =>
+      `job ${job.number}, priority ${octal(job.priority, 2)}, at ${names.ofJob(job.at)}`),
+    ...tasks.map((it) => `task ${names.ofTask(it)} in ${it.left} cs`),
+  ];
+}
+
 function beginsAgain(after, names) {
-  const jobs = after.sets.filter((it) => it !== null).map((job) =>
-    `job ${job.number}, priority ${octal(job.priority, 2)}, at ${names.ofJob(job.at)}`);
-  const tasks = after.tasks.map((it) => `task ${names.ofTask(it)} in ${it.left} cs`);
+  const all = everyone(after, names);
   const phases = after.phases.join(" ");
-  if (jobs.length + tasks.length === 0) {
-    return [[`All jobs and tasks are gone. By the phases ${phases} nothing begins again.`]];
-  }
-  return [[`All jobs and tasks are gone. By the phases ${phases} these begin again: `
-    + `${[...jobs, ...tasks].join("; ")}.`]];
+  return [[`All jobs and tasks are gone. By the phases ${phases} `
+    + (all.length === 0 ? "nothing begins again." : `these begin again: ${all.join("; ")}.`)]];
+}
+
+function accountOfRestart({ line, scene }, names) {
+  const all = everyone(scene, names);
+  const lines = [
+    [`All jobs and tasks from before are gone. The phases are ${scene.phases.join(" ")}.`],
+    [all.length === 0 ? "By these nothing begins again." : "By these there begin again:"],
+    ...all.map((it) => [it]),
+  ];
+  return { heading: `After the ${nameOfRestart(line)}`, lines, isAlarm: false };
+}
+
+function nameOfRestart(line) {
+  return line === "fresh" ? "fresh start" : "restart";
+}
+
+function orderOf({ worker, device }) {
+  const names = [...worker.map((_, k) => `worker ${k + 1}`),
+    ...device.map(({ line }, k) => `device ${k + 1} (${line})`)];
+  if (names.length < 2) return "";
+  const [first, ...others] = names;
+  return `The threads may take turns in many orders. This is only one of them: first all requests `
+    + `of ${first}, ${others.map((it) => `then all of ${it}`).join(", ")}.`;
 }
 
 function brokenPairs(power) {
   const lines = [];
   for (let k = 0; k < 6; k++) {
     const [turned, plain] = power.slice(2 * k, 2 * k + 2).map((it) => parseInt(it, 8));
-    if (turned !== 0o77777 - plain) {
+"##;
+
+/// Part 5 of what stands before the data.
+pub(crate) const PART_5: &str = r##"    if (turned !== 0o77777 - plain) {
       const pair = `${octal(turned, 5)} is not the complement of ${octal(plain, 5)}`;
       lines.push([`group ${k + 1}: ${pair}`]);
     } else if (plain > 127) {
@@ -3788,31 +4115,47 @@ function brokenPairs(power) {
   return lines;
 }
 
-function accountOfBeginning(run, shown, names, about) {
+function accountOfBeginning(run, shown, names, { about, count }) {
   const { power } = run.bench;
-  const said = about === "" ? [] : [[about]];
+  const said = about === "" ? [] : [[{ text: about, isProse: true }]];
+  const order = count > 0 && run.source.run === run ? orderOf(run.bench) : "";
+  const follow = count === 0 ? [] : [[`${counted(count, "request")} `
+    + `${count === 1 ? "follows" : "follow"}, with ${alarmsOf(run, count)}.`],
+  ...(order === "" ? [] : [[order]])];
   if (power === undefined) {
+    const asked = count === 0 ? "Nothing has been asked" : "No request has been served yet";
     const lines = about !== "" ? said
-      : [["Nothing has been asked. There is no job, no task waits, and all phases are 0."]];
-    return { heading: "The beginning", lines, isAlarm: false };
+      : [[`${asked}: there is no job, no task waits, and all phases are 0.`]];
+    return { heading: "The beginning", lines: [...lines, ...follow], isAlarm: false };
   }
   const isBroken = shown.reply.startsWith("alarm");
   const lines = isBroken
     ? [["No phase can be trusted, and nothing begins again."], ...brokenPairs(power)]
     : beginsAgain(shown.scene, names);
   const heading = isBroken ? "Alarm 1107: why" : "Power is back";
-  return { heading, lines: [...said, ...lines], isAlarm: isBroken };
+  return { heading, lines: [...said, ...lines, ...follow], isAlarm: isBroken };
+}
+
+function accountOfQuestion({ bench }) {
+  const isPower = bench.power !== undefined;
+  const lines = [[isPower
+    ? "Power comes back, and the computer looks at the phase words that are in the document."
+    : "No request has been served yet: there is no job, no task waits, and all phases are 0."],
+  [isPower ? "What it does isn't shown yet." : "Next serves one request after the other."]];
+  return { heading: isPower ? "Power comes back" : "The beginning", lines, isAlarm: false };
 }
 
 function accountOfAlarm(run, shown, names) {
   const number = /** @type {1} */ (shown.step?.number ?? 0);
   const table = TABLES[/** @type {keyof typeof TABLES} */ (/** @type {unknown} */ (number))];
+  const { running } = shown.scene;
   const lines = [
-    [{ text: table.text, part: table.part }, ".", ...balance(run, shown)],
+    ...(shown.after === null ? [] : beginsAgain(shown.after, names)),
+    [{ text: table.text, part: table.part }, ".", ...balance(run, shown),
+      running === 0 ? " No job was running." : ` Job ${running} ran.`],
     ...raisedBy(run, shown, names),
     [number === 0o1203 ? "These wait:" : "These hold them:"],
     ...holders(run, shown, names),
-    ...(shown.after === null ? [] : beginsAgain(shown.after, names)),
   ];
   return { heading: `Alarm ${octal(number, 4)}: why`, lines, isAlarm: true };
 }
@@ -3828,8 +4171,8 @@ function replySentence(run, shown, names) {
     case Kind.ESTABLISHED: {
       const k = scene.sets.findIndex((it) => it?.number === step?.number);
       const job = scene.sets[k];
-      return [[`Job ${step?.number} begins at ${names.ofJob(job?.at ?? 0)}, in core set ${k}`
-        + `${job?.area ? ` with VAC area ${job.area}` : ""}. `
+      return [[`Job ${step?.number} is established at ${names.ofJob(job?.at ?? 0)}, in core set `
+        + `${k}${job?.area ? ` with VAC area ${job.area}` : ""}. `
         + (scene.running === step?.number ? "It runs." : "It waits.")]];
     }
     case Kind.NO_JOB: return [["No job is running, so there is none to act on."]];
@@ -3846,13 +4189,16 @@ function firedSentences({ step, scene, before }, names) {
   if (step === null || step.fired.length === 0) return [];
   const had = new Set(before?.sets.map((it) => it?.number ?? 0));
   const jobs = scene.sets.filter((it) => it !== null && !had.has(it.number))
-    .map((it) => `Job ${it?.number} begins at ${names.ofJob(it?.at ?? 0)}.`);
+    .map((it) => `Job ${it?.number} is established at ${names.ofJob(it?.at ?? 0)}.`);
   return [[`Due: the task ${step.fired.map((it) => names.ofTask(it)).join(", then ")}.`],
     ...jobs.map((it) => [it])];
 }
 
-function accountOf(run, shown, names, about = "") {
-  if (shown.row === 0) return accountOfBeginning(run, shown, names, about);
+
+function accountOf(run, shown, names, given = { about: "", count: 0, isHidden: false }) {
+  if (shown.row === 0 && given.isHidden) return accountOfQuestion(run);
+  if (shown.row === 0) return accountOfBeginning(run, shown, names, given);
+  if (shown.isAfter) return accountOfRestart(shown, names);
   if (shown.step !== null && shown.step.alarm !== 0) return accountOfAlarm(run, shown, names);
   const lines = [...replySentence(run, shown, names), ...firedSentences(shown, names)];
   if (shown.after !== null) lines.push(...beginsAgain(shown.after, names));
@@ -3867,16 +4213,18 @@ function sentenceOf(shown, count, names) {
   const at = `at ${seconds(shown.ticks)}`;
   const job = sets[0];
   const name = job === null ? undefined : names.job(job.at);
-"##;
-
-/// Part 5 of what stands before the data.
-pub(crate) const PART_5: &str = r##"  const runs = running === 0 ? "No job is running."
-    : `Job ${running} runs${name === undefined ? "" : `: ${name}`}.`;
+  const isOver = shown.after !== null && !shown.isAfter;
+  const runs = running === 0 ? `No job ${isOver ? "was" : "is"} running.`
+    : `Job ${running} ${isOver ? "ran" : "runs"}${name === undefined ? "" : `: ${name}`}.`;
+  const restart = `After the ${nameOfRestart(shown.line)} of request ${shown.row}`;
+  if (shown.isAfter) return `${restart}, ${at}. ${runs}`;
   return `${where}, ${at}: ${shown.line}. Reply: ${shown.reply}. ${runs}`;
 }
 return {
   Names,
   sinceOf,
+  nameOfRestart,
+  orderOf,
   accountOf,
   sentenceOf,
 };
@@ -4404,216 +4752,6 @@ return {
   writeBench,
 };
 })();
-const in_dom = (() => {
-function by(id) {
-  const found = document.getElementById(id);
-  if (found === null) throw new Error(`the page has no ${id}`);
-  return found;
-}
-
-function make(name, given = {}, ...children) {
-  const made = document.createElement(name);
-  for (const [key, value] of Object.entries(given)) {
-    if (value === undefined || value === null) continue;
-    if (key === "class") made.className = value;
-    else if (key.startsWith("on")) made.addEventListener(key.slice(2), value);
-    else if (key.includes("-") || key === "role" || key === "for") made.setAttribute(key, value);
-    else Object.assign(made, { [key]: value });
-  }
-  made.append(...children);
-  return made;
-}
-
-function withCode(text) {
-  return text.split("`").map((it, k) => (k % 2 === 1 ? make("code", {}, it) : it));
-}
-
-function fill(where, children) {
-  const parent = typeof where === "string" ? by(where) : where;
-  parent.replaceChildren(...children);
-}
-
-function button(text, run, given = {}) {
-  return make("button", { type: "button", onclick: run, ...given }, text);
-}
-
-function labelled(text, field) {
-  return make("label", {}, text, field);
-}
-
-function openDialog(heading, children) {
-  by("dialog-name").textContent = heading;
-  fill("dialog-body", children);
-  if (!by("dialog").open) by("dialog").showModal();
-  by("dialog").scrollTop = 0;
-}
-
-function closeDialog() {
-  if (by("dialog").open) by("dialog").close();
-}
-return {
-  by,
-  make,
-  withCode,
-  fill,
-  button,
-  labelled,
-  openDialog,
-  closeDialog,
-};
-})();
-const in_chart = (() => {
-const { by, fill, make } = in_dom;
-const { counted, octal, seconds } = in_words;
-const LANES = [
-  ...[{ name: "core sets", light: "#0072b2", dark: "#56b4e9" }],
-  ...[{ name: "VAC areas", light: "#009e73", dark: "#2fd3a3" }],
-  ...[{ name: "tasks", light: "#b35c00", dark: "#e69f00" }],
-  ...[{ name: "idle time", light: "#767676", dark: "#9a9a9a" }],
-];
-
-const MOST_WIDE = 2400;
-
-class Strip {
-  constructor(run, count, wide) {
-    this.run = run;
-    this.count = count;
-    this.wide = Math.max(1, Math.min(MOST_WIDE, wide));
-    this.isTime = run.ticksAt(count) >= 20;
-    this.end = Math.max(1, this.isTime ? run.ticksAt(count) : count);
-    this.most = LANES.map(() => new Float32Array(this.wide));
-    this.ticks = new Float32Array(this.wide);
-    for (let row = 0; row <= count; row++) this.add(row);
-    this.spread();
-  }
-
-  xOf(row) {
-    const place = this.isTime ? this.run.ticksAt(row) : row;
-    return Math.min(this.wide - 1, Math.floor((place * this.wide) / this.end));
-  }
-
-  add(row) {
-    const x = this.xOf(row);
-    const use = this.run.columns.uses.items[row];
-    const [sets, areas, tasks, idle] = this.most;
-    sets[x] = Math.max(sets[x], (use & 15) / this.run.sets);
-    areas[x] = Math.max(areas[x], ((use >> 4) & 15) / 5);
-    tasks[x] = Math.max(tasks[x], ((use >> 8) & 15) / 9);
-    idle[x] += use >> 12;
-    this.ticks[x] += 1;
-  }
-
-  spread() {
-    for (let x = 0; x < this.wide; x++) {
-      if (this.ticks[x] > 0) this.most[3][x] /= this.ticks[x];
-      else if (x > 0) for (const lane of this.most) lane[x] = lane[x - 1];
-    }
-  }
-
-  rowAt(part) {
-    const place = Math.round(part * this.end);
-    return this.isTime ? this.run.rowAtTime(place, this.count) : Math.min(this.count, place);
-  }
-
-  get text() {
-    const most = mostUsed(this.run, this.count);
-    return `Over ${this.isTime ? seconds(this.end) : counted(this.count, "request")}: at most `
-      + `${most[0]} of ${this.run.sets} core sets, ${most[1]} of 5 areas and ${most[2]} of 9 tasks `
-      + `at once; ${alarmsOf(this.run, this.count)}.`;
-  }
-}
-
-function mostUsed(run, count) {
-  const most = [0, 0, 0];
-  for (let row = 0; row <= count; row++) {
-    const use = run.columns.uses.items[row];
-    for (let k = 0; k < 3; k++) most[k] = Math.max(most[k], (use >> (4 * k)) & 15);
-  }
-  return most;
-}
-
-function alarmsOf(run, count) {
-  const alarms = run.alarms.filter((row) => row <= count);
-  if (alarms.length === 0) return "no alarm";
-  const first = alarms.length > 1 ? ", the first one" : ":";
-  return `${counted(alarms.length, "alarm")}${first} ${alarmAt(run, alarms[0])}`;
-}
-
-function outcomeOf(run, count) {
-  return `${alarmsOf(run, count)}; at most ${mostUsed(run, count)[0]} of ${run.sets} core sets`;
-}
-
-function alarmAt(run, row) {
-  const code = octal(run.columns.numbers.items[row], 4);
-  const time = run.ticksAt(row) > 0 ? ` at ${seconds(run.ticksAt(row))}` : "";
-  return `${code}, in request ${row}${time}`;
-}
-
-function drawStrip(strip, at) {
-  const canvas = by("chart");
-  const scale = window.devicePixelRatio || 1;
-  const [wide, high] = [canvas.clientWidth, canvas.clientHeight];
-  [canvas.width, canvas.height] = [Math.max(1, wide * scale), Math.max(1, high * scale)];
-  const pen = canvas.getContext("2d");
-  const isDark = matchMedia("(prefers-color-scheme: dark)").matches;
-  const ink = isDark ? "#eee" : "#111";
-  pen.scale(scale, scale);
-  const lane = high / LANES.length;
-  LANES.forEach((it, k) => {
-    pen.fillStyle = isDark ? it.dark : it.light;
-    for (let x = 0; x < strip.wide; x++) {
-      const tall = strip.most[k][x] * (lane - 3);
-      const left = Math.floor((x * wide) / strip.wide);
-      pen.fillRect(left, (k + 1) * lane - tall, Math.ceil(wide / strip.wide), tall);
-    }
-    pen.fillStyle = isDark ? "#444" : "#ccc";
-    pen.fillRect(0, (k + 1) * lane - 1, wide, 1);
-  });
-  drawAlarms(pen, strip, wide, high, isDark ? "#ff6b5b" : "#c00");
-  const x = (strip.xOf(at) * wide) / strip.wide;
-  pen.fillStyle = ink;
-  pen.fillRect(Math.min(wide - 2, x), 0, 2, high);
-  pen.beginPath();
-  pen.moveTo(x - 5, 0);
-  pen.lineTo(x + 7, 0);
-  pen.lineTo(x + 1, 8);
-  pen.fill();
-}
-
-function drawAlarms(pen, strip, wide, high, colour) {
-  pen.fillStyle = colour;
-  const tall = Math.round(0.85 * parseFloat(getComputedStyle(document.documentElement).fontSize));
-  pen.font = `bold ${tall}px system-ui, sans-serif`;
-  let free = -99;
-  for (const row of strip.run.alarms) {
-    if (row > strip.count) break;
-    const x = (strip.xOf(row) * wide) / strip.wide;
-    pen.fillRect(x, 0, 1.5, high);
-    if (x > free) {
-      const text = octal(strip.run.columns.numbers.items[row], 4);
-      pen.fillText(text, Math.min(x + 3, wide - 2.8 * tall), tall);
-      free = x + 3 * tall;
-    }
-  }
-}
-
-function drawLegend(strip) {
-  const isDark = matchMedia("(prefers-color-scheme: dark)").matches;
-  by("chart").setAttribute("aria-label", strip.text);
-  fill("legend", [...LANES.map((it) => {
-    const swatch = make("span", { class: "swatch" });
-    swatch.style.background = isDark ? it.dark : it.light;
-    return make("span", {}, swatch, it.name);
-  }), make("span", { id: "summary" }, strip.text)]);
-}
-return {
-  Strip,
-  outcomeOf,
-  alarmAt,
-  drawStrip,
-  drawLegend,
-};
-})();
 const in_clock = (() => {
 const { Clock } = in_machine;
 const { writeBench } = in_bench;
@@ -5006,25 +5144,30 @@ function download(name, text) {
   setTimeout(() => URL.revokeObjectURL(address), 1000);
 }
 
-function openOpening(document, open) {
+function openOpening({ document, question }, open) {
+  const isExercise = question !== "";
   const file = make("input", { type: "file", accept: ".toml,.txt", id: "file" });
   file.addEventListener("change", async () => {
     const [given] = file.files;
-    if (given !== undefined) open(textOf(await given.arrayBuffer()), given.name);
+    if (given !== undefined) open(textOf(await given.arrayBuffer()), given.name, false);
   });
+  const keep = make("input", { type: "checkbox", id: "keep-question", checked: isExercise });
   const area = make("textarea", { id: "pasted", spellcheck: false, "aria-label": "A document",
     maxLength: MOST_BYTES + 1, value: document });
-  const paste = () => open(area.value, "what was pasted");
+  const paste = () => open(area.value, "what was pasted", keep.checked);
   const pasted = button("Run it", paste, { id: "open-pasted" });
-  const begin = () => open("", "an empty bench");
+  const begin = () => open("", "an empty bench", false);
   openDialog("Open a bench or a scenario", [
     make("p", {}, make("label", {}, "A file: ", file)),
     make("p", {}, "Or change the document that is open, or paste another one over it. "
       + "A file may also be dropped on the page."), area,
+    make("p", { hidden: !isExercise }, make("label", {}, keep,
+      " This is still the exercise: keep its question on the page.")),
     make("p", {}, pasted, " ", button("Begin with an empty bench", begin, { id: "open-empty" })),
     make("p", { class: "wrong", id: "open-fault", role: "status" }),
   ]);
-  file.focus();
+  (isExercise ? area : file).focus();
+  area.setSelectionRange(0, 0);
 }
 
 function hearDrops(open) {
@@ -5082,7 +5225,7 @@ return {
 };
 })();
 const in_forms = (() => {
-const { button, closeDialog, fill, labelled, make, openDialog } = in_dom;
+const { button, by, closeDialog, fill, labelled, make, openDialog } = in_dom;
 const { FORMS, MEANINGS, octal } = in_words;
 const COMMON = ["tick", "change", "end", "novac", "findvac", "sleep", "rouse", "list", "prio",
   "store", "phase", "restart", "fresh"];
@@ -5144,17 +5287,31 @@ function openForm(word, bench, scene, ask) {
   fields[0]?.focus();
 }
 
+function drawTurns(run, at, ask) {
+  const { worker } = run.bench;
+  by("turns").hidden = worker.length === 0;
+  const old = [...by("turns").children];
+  const place = old.findIndex((it) => it === document.activeElement);
+  const counts = worker.length === 0 ? new Map() : run.counts(at);
+  fill("turns", worker.map(({ script }, k) => {
+    const name = `worker ${k + 1}`;
+    const line = script[counts.get(name) ?? 0];
+    const isDone = line === undefined;
+    return button(isDone ? `${name} has asked for all` : `${name}: ${line}`, () => ask(line, name),
+      { disabled: isDone });
+  }));
+  by("turns").children[place]?.focus();
+}
+
 function drawCommon(where, bench, scene, ask) {
   fill(where, COMMON.map((word) => {
     const wants = (FORMS.get(word)?.length ?? 0) > 0;
     const run = wants ? () => openForm(word, bench(), scene(), ask) : () => ask(word);
     return button(wants ? `${word} …` : word, run, { title: MEANINGS.get(word) });
-"##;
-
-/// Part 6 of what stands before the data.
-pub(crate) const PART_6: &str = r##"  }));
+  }));
 }
 return {
+  drawTurns,
   drawCommon,
 };
 })();
@@ -5218,14 +5375,17 @@ class History {
 
   exchange(k, at) {
     const [branch] = this.branches.splice(k, 1);
-    this.keep("for another");
+    this.keep("for another branch");
     this.show({ run: branch.run, count: branch.count, at: Math.min(at, branch.count) });
   }
 
   runToGoOn() {
     const { run, count, at } = this.now;
     if (at === count && count === run.count) return run;
-    if (at < count) this.keep("to go on otherwise");
+"##;
+
+/// Part 6 of what stands before the data.
+pub(crate) const PART_6: &str = r##"    if (at < count) this.keep("to ask something else");
     return run.fork(at);
   }
 }
@@ -5283,10 +5443,10 @@ function lineOf(shown, run, names) {
       make("td", k === 3 && isAlarm ? { class: "alarm" } : {}, it)));
 }
 
-function drawList(run, at, count, names, go) {
+function drawList(run, at, count, names, { go, veiled }) {
   const from = Math.max(0, Math.min(at - AROUND, count - 2 * AROUND));
   const rows = run.show(from, Math.min(count, from + 2 * AROUND)).map((it) => {
-    const line = lineOf(it, run, names);
+    const line = lineOf(veiled(it), run, names);
     if (it.row === at) line.setAttribute("aria-current", "true");
     line.addEventListener("click", () => go(it.row));
     return line;
@@ -5558,6 +5718,7 @@ return {
 };
 })();
 const in_tables = (() => {
+const { nameOfRestart } = in_account;
 const { by, fill, make } = in_dom;
 const { octal, wordName } = in_words;
 function box(name, strong, more, style, isNew) {
@@ -5643,13 +5804,22 @@ function drawWords(words) {
     make("td", {}, octal(word, 5)), make("td", {}, wordName(k)))));
 }
 
+function drawHeadings({ isAfter, line }) {
+  const more = isAfter ? `, after the ${nameOfRestart(line)}` : "";
+  for (const [id, name] of [["sets", "Core sets"], ["areas", "VAC areas"], ["tasks", "Waitlist"]]) {
+    by(`${id}-name`).textContent = `${name}${more}`;
+  }
+  by("sets").parentElement.classList.toggle("after", isAfter === true);
+}
+
 function drawTables(shown, names) {
   const { scene, last } = shown;
+  drawHeadings(shown);
   drawSets("sets", scene, last, names);
   drawAreas(scene, last);
   drawTasks(scene, shown.tasksSince, shown.row, names);
   drawBase(scene, last);
-  markFull(shown.step?.alarm ?? 0);
+  markFull(shown.isAfter ? 0 : shown.step?.alarm ?? 0);
   drawWords(shown.words);
 }
 return {
@@ -5800,6 +5970,7 @@ return {
 };
 })();
 const in_tries = (() => {
+const { nameOfRestart } = in_account;
 const { visible } = in_words;
 const MOST_EVENTS = 2;
 
@@ -5840,27 +6011,35 @@ function atAlarm(workbench, shown) {
   return found;
 }
 
+function atRestart(workbench, shown) {
+  if (shown.after === null) return [];
+  const name = nameOfRestart(shown.line);
+  return [shown.isAfter ? [`Before the ${name}`, () => workbench.go(shown.row)]
+    : [`After the ${name}`, () => workbench.goAfter()]];
+}
+
 function tries(workbench, shown) {
-  if (workbench.isHidden) return [];
-  if (shown.row === 0) return atBeginning(workbench, shown);
-  return shown.step !== null && shown.step.alarm !== 0 ? atAlarm(workbench, shown) : [];
+  if (shown.row === 0) return workbench.isHidden ? [] : atBeginning(workbench, shown);
+  const isAlarm = shown.step !== null && shown.step.alarm !== 0 && !shown.isAfter;
+  const more = isAlarm && !workbench.isHidden ? atAlarm(workbench, shown) : [];
+  return [...atRestart(workbench, shown), ...more];
 }
 return {
   tries,
 };
 })();
 const { start } = in_machine;
-const { Names, accountOf, sentenceOf } = in_account;
-const { countOf, emptyBench, readBench, requestsOf } = in_bench;
+const { Names, accountOf, orderOf, sentenceOf } = in_account;
+const { countOf, emptyBench, readBench, requestsOf, writeBench } = in_bench;
 const { Strip, drawLegend, drawStrip, outcomeOf } = in_chart;
 const { ClockPanel } = in_clock;
 const { button, by, closeDialog, fill, make, openDialog, withCode } = in_dom;
 const files = in_files;
-const { drawCommon } = in_forms;
+const { drawCommon, drawTurns } = in_forms;
 const { History, parting } = in_history;
 const { drawList, drawPrinted } = in_list;
 const { openPlan } = in_plan;
-const { MOST_ASKED, Run } = in_run;
+const { MOST_ASKED, NO_SOURCE, Run, afterOf } = in_run;
 const { HELP } = in_help;
 const { drawSets, drawTables, drawWords } = in_tables;
 const { Prompt, completions } = in_typing;
@@ -5873,11 +6052,10 @@ class Workbench {
     this.clock = new ClockPanel(this);
     this.history = new History({ run: this.clock.runOf(emptyBench(), []), count: 0, at: 0 });
     this.names = new Names(emptyBench());
-    this.document = "";
-    this.opened = this.view.run;
+    this.restarted = { run: this.view.run, at: -1 };
+    this.drawn = { source: NO_SOURCE, isHidden: false };
     this.outcome = "";
     this.beside = null;
-    this.isHidden = false;
     this.kept = files.keptTexts(by("kept").textContent.trim());
     this.prompt = new Prompt((line) => this.ask(line, "you"), (typed) =>
       completions(typed, this.view.run.bench, this.scene));
@@ -5895,39 +6073,69 @@ class Workbench {
     return shown.after ?? shown.scene;
   }
 
-  open(text, name, question = "") {
-    let bench;
+  get source() {
+    return this.view.run.source;
+  }
+
+  get isHidden() {
+    return this.source.isHidden;
+  }
+
+  get shown() {
+    const { run, at } = this.view;
+    const [shown] = run.show(at, at);
+    const isAfter = this.restarted.run === run && this.restarted.at === at;
+    return isAfter ? afterOf(shown) : this.veiled(shown);
+  }
+
+  veiled(shown) {
+    const { run, at } = this.view;
+    if (!this.isHidden || at > 0 || run.bench.power === undefined) return shown;
+    const [plain] = new Run({ ...run.bench, power: undefined }).show(0, 0);
+    return { ...plain, line: shown.line, reply: "not shown yet" };
+  }
+
+  open(text, name, source = NO_SOURCE) {
     try {
-      bench = readBench(text);
-      const about = question === "" ? visible(files.questionOf(text)).replaceAll("\n", " ") : "";
-      this.begin(bench, files.firstSentence(text) || name, about);
+      const bench = readBench(text);
+      const isOwn = source.question === "";
+      const about = isOwn ? visible(files.questionOf(text)).replaceAll("\n", " ") : "";
+      const title = isOwn ? files.firstSentence(text) || name : source.question.split("\n")[0];
+      this.begin(bench, title, about, { ...source, document: text });
     } catch (fault) {
       this.tellFault(`This can't be opened. ${/** @type {Error} */ (fault).message}`);
       return false;
     }
-    this.document = text;
-    this.opened = this.view.run;
-    this.hide(visible(question));
     closeDialog();
     return true;
   }
 
-  hide(question) {
-    this.isHidden = question !== "";
-    by("question").hidden = !this.isHidden;
-    fill("question", this.isHidden ? this.exercise(question.split("\n")) : []);
-    this.drawAll();
+  drawQuestion() {
+    const { source, drawn } = this;
+    by("question").hidden = source.question === "";
+    if (drawn.source === source && drawn.isHidden === source.isHidden) return;
+    this.drawn = { source, isHidden: source.isHidden };
+    fill("question", source.question === "" ? [] : this.exercise(source));
   }
 
-  exercise([_title, ...lines]) {
+  exercise({ question, document, exercise, isHidden, isChanged }) {
+    const [, ...lines] = question.split("\n");
+    const parts = document.trim().split(/\n\n+/);
+    const order = isHidden ? "" : orderOf(this.view.run.bench);
     const answer = button("Show what happens", () => {
-      this.isHidden = false;
-      by("show-answer").remove();
+      this.source.isHidden = false;
       this.drawAll();
     }, { id: "show-answer" });
-    const asked = files.withoutQuestion(this.document);
-    return [make("p", {}, ...withCode(lines.join(" "))),
-      make("pre", { tabIndex: 0, "aria-label": "The document" }, asked), answer];
+    return [
+      make("p", {}, ...withCode(lines.join(" "))),
+      make("div", { class: "parts", role: "group", "aria-label": "The document" },
+        ...parts.map((it) => make("pre", {}, it))),
+      ...(order === "" ? [] : [make("p", { id: "order" }, order)]),
+      make("div", { class: "steps" }, ...(isHidden ? [answer] : []),
+        button("Change it", this.actions().open, { id: "change-exercise" }),
+        ...(isChanged ? [button("Back to the exercise as it was", () => this.openKept(exercise),
+          { id: "exercise-again" }), "You have changed this exercise."] : [])),
+    ];
   }
 
   tellFault(said) {
@@ -5937,14 +6145,14 @@ class Workbench {
     else openDialog("It isn't opened", [make("p", { class: "wrong", id: "fault" }, text)]);
   }
 
-  begin(bench, name, about) {
+  begin(bench, name, about, source) {
     const count = countOf(bench);
     if (count > MOST_ASKED) {
       throw new Error(`It asks for ${counted(count, "request")}; this page takes at most `
         + `${counted(MOST_ASKED, "request")}.`);
     }
     const run = this.clock.runOf(bench, requestsOf(bench));
-    Object.assign(run, { title: visible(bench.title ?? name), about });
+    Object.assign(run, { title: visible(bench.title ?? name), about, source: { ...source, run } });
     this.beside = null;
     this.outcome = "";
     this.history.show({ run, count: run.count, at: 0 });
@@ -5967,7 +6175,25 @@ class Workbench {
 
   go(row) {
     this.history.now = { ...this.view, at: Math.max(0, Math.min(row, this.view.count)) };
+    this.restarted.at = -1;
     this.drawRow();
+  }
+
+  goAfter() {
+    const { run, at } = this.view;
+    this.restarted = { run, at };
+    this.drawRow();
+  }
+
+  goNext() {
+    const { at, count } = this.view;
+    const { after, isAfter } = this.shown;
+    if (at === count && after !== null && !isAfter) this.goAfter();
+    else if (!isAfter || at < count) this.go(at + 1);
+  }
+
+  goBack() {
+    this.go(this.view.at - (this.shown.isAfter ? 0 : 1));
   }
 
   seek(holds, step, what) {
@@ -5988,7 +6214,7 @@ class Workbench {
   goTyped() {
     const text = by("go").value.trim();
     const found = /^([0-9]+(?:\.[0-9]+)?) ?(s?)$/.exec(text);
-    if (found === null) this.say("Go to a request by its number, as 20, or to a time, as 38.01 s.");
+    if (found === null) this.say("Type the number of a request (20), or a time (38.01 s).");
     else if (found[2] === "s" || found[1].includes(".")) {
       this.go(this.view.run.rowAtTime(Math.round(Number(found[1]) * 100), this.view.count));
     } else this.go(Number(found[1]));
@@ -5997,6 +6223,7 @@ class Workbench {
   drawAll() {
     const { run, count } = this.view;
     this.names = new Names(run.bench);
+    this.drawQuestion();
     by("title").textContent = run.title;
     document.title = `${run.title} - AGC workbench`;
     by("slider").max = String(count);
@@ -6014,15 +6241,18 @@ class Workbench {
 
   drawRow() {
     const { run, count, at } = this.view;
-    const [shown] = run.show(at, at);
+    const { shown } = this;
     drawTables(shown, this.names);
     this.drawAccount(shown);
     this.drawBeside(at);
-    drawList(run, at, this.isHidden ? at : count, this.names, (row) => this.go(row));
+    drawTurns(run, at, (line, who) => this.ask(line, who));
+    drawList(run, at, this.isHidden ? at : count, this.names, {
+      go: (row) => this.go(row), veiled: (it) => this.veiled(it),
+    });
     by("slider").value = String(at);
     by("slider").setAttribute("aria-valuetext", `request ${at} of ${count}`);
     by("sentence").textContent = sentenceOf(shown, count, this.names);
-    by("sentence").className = shown.reply.includes("alarm") ? "alarm" : "";
+    by("sentence").className = !shown.isAfter && shown.reply.includes("alarm") ? "alarm" : "";
     const isWhole = at === 0 || this.clock.isWhole;
     const from = isWhole ? "the beginning" : run.ticksAt(at) > 0 ? seconds(run.ticksAt(at))
       : `request ${at}`;
@@ -6037,12 +6267,15 @@ class Workbench {
 
   drawAccount(shown) {
     const { run } = this.view;
-    const account = accountOf(run, shown, this.names, run.about);
+    const { about } = run;
+    const account = accountOf(run, shown, this.names,
+      { about, count: this.view.count, isHidden: this.isHidden });
     fill("try", tries(this, shown).map(([text, change]) => button(text, change)));
     by("try").hidden = by("try").children.length === 0;
     by("told").classList.toggle("alarm", account.isAlarm);
     by("told-name").textContent = account.heading;
-    const who = shown.who === "nobody" ? [] : [[`Asked by ${shown.who}.`]];
+    const isAsked = shown.who !== "nobody" && !shown.isAfter;
+    const who = isAsked ? [[`Asked by ${shown.who}.`]] : [];
     fill("account", [...account.lines, ...who].map((line) =>
       make("li", {}, ...line.map((it) => this.piece(it)))));
     by("account").scrollTop = 0;
@@ -6050,6 +6283,7 @@ class Workbench {
 
   piece(piece) {
     if (typeof piece === "string") return piece;
+    if (piece.isProse) return make("span", {}, ...withCode(piece.text));
     const href = piece.part ? `#${piece.part}-name` : `#${piece.row}`;
     const link = make("a", { href }, piece.text);
     link.addEventListener("click", (/** @type {Event} */ event) => {
@@ -6075,7 +6309,7 @@ class Workbench {
 
   drawBranches() {
     const { branches } = this.history;
-    by("branches-box").hidden = branches.length === 0;
+    by("branches-box").hidden = branches.length === 0 || this.isHidden;
     fill("branches", branches.map((it, k) => make("li", {},
       `${it.name}: ${counted(it.count, "request")}, ${counted(it.run.alarms.filter((row) =>
         row <= it.count).length, "alarm")}; differs from request ${parting(this.view, it)} on. `,
@@ -6110,7 +6344,8 @@ class Workbench {
       const { run, count, at } = this.view;
       const asked = bench.seconds === undefined ? run.requests(count) : [];
       const made = this.clock.runOf(bench, asked);
-      Object.assign(made, { title: visible(bench.title ?? run.title), about: run.about });
+      const source = { ...run.source, document: writeBench(bench), run: null, isChanged: true };
+      Object.assign(made, { title: visible(bench.title ?? run.title), about: run.about, source });
       this.keepOutcome();
       this.history.keep("as the plan was changed");
       this.history.show({ run: made, count: made.count, at: Math.min(at, made.count) });
@@ -6133,21 +6368,22 @@ class Workbench {
     const isTimed = run.bench.seconds !== undefined;
     const isMore = run.changes.length > 0 || count < run.count || run.who.some((it) =>
       it.startsWith("you") || (!isTimed && it === "the clock"));
-    const isOpened = run === this.opened && this.document !== "" && !isMore;
-    const exercise = isOpened && this.kept.find((it) => it.text === this.document);
-    const mark = exercise ? `#${exercise.name}`
-      : await files.markOf(isOpened ? this.document : whole).catch(() => "");
+    const { source } = run;
+    const isOpened = run === source.run && source.document !== "" && !isMore;
+    const kept = isOpened && !source.isChanged && this.kept.find((it) =>
+      it.text === source.document || it.name === source.exercise);
+    const mark = kept ? `#${kept.name}`
+      : await files.markOf(isOpened ? source.document : whole).catch(() => "");
     const area = make("textarea", { readOnly: true, value: bench, "aria-label": "The bench" });
     const link = make("input", { type: "text", readOnly: true, "aria-label": "The link",
       value: mark.length > 8000 ? "" : `${location.href.split("#")[0]}${mark}` });
     openDialog("Save", [
-      make("p", {}, "This bench asks for what was asked up to the last row, and agc serial comes "
-        + "to the same tables."), area,
+      make("p", {}, "This bench has all requests up to the last row: agc serial comes to the same "
+        + "tables with it."), area,
       make("p", {}, button("Save the bench", () => files.download("bench.toml", bench)), " ",
         ...(whole === bench ? [] : [button("Save the scenario", () =>
           files.download("scenario.toml", whole))])),
-      make("p", {}, link.value === "" ? "It is too long for a link." : "A link that carries it: ",
-        link),
+      make("p", {}, link.value === "" ? "It is too long for a link." : "A link to it: ", link),
     ]);
   }
 
@@ -6176,14 +6412,15 @@ class Workbench {
     const { run } = this.view;
     return {
       ...{ first: () => this.go(0), last: () => this.go(this.view.count) },
-      ...{ back: () => this.go(this.view.at - 1), next: () => this.go(this.view.at + 1) },
+      ...{ back: () => this.goBack(), next: () => this.goNext() },
       "alarm-next": () => this.seek((row) => run.isAlarm(row), 1, "alarm"),
       "alarm-back": () => this.seek((row) => run.isAlarm(row), -1, "alarm"),
       "change-next": () => this.seek((row) => run.isChange(row), 1, "change"),
       "change-back": () => this.seek((row) => run.isChange(row), -1, "change"),
       ...{ undo: () => this.undo(), redo: () => this.redo(), plan: () => this.openPlan() },
       save: () => this.openSave(),
-      open: () => files.openOpening(this.document, (text, name) => this.open(text, name)),
+      open: () => files.openOpening(this.source, (text, name, isExercise) =>
+        this.open(text, name, isExercise ? this.changedTo(text) : NO_SOURCE)),
       examples: () => files.openExamples(this.kept, (name) => this.openKept(name)),
       help: () => openDialog("Help", HELP()),
       ...this.clock.actions(),
@@ -6208,10 +6445,7 @@ class Workbench {
       const box = by("chart").getBoundingClientRect();
       if (this.strip) this.go(this.strip.rowAt((event.clientX - box.left) / box.width));
     });
-    by("words-box").addEventListener("toggle", () => {
-      const [shown] = this.view.run.show(this.view.at, this.view.at);
-      drawWords(shown.words);
-    });
+    by("words-box").addEventListener("toggle", () => drawWords(this.shown.words));
     document.addEventListener("keydown", (event) => this.key(event));
     window.addEventListener("resize", () => this.drawRow());
     window.addEventListener("beforeprint", () => this.print());
@@ -6244,8 +6478,17 @@ class Workbench {
   openKept(name) {
     const kept = this.kept.find((it) => it.name === name);
     if (kept === undefined) return false;
-    const question = kept.kind === "exercise" ? files.questionOf(kept.text) : "";
-    return this.open(kept.text, kept.name, question);
+    if (kept.kind !== "exercise") return this.open(kept.text, name);
+    const question = visible(files.questionOf(kept.text));
+    const source = { ...NO_SOURCE, exercise: name, question, isHidden: true };
+    return this.open(files.withoutQuestion(kept.text), name, source);
+  }
+
+  changedTo(text) {
+    const { source } = this;
+    const kept = this.kept.find((it) => it.name === source.exercise)?.text ?? "";
+    const isChanged = text.trim() !== files.withoutQuestion(kept).trim();
+    return { ...source, isHidden: false, isChanged };
   }
 
   async fromAddress() {
