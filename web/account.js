@@ -214,7 +214,7 @@ function accountOfRestart({ line, scene }, names) {
   const all = everyone(scene, names);
   const lines = [
     [`All jobs and tasks from before are gone. The phases are ${scene.phases.join(" ")}.`],
-    [all.length === 0 ? "By these nothing begins again." : "By these there begin again:"],
+    [all.length === 0 ? "Nothing begins again." : "These begin again:"],
     ...all.map((it) => [it]),
   ];
   return { heading: `After the ${nameOfRestart(line)}`, lines, isAlarm: false };

@@ -110,7 +110,7 @@ export class ClockPanel {
   }
 
   /**
-   * What the clock would ask for next, of which it doesn't know.
+   * What the clock would ask for next: a copy of it is asked, so that it doesn't go on.
    * @param {Run} run
    * @returns {string | undefined}
    */

@@ -32,7 +32,8 @@ export function make(name, given = {}, ...children) {
 }
 
 /**
- * The parts of a text: what stands between backquotes is code, and between asterisks, emphasized.
+ * The parts of a text: code is between backquotes, and what is emphasized between
+ * asterisks.
  * @param {string} text
  * @returns {(Node | string)[]}
  */

@@ -149,7 +149,7 @@ export function openOpening({ document, question }, open) {
   openDialog("Open a bench or a scenario", [
     make("p", {}, make("label", {}, "A file: ", file)),
     make("p", {}, "Or change the document that is open, or paste another one over it. "
-      + "A file may also be dropped on the page."), area,
+      + "You can also drop a file on the page."), area,
     make("p", { hidden: !isExercise }, make("label", {}, keep,
       " This is still the exercise: keep its question on the page.")),
     make("p", {}, pasted, " ", button("Begin with an empty bench", begin, { id: "open-empty" })),

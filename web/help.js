@@ -15,7 +15,8 @@ const TABLES = [
     + "set 0"],
   ["VAC areas", "a job that findvac establishes also holds one of these"],
   ["Waitlist", "tasks: short programs that begin at a set time, and may establish jobs"],
-  ["Phases", "what each of six restart groups begins again with after an alarm"],
+  ["Phases", "how far each of six restart groups has come: this says what begins again after an "
+    + "alarm"],
   ["FAILREG", "the codes of alarms: the first, the second and the latest"],
   ["NEWJOB", "the job that is more urgent than the running one, if any"],
 ];
@@ -23,11 +24,11 @@ const TABLES = [
 /**
  * Words and what they mean.
  * @param {string[][]} rows
- * @param {(word: string) => any[]} told
+ * @param {(word: string) => any[]} spelled how a word is written
  */
-function listOf(rows, told) {
+function listOf(rows, spelled) {
   return make("dl", { class: "keys" }, ...rows.flatMap(([word, what]) =>
-    [make("dt", {}, ...told(word)), make("dd", {}, what)]));
+    [make("dt", {}, ...spelled(word)), make("dd", {}, what)]));
 }
 
 export function HELP() {
@@ -36,15 +37,16 @@ export function HELP() {
   return [
     make("p", {}, "This page runs the proved job tables of the Apollo Guidance Computer: the "
       + "Executive's jobs, the Waitlist's tasks and the phases of the restart. Type a request, or "
-      + "take an example, and step through what comes of it."),
-    make("p", {}, "Each request is a row. What is typed at an earlier row goes on from there, and "
-      + "what stood behind it is kept as a branch. A box with a corner isn't as it was in the row "
-      + "before. Colours are the jobs' numbers."),
-    make("p", {}, "The clock lets centiseconds pass: jobs with a cost end when they have had it, "
-      + "and stolen time is taken away from them. The numbers can be changed while it runs."),
-    make("p", {}, "An alarm comes when one more is asked for and the table is full: 1201 areas, "
+      + "open an example, and step through what happens."),
+    make("p", {}, "Each request is a row. If you type a request at an earlier row, the run goes on "
+      + "from there, and the rows that came after it are kept as a branch. A box with an orange "
+      + "corner has changed since the row before. Each job number has its own colour."),
+    make("p", {}, "The clock lets centiseconds pass. A job with a cost ends when it has run for "
+      + "that long, and stolen time is taken away from the jobs. You can change these numbers while "
+      + "the clock runs."),
+    make("p", {}, "An alarm comes when a request needs a place and the table is full: 1201 areas, "
       + "1202 core sets, 1203 the Waitlist. Then all jobs and tasks are gone, and the phases say "
-      + "what begins again."),
+      + "what begins again. The button After the restart shows the tables with that."),
     make("h3", {}, "Tables"), listOf(TABLES, (it) => [it]),
     make("h3", {}, "Keys"), keys,
     make("h3", {}, "Requests"), listOf(requests, (it) => [make("code", {}, it)]),

@@ -275,7 +275,7 @@ class Workbench {
     const isWhole = at === 0 || this.clock.isWhole;
     const from = isWhole ? "the beginning" : run.ticksAt(at) > 0 ? seconds(run.ticksAt(at))
       : `request ${at}`;
-    by("since").textContent = `A change here holds from ${from} on.`;
+    by("since").textContent = `A change here takes effect from ${from} on.`;
     by("whole-box").hidden = run.bench.seconds === undefined;
     by("undo").disabled = this.history.done.length === 0;
     by("redo").disabled = this.history.undone.length === 0;
@@ -325,7 +325,7 @@ class Workbench {
       : other.run.rowAtTime(run.ticksAt(at), other.count);
     const [shown] = other.run.show(row, row);
     const said = `request ${row}, ${shown.reply}. In all ${outcomeOf(other.run, other.count)}`;
-    by("beside-name").textContent = `Beside it, ${other.name}: ${said}.`;
+    by("beside-name").textContent = `For comparison, ${other.name}: ${said}.`;
     drawSets("beside-sets", shown.scene, shown.last, this.names);
   }
 
@@ -338,7 +338,7 @@ class Workbench {
       button("Show it", () => {
         this.history.exchange(k, this.view.at);
         this.drawAll();
-      }), " ", button("Beside", () => this.compare(it)))));
+      }), " ", button("Compare", () => this.compare(it)))));
   }
 
   /** @param {{ run: Run, count: number, name: string }} other */
@@ -377,8 +377,8 @@ class Workbench {
       closeDialog();
       this.drawAll();
     });
-    const other = this.view.run.sets === 7 ? "Eight core sets beside" : "Seven core sets beside";
-    const name = this.beside === null ? other : "Nothing beside";
+    const other = `Compare with ${this.view.run.sets === 7 ? "eight" : "seven"} core sets`;
+    const name = this.beside === null ? other : "Stop comparing";
     by("dialog-body").prepend(make("p", {}, button(name, () => {
       if (this.beside === null) this.compareSets();
       else this.compare(this.beside);

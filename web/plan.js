@@ -18,9 +18,9 @@ const LABELS = {
 };
 
 const HEADINGS = {
-  ...{ task: "Tasks: what is done when they fire", job: "Jobs: what they cost" },
+  ...{ task: "Tasks: what is done when they fire", job: "Jobs: how much time they need" },
   ...{ phase: "Phases: what begins again while a group is in one" },
-  ...{ event: "Events: what is asked when" },
+  ...{ event: "Events: what is asked for, and when" },
 };
 
 /** Fields with several lines. */
@@ -181,7 +181,7 @@ export function openPlan(bench, apply) {
   draw(bench);
   openDialog("Plan", [make("p", {}, make("label", {}, timed,
     " Jobs take time (a scenario: seconds, stolen time, costs, events)")), body, said,
-  make("p", {}, button("Apply, and run anew", () => {
+  make("p", {}, button("Apply, and run again", () => {
     try {
       apply(checked(read(), isScenario));
     } catch (fault) {

@@ -48,7 +48,7 @@ function atAlarm(workbench, shown) {
   const { bench } = run;
   const found = [/** @type {Try} */ (["The row before", () => workbench.go(shown.row - 1)])];
   if (shown.step?.number === 0o1202 && run.sets === 7) {
-    const name = workbench.beside === null ? "With eight core sets?" : "Nothing beside";
+    const name = workbench.beside === null ? "With eight core sets?" : "Stop comparing";
     found.push([name, () => {
       if (workbench.beside === null) workbench.compareSets();
       else workbench.compare(workbench.beside);

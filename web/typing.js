@@ -52,7 +52,7 @@ export function completions(typed, bench, scene) {
 export function hintOf(typed) {
   const words = typed.split(" ");
   const parts = FORMS.get(words[0]);
-  if (parts === undefined) return "A request, as in a script. Down offers all of them.";
+  if (parts === undefined) return "A request, as in a script. The down arrow lists all kinds.";
   const part = words.length > 1 ? parts[words.length - 2] : undefined;
   const more = part === undefined ? MEANINGS.get(words[0]) : part.sentence;
   return `${formOf(words[0])}: ${more}`;

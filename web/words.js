@@ -80,7 +80,7 @@ export const MEANINGS = new Map([
   ["findvac", "establish a job with a VAC area"],
   ["end", "end the running job"],
   ["sleep", "put the running job to sleep"],
-  ["rouse", "awaken a sleeper of an address"],
+  ["rouse", "wake a job that sleeps at an address"],
   ["prio", "set the running job's priority"],
   ["change", "change to a more urgent job"],
   ["store", "set a work word of the running job"],

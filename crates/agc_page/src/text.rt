@@ -7,7 +7,7 @@ pub(crate) const PART_1: &str = r##"<!DOCTYPE html>
 <meta charset="utf-8">
 <meta http-equiv="Content-Security-Policy" content="default-src 'none';
 base-uri 'none'; form-action 'none';
-script-src 'sha256-Im2nBLhno5I15DfdHYOEdWoiBp5M4El6+MjEWV/9DAs=' 'wasm-unsafe-eval';
+script-src 'sha256-PTocVlknTR5Z5/KiIGZ3h6AjJQ8HBIRy4/jwxRS6cas=' 'wasm-unsafe-eval';
 style-src 'sha256-rV1ymy+qtB1umjGIdnEQmKxL5NCHrH1wu03nQPevj4Y='">
 <meta name="viewport" content="width=device-width, initial-scale=1">
 <meta name="color-scheme" content="light dark">
@@ -329,7 +329,7 @@ autocapitalize="off" spellcheck="false" placeholder="findvac 20 02000 00005" max
 <button type="button" id="event" title="To the next event or change (n)">Next event</button>
 <label>Speed <select id="speed"></select></label></div>
 <p class="since"><label id="whole-box"><input type="checkbox" id="whole">
-From the beginning.</label> <span id="since"></span></p>
+Change it from the beginning.</label> <span id="since"></span></p>
 <div class="sliders" id="sliders"></div>
 </section>
 </div>
@@ -1504,11 +1504,11 @@ ADYAACADQrACfCQADAELAAtBACQBC70EAgV/BX4QAARAAAsjAEKwAn0iCSQA
 IACnAn8CQAJAIAkiCEIQUw0AQoQBIQsCQAJAAkACQCACQQdrDgIBAAILQQEh
 BEKQASELCyAIpyAEOgAOIAhCDnxCAYSnQQBBoQL8CwAgC0IBhiEMA0AgASAK
 fCIJQgZ8py8BACIEIAlCBHynLwEAIgUgCUICfKcvAQAiByAJpy8BACIGIANB
+//8DcSIDIAMgBkkbIgMgAyAHSRsiAyADIAVJGyIDIAMgBEkbwSEDIAwgCkII
 "##;
 
 /// Part 3 of what stands before the data.
-pub(crate) const PART_3: &str = r##"//8DcSIDIAMgBkkbIgMgAyAHSRsiAyADIAVJGyIDIAMgBEkbwSEDIAwgCkII
-fCIKUg0AC0EAIQQgA0EASA0BIAtCAYYiCVBFBEAgCEIQfKcgAacgCaf8CgAA
+pub(crate) const PART_3: &str = r##"fCIKUg0AC0EAIQQgA0EASA0BIAtCAYYiCVBFBEAgCEIQfKcgAacgCaf8CgAA
 CwJAAkAgCEIOfBABRQ0AIAhCDnwQA0UNACAIQg58EAQNAQtBAyEDDAQLQQAh
 BSAIQg58p0EAQaIC/AsAIAinIAJBB0ciAzoADiAIQhB8IQlCiAJCoAIgAkEH
 RhsiClBFBEAgCacgAacgCqf8CgAAC0EGIQQCQCAIpy8BJiIHQf//AEsNACAJ
@@ -2678,12 +2678,12 @@ class Lent {
     this.rowCount = BigInt(rows.length);
     this.entries = to.plan + BigInt(rows.length * ROW);
     this.entryCount = BigInt(entries.length);
+    this.lend();
+    served(calls.agc_plan_check(this.rows, this.rowCount, this.entries, this.entryCount));
 "##;
 
 /// Part 4 of what stands before the data.
-pub(crate) const PART_4: &str = r##"    this.lend();
-    served(calls.agc_plan_check(this.rows, this.rowCount, this.entries, this.entryCount));
-  }
+pub(crate) const PART_4: &str = r##"  }
 
   lend() {
     reach(at.plan + this.numbers.byteLength);
@@ -3295,7 +3295,7 @@ const MEANINGS = new Map([
   ["findvac", "establish a job with a VAC area"],
   ["end", "end the running job"],
   ["sleep", "put the running job to sleep"],
-  ["rouse", "awaken a sleeper of an address"],
+  ["rouse", "wake a job that sleeps at an address"],
   ["prio", "set the running job's priority"],
   ["change", "change to a more urgent job"],
   ["store", "set a work word of the running job"],
@@ -4079,7 +4079,7 @@ function accountOfRestart({ line, scene }, names) {
   const all = everyone(scene, names);
   const lines = [
     [`All jobs and tasks from before are gone. The phases are ${scene.phases.join(" ")}.`],
-    [all.length === 0 ? "By these nothing begins again." : "By these there begin again:"],
+    [all.length === 0 ? "Nothing begins again." : "These begin again:"],
     ...all.map((it) => [it]),
   ];
   return { heading: `After the ${nameOfRestart(line)}`, lines, isAlarm: false };
@@ -4102,12 +4102,12 @@ function brokenPairs(power) {
   const lines = [];
   for (let k = 0; k < 6; k++) {
     const [turned, plain] = power.slice(2 * k, 2 * k + 2).map((it) => parseInt(it, 8));
+    if (turned !== 0o77777 - plain) {
+      const pair = `${octal(turned, 5)} is not the complement of ${octal(plain, 5)}`;
 "##;
 
 /// Part 5 of what stands before the data.
-pub(crate) const PART_5: &str = r##"    if (turned !== 0o77777 - plain) {
-      const pair = `${octal(turned, 5)} is not the complement of ${octal(plain, 5)}`;
-      lines.push([`group ${k + 1}: ${pair}`]);
+pub(crate) const PART_5: &str = r##"      lines.push([`group ${k + 1}: ${pair}`]);
     } else if (plain > 127) {
       lines.push([`group ${k + 1}: phase ${plain} is above 127`]);
     }
@@ -5160,7 +5160,7 @@ function openOpening({ document, question }, open) {
   openDialog("Open a bench or a scenario", [
     make("p", {}, make("label", {}, "A file: ", file)),
     make("p", {}, "Or change the document that is open, or paste another one over it. "
-      + "A file may also be dropped on the page."), area,
+      + "You can also drop a file on the page."), area,
     make("p", { hidden: !isExercise }, make("label", {}, keep,
       " This is still the exercise: keep its question on the page.")),
     make("p", {}, pasted, " ", button("Begin with an empty bench", begin, { id: "open-empty" })),
@@ -5382,17 +5382,17 @@ class History {
   runToGoOn() {
     const { run, count, at } = this.now;
     if (at === count && count === run.count) return run;
-"##;
-
-/// Part 6 of what stands before the data.
-pub(crate) const PART_6: &str = r##"    if (at < count) this.keep("to ask something else");
+    if (at < count) this.keep("to ask something else");
     return run.fork(at);
   }
 }
 
 function parting(one, other) {
   const most = Math.min(one.count, other.count);
-  for (let row = 1; row <= most; row++) {
+"##;
+
+/// Part 6 of what stands before the data.
+pub(crate) const PART_6: &str = r##"  for (let row = 1; row <= most; row++) {
     const same = one.run.lines[row] === other.run.lines[row]
       && one.run.columns.uses.items[row] === other.run.columns.uses.items[row]
       && one.run.columns.numbers.items[row] === other.run.columns.numbers.items[row];
@@ -5526,9 +5526,9 @@ const LABELS = {
 };
 
 const HEADINGS = {
-  ...{ task: "Tasks: what is done when they fire", job: "Jobs: what they cost" },
+  ...{ task: "Tasks: what is done when they fire", job: "Jobs: how much time they need" },
   ...{ phase: "Phases: what begins again while a group is in one" },
-  ...{ event: "Events: what is asked when" },
+  ...{ event: "Events: what is asked for, and when" },
 };
 
 const LONG = new Set(["action", "do", "key", "radar", "steal"]);
@@ -5644,7 +5644,7 @@ function openPlan(bench, apply) {
   draw(bench);
   openDialog("Plan", [make("p", {}, make("label", {}, timed,
     " Jobs take time (a scenario: seconds, stolen time, costs, events)")), body, said,
-  make("p", {}, button("Apply, and run anew", () => {
+  make("p", {}, button("Apply, and run again", () => {
     try {
       apply(checked(read(), isScenario));
     } catch (fault) {
@@ -5682,14 +5682,15 @@ const TABLES = [
     + "set 0"],
   ["VAC areas", "a job that findvac establishes also holds one of these"],
   ["Waitlist", "tasks: short programs that begin at a set time, and may establish jobs"],
-  ["Phases", "what each of six restart groups begins again with after an alarm"],
+  ["Phases", "how far each of six restart groups has come: this says what begins again after an "
+    + "alarm"],
   ["FAILREG", "the codes of alarms: the first, the second and the latest"],
   ["NEWJOB", "the job that is more urgent than the running one, if any"],
 ];
 
-function listOf(rows, told) {
+function listOf(rows, spelled) {
   return make("dl", { class: "keys" }, ...rows.flatMap(([word, what]) =>
-    [make("dt", {}, ...told(word)), make("dd", {}, what)]));
+    [make("dt", {}, ...spelled(word)), make("dd", {}, what)]));
 }
 
 function HELP() {
@@ -5698,15 +5699,16 @@ function HELP() {
   return [
     make("p", {}, "This page runs the proved job tables of the Apollo Guidance Computer: the "
       + "Executive's jobs, the Waitlist's tasks and the phases of the restart. Type a request, or "
-      + "take an example, and step through what comes of it."),
-    make("p", {}, "Each request is a row. What is typed at an earlier row goes on from there, and "
-      + "what stood behind it is kept as a branch. A box with a corner isn't as it was in the row "
-      + "before. Colours are the jobs' numbers."),
-    make("p", {}, "The clock lets centiseconds pass: jobs with a cost end when they have had it, "
-      + "and stolen time is taken away from them. The numbers can be changed while it runs."),
-    make("p", {}, "An alarm comes when one more is asked for and the table is full: 1201 areas, "
+      + "open an example, and step through what happens."),
+    make("p", {}, "Each request is a row. If you type a request at an earlier row, the run goes on "
+      + "from there, and the rows that came after it are kept as a branch. A box with an orange "
+      + "corner has changed since the row before. Each job number has its own colour."),
+    make("p", {}, "The clock lets centiseconds pass. A job with a cost ends when it has run for "
+      + "that long, and stolen time is taken away from the jobs. You can change these numbers while "
+      + "the clock runs."),
+    make("p", {}, "An alarm comes when a request needs a place and the table is full: 1201 areas, "
       + "1202 core sets, 1203 the Waitlist. Then all jobs and tasks are gone, and the phases say "
-      + "what begins again."),
+      + "what begins again. The button After the restart shows the tables with that."),
     make("h3", {}, "Tables"), listOf(TABLES, (it) => [it]),
     make("h3", {}, "Keys"), keys,
     make("h3", {}, "Requests"), listOf(requests, (it) => [make("code", {}, it)]),
@@ -5861,7 +5863,7 @@ function completions(typed, bench, scene) {
 function hintOf(typed) {
   const words = typed.split(" ");
   const parts = FORMS.get(words[0]);
-  if (parts === undefined) return "A request, as in a script. Down offers all of them.";
+  if (parts === undefined) return "A request, as in a script. The down arrow lists all kinds.";
   const part = words.length > 1 ? parts[words.length - 2] : undefined;
   const more = part === undefined ? MEANINGS.get(words[0]) : part.sentence;
   return `${formOf(words[0])}: ${more}`;
@@ -5994,7 +5996,7 @@ function atAlarm(workbench, shown) {
   const { bench } = run;
   const found = [/** @type {Try} */ (["The row before", () => workbench.go(shown.row - 1)])];
   if (shown.step?.number === 0o1202 && run.sets === 7) {
-    const name = workbench.beside === null ? "With eight core sets?" : "Nothing beside";
+    const name = workbench.beside === null ? "With eight core sets?" : "Stop comparing";
     found.push([name, () => {
       if (workbench.beside === null) workbench.compareSets();
       else workbench.compare(workbench.beside);
@@ -6256,7 +6258,7 @@ class Workbench {
     const isWhole = at === 0 || this.clock.isWhole;
     const from = isWhole ? "the beginning" : run.ticksAt(at) > 0 ? seconds(run.ticksAt(at))
       : `request ${at}`;
-    by("since").textContent = `A change here holds from ${from} on.`;
+    by("since").textContent = `A change here takes effect from ${from} on.`;
     by("whole-box").hidden = run.bench.seconds === undefined;
     by("undo").disabled = this.history.done.length === 0;
     by("redo").disabled = this.history.undone.length === 0;
@@ -6303,7 +6305,7 @@ class Workbench {
       : other.run.rowAtTime(run.ticksAt(at), other.count);
     const [shown] = other.run.show(row, row);
     const said = `request ${row}, ${shown.reply}. In all ${outcomeOf(other.run, other.count)}`;
-    by("beside-name").textContent = `Beside it, ${other.name}: ${said}.`;
+    by("beside-name").textContent = `For comparison, ${other.name}: ${said}.`;
     drawSets("beside-sets", shown.scene, shown.last, this.names);
   }
 
@@ -6316,7 +6318,7 @@ class Workbench {
       button("Show it", () => {
         this.history.exchange(k, this.view.at);
         this.drawAll();
-      }), " ", button("Beside", () => this.compare(it)))));
+      }), " ", button("Compare", () => this.compare(it)))));
   }
 
   compare(other) {
@@ -6352,8 +6354,8 @@ class Workbench {
       closeDialog();
       this.drawAll();
     });
-    const other = this.view.run.sets === 7 ? "Eight core sets beside" : "Seven core sets beside";
-    const name = this.beside === null ? other : "Nothing beside";
+    const other = `Compare with ${this.view.run.sets === 7 ? "eight" : "seven"} core sets`;
+    const name = this.beside === null ? other : "Stop comparing";
     by("dialog-body").prepend(make("p", {}, button(name, () => {
       if (this.beside === null) this.compareSets();
       else this.compare(this.beside);
