@@ -32,8 +32,7 @@ export function make(name, given = {}, ...children) {
 }
 
 /**
- * The parts of a text: code is between backquotes, and what is emphasized between
- * asterisks.
+ * The parts of a text: code is between backquotes, and what is emphasized, between asterisks.
  * @param {string} text
  * @returns {(Node | string)[]}
  */

@@ -155,8 +155,9 @@ export function openOpening({ document, question }, open) {
     make("p", {}, pasted, " ", button("Begin with an empty bench", begin, { id: "open-empty" })),
     make("p", { class: "wrong", id: "open-fault", role: "status" }),
   ]);
-  (isExercise ? area : file).focus();
   area.setSelectionRange(0, 0);
+  (isExercise ? area : file).focus();
+  area.scrollTop = 0;
 }
 
 /**

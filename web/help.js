@@ -42,8 +42,8 @@ export function HELP() {
       + "from there, and the rows that came after it are kept as a branch. A box with an orange "
       + "corner has changed since the row before. Each job number has its own colour."),
     make("p", {}, "The clock lets centiseconds pass. A job with a cost ends when it has run for "
-      + "that long, and stolen time is taken away from the jobs. You can change these numbers while "
-      + "the clock runs."),
+      + "that long, and stolen time is taken away from the jobs. You can change these numbers "
+      + "while the clock runs."),
     make("p", {}, "An alarm comes when a request needs a place and the table is full: 1201 areas, "
       + "1202 core sets, 1203 the Waitlist. Then all jobs and tasks are gone, and the phases say "
       + "what begins again. The button After the restart shows the tables with that."),

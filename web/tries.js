@@ -20,7 +20,7 @@ function atBeginning(workbench, shown) {
   const { run, count } = workbench.view;
   const actions = workbench.actions();
   if (count === 0) {
-    return [["A landing with alarm 1202", () => workbench.openKept("landing-1202")],
+    return run.source.document !== "" ? [] : [["A landing with alarm 1202", () => workbench.openKept("landing-1202")],
       ["Open an example", actions.examples], ["Help", actions.help]];
   }
   const alarm = run.alarms.find((/** @type {number} */ row) => row > shown.row && row <= count);

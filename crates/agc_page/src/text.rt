@@ -7,8 +7,8 @@ pub(crate) const PART_1: &str = r##"<!DOCTYPE html>
 <meta charset="utf-8">
 <meta http-equiv="Content-Security-Policy" content="default-src 'none';
 base-uri 'none'; form-action 'none';
-script-src 'sha256-PTocVlknTR5Z5/KiIGZ3h6AjJQ8HBIRy4/jwxRS6cas=' 'wasm-unsafe-eval';
-style-src 'sha256-rV1ymy+qtB1umjGIdnEQmKxL5NCHrH1wu03nQPevj4Y='">
+script-src 'sha256-CNm/pkZeBtWKlSL2ljDIsfJSXaEiZTAKEB/FVQsr8jA=' 'wasm-unsafe-eval';
+style-src 'sha256-SzJv/bcpDaquRZyP1VlVQtufIoNai6g/CKSb7Hi4las='">
 <meta name="viewport" content="width=device-width, initial-scale=1">
 <meta name="color-scheme" content="light dark">
 <title>AGC workbench</title>
@@ -155,6 +155,7 @@ width:min(64rem,calc(100vw - 1rem));max-height:calc(100vh - 1rem);padding:.8rem 
 dialog::backdrop{background:rgb(0 0 0/.5)}
 .dialog-top{display:flex;justify-content:space-between;align-items:center;gap:1rem}
 .dialog-top h2{font-size:1.15rem;margin:0;color:var(--ink)}
+input[type=file]{max-width:100%}
 #pasted{height:min(36rem,50vh)}
 textarea{width:100%;min-height:14rem;font-family:ui-monospace,monospace;padding:.5rem}
 .choices{list-style:none;padding:0;margin:0}
@@ -184,7 +185,7 @@ body{padding:0 .6rem 1rem}.bar{margin:0 -.6rem;padding:.15rem .6rem .25rem;gap:.
 .where{flex-basis:100%}.go input{width:8.6rem}
 #outcome{font-size:.85rem}h2{margin:.2rem 0 .05rem;font-size:.82rem}
 .chart{margin-top:.3rem}.chart canvas{height:5rem}figcaption{font-size:.72rem;gap:0 .7rem}
-.strip{font-size:.68rem;gap:0 .3rem}.lanes .swatch{width:.7em}
+.strip{font-size:.68rem;gap:0 .3rem}.axis span:has(+.last){visibility:hidden}.lanes .swatch{width:.7em}
 .boxes{gap:.2rem}
 .sets{grid-template-columns:repeat(4,minmax(0,1fr))}.sets li{min-height:5.9rem}
 .tasks{grid-template-columns:repeat(5,minmax(0,1fr))}.tasks li{min-height:3.95rem}
@@ -754,11 +755,11 @@ ACACGyEDDBALIAmnIAFCBHynKAIAIgJBACACQYCABEkgAkEBa0H//wNxQf//
 AElxIgIbOwEIQQRBACACGyEDDA8LIAmnIAmnKAIANgIIIAmnIAmnLwEEOwEM
 IAFCBHynKAIAIgJBACACQYACSSACQQFrQf8BcUEfSXEiAhshBkEFQQAgAhsh
 AwwOC0EBIQJBBiEDDA0LIAFCBHynKAIAIgRB/wFLDQYgBEEBa0H/AXFBBUsN
-BiABQgh8pygCACIFQf//AUsNDCAJpyAFOwEIQQEhAkEHIQMgBCEGDAwLIAFC
 "##;
 
 /// Part 2 of what stands before the data.
-pub(crate) const PART_2: &str = r##"BHynKAIAIgdB//8DSwRADAcLQQAgB0EBa0H//wNxQfn+AEsNBxogAUIMfKco
+pub(crate) const PART_2: &str = r##"BiABQgh8pygCACIFQf//AUsNDCAJpyAFOwEIQQEhAkEHIQMgBCEGDAwLIAFC
+BHynKAIAIgdB//8DSwRADAcLQQAgB0EBa0H//wNxQfn+AEsNBxogAUIMfKco
 AgAiBEH//wFLDQYgAUIIfKcoAgAiCEH//wNLDQZBACAIQQFrQf//A3FB/v8A
 Sw0HGiAEQRB0IAhyIQVBCCEDQQEhAiAHDAcLQQEhAkEJIQMMCgsgAUIEfKco
 AgAiBEH/AUsNAyAEQQFrQf8BcUEFSw0DIAFCCHynKAIAIgVB/wBLDQkgCadB
@@ -1504,11 +1505,11 @@ ADYAACADQrACfCQADAELAAtBACQBC70EAgV/BX4QAARAAAsjAEKwAn0iCSQA
 IACnAn8CQAJAIAkiCEIQUw0AQoQBIQsCQAJAAkACQCACQQdrDgIBAAILQQEh
 BEKQASELCyAIpyAEOgAOIAhCDnxCAYSnQQBBoQL8CwAgC0IBhiEMA0AgASAK
 fCIJQgZ8py8BACIEIAlCBHynLwEAIgUgCUICfKcvAQAiByAJpy8BACIGIANB
-//8DcSIDIAMgBkkbIgMgAyAHSRsiAyADIAVJGyIDIAMgBEkbwSEDIAwgCkII
 "##;
 
 /// Part 3 of what stands before the data.
-pub(crate) const PART_3: &str = r##"fCIKUg0AC0EAIQQgA0EASA0BIAtCAYYiCVBFBEAgCEIQfKcgAacgCaf8CgAA
+pub(crate) const PART_3: &str = r##"//8DcSIDIAMgBkkbIgMgAyAHSRsiAyADIAVJGyIDIAMgBEkbwSEDIAwgCkII
+fCIKUg0AC0EAIQQgA0EASA0BIAtCAYYiCVBFBEAgCEIQfKcgAacgCaf8CgAA
 CwJAAkAgCEIOfBABRQ0AIAhCDnwQA0UNACAIQg58EAQNAQtBAyEDDAQLQQAh
 BSAIQg58p0EAQaIC/AsAIAinIAJBB0ciAzoADiAIQhB8IQlCiAJCoAIgAkEH
 RhsiClBFBEAgCacgAacgCqf8CgAAC0EGIQQCQCAIpy8BJiIHQf//AEsNACAJ
@@ -5166,8 +5167,9 @@ function openOpening({ document, question }, open) {
     make("p", {}, pasted, " ", button("Begin with an empty bench", begin, { id: "open-empty" })),
     make("p", { class: "wrong", id: "open-fault", role: "status" }),
   ]);
-  (isExercise ? area : file).focus();
   area.setSelectionRange(0, 0);
+  (isExercise ? area : file).focus();
+  area.scrollTop = 0;
 }
 
 function hearDrops(open) {
@@ -5704,8 +5706,8 @@ function HELP() {
       + "from there, and the rows that came after it are kept as a branch. A box with an orange "
       + "corner has changed since the row before. Each job number has its own colour."),
     make("p", {}, "The clock lets centiseconds pass. A job with a cost ends when it has run for "
-      + "that long, and stolen time is taken away from the jobs. You can change these numbers while "
-      + "the clock runs."),
+      + "that long, and stolen time is taken away from the jobs. You can change these numbers "
+      + "while the clock runs."),
     make("p", {}, "An alarm comes when a request needs a place and the table is full: 1201 areas, "
       + "1202 core sets, 1203 the Waitlist. Then all jobs and tasks are gone, and the phases say "
       + "what begins again. The button After the restart shows the tables with that."),
@@ -5980,7 +5982,7 @@ function atBeginning(workbench, shown) {
   const { run, count } = workbench.view;
   const actions = workbench.actions();
   if (count === 0) {
-    return [["A landing with alarm 1202", () => workbench.openKept("landing-1202")],
+    return run.source.document !== "" ? [] : [["A landing with alarm 1202", () => workbench.openKept("landing-1202")],
       ["Open an example", actions.examples], ["Help", actions.help]];
   }
   const alarm = run.alarms.find((/** @type {number} */ row) => row > shown.row && row <= count);
