@@ -19,8 +19,9 @@ const MOST_EVENTS = 2;
 function atBeginning(workbench, shown) {
   const { run, count } = workbench.view;
   const actions = workbench.actions();
+  if (count === 0 && run.source.document !== "") return [];
   if (count === 0) {
-    return run.source.document !== "" ? [] : [["A landing with alarm 1202", () => workbench.openKept("landing-1202")],
+    return [["A landing with alarm 1202", () => workbench.openKept("landing-1202")],
       ["Open an example", actions.examples], ["Help", actions.help]];
   }
   const alarm = run.alarms.find((/** @type {number} */ row) => row > shown.row && row <= count);

@@ -7,8 +7,8 @@ pub(crate) const PART_1: &str = r##"<!DOCTYPE html>
 <meta charset="utf-8">
 <meta http-equiv="Content-Security-Policy" content="default-src 'none';
 base-uri 'none'; form-action 'none';
-script-src 'sha256-CNm/pkZeBtWKlSL2ljDIsfJSXaEiZTAKEB/FVQsr8jA=' 'wasm-unsafe-eval';
-style-src 'sha256-SzJv/bcpDaquRZyP1VlVQtufIoNai6g/CKSb7Hi4las='">
+script-src 'sha256-lhKKSSGCGVL+C3597PnQ6KPtoY6Ynoj3TRHOHohLgDI=' 'wasm-unsafe-eval';
+style-src 'sha256-mLQwoWs7CyOHg71Fu1MqkBmMDRnexjRn2GGO+wD87W8='">
 <meta name="viewport" content="width=device-width, initial-scale=1">
 <meta name="color-scheme" content="light dark">
 <title>AGC workbench</title>
@@ -185,7 +185,8 @@ body{padding:0 .6rem 1rem}.bar{margin:0 -.6rem;padding:.15rem .6rem .25rem;gap:.
 .where{flex-basis:100%}.go input{width:8.6rem}
 #outcome{font-size:.85rem}h2{margin:.2rem 0 .05rem;font-size:.82rem}
 .chart{margin-top:.3rem}.chart canvas{height:5rem}figcaption{font-size:.72rem;gap:0 .7rem}
-.strip{font-size:.68rem;gap:0 .3rem}.axis span:has(+.last){visibility:hidden}.lanes .swatch{width:.7em}
+.strip{font-size:.68rem;gap:0 .3rem}.lanes .swatch{width:.7em}
+.axis span:has(+.last){visibility:hidden}
 .boxes{gap:.2rem}
 .sets{grid-template-columns:repeat(4,minmax(0,1fr))}.sets li{min-height:5.9rem}
 .tasks{grid-template-columns:repeat(5,minmax(0,1fr))}.tasks li{min-height:3.95rem}
@@ -755,11 +756,11 @@ ACACGyEDDBALIAmnIAFCBHynKAIAIgJBACACQYCABEkgAkEBa0H//wNxQf//
 AElxIgIbOwEIQQRBACACGyEDDA8LIAmnIAmnKAIANgIIIAmnIAmnLwEEOwEM
 IAFCBHynKAIAIgJBACACQYACSSACQQFrQf8BcUEfSXEiAhshBkEFQQAgAhsh
 AwwOC0EBIQJBBiEDDA0LIAFCBHynKAIAIgRB/wFLDQYgBEEBa0H/AXFBBUsN
+BiABQgh8pygCACIFQf//AUsNDCAJpyAFOwEIQQEhAkEHIQMgBCEGDAwLIAFC
 "##;
 
 /// Part 2 of what stands before the data.
-pub(crate) const PART_2: &str = r##"BiABQgh8pygCACIFQf//AUsNDCAJpyAFOwEIQQEhAkEHIQMgBCEGDAwLIAFC
-BHynKAIAIgdB//8DSwRADAcLQQAgB0EBa0H//wNxQfn+AEsNBxogAUIMfKco
+pub(crate) const PART_2: &str = r##"BHynKAIAIgdB//8DSwRADAcLQQAgB0EBa0H//wNxQfn+AEsNBxogAUIMfKco
 AgAiBEH//wFLDQYgAUIIfKcoAgAiCEH//wNLDQZBACAIQQFrQf//A3FB/v8A
 Sw0HGiAEQRB0IAhyIQVBCCEDQQEhAiAHDAcLQQEhAkEJIQMMCgsgAUIEfKco
 AgAiBEH/AUsNAyAEQQFrQf8BcUEFSw0DIAFCCHynKAIAIgVB/wBLDQkgCadB
@@ -1505,11 +1506,11 @@ ADYAACADQrACfCQADAELAAtBACQBC70EAgV/BX4QAARAAAsjAEKwAn0iCSQA
 IACnAn8CQAJAIAkiCEIQUw0AQoQBIQsCQAJAAkACQCACQQdrDgIBAAILQQEh
 BEKQASELCyAIpyAEOgAOIAhCDnxCAYSnQQBBoQL8CwAgC0IBhiEMA0AgASAK
 fCIJQgZ8py8BACIEIAlCBHynLwEAIgUgCUICfKcvAQAiByAJpy8BACIGIANB
+//8DcSIDIAMgBkkbIgMgAyAHSRsiAyADIAVJGyIDIAMgBEkbwSEDIAwgCkII
 "##;
 
 /// Part 3 of what stands before the data.
-pub(crate) const PART_3: &str = r##"//8DcSIDIAMgBkkbIgMgAyAHSRsiAyADIAVJGyIDIAMgBEkbwSEDIAwgCkII
-fCIKUg0AC0EAIQQgA0EASA0BIAtCAYYiCVBFBEAgCEIQfKcgAacgCaf8CgAA
+pub(crate) const PART_3: &str = r##"fCIKUg0AC0EAIQQgA0EASA0BIAtCAYYiCVBFBEAgCEIQfKcgAacgCaf8CgAA
 CwJAAkAgCEIOfBABRQ0AIAhCDnwQA0UNACAIQg58EAQNAQtBAyEDDAQLQQAh
 BSAIQg58p0EAQaIC/AsAIAinIAJBB0ciAzoADiAIQhB8IQlCiAJCoAIgAkEH
 RhsiClBFBEAgCacgAacgCqf8CgAAC0EGIQQCQCAIpy8BJiIHQf//AEsNACAJ
@@ -5981,8 +5982,9 @@ const MOST_EVENTS = 2;
 function atBeginning(workbench, shown) {
   const { run, count } = workbench.view;
   const actions = workbench.actions();
+  if (count === 0 && run.source.document !== "") return [];
   if (count === 0) {
-    return run.source.document !== "" ? [] : [["A landing with alarm 1202", () => workbench.openKept("landing-1202")],
+    return [["A landing with alarm 1202", () => workbench.openKept("landing-1202")],
       ["Open an example", actions.examples], ["Help", actions.help]];
   }
   const alarm = run.alarms.find((/** @type {number} */ row) => row > shown.row && row <= count);
