@@ -271,7 +271,7 @@ function brokenPairs(power) {
 function accountOfBeginning(run, shown, names, { about, count }) {
   const { power } = run.bench;
   const said = about === "" ? [] : [[{ text: about, isProse: true }]];
-  const order = count > 0 && run.source.run === run ? orderOf(run.bench) : "";
+  const order = count > 0 && run.isOpened ? orderOf(run.bench) : "";
   const follow = count === 0 ? [] : [[`${counted(count, "request")} `
     + `${count === 1 ? "follows" : "follow"}, with ${alarmsOf(run, count)}.`],
   ...(order === "" ? [] : [[order]])];

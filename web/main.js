@@ -155,7 +155,8 @@ class Workbench {
         + `${counted(MOST_ASKED, "request")}.`);
     }
     const run = this.clock.runOf(bench, requestsOf(bench));
-    Object.assign(run, { title: visible(bench.title ?? name), about, source: { ...source, run } });
+    const title = visible(bench.title ?? name);
+    Object.assign(run, { title, about, source: { ...source }, isOpened: true });
     this.beside = null;
     this.outcome = "";
     this.history.show({ run, count: run.count, at: 0 });
@@ -369,7 +370,7 @@ class Workbench {
       const { run, count, at } = this.view;
       const asked = bench.seconds === undefined ? run.requests(count) : [];
       const made = this.clock.runOf(bench, asked);
-      const source = { ...run.source, document: writeBench(bench), run: null, isChanged: true };
+      const source = { ...run.source, document: writeBench(bench), isChanged: true };
       Object.assign(made, { title: visible(bench.title ?? run.title), about: run.about, source });
       this.keepOutcome();
       this.history.keep("as the plan was changed");
@@ -394,7 +395,7 @@ class Workbench {
     const isMore = run.changes.length > 0 || count < run.count || run.who.some((it) =>
       it.startsWith("you") || (!isTimed && it === "the clock"));
     const { source } = run;
-    const isOpened = run === source.run && source.document !== "" && !isMore;
+    const isOpened = run.isOpened && source.document !== "" && !isMore;
     const kept = isOpened && !source.isChanged && this.kept.find((it) =>
       it.text === source.document || it.name === source.exercise);
     const mark = kept ? `#${kept.name}`

@@ -44,17 +44,17 @@ export const SPENT = 100;
 export const LOG_FULL = 101;
 
 /**
- * The document that a run came of, the run that was made of all of it, and the exercise that it is,
- * if any: name and question, whether the answer is hidden still, and whether the document isn't the
- * exercise's own. A run that goes on from another has the same source.
+ * The document that a run came of, and the exercise that it is, if any: name and question, whether
+ * the answer is hidden still, and whether the document isn't the exercise's own. A run that goes on
+ * from another has the same source.
  *
- * @typedef {{ document: string, run: Run | null, exercise: string, question: string,
- *   isHidden: boolean, isChanged: boolean }} Source
+ * @typedef {{ document: string, exercise: string, question: string, isHidden: boolean,
+ *   isChanged: boolean }} Source
  */
 
 /** @type {Source} */
 export const NO_SOURCE = {
-  ...{ document: "", run: null, exercise: "", question: "", isHidden: false, isChanged: false },
+  ...{ document: "", exercise: "", question: "", isHidden: false, isChanged: false },
 };
 
 // What is kept of each row: bits of `marks`.
@@ -248,6 +248,8 @@ export class Run {
     this.title = "AGC workbench";
     this.about = "";
     this.source = NO_SOURCE;
+    /** Whether it was made of all of the document, and isn't a copy of another run. */
+    this.isOpened = false;
     /** @type {string[]} */
     this.lines = [""];
     /** Who asked, by number. */
@@ -368,7 +370,7 @@ export class Run {
    */
   fork(row) {
     const made = Object.create(Run.prototype);
-    Object.assign(made, this);
+    Object.assign(made, this, { isOpened: false });
     made.lines = this.lines.slice(0, row + 1);
     made.who = [...this.who];
     made.count = row;

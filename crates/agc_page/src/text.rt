@@ -7,7 +7,7 @@ pub(crate) const PART_1: &str = r##"<!DOCTYPE html>
 <meta charset="utf-8">
 <meta http-equiv="Content-Security-Policy" content="default-src 'none';
 base-uri 'none'; form-action 'none';
-script-src 'sha256-lhKKSSGCGVL+C3597PnQ6KPtoY6Ynoj3TRHOHohLgDI=' 'wasm-unsafe-eval';
+script-src 'sha256-7yP0U8TPZH9KFvSxdFArts9/bmnjXISZ8lkV4lBdNlQ=' 'wasm-unsafe-eval';
 style-src 'sha256-mLQwoWs7CyOHg71Fu1MqkBmMDRnexjRn2GGO+wD87W8='">
 <meta name="viewport" content="width=device-width, initial-scale=1">
 <meta name="color-scheme" content="light dark">
@@ -2682,11 +2682,11 @@ class Lent {
     this.entryCount = BigInt(entries.length);
     this.lend();
     served(calls.agc_plan_check(this.rows, this.rowCount, this.entries, this.entryCount));
+  }
 "##;
 
 /// Part 4 of what stands before the data.
-pub(crate) const PART_4: &str = r##"  }
-
+pub(crate) const PART_4: &str = r##"
   lend() {
     reach(at.plan + this.numbers.byteLength);
     numbers.set(this.numbers, at.plan / 4);
@@ -3603,7 +3603,7 @@ const LOG_FULL = 101;
 
 
 const NO_SOURCE = {
-  ...{ document: "", run: null, exercise: "", question: "", isHidden: false, isChanged: false },
+  ...{ document: "", exercise: "", question: "", isHidden: false, isChanged: false },
 };
 
 const ALARM = 1;
@@ -3741,6 +3741,7 @@ class Run {
     this.title = "AGC workbench";
     this.about = "";
     this.source = NO_SOURCE;
+    this.isOpened = false;
     this.lines = [""];
     this.who = ["nobody"];
     this.count = 0;
@@ -3822,7 +3823,7 @@ class Run {
 
   fork(row) {
     const made = Object.create(Run.prototype);
-    Object.assign(made, this);
+    Object.assign(made, this, { isOpened: false });
     made.lines = this.lines.slice(0, row + 1);
     made.who = [...this.who];
     made.count = row;
@@ -4120,7 +4121,7 @@ pub(crate) const PART_5: &str = r##"      lines.push([`group ${k + 1}: ${pair}`]
 function accountOfBeginning(run, shown, names, { about, count }) {
   const { power } = run.bench;
   const said = about === "" ? [] : [[{ text: about, isProse: true }]];
-  const order = count > 0 && run.source.run === run ? orderOf(run.bench) : "";
+  const order = count > 0 && run.isOpened ? orderOf(run.bench) : "";
   const follow = count === 0 ? [] : [[`${counted(count, "request")} `
     + `${count === 1 ? "follows" : "follow"}, with ${alarmsOf(run, count)}.`],
   ...(order === "" ? [] : [[order]])];
@@ -5392,11 +5393,11 @@ class History {
 
 function parting(one, other) {
   const most = Math.min(one.count, other.count);
+  for (let row = 1; row <= most; row++) {
 "##;
 
 /// Part 6 of what stands before the data.
-pub(crate) const PART_6: &str = r##"  for (let row = 1; row <= most; row++) {
-    const same = one.run.lines[row] === other.run.lines[row]
+pub(crate) const PART_6: &str = r##"    const same = one.run.lines[row] === other.run.lines[row]
       && one.run.columns.uses.items[row] === other.run.columns.uses.items[row]
       && one.run.columns.numbers.items[row] === other.run.columns.numbers.items[row];
     if (!same) return row;
@@ -6158,7 +6159,8 @@ class Workbench {
         + `${counted(MOST_ASKED, "request")}.`);
     }
     const run = this.clock.runOf(bench, requestsOf(bench));
-    Object.assign(run, { title: visible(bench.title ?? name), about, source: { ...source, run } });
+    const title = visible(bench.title ?? name);
+    Object.assign(run, { title, about, source: { ...source }, isOpened: true });
     this.beside = null;
     this.outcome = "";
     this.history.show({ run, count: run.count, at: 0 });
@@ -6350,7 +6352,7 @@ class Workbench {
       const { run, count, at } = this.view;
       const asked = bench.seconds === undefined ? run.requests(count) : [];
       const made = this.clock.runOf(bench, asked);
-      const source = { ...run.source, document: writeBench(bench), run: null, isChanged: true };
+      const source = { ...run.source, document: writeBench(bench), isChanged: true };
       Object.assign(made, { title: visible(bench.title ?? run.title), about: run.about, source });
       this.keepOutcome();
       this.history.keep("as the plan was changed");
@@ -6375,7 +6377,7 @@ class Workbench {
     const isMore = run.changes.length > 0 || count < run.count || run.who.some((it) =>
       it.startsWith("you") || (!isTimed && it === "the clock"));
     const { source } = run;
-    const isOpened = run === source.run && source.document !== "" && !isMore;
+    const isOpened = run.isOpened && source.document !== "" && !isMore;
     const kept = isOpened && !source.isChanged && this.kept.find((it) =>
       it.text === source.document || it.name === source.exercise);
     const mark = kept ? `#${kept.name}`
