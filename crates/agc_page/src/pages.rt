@@ -10,11 +10,11 @@ use std::alloc::Global;
 use std::io::Write;
 
 /// Writes two texts, one after the other.
-fn put_two<W: Write>(one: &str, two: &str, writer: &mut W) -> Result<(), Output>
+fn put_two<W: Write>(one: &[u8], two: &[u8], writer: &mut W) -> Result<(), Output>
     ensures { WritesSome (W.contents writer.old) (W.contents writer.new) result }
 {
-    put(writer, one.as_bytes())?;
-    put(writer, two.as_bytes())
+    put(writer, one)?;
+    put(writer, two)
 }
 
 /// Writes the part of the page ahead of the data.
@@ -32,7 +32,7 @@ fn put_page<W: Write>(inner: &[u8], writer: &mut W) -> Result<(), Output>
 {
     put_front(writer)?;
     put(writer, inner)?;
-    put(writer, END.as_bytes())
+    put(writer, END)
 }
 
 /// Writes the page of a document, a bench or a scenario: one HTML file that needs no other. In it a

@@ -1,13 +1,13 @@
 // The text of a page, on both sides of its data: tools/workbench writes this file.
 
 /// Part 1 of what stands before the data.
-pub(crate) const PART_1: &str = r##"<!DOCTYPE html>
+pub(crate) const PART_1: &[u8] = br##"<!DOCTYPE html>
 <html lang="en">
 <head>
 <meta charset="utf-8">
 <meta http-equiv="Content-Security-Policy" content="default-src 'none';
 base-uri 'none'; form-action 'none';
-script-src 'sha256-7yP0U8TPZH9KFvSxdFArts9/bmnjXISZ8lkV4lBdNlQ=' 'wasm-unsafe-eval';
+script-src 'sha256-Bu/RZ73SlN676idLffPMnunVTxg/h7ctFn5GhnNiDZU=' 'wasm-unsafe-eval';
 style-src 'sha256-mLQwoWs7CyOHg71Fu1MqkBmMDRnexjRn2GGO+wD87W8='">
 <meta name="viewport" content="width=device-width, initial-scale=1">
 <meta name="color-scheme" content="light dark">
@@ -760,7 +760,7 @@ BiABQgh8pygCACIFQf//AUsNDCAJpyAFOwEIQQEhAkEHIQMgBCEGDAwLIAFC
 "##;
 
 /// Part 2 of what stands before the data.
-pub(crate) const PART_2: &str = r##"BHynKAIAIgdB//8DSwRADAcLQQAgB0EBa0H//wNxQfn+AEsNBxogAUIMfKco
+pub(crate) const PART_2: &[u8] = br##"BHynKAIAIgdB//8DSwRADAcLQQAgB0EBa0H//wNxQfn+AEsNBxogAUIMfKco
 AgAiBEH//wFLDQYgAUIIfKcoAgAiCEH//wNLDQZBACAIQQFrQf//A3FB/v8A
 Sw0HGiAEQRB0IAhyIQVBCCEDQQEhAiAHDAcLQQEhAkEJIQMMCgsgAUIEfKco
 AgAiBEH/AUsNAyAEQQFrQf8BcUEFSw0DIAFCCHynKAIAIgVB/wBLDQkgCadB
@@ -1510,7 +1510,7 @@ fCIJQgZ8py8BACIEIAlCBHynLwEAIgUgCUICfKcvAQAiByAJpy8BACIGIANB
 "##;
 
 /// Part 3 of what stands before the data.
-pub(crate) const PART_3: &str = r##"fCIKUg0AC0EAIQQgA0EASA0BIAtCAYYiCVBFBEAgCEIQfKcgAacgCaf8CgAA
+pub(crate) const PART_3: &[u8] = br##"fCIKUg0AC0EAIQQgA0EASA0BIAtCAYYiCVBFBEAgCEIQfKcgAacgCaf8CgAA
 CwJAAkAgCEIOfBABRQ0AIAhCDnwQA0UNACAIQg58EAQNAQtBAyEDDAQLQQAh
 BSAIQg58p0EAQaIC/AsAIAinIAJBB0ciAzoADiAIQhB8IQlCiAJCoAIgAkEH
 RhsiClBFBEAgCacgAacgCqf8CgAAC0EGIQQCQCAIpy8BJiIHQf//AEsNACAJ
@@ -2683,12 +2683,12 @@ class Lent {
     this.lend();
     served(calls.agc_plan_check(this.rows, this.rowCount, this.entries, this.entryCount));
   }
+
+  lend() {
 "##;
 
 /// Part 4 of what stands before the data.
-pub(crate) const PART_4: &str = r##"
-  lend() {
-    reach(at.plan + this.numbers.byteLength);
+pub(crate) const PART_4: &[u8] = br##"    reach(at.plan + this.numbers.byteLength);
     numbers.set(this.numbers, at.plan / 4);
   }
 }
@@ -3565,7 +3565,7 @@ function drawLegend(strip) {
   fill("lanes", LANES.map((it, k) => {
     const swatch = make("span", { class: "swatch" });
     swatch.style.background = isDark ? it.dark : it.light;
-    return make("li", {}, swatch, `${it.name} 0–${most[k]}`);
+    return make("li", {}, swatch, `${it.name} 0\u2013${most[k]}`);
   }));
   drawAxis(strip);
   fill("legend", [make("span", { id: "summary" }, strip.text)]);
@@ -4110,7 +4110,7 @@ function brokenPairs(power) {
 "##;
 
 /// Part 5 of what stands before the data.
-pub(crate) const PART_5: &str = r##"      lines.push([`group ${k + 1}: ${pair}`]);
+pub(crate) const PART_5: &[u8] = br##"      lines.push([`group ${k + 1}: ${pair}`]);
     } else if (plain > 127) {
       lines.push([`group ${k + 1}: phase ${plain} is above 127`]);
     }
@@ -4780,7 +4780,7 @@ class ClockPanel {
     this.target = 0;
     this.filled = null;
     this.moved = { slider: "", run: /** @type {Run | null} */ (null), at: 0 };
-    fill("speed", SPEEDS.map((it) => make("option", { value: String(it) }, `${it} ×`)));
+    fill("speed", SPEEDS.map((it) => make("option", { value: String(it) }, `${it} \u00d7`)));
     by("speed").value = "1";
   }
 
@@ -5311,7 +5311,7 @@ function drawCommon(where, bench, scene, ask) {
   fill(where, COMMON.map((word) => {
     const wants = (FORMS.get(word)?.length ?? 0) > 0;
     const run = wants ? () => openForm(word, bench(), scene(), ask) : () => ask(word);
-    return button(wants ? `${word} …` : word, run, { title: MEANINGS.get(word) });
+    return button(wants ? `${word} \u2026` : word, run, { title: MEANINGS.get(word) });
   }));
 }
 return {
@@ -5393,11 +5393,11 @@ class History {
 
 function parting(one, other) {
   const most = Math.min(one.count, other.count);
-  for (let row = 1; row <= most; row++) {
 "##;
 
 /// Part 6 of what stands before the data.
-pub(crate) const PART_6: &str = r##"    const same = one.run.lines[row] === other.run.lines[row]
+pub(crate) const PART_6: &[u8] = br##"  for (let row = 1; row <= most; row++) {
+    const same = one.run.lines[row] === other.run.lines[row]
       && one.run.columns.uses.items[row] === other.run.columns.uses.items[row]
       && one.run.columns.numbers.items[row] === other.run.columns.numbers.items[row];
     if (!same) return row;
@@ -5674,7 +5674,7 @@ const in_help = (() => {
 const { make } = in_dom;
 const { MEANINGS, PARTS, REQUESTS, formOf } = in_words;
 const KEYS = [
-  ["← →", "the row before, the next row"], ["Home End", "the first row, the last"],
+  ["\u2190 \u2192", "the row before, the next row"], ["Home End", "the first row, the last"],
   ["a A", "the next alarm, the alarm before"], ["c C", "the next change, the change before"],
   ["g", "go to a request or a time"], ["i /", "type a request"],
   ["space", "run the clock, or pause"], [". n", "a centisecond; to the next event"],
@@ -6527,7 +6527,7 @@ document.documentElement.dataset.ready = "yes";
 "##;
 
 /// What stands after the data.
-pub(crate) const END: &str = r##"</script>
+pub(crate) const END: &[u8] = br##"</script>
 </body>
 </html>
 "##;

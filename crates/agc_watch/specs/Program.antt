@@ -15,8 +15,8 @@ use Rattle.agc_program.specs.Statuses.{status_of}
 use Rattle.agc_text.specs.Faults.{RefusesScript}
 use Rattle.agc_text.specs.Lines.{line_of}
 use Rattle.agc_text.specs.Script.{IsFirstRefused, IsLine, lines_of}
-use Rattle.agc_watch.specs.declared.words.Work.{Work}
-use Rattle.agc_watch.specs.declared.words.Work.TheVariants as work
+use Rattle.agc_commands.specs.declared.words.Work.{Work}
+use Rattle.agc_commands.specs.declared.words.Work.TheVariants as work
 
 -- whether nothing was found
 abbrev pub is_nothing : {F : Type 0} → List F → Bool

@@ -1,11 +1,18 @@
 //! What all orders of a bench come to.
-use agc_document::read_bench;
+use agc_document::{Bench, read_bench};
 use agc_orders::{Options, Reach, Watch, explore};
 use agc_program::{Fault, Program, buffered, ended, flushed};
 use agc_text::read_all;
+use std::alloc::Global;
 use std::io::{Eprint, Print, Read};
 use std::process::ExitCode;
 use std::time::Clock;
+
+/// The bench that an input is.
+pub(crate) fn input_bench<R: Read>(alloc: Global, reader: &mut R) -> Result<Bench, Fault> {
+    let text = read_all(alloc, reader)?;
+    Ok(read_bench(alloc, text.as_str())?)
+}
 
 /// Tells what all orders of an input's bench come to.
 fn explore_input<H: AllocGlobal + Clock + Print + Eprint, R: Read>(
@@ -13,8 +20,7 @@ fn explore_input<H: AllocGlobal + Clock + Print + Eprint, R: Read>(
     options: Options,
     reader: &mut R,
 ) -> Result<Reach, Fault> {
-    let text = read_all(rt.alloc(), reader)?;
-    let bench = read_bench(rt.alloc(), text.as_str())?;
+    let bench = input_bench(rt.alloc(), reader)?;
     let mut watch = Watch::new(rt);
     let mut output = buffered(rt)?;
     let reach = explore(rt.alloc(), &bench, options, &mut watch, &mut output)?;

@@ -6,13 +6,11 @@
 #![tactic(auto)]
 
 mod checking;
-mod commands;
 mod exploring;
 mod playing;
 mod program;
 mod progress;
 mod scenarios;
-mod words;
 
 use agc_play::Manner;
 use std::io::IsTerminal;

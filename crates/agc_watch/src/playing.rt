@@ -1,8 +1,8 @@
 //! A machine to play with.
-use agc_document::read_bench;
+use crate::exploring::input_bench;
 use agc_play::{Manner, PlayFault, play};
 use agc_program::{Fault, Program, buffered, ended};
-use agc_text::{ReadFault, read_all};
+use agc_text::ReadFault;
 use std::io::{Eprint, Input, Print, Read};
 use std::process::ExitCode;
 use std::rt::Files;
@@ -26,8 +26,7 @@ fn play_from<H: AllocGlobal + Files + Input + Print + Eprint, R: Read>(
     manner: Manner,
     reader: &mut R,
 ) -> Result<(), Fault> {
-    let text = read_all(rt.alloc(), reader)?;
-    let bench = read_bench(rt.alloc(), text.as_str())?;
+    let bench = input_bench(rt.alloc(), reader)?;
     let mut output = buffered(rt)?;
     play(rt, &bench, manner, &mut rt.reader(), &mut output).map_err(fault_of)
 }

@@ -10,7 +10,7 @@ use crate::exploring::run_explore;
 use crate::playing::{EMPTY, run_play};
 use crate::progress::Teller;
 use crate::scenarios::{is_of_scenario, run_shown, run_telling};
-use crate::words::{Asked, Refused, Task, Work, asked_for};
+use agc_commands::{Asked, Refused, Task, Work, asked_for};
 use agc_document::read_bench;
 use agc_findings::{Checked, findings};
 use agc_lint::{Finding, bench_told, script_findings, script_told};

@@ -6,7 +6,7 @@ ghost use Rattle.agc_program.specs.declared.fault.Fault.TheVariants as fault;
 
 use crate::checking::scenario_told;
 use crate::progress::{SweepTeller, Teller};
-use crate::words::{Refused, Telling, Times, Work, refused_sweep};
+use agc_commands::{Refused, Telling, Times, Values, Work, refused_sweep};
 use agc_document::{Bench, BenchFault, read_bench};
 use agc_findings::findings;
 use agc_lint::{add, add_decimal, bench_told};
@@ -216,42 +216,72 @@ fn column_of(alloc: Global, scenario: &Scenario, key: &str, sweep: Sweep) -> Res
 fn write_sweep<H: AllocGlobal + Clock + Eprint, W: Write>(
     rt: &H,
     text: &str,
-    key: &str,
-    sweep: Sweep,
+    values: Values<'_>,
     writer: &mut W,
 ) -> Result<(), Stop> {
     let alloc = rt.alloc();
+    let Values {
+        key,
+        from,
+        to,
+        step,
+        csv,
+    } = values;
+    let sweep = Sweep {
+        from,
+        to,
+        step,
+        csv,
+    };
     let mut scenario = scenario_in(alloc, text)?;
     let column = column_of(alloc, &scenario, key, sweep)?;
     let mut watch = SweepTeller::new(rt);
     Ok(run_sweep(alloc, &mut scenario, key, column, sweep, &mut watch, writer)?)
 }
 
-/// Tells of an input what is asked for, through a buffer that is flushed at the end.
+/// Writes what is asked for of a text, and returns how many bytes a bench has that was written.
+fn write_told<H: AllocGlobal + Clock + Eprint, W: Write>(
+    rt: &H,
+    telling: Telling<'_>,
+    text: &str,
+    writer: &mut W,
+) -> Result<u64, Stop> {
+    let alloc = rt.alloc();
+    match telling {
+        Telling::Picture(times) => write_picture(rt, text, times, writer)?,
+        Telling::Bench => return write_bench(alloc, text, writer),
+        Telling::Peaks => write_peaks(alloc, text, writer)?,
+        Telling::Sweep(values) => write_sweep(rt, text, values, writer)?,
+    }
+    Ok(0)
+}
+
+/// Writes what is asked for of a text through a buffer that is flushed at the end.
+fn tell<H: AllocGlobal + Clock + Print + Eprint>(
+    rt: &H,
+    telling: Telling<'_>,
+    text: &str,
+) -> Result<(), Stop> {
+    let mut output = buffered(rt)?;
+    let bytes = write_told(rt, telling, text, &mut output)?;
+    flushed(&mut output)?;
+    if bytes > MOST_BYTES {
+        Err(Stop::TooLong(bytes))
+    } else {
+        Ok(())
+    }
+}
+
+/// Reads an input whole, and writes what is asked for of its text.
 fn tell_input<H: AllocGlobal + Clock + Print + Eprint, R: Read>(
     rt: &H,
     telling: Telling<'_>,
     reader: &mut R,
 ) -> Result<(), Stop> {
-    let alloc = rt.alloc();
-    let text = match read_all(alloc, reader) {
-        Ok(text) => text,
-        Err(fault) => return Err(Stop::Fault(Fault::Read(fault))),
-    };
-    let text = text.as_str();
-    let mut output = buffered(rt)?;
-    let mut bytes = 0;
-    match telling {
-        Telling::Picture(times) => write_picture(rt, text, times, &mut output)?,
-        Telling::Bench => bytes = write_bench(alloc, text, &mut output)?,
-        Telling::Peaks => write_peaks(alloc, text, &mut output)?,
-        Telling::Sweep(key, sweep) => write_sweep(rt, text, key, sweep, &mut output)?,
+    match read_all(rt.alloc(), reader) {
+        Ok(text) => tell(rt, telling, text.as_str()),
+        Err(fault) => Err(Stop::Fault(Fault::Read(fault))),
     }
-    flushed(&mut output)?;
-    if bytes > MOST_BYTES {
-        return Err(Stop::TooLong(bytes));
-    }
-    Ok(())
 }
 
 /// Adds the names of jobs and events.
@@ -344,25 +374,35 @@ fn check_scenario<W: Write>(alloc: Global, text: &str, writer: &mut W) -> Result
     Ok(is_well)
 }
 
-/// Does this work on a text's scenario, and writes it through a buffer that is flushed at the end.
-/// False where that is a check, and something is wrong.
+/// Does this work on a text's scenario. False where that is a check, and something is wrong.
+fn write_shown<P: Progress, W: Write>(
+    alloc: Global,
+    work: Work,
+    text: &str,
+    progress: &mut P,
+    writer: &mut W,
+) -> Result<bool, Stop> {
+    match work {
+        Work::Trace(choice) => write_trace(alloc, text, choice, progress, writer)?,
+        Work::Picture => draw_scenario(alloc, text, progress, writer)?,
+        Work::Page => page_scenario(alloc, text, writer)?,
+        Work::CheckBench => return check_scenario(alloc, text, writer),
+        Work::TraceScript(_) | Work::CheckScript => {}
+    }
+    Ok(true)
+}
+
+/// Does this work on a text's scenario, through a buffer that is flushed at the end. False where
+/// that is a check, and something is wrong.
 fn show<H: AllocGlobal + Clock + Print + Eprint>(
     rt: &H,
     work: Work,
     has_progress: bool,
     text: &str,
 ) -> Result<bool, Stop> {
-    let alloc = rt.alloc();
     let mut output = buffered(rt)?;
     let mut progress = Teller::new(rt, has_progress);
-    let mut is_well = true;
-    match work {
-        Work::Trace(choice) => write_trace(alloc, text, choice, &mut progress, &mut output)?,
-        Work::Picture => draw_scenario(alloc, text, &mut progress, &mut output)?,
-        Work::Page => page_scenario(alloc, text, &mut output)?,
-        Work::CheckBench => is_well = check_scenario(alloc, text, &mut output)?,
-        Work::TraceScript(_) | Work::CheckScript => {}
-    }
+    let is_well = write_shown(rt.alloc(), work, text, &mut progress, &mut output)?;
     flushed(&mut output)?;
     Ok(is_well)
 }

@@ -1,12 +1,9 @@
 //! What the words of the command line ask for.
 ghost use Rattle.std.specs.Prelude.{◌≡◌};
-ghost use Rattle.agc_watch.specs.declared.words.Refused.TheVariants.{NoMemory};
+ghost use Rattle.agc_commands.specs.declared.words.Refused.TheVariants.{NoMemory};
 
-use crate::commands::{
-    explore_command, picture_command, sweep_command, trace_command, whole_command,
-};
+use crate::commands::{Name, named_command, whole_command};
 use agc_orders::Options;
-use agc_peaks::Sweep;
 use agc_plan::Alarm;
 use agc_trace::Choice;
 use clap::error::ErrorKind;
@@ -43,6 +40,16 @@ pub struct Times {
     pub has_progress: bool,
 }
 
+/// The values to try of the number that the key names, and whether they are written as CSV.
+#[derive(Clone, Copy, Debug)]
+pub struct Values<'a> {
+    pub key: &'a str,
+    pub from: u64,
+    pub to: u64,
+    pub step: u64,
+    pub csv: bool,
+}
+
 /// What the program is to tell of a scenario, or of a bench in the course of time.
 #[derive(Clone, Copy, Debug)]
 pub enum Telling<'a> {
@@ -52,8 +59,8 @@ pub enum Telling<'a> {
     Bench,
     /// How full the tables were, era by era.
     Peaks,
-    /// What comes of each value of the number that this names.
-    Sweep(&'a str, Sweep),
+    /// What comes of each of these values of a number.
+    Sweep(Values<'a>),
 }
 
 /// What the program is to do: work on its input, tell what all orders of a bench come to, tell of a
@@ -180,10 +187,7 @@ fn asked_to_trace<'a>(alloc: Global, given: &ArgMatches<'a>) -> Result<Asked<'a>
             file: file_of(given),
             has_progress: given.get_flag("progress"),
         }),
-        Err(reason) => {
-            let mut trace = trace_command(alloc)?.bin_name("agc_watch trace")?;
-            Err(refused_as(&mut trace, reason))
-        }
+        Err(reason) => Err(refused_words(alloc, Name::Trace, "agc_watch trace", reason)),
     }
 }
 
@@ -195,10 +199,7 @@ fn asked_to_explore<'a>(alloc: Global, given: &ArgMatches<'a>) -> Result<Asked<'
             file: file_of(given),
             has_progress: true,
         }),
-        Err(reason) => {
-            let mut explore = explore_command(alloc)?.bin_name("agc_watch explore")?;
-            Err(refused_as(&mut explore, reason))
-        }
+        Err(reason) => Err(refused_words(alloc, Name::Explore, "agc_watch explore", reason)),
     }
 }
 
@@ -231,31 +232,30 @@ fn sweep_of<'a>(given: &ArgMatches<'a>) -> Result<Asked<'a>, &'static str> {
         Some((0, _file)) => Err("STEP is 0"),
         Some(_) if from > to => Err("FROM is beyond TO"),
         Some((step, file)) => Ok(Asked {
-            task: Task::Tell(Telling::Sweep(
+            task: Task::Tell(Telling::Sweep(Values {
                 key,
-                Sweep {
-                    from,
-                    to,
-                    step,
-                    csv,
-                },
-            )),
+                from,
+                to,
+                step,
+                csv,
+            })),
             file,
             has_progress: true,
         }),
     }
 }
 
-/// Words after `sweep` that are wrong for a reason that `clap` doesn't know.
-pub(crate) fn refused_sweep(alloc: Global, reason: &str) -> Refused {
-    let command = match sweep_command(alloc) {
-        Ok(command) => command.bin_name("agc_watch sweep"),
-        Err(error) => Err(error),
-    };
-    match command {
+/// Words after a command that are wrong for a reason that `clap` doesn't know.
+fn refused_words(alloc: Global, name: Name, called: &str, reason: &str) -> Refused {
+    match named_command(alloc, name, called) {
         Ok(mut command) => refused_as(&mut command, reason),
         Err(_no_memory) => Refused::NoMemory,
     }
+}
+
+/// Words after `sweep` that don't suit its scenario.
+pub fn refused_sweep(alloc: Global, reason: &str) -> Refused {
+    refused_words(alloc, Name::Sweep, "agc_watch sweep", reason)
 }
 
 /// The number that a part of seconds is; nothing, if it has another letter than a digit, or is too
@@ -344,10 +344,7 @@ fn asked_to_draw<'a>(
     match times_of(given) {
         Ok(None) => asked_to_work(command, "picture", given),
         Ok(Some(times)) => Ok(asked_to_tell(Telling::Picture(times), given)),
-        Err(reason) => {
-            let mut picture = picture_command(alloc)?.bin_name("agc_watch picture")?;
-            Err(refused_as(&mut picture, reason))
-        }
+        Err(reason) => Err(refused_words(alloc, Name::Picture, "agc_watch picture", reason)),
     }
 }
 
