@@ -211,10 +211,14 @@ def keeps():
     again = {"at": 1, "do": "phase 1 1", "every": 2}
     assert asks({"event": [again]}, 6) == [(at, "phase", 1, 1) for at in (1, 3, 5)]
     assert asks({"event": [{**again, "until": 3}]}, 6) == [(at, "phase", 1, 1) for at in (1, 3)]
-    assert Clock().lasts == 360000 and Clock({"seconds": 60}).lasts == 6000
+    assert Clock().lasts == 360000 and Clock({"seconds": 60}).lasts == Clock({"seconds": 60}).copy().lasts == 6000
+    clock = Clock()
+    assert str(clock.next(Machine())) == "tick" and clock.time == 1
     # A job costs two centiseconds, and of each 40 percent are stolen: it has 60, 120, 180 and 200 hundredths.
     steal = {"steal": 40, "job": [{"at": "04000", "cost": 2}], "event": [{"at": 1, "do": "novac 20 04000 00005"}]}
     assert asks(steal, 9) == [(1, "novac", 0o20, 0o4000, 5), (4, "end")]
+    late = {**steal, "event": [{"at": 2000, "do": "novac 20 04000 00005"}]}
+    assert asks(late, 2009) == [(2000, "novac", 0o20, 0o4000, 5), (2003, "end")]
     machine, clock = Machine(), Clock(steal)
     for _ in machine.run(clock, 3):
         pass

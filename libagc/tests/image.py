@@ -89,6 +89,10 @@ def images_print():
     eight = str(Image(8)).split("\n")
     assert eight[:2] == ["SETS 8", "SET 0 FREE"] and eight[8] == "SET 7 FREE" and len(eight) == 16
     assert repr(busy()) == f"<Image\n{busy()}>"
+    # Where the tables are is told by TABLES.
+    words = busy().words
+    tables = [" ".join([name, *(f"{it:05o}" for it in words[begin:end])]) for name, (begin, end) in agc.TABLES.items()]
+    assert tables == lines[7:]
 
 
 def words_are_a_tuple():
@@ -109,6 +113,8 @@ def an_era_begins():
         assert "SET 1 FREE" in lines and "VAC 00000 00354 00430 00504 00560" in lines
         assert "TIME3 37766" in lines and "LST2 06100 00011" + " 00000" * 16 in lines
         assert "FAILREG 01202 00000 01202" in lines
+        image.begin([PhaseEntry(4, 5, JobStart(0o25, 0o6000, 9))])
+        assert "VAC 00300 00354 00430 00504 00560" in str(image) and image.running() == 1
         image.begin([])
         after = str(image).split("\n")
         assert image.running() == 0 and "SET 0 FREE" in after and after[-2:] == lines[-2:]
@@ -205,6 +211,14 @@ def what_is_no_number():
     assert raised(TypeError, lambda: Image(7, 5)) == "the words have to be a sequence, and 5 is of type int"
     assert image == Image(7)
 
+    class Five:
+        """What stands for a number, as one of numpy does."""
+
+        def __index__(self):
+            return 5
+
+    assert agc.negative(Five()) == 0o77772
+
 
 def lacking_has_a_sentence():
     image = Image(7)
@@ -213,6 +227,8 @@ def lacking_has_a_sentence():
     assert raised(Lacking, lambda: agc.recover([])) == "there have to be 12 words, and these are 0"
     other = pickle.loads(pickle.dumps(Lacking(Code.NOT_NOW)))
     assert other.code == Code.NOT_NOW and str(other) == "a task is due, or none is where one has to be"
+    other = pickle.loads(pickle.dumps(Lacking(Code.NOT_SPELLED, "'tock' is no request")))
+    assert (other.code, str(other)) == (Code.NOT_SPELLED, "'tock' is no request")
 
 
 def a_wrong_library_is_told():

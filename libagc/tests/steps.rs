@@ -217,6 +217,8 @@ fn keeps() {
     let plan = Plan::new().phase(4, 5, "findvac 25 06000 00007", "").unwrap();
     let up = Machine::power_up(7, plan, &phase_words).unwrap();
     assert_eq!((up.moment(), up.words()[8], up.scene().phases), (up.words(), 0o6000, [5, 0, 0, 5, 0, 0]));
+    assert_eq!((up.sets(), &up.words()[PHASE_PLACE..PHASE_PLACE + 12]), (7, &phase_words[..]));
+    assert_eq!(Machine::new(8, Plan::new()).unwrap().sets(), 8);
     // All nine tasks fire at once, and the line names each.
     let ats: Vec<String> = (0..9).map(|k| format!("{:05o}/00005", 0o2000 + k)).collect();
     let plan = Plan::new().task(0o2010, 5, &["findvac 01 00001 00000"]).unwrap();

@@ -378,7 +378,20 @@ def play(hostile):
     with tempfile.TemporaryDirectory() as room:
         for k in range(10):
             played_at_random(hostile, dice, f"{room}/{k}.toml", EXAMPLES[k] if k < len(EXAMPLES) else None)
+        saved_too_long(hostile, f"{room}/long.toml")
     played_on_a_terminal(hostile)
+
+
+def saved_too_long(hostile, path):
+    """A bench that agc would not read isn't saved."""
+    player = Player()
+    player.ask("tick 110000")
+    wrote = player.ask(f"save {path}")
+    wanted = rf"{re.escape(path)}: not written: it would have ([0-9]+) bytes, and agc reads 1048576"
+    found = len(wrote) == 1 and re.fullmatch(wanted, wrote[0])
+    is_right = found and int(found[1]) > 1100000 and not os.path.exists(path) and player.end() == (0, b"")
+    hostile.runs += 1
+    hostile.expect(f"play, saved too long: {wrote}", is_right)
 
 
 def played_at_random(hostile, dice, saved, example):
@@ -398,7 +411,9 @@ def played_at_random(hostile, dice, saved, example):
     ending = player.end()
     rows = ended([WATCH, "trace", saved])[1].splitlines()
     hostile.runs += 1
-    hostile.expect(f"play, {example}: {ending}, {wrote}", ending == (0, b"") and len(wrote) == 1)
+    wanted = rf"{re.escape(saved)}: a bench of {'[0-9]+' if example else len(asked)} requests"
+    is_told = ending == (0, b"") and len(wrote) == 1 and re.fullmatch(wanted, wrote[0])
+    hostile.expect(f"play, {example}: {ending}, {wrote}", is_told)
     lines = [line for it in told for line in it]
     hostile.expect(f"play, {example}: other rows than trace", lines and rows[-len(lines):] == lines)
     again = Player(saved)
@@ -427,7 +442,9 @@ def played_on_a_terminal(hostile):
     row = "1         0         0         novac 20 02000 00005    job 1"
     tables = "    running 1  sets 1/20 . . . . . .  areas . . . . .  tasks -"
     said = text.decode().replace("\r\n", "\n")
-    is_right = run.wait() == 0 and f"{row}\n{tables}\n" in said and said.count("> ") == 3 and "Ctrl-D ends" in said
+    greeting = "\nType a request, such as findvac 20 02000 00005, or help. Ctrl-D ends.\n> "
+    is_right = run.wait() == 0 and greeting in said and f"{row}\n{tables}\n" in said
+    is_right = is_right and said.count("> ") == 3 and "line 2" not in said  # an empty line is passed over
     hostile.runs += 1
     hostile.expect(f"play, on a terminal: {said}", is_right)
 
