@@ -1,4 +1,4 @@
-"""Random inputs for tools/soak: scripts, benches, runs of threads, inputs with faults, and lines for the library."""
+"""Random inputs for tools/soak: scripts, benches, runs of threads, and inputs with faults."""
 import random
 
 import model
@@ -15,6 +15,7 @@ class Dice(random.Random):
 
     def __init__(self, seed):
         super().__init__(seed)
+        self.texts = None  # of a run of threads: what may come of it
         self.kind_weights = [self.weight(kind) for kind in model.REQUESTS]
         pool = [f"{0o2000 + k:05o}" for k in range(6)] + ["00001", "37777"]
         self.ats = self.sample(pool, self.randint(1, 6))
@@ -57,14 +58,15 @@ class Dice(random.Random):
 
     def lines(self, count):
         """So many lines, ticks in rows: else nothing that is listed would ever fire."""
-        found = []
+        found, kinds = [], list(model.REQUESTS)
         while len(found) < count:
-            kind = self.choices(list(model.REQUESTS), self.kind_weights)[0]
+            kind = self.choices(kinds, self.kind_weights)[0]
             found += [self.line(kind)] * (self.randint(1, 2 * min(self.longest, 40)) if kind == "tick" else 1)
         return found[:count]
 
     def length(self):
-        return self.choice([self.randint(0, 30), self.randint(30, 200), self.randint(200, 700)])
+        """Most runs are short: each table can be full after ten requests."""
+        return self.choices([self.randint(0, 30), self.randint(30, 100), self.randint(100, 500)], [60, 32, 8])[0]
 
     def action(self):
         return self.choice(["nothing", self.line("rouse"), self.listing(), self.listing(), self.job(), self.job()])
@@ -75,7 +77,7 @@ class Dice(random.Random):
 
 
 def script(dice):
-    count = 1100 if dice.often(0.05) else dice.length()
+    count = 1100 if dice.often(0.01) else dice.length()
     text = "".join(f"{it}\n" for it in dice.lines(count))
     return text[:-1] if dice.often(0.1) else text
 
@@ -112,12 +114,12 @@ def power(dice):
     return [f"{it:05o}" for it in words]
 
 
-def bench_of(dice, script_of, limits=True):
+def bench_of(dice, script_of):
     """A bench's keys, but for workers and devices."""
     found = {"sets": dice.choice([7, 8])} if dice.often(0.7) else {}
-    if limits and dice.often(0.3):
+    if dice.often(0.3):
         found["limit"] = dice.choice([1, dice.randint(1, 50), dice.randint(1, 1000), 1000000])
-    if limits and dice.often(0.2):
+    if dice.often(0.2):
         found["allowance"] = dice.choice([0, dice.randint(1, 100), 2**63 - 1])
     for name in ("key", "radar"):
         if dice.often(0.5):
@@ -137,25 +139,27 @@ def devices_of(dice, most, pulses):
 
 def serial(dice):
     found = bench_of(dice, dice.lines(dice.length()))
-    found["worker"] = [{"script": dice.lines(dice.randint(0, 60))} for _ in range(dice.choice([0, 0, 1, 3]))]
-    found["device"] = devices_of(dice, 3, dice.choice([3, 60]))
+    found["worker"] = [{"script": dice.lines(dice.randint(0, 20))} for _ in range(dice.choice([0, 0, 1, 3]))]
+    found["device"] = devices_of(dice, 3, dice.choice([3, 20]))
     if dice.often(0.3):
         found["attends"] = dice.choice([0, 1, 16, 1000])
     return spelled(dice, found)
 
 
 def threads(dice):
-    """A bench of which few reports can come, of all orders in which its threads may ask."""
+    """A bench of which few reports can come, of all orders in which its threads may ask. Seldom those are many."""
+    moments = 4000 if dice.often(0.01) else 200
     while True:
-        found = bench_of(dice, dice.lines(dice.choice([0, dice.randint(0, 40), dice.randint(0, 200)])))
+        found = bench_of(dice, dice.lines(dice.choice([0, dice.randint(0, 30), dice.randint(0, 60)])))
         many = dice.choice([0, 1, 2, 3])
-        most = {0: 0, 1: 200, 2: 6, 3: 3}[many]
+        most = {0: 0, 1: 60, 2: 5, 3: 3}[many]
         found["worker"] = [{"script": dice.lines(dice.randint(0, most))} for _ in range(many)]
-        found["device"] = devices_of(dice, 3, dice.choice([1, 2, 3]) if many else dice.choice([2, 30, 200]))
+        found["device"] = devices_of(dice, 3, dice.choice([1, 2, 3]) if many else dice.choice([2, 20, 100]))
         found["attends"] = 0 if dice.often(0.3) else dice.randint(0, 2)
         text = spelled(dice, found)
         try:
-            if model.texts_of("threads", text.encode()) is not None:
+            dice.texts = model.texts_of_threads(text.encode(), moments)
+            if dice.texts is not None:
                 return text
         except model.Fault:
             return text
@@ -268,33 +272,3 @@ def wrong_bytes(dice):
         at = dice.randrange(len(text) + 1)
         return text[:at] + dice.choice([b"\xff", b"\xc3", b"\xed\xa0\x80", b"\xc0\x80", b"\x80"]) + text[at:]
     return text + b"\n" * (model.MOST_BYTES + dice.choice([0, 1, 5000]) - len(text))
-
-
-def lines_for_library(dice):
-    """Some benches that nothing refuses: for each its text, its core sets, and the lines of libagc/tests/script.py."""
-    found = []
-    while len(found) < 12:
-        bench = bench_of(dice, dice.lines(min(dice.length(), 400)), limits=False)
-        text = spelled(dice, {**bench, "limit": 1000000}).encode()
-        try:
-            model.read_bench(text)
-        except model.Fault:
-            continue
-        found.append((text, bench.get("sets", 7), [*lines_of(bench)]))
-    return found
-
-
-def lines_of(bench):
-    """The plan's lines, the words found at power-up and the script, as libagc/tests/script.py reads them."""
-    for entry in bench["phase"]:
-        kind, *job = entry.get("job", "none 00 00000 00000").split()
-        _, *task = entry.get("task", "list 0 00000 00000").split()
-        numbers = [entry["group"], entry["phase"], ["none", "novac", "findvac"].index(kind), *job, *task]
-        yield " ".join(["entry", *map(str, numbers)])
-    for task in bench["task"]:
-        action = task["action"]
-        for line in [action] if isinstance(action, str) else action:
-            yield f"row {task['at']} {task['bank']} {line}"
-    if "power" in bench:
-        yield " ".join(["power", *bench["power"]])
-    yield from bench.get("script", [])
