@@ -272,3 +272,21 @@ def wrong_bytes(dice):
         at = dice.randrange(len(text) + 1)
         return text[:at] + dice.choice([b"\xff", b"\xc3", b"\xed\xa0\x80", b"\xc0\x80", b"\x80"]) + text[at:]
     return text + b"\n" * (model.MOST_BYTES + dice.choice([0, 1, 5000]) - len(text))
+
+
+BYTES = [b"\0", b"\xff", b"\xc3", b"\xed\xa0\x80", b"\xef\xbb\xbf", b"\r", b"\t", b"'", b"{", b"}", b"+", b"\\", b"\\u0041", b'"""', b"'''",
+         b"1e999", b"nan", b"1979-05-27", b"seconds = 1\n", b"9223372036854775808", *(it.encode() for it in PIECES)]
+
+
+def bytes_changed(dice, text, other):
+    """One to five changes: bytes turned, dropped, doubled, put in, or taken from another text."""
+    found = bytearray(text)
+    for _ in range(dice.choice([1, 1, 1, 2, 3, 5])):
+        at, there = dice.randrange(len(found) + 1), dice.randrange(len(other) + 1)
+        to = len(found) if dice.often(0.03) else at + dice.choice([1, 1, 2, 5, 20, 100])
+        turned = bytes([found[at] ^ 1 << dice.randrange(8)]) if at < len(found) else b""
+        piece, byte = dice.choice(BYTES), bytes([dice.randrange(256)])
+        at, to, put = dice.choice([(at, at + 1, turned), (at, at + 1, byte), (at, at, piece), (at, to, b""), (at, to, piece),
+                                   (at, at, found[at:to]), (at, to, other[there : there + to - at])])
+        found[at:to] = put
+    return bytes(found)
