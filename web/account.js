@@ -11,7 +11,7 @@
 import { Kind } from "../libagc/js/machine.js";
 import { alarmsOf } from "./chart.js";
 import { LOG_FULL, SPENT } from "./run.js";
-import { counted, octal, seconds, visible } from "./words.js";
+import { PLACES, counted, octal, seconds, visible } from "./words.js";
 
 /** What is full at each alarm, and where that table is. */
 const TABLES = {
@@ -314,7 +314,8 @@ function accountOfAlarm(run, shown, names) {
   const table = TABLES[/** @type {keyof typeof TABLES} */ (/** @type {unknown} */ (number))];
   const { running } = shown.scene;
   const lines = [
-    ...(shown.after === null ? [] : beginsAgain(shown.after, names)),
+    ...(shown.after === null ? []
+      : [["The tables are as they were when the alarm came."], ...beginsAgain(shown.after, names)]),
     [{ text: table.text, part: table.part }, ".", ...balance(run, shown),
       running === 0 ? " No job was running." : ` Job ${running} ran.`],
     ...raisedBy(run, shown, names),
@@ -322,6 +323,30 @@ function accountOfAlarm(run, shown, names) {
     ...holders(run, shown, names),
   ];
   return { heading: `Alarm ${octal(number, 4)}: why`, lines, isAlarm: true };
+}
+
+/**
+ * Which job a request ended, and what that freed.
+ * @param {Shown} shown
+ */
+function endedSentence({ line, before }) {
+  const job = before?.sets.find((it) => it !== null && it.number === before.running);
+  if (line !== "end" || !job) return "";
+  const free = job.area > 0 ? "its core set and its VAC area are free" : "its core set is free";
+  return `Job ${job.number} ended: ${free}. `;
+}
+
+/**
+ * When a task that was listed is due, and how full the Waitlist is.
+ * @param {Shown} shown
+ * @param {Names} names
+ */
+function listedSentence({ line, scene }, names) {
+  const [, delay, ...words] = line.split(" ");
+  const [at, bank] = words.map((it) => parseInt(it, 8));
+  const count = scene.tasks.length;
+  return `Task ${names.ofTask({ at, bank })} is due in ${Number(delay)} cs; ${count} of ${PLACES} `
+    + `places ${count === 1 ? "is" : "are"} in use.`;
 }
 
 /**
@@ -349,9 +374,13 @@ function replySentence(run, shown, names) {
     case Kind.NO_JOB: return [["No job is running, so there is none to act on."]];
     case Kind.NO_SLEEPER: return [["No job sleeps at that address."]];
     case Kind.ROUSED: return [[`Job ${step?.number} is awake.`]];
-    case Kind.IDLE: return [["No job is left that is awake."]];
-    case Kind.LEFT: case Kind.RUNS:
-      return [[`Job ${step?.number} runs${runner ? `, at ${names.ofJob(runner.at)}` : ""}.`]];
+    case Kind.LISTED: return [[listedSentence(shown, names)]];
+    case Kind.IDLE: return [[`${endedSentence(shown)}No job is left that is awake.`]];
+    case Kind.LEFT: case Kind.RUNS: {
+      const ended = endedSentence(shown);
+      const runs = `Job ${step?.number} runs${ended === "" ? "" : " next"}`;
+      return [[`${ended}${runs}${runner ? `, at ${names.ofJob(runner.at)}` : ""}.`]];
+    }
     default: return [];
   }
 }

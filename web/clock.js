@@ -313,6 +313,7 @@ export class ClockPanel {
     if (run.bench.seconds !== undefined) this.fill(run);
     const shown = isWhole ? run.rowAtTime(old.ticksAt(at), run.count) : at;
     history.show({ run, count: run.count, at: shown });
+    run.source.isHidden = false;
     workbench.drawAll();
     by("outcome").scrollIntoView({ block: "nearest" });
   }
@@ -354,6 +355,7 @@ export class ClockPanel {
     const rows = [stolen, ...costs];
     if (!this.isRunning || this.drawnFor !== run) this.drawSliders(rows);
     this.drawnFor = run;
+    by("differs").textContent = differencesOf(run).join(" ");
     const named = event.filter((it) => it.name !== undefined);
     by("events").hidden = named.length === 0;
     fill("events", named.map((it) => {
@@ -396,6 +398,22 @@ export class ClockPanel {
       this.change(given(Number(field.value)), this.isWhole, name));
     return make("label", {}, name, field, output);
   }
+}
+
+/**
+ * Which numbers of the clock aren't those of the document.
+ * @param {Run} run
+ */
+function differencesOf({ bench, given }) {
+  const now = typeof bench.steal === "number" ? bench.steal : bench.steal.at(-1)?.percent ?? 0;
+  const isList = typeof given.steal !== "number";
+  const isSame = isList ? bench.steal === given.steal : now === given.steal;
+  const from = typeof bench.steal === "number" ? 0 : bench.steal.at(-1)?.from ?? 0;
+  const since = from > 0 ? ` from ${seconds(from)} on` : "";
+  const steal = `steal is ${now} here${since}, ${isList ? "a list" : given.steal} in the document.`;
+  const costs = bench.job.flatMap(({ at, name, cost }, k) => (cost === given.job[k]?.cost ? []
+    : [`${visible(name ?? at)} costs ${cost} cs here, ${given.job[k]?.cost} cs in the document.`]));
+  return [...(isSame ? [] : [steal]), ...costs];
 }
 
 /**

@@ -27,8 +27,10 @@ class Workbench {
     this.names = new Names(emptyBench());
     /** The row of which the tables are shown as its restart left them, and its run. */
     this.restarted = { run: this.view.run, at: -1 };
-    /** The exercise whose question was drawn last, and whether its answer was hidden. */
-    this.drawn = { source: NO_SOURCE, isHidden: false };
+    /** The exercise whose question was drawn last, whether its answer was hidden, and changed. */
+    this.drawn = { source: NO_SOURCE, isHidden: false, isChanged: false };
+    /** What is said of the row that came last, and its run: as long as that is shown. */
+    this.note = { run: this.view.run, at: -1, text: "" };
     /** What came of the run that was left by the last change, to compare. */
     this.outcome = "";
     /** The branch or the number of core sets that is compared with, if any. */
@@ -103,10 +105,14 @@ class Workbench {
   /** Draws the question of the exercise that is shown, if it is one. */
   drawQuestion() {
     const { source, drawn } = this;
-    by("question").hidden = source.question === "";
-    if (drawn.source === source && drawn.isHidden === source.isHidden) return;
-    this.drawn = { source, isHidden: source.isHidden };
-    fill("question", source.question === "" ? [] : this.exercise(source));
+    const { run, count } = this.view;
+    const isAsked = source.question !== "";
+    by("question").hidden = !isAsked;
+    const isChanged = isAsked && (source.isChanged || run.isChanged(count));
+    const isSame = drawn.source === source && drawn.isChanged === isChanged;
+    if (isSame && drawn.isHidden === source.isHidden) return;
+    this.drawn = { source, isHidden: source.isHidden, isChanged };
+    fill("question", isAsked ? this.exercise({ ...source, isChanged }) : []);
   }
 
   /**
@@ -171,6 +177,7 @@ class Workbench {
    */
   ask(line, who) {
     this.clock.pause();
+    const left = this.view.count - this.view.at;
     const run = this.history.runToGoOn();
     try {
       this.clock.ask(run, line, who);
@@ -179,7 +186,17 @@ class Workbench {
       return;
     }
     this.history.show({ run, count: run.count, at: run.count });
+    if (left > 0) this.noteOf(asideOf(left));
     this.drawAll();
+  }
+
+  /**
+   * Says something beside the row that is shown, until another is.
+   * @param {string} text
+   */
+  noteOf(text) {
+    const { run, at } = this.view;
+    this.note = { run, at, text };
   }
 
   /** @param {number} row */
@@ -237,7 +254,18 @@ class Workbench {
     if (found === null) this.say("Type the number of a request (20), or a time (38.01 s).");
     else if (found[2] === "s" || found[1].includes(".")) {
       this.go(this.view.run.rowAtTime(Math.round(Number(found[1]) * 100), this.view.count));
-    } else this.go(Number(found[1]));
+    } else {
+      this.go(Number(found[1]));
+      if (this.view.run.bench.seconds === undefined) return;
+      this.noteOf(`${found[1]} is the number of a request. For a time, type ${found[1]} s.`);
+      this.drawNote();
+    }
+  }
+
+  drawNote() {
+    const { run, at } = this.view;
+    const isNow = this.note.run === run && this.note.at === at;
+    by("note").textContent = isNow ? this.note.text : "";
   }
 
   drawAll() {
@@ -277,7 +305,9 @@ class Workbench {
     const from = isWhole ? "the beginning" : run.ticksAt(at) > 0 ? seconds(run.ticksAt(at))
       : `request ${at}`;
     by("since").textContent = `A change here takes effect from ${from} on.`;
-    by("whole-box").hidden = run.bench.seconds === undefined;
+    by("since-box").classList.toggle("later", !isWhole);
+    by("whole-box").hidden = run.bench.seconds === undefined || at === 0;
+    this.drawNote();
     by("undo").disabled = this.history.done.length === 0;
     by("redo").disabled = this.history.undone.length === 0;
     by("alarm-next").disabled = this.isHidden;
@@ -540,6 +570,15 @@ class Workbench {
   }
 }
 
+/**
+ * What is said as a request is asked before others that were there.
+ * @param {number} left
+ */
+function asideOf(left) {
+  return left === 1 ? "The 1 request that followed is set aside; Undo brings it back."
+    : `The ${left} requests that followed are set aside; Undo brings them back.`;
+}
+
 /** @param {string} text */
 function bytesOf(text) {
   return Uint8Array.from(atob(text.replace(/\s/g, "")), (it) => it.charCodeAt(0));
@@ -551,4 +590,7 @@ const given = files.textOfData(by("document").textContent.replace(/^\n/, ""));
 if (given !== "") workbench.open(given, "A run");
 else workbench.drawAll();
 await workbench.fromAddress();
+// (what the page opened with can't be undone)
+workbench.history.done = [];
+workbench.drawRow();
 document.documentElement.dataset.ready = "yes";

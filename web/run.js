@@ -243,6 +243,8 @@ export class Run {
   /** @param {import("./bench.js").Bench} bench */
   constructor(bench) {
     this.bench = bench;
+    /** The bench as its document has it. */
+    this.given = bench;
     this.sets = bench.sets ?? 7;
     /** What the document is called that it came of, and what that says of itself. */
     this.title = "AGC workbench";
@@ -402,6 +404,18 @@ export class Run {
     const found = new Uint32Array(this.who.length);
     for (let row = 1; row <= count; row++) found[this.columns.by.items[row]] += 1;
     return new Map(this.who.map((it, k) => [it, found[k]]));
+  }
+
+  /**
+   * Whether the first rows aren't what the document asks for: something was asked by hand, or the
+   * clock was given other numbers.
+   * @param {number} count
+   */
+  isChanged(count) {
+    const spelled = (/** @type {any} */ { steal, job, event }) =>
+      JSON.stringify([steal, job, event]);
+    const byHand = [...this.counts(count)].some(([who, n]) => n > 0 && who.startsWith("you"));
+    return byHand || spelled(this.bench) !== spelled(this.given);
   }
 
   /** @param {number} row */

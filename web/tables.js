@@ -7,7 +7,7 @@
  */
 import { nameOfRestart } from "./account.js";
 import { by, fill, make } from "./dom.js";
-import { octal, wordName } from "./words.js";
+import { PLACES, octal, wordName } from "./words.js";
 
 /**
  * A box of a table.
@@ -82,7 +82,7 @@ function drawAreas(scene, before) {
  */
 function drawTasks({ tasks }, since, row, names) {
   const most = Math.max(1, ...tasks.map((it) => it.left));
-  fill("tasks", Array.from({ length: 9 }, (_, k) => {
+  fill("tasks", Array.from({ length: PLACES }, (_, k) => {
     const task = tasks[k];
     if (task === undefined) return box(`place ${k + 1}`, "free", [], "free", false);
     const isNew = row > 0 && (since[k] >> 1 === row || (row > 1 && since[k] === 2 * row - 1));
@@ -137,13 +137,18 @@ export function drawWords(words) {
 }
 
 /**
- * The tables' headings: they say so if the tables are those after a restart.
+ * The tables' headings: how much is in use, and whether the tables are those after a restart.
  * @param {Shown} shown
  */
-function drawHeadings({ isAfter, line }) {
+function drawHeadings({ isAfter, line, scene }) {
   const more = isAfter ? `, after the ${nameOfRestart(line)}` : "";
-  for (const [id, name] of [["sets", "Core sets"], ["areas", "VAC areas"], ["tasks", "Waitlist"]]) {
-    by(`${id}-name`).textContent = `${name}${more}`;
+  const { sets, areas, tasks } = scene;
+  const used = sets.filter((it) => it !== null).length;
+  const owned = areas.filter((it) => it !== 0).length;
+  const headings = { sets: ["Core sets", used, sets.length],
+    areas: ["VAC areas", owned, areas.length], tasks: ["Waitlist", tasks.length, PLACES] };
+  for (const [id, [name, count, all]] of Object.entries(headings)) {
+    by(`${id}-name`).textContent = `${name}${more}: ${count} of ${all} in use`;
   }
   by("sets").parentElement.classList.toggle("after", isAfter === true);
 }

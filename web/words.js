@@ -8,6 +8,9 @@
  * @typedef {{ name: string, label: string, sentence: string, is: (text: string) => boolean }} Part
  */
 
+/** How many tasks may wait. */
+export const PLACES = 9;
+
 /**
  * @param {number} number
  * @param {number} digits

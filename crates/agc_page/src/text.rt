@@ -7,8 +7,8 @@ pub(crate) const PART_1: &[u8] = br##"<!DOCTYPE html>
 <meta charset="utf-8">
 <meta http-equiv="Content-Security-Policy" content="default-src 'none';
 base-uri 'none'; form-action 'none';
-script-src 'sha256-Bu/RZ73SlN676idLffPMnunVTxg/h7ctFn5GhnNiDZU=' 'wasm-unsafe-eval';
-style-src 'sha256-mLQwoWs7CyOHg71Fu1MqkBmMDRnexjRn2GGO+wD87W8='">
+script-src 'sha256-pUR4fW3dzccXy1eB10q1b1g9HGJ/qStEBcCxQPP80T8=' 'wasm-unsafe-eval';
+style-src 'sha256-D4+uXJ+Bkwv+1cETyLSyO1SNY14h8IG9MzMV6ZT0yKU='">
 <meta name="viewport" content="width=device-width, initial-scale=1">
 <meta name="color-scheme" content="light dark">
 <title>AGC workbench</title>
@@ -47,6 +47,7 @@ margin:0 -1rem;padding:.3rem 1rem .4rem}
 #sentence{margin:0;font-size:1.15rem;font-weight:bold;height:1.4em;overflow:hidden;
 border-left:.5rem solid transparent;padding-left:.4rem;margin-left:-.9rem;white-space:nowrap;
 text-overflow:ellipsis}
+#note{margin:0;flex:1 0 100%;font-weight:bold}#note:empty{display:none}
 #sentence.alarm{border-color:var(--edge);color:var(--alarm)}
 .bar{display:flex;flex-wrap:wrap;gap:.3rem 1rem;align-items:center}
 #sentence{flex:1 0 100%}
@@ -112,6 +113,9 @@ margin-top:.5rem;display:flex;flex-direction:column}
 .told h2{margin-top:.2rem}.told .try{display:flex;flex-wrap:wrap;gap:.3rem;margin:.3rem 0 0}
 .told .try button{min-height:2.1rem}
 .since{margin:.3rem 0 0;font-size:.88rem;color:var(--soft);min-height:1.4em}
+.since.later{color:var(--ink);font-size:1rem;padding-left:.4rem;
+border-left:.3rem solid var(--focus)}
+#differs{color:var(--ink)}.since.later #since{font-weight:bold}
 #outcome{font-weight:bold;margin:.2rem 0 0;scroll-margin-top:10rem}#outcome:empty{margin:0}
 .told.alarm{border-color:var(--edge)}
 .told.alarm h2{color:var(--alarm)}
@@ -181,6 +185,7 @@ body{padding:0 .6rem 1rem}.bar{margin:0 -.6rem;padding:.15rem .6rem .25rem;gap:.
 .top{gap:.2rem;flex-wrap:wrap;padding:.15rem 0}h1{font-size:.95rem}.menu{width:100%}
 .menu button{flex:1;padding:0 .2rem;min-height:2rem}
 #sentence{font-size:.85rem;height:2.7em;white-space:normal;line-height:1.35}
+#note{font-size:.85rem}
 .bar .steps{gap:.15rem;flex-wrap:nowrap}.bar .steps button{min-height:2.3rem}
 .where{flex-basis:100%}.go input{width:8.6rem}
 #outcome{font-size:.85rem}h2{margin:.2rem 0 .05rem;font-size:.82rem}
@@ -247,6 +252,7 @@ of is at the end of its source.</p></noscript>
 <div class="question" id="question" hidden></div>
 <section class="bar" aria-label="The request that is shown">
 <p id="sentence" role="status" aria-live="polite"></p>
+<p id="note" role="status" aria-live="polite"></p>
 <div class="steps" role="group" aria-label="Steps">
 <button type="button" id="first" title="First row (Home)"><span aria-hidden="true">&#8676;</span>
 <span class="word">First</span></button>
@@ -273,7 +279,7 @@ of is at the end of its source.</p></noscript>
 <div class="where">
 <input type="range" id="slider" min="0" max="0" value="0" aria-label="Request">
 <label class="go">Go to <input type="text" id="go" autocomplete="off" spellcheck="false"
-placeholder="20 or 38.01 s"></label>
+placeholder="20 or 38.01 s" title="A request (20), or a time (38.01 s)"></label>
 </div>
 </section>
 <figure class="chart" id="chart-box" hidden>
@@ -330,9 +336,10 @@ autocapitalize="off" spellcheck="false" placeholder="findvac 20 02000 00005" max
 <button type="button" id="tick" title="One centisecond (.)">1 cs</button>
 <button type="button" id="event" title="To the next event or change (n)">Next event</button>
 <label>Speed <select id="speed"></select></label></div>
-<p class="since"><label id="whole-box"><input type="checkbox" id="whole">
+<p class="since" id="since-box"><label id="whole-box"><input type="checkbox" id="whole">
 Change it from the beginning.</label> <span id="since"></span></p>
 <div class="sliders" id="sliders"></div>
+<p class="since" id="differs" role="status" aria-live="polite"></p>
 </section>
 </div>
 <section class="list" aria-labelledby="list-name">
@@ -757,14 +764,14 @@ AElxIgIbOwEIQQRBACACGyEDDA8LIAmnIAmnKAIANgIIIAmnIAmnLwEEOwEM
 IAFCBHynKAIAIgJBACACQYACSSACQQFrQf8BcUEfSXEiAhshBkEFQQAgAhsh
 AwwOC0EBIQJBBiEDDA0LIAFCBHynKAIAIgRB/wFLDQYgBEEBa0H/AXFBBUsN
 BiABQgh8pygCACIFQf//AUsNDCAJpyAFOwEIQQEhAkEHIQMgBCEGDAwLIAFC
-"##;
-
-/// Part 2 of what stands before the data.
-pub(crate) const PART_2: &[u8] = br##"BHynKAIAIgdB//8DSwRADAcLQQAgB0EBa0H//wNxQfn+AEsNBxogAUIMfKco
+BHynKAIAIgdB//8DSwRADAcLQQAgB0EBa0H//wNxQfn+AEsNBxogAUIMfKco
 AgAiBEH//wFLDQYgAUIIfKcoAgAiCEH//wNLDQZBACAIQQFrQf//A3FB/v8A
 Sw0HGiAEQRB0IAhyIQVBCCEDQQEhAiAHDAcLQQEhAkEJIQMMCgsgAUIEfKco
 AgAiBEH/AUsNAyAEQQFrQf8BcUEFSw0DIAFCCHynKAIAIgVB/wBLDQkgCadB
-ADYACSAJpyAFOgAIIAmnQQA6AA1BASECQQohAyAEIQYMCQtBASECQQshAwwI
+"##;
+
+/// Part 2 of what stands before the data.
+pub(crate) const PART_2: &[u8] = br##"ADYACSAJpyAFOgAIIAmnQQA6AA1BASECQQohAyAEIQYMCQtBASECQQshAwwI
 C0EBIQJBDCEDDAcLAAsMBQtBAAshBCAJpyAFNgEKIAmnIAQ7AQgMAwtBAAsh
 BiAJpyACNgIIIAMhAgwBCyAJp0EANgIICyAApyACOwAAIABCA3ynIAY6AAAg
 AEICfKcgAzoAACAAQgR8pyAJpygCCDYAACAAQgh8pyAJpy8BDDsAAAudAQIB
@@ -1507,10 +1514,7 @@ IACnAn8CQAJAIAkiCEIQUw0AQoQBIQsCQAJAAkACQCACQQdrDgIBAAILQQEh
 BEKQASELCyAIpyAEOgAOIAhCDnxCAYSnQQBBoQL8CwAgC0IBhiEMA0AgASAK
 fCIJQgZ8py8BACIEIAlCBHynLwEAIgUgCUICfKcvAQAiByAJpy8BACIGIANB
 //8DcSIDIAMgBkkbIgMgAyAHSRsiAyADIAVJGyIDIAMgBEkbwSEDIAwgCkII
-"##;
-
-/// Part 3 of what stands before the data.
-pub(crate) const PART_3: &[u8] = br##"fCIKUg0AC0EAIQQgA0EASA0BIAtCAYYiCVBFBEAgCEIQfKcgAacgCaf8CgAA
+fCIKUg0AC0EAIQQgA0EASA0BIAtCAYYiCVBFBEAgCEIQfKcgAacgCaf8CgAA
 CwJAAkAgCEIOfBABRQ0AIAhCDnwQA0UNACAIQg58EAQNAQtBAyEDDAQLQQAh
 BSAIQg58p0EAQaIC/AsAIAinIAJBB0ciAzoADiAIQhB8IQlCiAJCoAIgAkEH
 RhsiClBFBEAgCacgAacgCqf8CgAAC0EGIQQCQCAIpy8BJiIHQf//AEsNACAJ
@@ -1526,7 +1530,10 @@ fKcvAQAiCiAEQgJ8py8BACILIASnLwEAIgwgCEH//wNxIgggCCAMSRsiCCAI
 IAtJGyIIIAggCkkbIgggCCAJSRvBIQggByAFQgh8IgVSDQALIAhBAEgNAiAG
 QgGGIgRQRQRAIANCEHynIAGnIASn/AoAAAsCQCADQg58EAFFDQAgA0IOfBAD
 RQ0AIANCDnwQBA0CC0EDDAMLAAsgAyABIAIQEAwCC0ECCyEIIAOnQgA3AgQg
-A6cgCDYCAAsgAKcgA6coAgg2AAggAKcgA6cpAwA3AAAgA0KwAnwkAEEAJAEL
+"##;
+
+/// Part 3 of what stands before the data.
+pub(crate) const PART_3: &[u8] = br##"A6cgCDYCAAsgAKcgA6coAgg2AAggAKcgA6cpAwA3AAAgA0KwAnwkAEEAJAEL
 7QMBA34QAARAAAsjAEKwAn0iBiQAAkACfwJAIAZCEFkEQAJAAkACQAJAIANB
 /wFLDQAgA0EBa0H/AXFBHksNACAEQf//A0sNASAEQQFrQf//A3FB//8ATw0B
 IAVBgIACTw0DIAanIAJBB0c6AA4gBkIOfEIBhKdBAEGhAvwLACAGQhB8IQhC
@@ -2170,9 +2177,9 @@ script = [
 # How many ends are missing?
 # Each pass of this program starts two jobs and ends one. The alarm's request is only the last s\
 traw.
-# How many more `end` lines must be put in, each where a job is running and before the alarm, so\
- that
-# no alarm comes? Find the smallest number.
+# How many more `end` lines must be put in, so that no alarm comes at all? Put each where a job \
+is
+# running, and above the request that raises the alarm now. Find the smallest number.
 script = [
     "novac 20 02000 00005", "novac 20 02100 00005", "end",
     "novac 20 02000 00005", "novac 20 02100 00005", "end",
@@ -2211,9 +2218,9 @@ counts
 jobs
 # and which tasks are there after the alarm of request 13? Now remove the request `phase 3 2`: w\
 hat is
-# no longer saved? What if `phase 1 1` is removed instead? (In the workbench, go to the alarm an\
-d
-# press *After the restart*: the tables then show what has begun again.)
+# no longer saved? What if `phase 1 1` is removed instead? (In the workbench, press *Last* to go\
+ to
+# the alarm, and then *After the restart*: the tables show what has begun again.)
 script = [
     "phase 1 1",
     "phase 3 2",
@@ -2252,9 +2259,9 @@ r a
 # change of job from time to time. `store 1 00002` is work for the running job, whichever it is:\
  it
 # writes 00002 into that job's own work word 1. Job 2 is the most urgent, and is established by
-# request 3. Which request makes it run, and how many requests later is that? What happens to th\
-e
-# least urgent job?
+# request 3. Which request makes it run, and how many requests later is that? When does job 1, t\
+he
+# least urgent, run again?
 script = [
     "novac 05 02000 00005",
     "store 1 00001",
@@ -2275,7 +2282,9 @@ script = [
 ry
 # fourth tick one job ends: too few. Three other jobs sleep. With seven core sets, which alarm c\
 omes
-# first, and when? Now add the line `sets = 8` above `script`. Which alarm comes now, and when?
+# first, at which time and request? Now add the line `sets = 8` above `script`. Which alarm come\
+s now,
+# at which time and request?
 script = [
     "novac 15 06000 00011", "sleep 06000",
     "novac 15 06100 00011", "sleep 06100",
@@ -2330,11 +2339,10 @@ script = [
 # No alarm so far.
 # Every second a job with a VAC area begins, and it needs 0.8 seconds of computing time. Somethi\
 ng
-# else steals a part of the time: `steal` is its percentage. What is the greatest percentage for\
- which
-# no alarm comes in these two minutes? Work it out first: how much work is left over each second\
-, and
-# how much must be left over until a job finds no VAC area? Then try it with
+# else steals a part of the time: `steal` is its percentage. What is the greatest whole percenta\
+ge for
+# which no alarm comes in these two minutes? Work it out first: how much work is left over each
+# second, and how much must be left over until a job finds no VAC area? Then try it with
 # `agc_watch sweep steal 15 25 10.toml`, or in the workbench with the slider *Stolen time*, belo\
 w
 # *Clock*. Now let the run last ten minutes (`seconds = 600`). What is the greatest percentage n\
@@ -2365,13 +2373,14 @@ do = "list 1 02000 00005"
 f one
 # group as they were found when power came back: the complement of the phase, then the phase. (I\
 n the
-# complement every bit is turned over: 0 becomes 7, 1 becomes 6 and so on.) Which group's words \
-are
-# damaged? What does the computer do, and why not simply go on with the other groups? (`agc seri\
-al`
-# has this alarm only as a code in its line FAILREG; `agc_watch trace` says what is wrong.) Supp\
-ose
-# that the phase is right and its complement is damaged, and mend it. What begins again now?
+# complement every bit is turned over: 0 becomes 7, 1 becomes 6 and so on.) Alarm 1107 means tha\
+t
+# a phase and its complement don't agree. Which group's words are damaged? What does the compute\
+r do,
+# and why not simply go on with the other groups? (`agc serial` has this alarm only as a code in\
+ its
+# line FAILREG; `agc_watch trace` says what is wrong.) Suppose that the phase is right and its
+# complement is damaged, and mend it. What begins again now?
 power = [
     "77777", "00000",
     "77775", "00002",
@@ -2685,10 +2694,7 @@ class Lent {
   }
 
   lend() {
-"##;
-
-/// Part 4 of what stands before the data.
-pub(crate) const PART_4: &[u8] = br##"    reach(at.plan + this.numbers.byteLength);
+    reach(at.plan + this.numbers.byteLength);
     numbers.set(this.numbers, at.plan / 4);
   }
 }
@@ -2747,7 +2753,10 @@ class Machine {
     leave();
     this.#sets = whole(sets ?? (words?.length === WORDS ? 8 : 7));
     this.#plan = new Lent(plan);
-    if (words !== undefined) {
+"##;
+
+/// Part 4 of what stands before the data.
+pub(crate) const PART_4: &[u8] = br##"    if (words !== undefined) {
       this.#take(words);
     } else if (power === undefined) {
       served(calls.agc_clear(to.words, this.#sets));
@@ -3243,6 +3252,8 @@ return {
 };
 })();
 const in_words = (() => {
+const PLACES = 9;
+
 function octal(number, digits) {
   return number.toString(8).padStart(digits, "0");
 }
@@ -3383,6 +3394,7 @@ function counted(count, what) {
   return `${count.toLocaleString("en-US")} ${what}${count === 1 ? "" : "s"}`;
 }
 return {
+  PLACES,
   octal,
   PARTS,
   FORMS,
@@ -3737,6 +3749,7 @@ function afterOf(shown) {
 class Run {
   constructor(bench) {
     this.bench = bench;
+    this.given = bench;
     this.sets = bench.sets ?? 7;
     this.title = "AGC workbench";
     this.about = "";
@@ -3846,6 +3859,13 @@ class Run {
     const found = new Uint32Array(this.who.length);
     for (let row = 1; row <= count; row++) found[this.columns.by.items[row]] += 1;
     return new Map(this.who.map((it, k) => [it, found[k]]));
+  }
+
+  isChanged(count) {
+    const spelled = (/** @type {any} */ { steal, job, event }) =>
+      JSON.stringify([steal, job, event]);
+    const byHand = [...this.counts(count)].some(([who, n]) => n > 0 && who.startsWith("you"));
+    return byHand || spelled(this.bench) !== spelled(this.given);
   }
 
   whoAsked(row) {
@@ -3963,7 +3983,7 @@ const in_account = (() => {
 const { Kind } = in_machine;
 const { alarmsOf } = in_chart;
 const { LOG_FULL, SPENT } = in_run;
-const { counted, octal, seconds, visible } = in_words;
+const { PLACES, counted, octal, seconds, visible } = in_words;
 const TABLES = {
   0o1201: { text: "All five VAC areas are owned", part: "areas" },
   0o1202: { text: "A job is in each core set", part: "sets" },
@@ -4107,10 +4127,7 @@ function brokenPairs(power) {
     const [turned, plain] = power.slice(2 * k, 2 * k + 2).map((it) => parseInt(it, 8));
     if (turned !== 0o77777 - plain) {
       const pair = `${octal(turned, 5)} is not the complement of ${octal(plain, 5)}`;
-"##;
-
-/// Part 5 of what stands before the data.
-pub(crate) const PART_5: &[u8] = br##"      lines.push([`group ${k + 1}: ${pair}`]);
+      lines.push([`group ${k + 1}: ${pair}`]);
     } else if (plain > 127) {
       lines.push([`group ${k + 1}: phase ${plain} is above 127`]);
     }
@@ -4149,11 +4166,15 @@ function accountOfQuestion({ bench }) {
 }
 
 function accountOfAlarm(run, shown, names) {
-  const number = /** @type {1} */ (shown.step?.number ?? 0);
+"##;
+
+/// Part 5 of what stands before the data.
+pub(crate) const PART_5: &[u8] = br##"  const number = /** @type {1} */ (shown.step?.number ?? 0);
   const table = TABLES[/** @type {keyof typeof TABLES} */ (/** @type {unknown} */ (number))];
   const { running } = shown.scene;
   const lines = [
-    ...(shown.after === null ? [] : beginsAgain(shown.after, names)),
+    ...(shown.after === null ? []
+      : [["The tables are as they were when the alarm came."], ...beginsAgain(shown.after, names)]),
     [{ text: table.text, part: table.part }, ".", ...balance(run, shown),
       running === 0 ? " No job was running." : ` Job ${running} ran.`],
     ...raisedBy(run, shown, names),
@@ -4161,6 +4182,21 @@ function accountOfAlarm(run, shown, names) {
     ...holders(run, shown, names),
   ];
   return { heading: `Alarm ${octal(number, 4)}: why`, lines, isAlarm: true };
+}
+
+function endedSentence({ line, before }) {
+  const job = before?.sets.find((it) => it !== null && it.number === before.running);
+  if (line !== "end" || !job) return "";
+  const free = job.area > 0 ? "its core set and its VAC area are free" : "its core set is free";
+  return `Job ${job.number} ended: ${free}. `;
+}
+
+function listedSentence({ line, scene }, names) {
+  const [, delay, ...words] = line.split(" ");
+  const [at, bank] = words.map((it) => parseInt(it, 8));
+  const count = scene.tasks.length;
+  return `Task ${names.ofTask({ at, bank })} is due in ${Number(delay)} cs; ${count} of ${PLACES} `
+    + `places ${count === 1 ? "is" : "are"} in use.`;
 }
 
 function replySentence(run, shown, names) {
@@ -4181,9 +4217,13 @@ function replySentence(run, shown, names) {
     case Kind.NO_JOB: return [["No job is running, so there is none to act on."]];
     case Kind.NO_SLEEPER: return [["No job sleeps at that address."]];
     case Kind.ROUSED: return [[`Job ${step?.number} is awake.`]];
-    case Kind.IDLE: return [["No job is left that is awake."]];
-    case Kind.LEFT: case Kind.RUNS:
-      return [[`Job ${step?.number} runs${runner ? `, at ${names.ofJob(runner.at)}` : ""}.`]];
+    case Kind.LISTED: return [[listedSentence(shown, names)]];
+    case Kind.IDLE: return [[`${endedSentence(shown)}No job is left that is awake.`]];
+    case Kind.LEFT: case Kind.RUNS: {
+      const ended = endedSentence(shown);
+      const runs = `Job ${step?.number} runs${ended === "" ? "" : " next"}`;
+      return [[`${ended}${runs}${runner ? `, at ${names.ofJob(runner.at)}` : ""}.`]];
+    }
     default: return [];
   }
 }
@@ -4997,6 +5037,7 @@ class ClockPanel {
     if (run.bench.seconds !== undefined) this.fill(run);
     const shown = isWhole ? run.rowAtTime(old.ticksAt(at), run.count) : at;
     history.show({ run, count: run.count, at: shown });
+    run.source.isHidden = false;
     workbench.drawAll();
     by("outcome").scrollIntoView({ block: "nearest" });
   }
@@ -5027,6 +5068,7 @@ class ClockPanel {
     const rows = [stolen, ...costs];
     if (!this.isRunning || this.drawnFor !== run) this.drawSliders(rows);
     this.drawnFor = run;
+    by("differs").textContent = differencesOf(run).join(" ");
     const named = event.filter((it) => it.name !== undefined);
     by("events").hidden = named.length === 0;
     fill("events", named.map((it) => {
@@ -5057,6 +5099,18 @@ class ClockPanel {
       this.change(given(Number(field.value)), this.isWhole, name));
     return make("label", {}, name, field, output);
   }
+}
+
+function differencesOf({ bench, given }) {
+  const now = typeof bench.steal === "number" ? bench.steal : bench.steal.at(-1)?.percent ?? 0;
+  const isList = typeof given.steal !== "number";
+  const isSame = isList ? bench.steal === given.steal : now === given.steal;
+  const from = typeof bench.steal === "number" ? 0 : bench.steal.at(-1)?.from ?? 0;
+  const since = from > 0 ? ` from ${seconds(from)} on` : "";
+  const steal = `steal is ${now} here${since}, ${isList ? "a list" : given.steal} in the document.`;
+  const costs = bench.job.flatMap(({ at, name, cost }, k) => (cost === given.job[k]?.cost ? []
+    : [`${visible(name ?? at)} costs ${cost} cs here, ${given.job[k]?.cost} cs in the document.`]));
+  return [...(isSame ? [] : [steal]), ...costs];
 }
 
 function lengthOf(run, count) {
@@ -5393,10 +5447,7 @@ class History {
 
 function parting(one, other) {
   const most = Math.min(one.count, other.count);
-"##;
-
-/// Part 6 of what stands before the data.
-pub(crate) const PART_6: &[u8] = br##"  for (let row = 1; row <= most; row++) {
+  for (let row = 1; row <= most; row++) {
     const same = one.run.lines[row] === other.run.lines[row]
       && one.run.columns.uses.items[row] === other.run.columns.uses.items[row]
       && one.run.columns.numbers.items[row] === other.run.columns.numbers.items[row];
@@ -5424,7 +5475,10 @@ function setsCell(scene, names) {
     const told = `${names.jobCell(job)}/${octal(job.priority, 2)}`;
     if (job.asleep) return `(${told})`;
     return scene.next === job.number && scene.next !== scene.running ? `>${told}` : told;
-  }).join(" ");
+"##;
+
+/// Part 6 of what stands before the data.
+pub(crate) const PART_6: &[u8] = br##"  }).join(" ");
 }
 
 function cellsOf({ row, time, line, reply, scene, who }, names) {
@@ -5726,7 +5780,7 @@ return {
 const in_tables = (() => {
 const { nameOfRestart } = in_account;
 const { by, fill, make } = in_dom;
-const { octal, wordName } = in_words;
+const { PLACES, octal, wordName } = in_words;
 function box(name, strong, more, style, isNew) {
   const made = make("li", { class: isNew ? `${style} new` : style }, make("span", {}, name),
     make("b", {}, strong), ...more.map((it) => make("span", {}, it)));
@@ -5768,7 +5822,7 @@ function drawAreas(scene, before) {
 
 function drawTasks({ tasks }, since, row, names) {
   const most = Math.max(1, ...tasks.map((it) => it.left));
-  fill("tasks", Array.from({ length: 9 }, (_, k) => {
+  fill("tasks", Array.from({ length: PLACES }, (_, k) => {
     const task = tasks[k];
     if (task === undefined) return box(`place ${k + 1}`, "free", [], "free", false);
     const isNew = row > 0 && (since[k] >> 1 === row || (row > 1 && since[k] === 2 * row - 1));
@@ -5810,10 +5864,15 @@ function drawWords(words) {
     make("td", {}, octal(word, 5)), make("td", {}, wordName(k)))));
 }
 
-function drawHeadings({ isAfter, line }) {
+function drawHeadings({ isAfter, line, scene }) {
   const more = isAfter ? `, after the ${nameOfRestart(line)}` : "";
-  for (const [id, name] of [["sets", "Core sets"], ["areas", "VAC areas"], ["tasks", "Waitlist"]]) {
-    by(`${id}-name`).textContent = `${name}${more}`;
+  const { sets, areas, tasks } = scene;
+  const used = sets.filter((it) => it !== null).length;
+  const owned = areas.filter((it) => it !== 0).length;
+  const headings = { sets: ["Core sets", used, sets.length],
+    areas: ["VAC areas", owned, areas.length], tasks: ["Waitlist", tasks.length, PLACES] };
+  for (const [id, [name, count, all]] of Object.entries(headings)) {
+    by(`${id}-name`).textContent = `${name}${more}: ${count} of ${all} in use`;
   }
   by("sets").parentElement.classList.toggle("after", isAfter === true);
 }
@@ -6060,7 +6119,8 @@ class Workbench {
     this.history = new History({ run: this.clock.runOf(emptyBench(), []), count: 0, at: 0 });
     this.names = new Names(emptyBench());
     this.restarted = { run: this.view.run, at: -1 };
-    this.drawn = { source: NO_SOURCE, isHidden: false };
+    this.drawn = { source: NO_SOURCE, isHidden: false, isChanged: false };
+    this.note = { run: this.view.run, at: -1, text: "" };
     this.outcome = "";
     this.beside = null;
     this.kept = files.keptTexts(by("kept").textContent.trim());
@@ -6119,10 +6179,14 @@ class Workbench {
 
   drawQuestion() {
     const { source, drawn } = this;
-    by("question").hidden = source.question === "";
-    if (drawn.source === source && drawn.isHidden === source.isHidden) return;
-    this.drawn = { source, isHidden: source.isHidden };
-    fill("question", source.question === "" ? [] : this.exercise(source));
+    const { run, count } = this.view;
+    const isAsked = source.question !== "";
+    by("question").hidden = !isAsked;
+    const isChanged = isAsked && (source.isChanged || run.isChanged(count));
+    const isSame = drawn.source === source && drawn.isChanged === isChanged;
+    if (isSame && drawn.isHidden === source.isHidden) return;
+    this.drawn = { source, isHidden: source.isHidden, isChanged };
+    fill("question", isAsked ? this.exercise({ ...source, isChanged }) : []);
   }
 
   exercise({ question, document, exercise, isHidden, isChanged }) {
@@ -6170,6 +6234,7 @@ class Workbench {
 
   ask(line, who) {
     this.clock.pause();
+    const left = this.view.count - this.view.at;
     const run = this.history.runToGoOn();
     try {
       this.clock.ask(run, line, who);
@@ -6178,7 +6243,13 @@ class Workbench {
       return;
     }
     this.history.show({ run, count: run.count, at: run.count });
+    if (left > 0) this.noteOf(asideOf(left));
     this.drawAll();
+  }
+
+  noteOf(text) {
+    const { run, at } = this.view;
+    this.note = { run, at, text };
   }
 
   go(row) {
@@ -6225,7 +6296,18 @@ class Workbench {
     if (found === null) this.say("Type the number of a request (20), or a time (38.01 s).");
     else if (found[2] === "s" || found[1].includes(".")) {
       this.go(this.view.run.rowAtTime(Math.round(Number(found[1]) * 100), this.view.count));
-    } else this.go(Number(found[1]));
+    } else {
+      this.go(Number(found[1]));
+      if (this.view.run.bench.seconds === undefined) return;
+      this.noteOf(`${found[1]} is the number of a request. For a time, type ${found[1]} s.`);
+      this.drawNote();
+    }
+  }
+
+  drawNote() {
+    const { run, at } = this.view;
+    const isNow = this.note.run === run && this.note.at === at;
+    by("note").textContent = isNow ? this.note.text : "";
   }
 
   drawAll() {
@@ -6265,7 +6347,9 @@ class Workbench {
     const from = isWhole ? "the beginning" : run.ticksAt(at) > 0 ? seconds(run.ticksAt(at))
       : `request ${at}`;
     by("since").textContent = `A change here takes effect from ${from} on.`;
-    by("whole-box").hidden = run.bench.seconds === undefined;
+    by("since-box").classList.toggle("later", !isWhole);
+    by("whole-box").hidden = run.bench.seconds === undefined || at === 0;
+    this.drawNote();
     by("undo").disabled = this.history.done.length === 0;
     by("redo").disabled = this.history.undone.length === 0;
     by("alarm-next").disabled = this.isHidden;
@@ -6511,6 +6595,11 @@ class Workbench {
   }
 }
 
+function asideOf(left) {
+  return left === 1 ? "The 1 request that followed is set aside; Undo brings it back."
+    : `The ${left} requests that followed are set aside; Undo brings them back.`;
+}
+
 function bytesOf(text) {
   return Uint8Array.from(atob(text.replace(/\s/g, "")), (it) => it.charCodeAt(0));
 }
@@ -6521,6 +6610,8 @@ const given = files.textOfData(by("document").textContent.replace(/^\n/, ""));
 if (given !== "") workbench.open(given, "A run");
 else workbench.drawAll();
 await workbench.fromAddress();
+workbench.history.done = [];
+workbench.drawRow();
 document.documentElement.dataset.ready = "yes";
 </script>
 <script type="text/plain" id="document">
