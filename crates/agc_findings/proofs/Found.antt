@@ -1,16 +1,18 @@
 -- What is found of a document.
-use Rattle.std.proofs.Common.{◌≡◌, ℕ, ◌≤◌, List, [], ◌∷◌, ◌++◌, length, Some, None, sym, append-nil, arith}
+use Rattle.std.proofs.Common.{◌≡◌, ◌∙◌, ℕ, ◌+◌, ◌≤◌, ◌<◌, List, [], ◌∷◌, ◌++◌, length, map, take, get_or, Some, None, sym, ap, ap₂, subst, append-nil, arith}
+use Rattle.std.proofs.lemmas.List.{map-append, take_more}
 use Rattle.std.proofs.lemmas.List.Elements.{All-nil, All-push}
-use Rattle.std.proofs.lemmas.List.Sorted.{All-permutation}
+use Rattle.std.proofs.lemmas.List.Sorted.{All-permutation, IsPermutation-refl, IsPermutation-map, IsPermutation-append}
 use Rattle.std.specs.List.{All}
 use Rattle.std.specs.List.Sorted.{IsNonDecreasingBy, IsPermutation}
 use Rattle.toml.specs.Data.{Members}
 use Rattle.toml.specs.Parse.{parse_document}
 use Rattle.agc_document.specs.declared.fault.BenchFault.{BenchFault}
 use Rattle.agc_document.specs.declared.fault.BenchFault.TheVariants as refusal
+use Rattle.agc_document.specs.declared.fault.BenchFault.TheVariants.{NoMemory, NotToml, Key, Line, TaskTwice, PhaseTwice, TooManyAreas}
 use Rattle.agc_document.specs.Benches.{Benched, IsBench, bench_texts}
 use Rattle.agc_document.specs.Faults.{HasTexts, RefusesBench}
-use Rattle.agc_findings.specs.Findings.{Found, IsFound, AreFound, AreFindings, ChecksAs}
+use Rattle.agc_findings.specs.Findings.{Found, IsFound, AreFound, most_of, AreFindings, Said, said, ChecksAs}
 use Rattle.agc_document.proofs.Refusals.{refused_in, texts_of}
 
 -- brought in order
@@ -20,6 +22,15 @@ in_order document k fs gs all same order = record { all = All-permutation (IsFou
 none_found : (document : List ℕ) (k : BenchFault) → AreFound document k []
 none_found document k = record { all = All-nil (IsFound document k); order = λ i j d a l. absurd (omega (arith, l)) }
 
+some_may : (k : BenchFault) → 1 ≤ most_of k
+some_may NoMemory = omega arith
+some_may NotToml = omega arith
+some_may Key = omega arith
+some_may Line = omega arith
+some_may TaskTwice = omega arith
+some_may PhaseTwice = omega arith
+some_may TooManyAreas = omega arith
+
 -- one alone
 pub found_alone : (document : List ℕ) (k : BenchFault) (f : Found) (fs : List Found) → fs ≡ [] ++ f ∷ [] → IsFound document k f → AreFindings document k fs
 found_alone document k f fs is h = record {
@@ -27,23 +38,44 @@ found_alone document k f fs is h = record {
   texts = [];
   is = is;
   some = omega arith;
+  few = some_may k;
+  few_texts = omega arith;
   of_fault = record { all = All-push (IsFound document k) [] f (All-nil (IsFound document k)) h; order = λ i j d a l. let e : j ≡ i = omega (arith, a, l) in rw e (omega arith) };
   of_texts = none_found document refusal.Line;
 }
 
 -- some of one fault, and then texts, or none
-pub found_front : (document : List ℕ) (k : BenchFault) (fs : List Found) → 1 ≤ length fs → AreFound document k fs → AreFindings document k fs
-found_front document k fs some h = record {
+pub found_front : (document : List ℕ) (fs : List Found) → 1 ≤ length fs → length fs ≤ 20 → AreFound document refusal.Line fs → AreFindings document refusal.Line fs
+found_front document fs some few h = record {
   front = fs;
   texts = [];
   is = sym (append-nil fs);
   some = some;
+  few = few;
+  few_texts = omega arith;
   of_fault = h;
   of_texts = none_found document refusal.Line;
 }
 
-pub found_both : (document : List ℕ) (k : BenchFault) (fs ts gs : List Found) → gs ≡ fs ++ ts → 1 ≤ length fs → AreFound document k fs → AreFound document refusal.Line ts → AreFindings document k gs
-found_both document k fs ts gs is some h t = record { front = fs; texts = ts; is = is; some = some; of_fault = h; of_texts = t }
+pub found_both : (document : List ℕ) (fs ts gs : List Found) → gs ≡ fs ++ ts → 1 ≤ length fs → length fs ≤ 20 → length ts ≤ 20 → AreFound document refusal.Key fs → AreFound document refusal.Line ts → AreFindings document refusal.Key gs
+found_both document fs ts gs is some few few_texts h t = record { front = fs; texts = ts; is = is; some = some; few = few; few_texts = few_texts; of_fault = h; of_texts = t }
+
+-- what one finding more says
+pub says_more : {N : Type 0} (of : N → Said) (ns : List N) (i : ℕ) (n : N) (fs gs : List Found) (f : Found) → i < length ns → n ≡ get_or ns i n → map said fs ≡ map of (take i ns) → said f ≡ of n → gs ≡ fs ++ f ∷ [] → map said gs ≡ map of (take (i + 1) ns)
+says_more of ns i n fs gs f l at is one more =
+    ap (map said) more ∙ map-append said fs (f ∷ []) ∙ ap₂ (λ x y. x ++ y ∷ []) is (one ∙ ap of at)
+    ∙ sym (ap (map of) (take_more ns i n l) ∙ map-append of (take i ns) (get_or ns i n ∷ []))
+
+-- what findings say in another order, two lists of them, and one alone
+pub says_in_order : (ss : List Said) (fs gs : List Found) → map said fs ≡ ss → IsPermutation fs gs → IsPermutation ss (map said gs)
+says_in_order ss fs gs is same = subst (λ x. IsPermutation x (map said gs)) is (IsPermutation-map said fs gs same)
+
+pub says_both : (ss ts : List Said) (fs gs hs : List Found) → hs ≡ fs ++ gs → IsPermutation ss (map said fs) → IsPermutation ts (map said gs) → IsPermutation (ss ++ ts) (map said hs)
+says_both ss ts fs gs hs is first second =
+    subst (λ x. IsPermutation (ss ++ ts) x) (sym (ap (map said) is ∙ map-append said fs gs)) (IsPermutation-append ss (map said fs) ts (map said gs) first second)
+
+pub says_alone : (ss : List Said) (fs : List Found) → map said fs ≡ ss → IsPermutation ss (map said fs)
+says_alone ss fs is = subst (λ x. IsPermutation ss x) (sym is) (IsPermutation-refl ss)
 
 -- what comes of a text: it is no document, it is refused, or it is a bench
 pub checks_none : (text : List ℕ) (fs : List Found) → parse_document text ≡ None → AreFindings text refusal.NotToml fs → ChecksAs text None fs

@@ -1,12 +1,17 @@
 -- What is found wrong with a document.
 use Rattle.std.specs.Prelude.{◌≡◌, ◌≤◌, ℕ, suc, ◌+◌, ◌==◌, if◌then◌else◌, List, [], ◌∷◌, ◌++◌}
-use Rattle.std.specs.Prelude.{length, take, min, Option, Some, None}
+use Rattle.std.specs.Prelude.{length, take, map, min, Option, Some, None}
 use Rattle.std.specs.List.{All}
 use Rattle.std.specs.List.Sorted.{IsNonDecreasingBy}
 use Rattle.toml.specs.Parse.{parse_document}
 use Rattle.agc_document.specs.declared.fault.BenchFault.{BenchFault}
 use Rattle.agc_document.specs.declared.fault.BenchFault.TheVariants as refusal
+use Rattle.agc_document.specs.declared.key_fault.KeyFault.{KeyFault}
+use Rattle.agc_document.specs.declared.key_fault.KeyFault.TheVariants.{Unknown, Value, Item}
+use Rattle.agc_document.specs.declared.notes.KeyNote.{KeyNote}
+use Rattle.agc_document.specs.declared.notes.TextNote.{TextNote}
 use Rattle.agc_document.specs.declared.place.Place.{Place}
+use Rattle.agc_document.specs.declared.place.Place.TheVariants.{Whole}
 use Rattle.agc_findings.specs.declared.wrong.Wrong.{Wrong}
 use Rattle.agc_findings.specs.declared.wrong.Wrong.TheVariants as wrong
 use Rattle.agc_document.specs.Benches.{Benched, IsBench, bench_texts}
@@ -57,14 +62,73 @@ pub record AreFound (document : List ℕ) (fault : BenchFault) (fs : List Found)
   pub all : All (IsFound document fault) fs
   pub order : IsNonDecreasingBy (λ f. f.at) fs
 
+-- how many findings of a fault there may be, and how many of texts after them
+abbrev pub most_of : BenchFault → ℕ
+most_of refusal.Key = 20
+most_of refusal.Line = 20
+most_of _ = 1
+
+abbrev pub most_after : BenchFault → ℕ
+most_after refusal.Key = 20
+most_after _ = 0
+
 -- what is found in a document with this fault: some of that fault, and then texts
 pub record AreFindings (document : List ℕ) (fault : BenchFault) (fs : List Found) : Type 0 where
   pub front : List Found
   pub texts : List Found
   pub is : fs ≡ front ++ texts
   pub some : 1 ≤ length front
+  pub few : length front ≤ most_of fault
+  pub few_texts : length texts ≤ most_after fault
   pub of_fault : AreFound document fault front
   pub of_texts : AreFound document refusal.Line texts
+
+-- what a finding says: where something is wrong, what, and which text is that
+pub record Said : Type 0 where
+  pub place : Place
+  pub wrong : Wrong
+  pub text : List ℕ
+
+-- the text that a finding quotes, unless it is of the value of a key
+abbrev pub quoted : Wrong → List ℕ → List ℕ
+quoted (wrong.Key (Value key)) text = []
+quoted (wrong.Key (Item key)) text = []
+quoted other text = text
+
+-- what a finding says, apart from the digits of a value
+abbrev pub say : Place → Wrong → List ℕ → Said
+say place what text = record { place = place; wrong = what; text = quoted what text }
+
+abbrev pub said : Found → Said
+said f = say f.place f.wrong f.text
+
+-- the name of a key that is unknown; other faults of keys have no text
+abbrev pub name_if : KeyFault → List ℕ → List ℕ
+name_if (Unknown level) name = name
+name_if fault name = []
+
+-- what there is to say of a note
+abbrev pub of_key : KeyNote → Said
+of_key n =
+    record { place = n.place; wrong = wrong.Key n.fault; text = name_if n.fault n.text.now }
+
+abbrev pub of_text : TextNote → Said
+of_text n = record { place = n.place; wrong = wrong.Text n.form; text = n.text.now }
+
+-- the one thing to say
+abbrev pub alone : Place → Wrong → List Said
+alone place what = say place what [] ∷ []
+
+-- what there is to say of a document that is refused for this fault, by what was noted of its keys,
+-- its texts and its plan
+abbrev pub to_say : List KeyNote → List TextNote → Place → BenchFault → List Said
+to_say keys texts plan refusal.NoMemory = []
+to_say keys texts plan refusal.NotToml = alone Whole wrong.NotToml
+to_say keys texts plan refusal.Key = map of_key keys ++ map of_text texts
+to_say keys texts plan refusal.Line = map of_text texts
+to_say keys texts plan refusal.TaskTwice = alone plan wrong.TaskTwice
+to_say keys texts plan refusal.PhaseTwice = alone plan wrong.PhaseTwice
+to_say keys texts plan refusal.TooManyAreas = alone plan wrong.TooManyAreas
 
 -- what comes of a text: nothing is found, and it is a bench; or it is refused for the fault of what
 -- is found first

@@ -1,9 +1,10 @@
 //! What is found wrong with a document, and where.
-ghost use Rattle.std.specs.Prelude.{◌≡◌, ◌≤◌, length, IfOk, OnOk};
+ghost use Rattle.std.specs.Prelude.{◌≡◌, ◌≤◌, length, map, IfOk, OnOk};
 ghost use Rattle.std.specs.List.{All};
 ghost use Rattle.std.specs.List.Sorted.{IsNonDecreasingBy, IsPermutation};
 ghost use Rattle.agc_findings.specs.Findings.{line_ends, line_of, StandsIn, refusal_of};
-ghost use Rattle.agc_findings.specs.Findings.{IsFound, AreFound};
+ghost use Rattle.agc_findings.specs.Findings.{IsFound, AreFound, say, said, of_key, of_text};
+ghost use Rattle.agc_findings.specs.declared.wrong.Wrong.TheVariants as wrong_of;
 ghost use Rattle.agc_document.specs.declared.fault.BenchFault.TheVariants as refusal;
 
 use crate::locate::{Spot, Way, locate_all};
@@ -72,7 +73,8 @@ pub(crate) fn make_finding(
     text: &str,
     wrong: Wrong,
 ) -> Result<Finding, AllocError>
-    ensures { IfOk result (λ f. IsFound document.now (refusal_of wrong) f) }
+    ensures found { IfOk result (λ f. IsFound document.now (refusal_of wrong) f) }
+    ensures says { IfOk result (λ f. said f ≡ say place wrong text.now) }
 {
     let at = at.min(document.len());
     Ok(Finding {
@@ -114,7 +116,9 @@ fn digits_at(document: &str, at: usize) -> &str {
 }
 
 /// The text that is told of what is wrong with a key.
-fn told_text<'a>(document: &'a str, note: &KeyNote<'a>, spot: Spot) -> &'a str {
+fn told_text<'a>(document: &'a str, note: &KeyNote<'a>, spot: Spot) -> &'a str
+    ensures { say note.now.place (wrong_of.Key note.now.fault) result.now ≡ of_key note.now }
+{
     match note.fault {
         KeyFault::Unknown(_level) => note.text,
         KeyFault::Missing(_key) => "",
@@ -127,6 +131,7 @@ fn told_text<'a>(document: &'a str, note: &KeyNote<'a>, spot: Spot) -> &'a str {
 }
 
 /// What is found of a document's keys at these spots.
+#[tactic(auto, using(crate::proofs::Found::says_more))]
 fn found_keys<'a>(
     alloc: Global,
     document: &'a str,
@@ -135,10 +140,11 @@ fn found_keys<'a>(
 ) -> Result<Vec<Finding>, AllocError>
     ensures all { IfOk result (λ v. All (IsFound document.now refusal.Key) v.items) }
     ensures length { IfOk result (λ v. length v.items ≡ length notes.now) }
+    ensures says { IfOk result (λ v. map said v.items ≡ map of_key notes.now) }
 {
     let mut found: Vec<Finding> = Vec::new(alloc);
-    for (k, note) in notes.iter().enumerate() {
-        let spot = spot_at(spots, k);
+    for note in notes {
+        let spot = spot_at(spots, found.len());
         let text = told_text(document, note, spot);
         let wrong = Wrong::Key(note.fault);
         let one = make_finding(alloc, document, spot.at, note.place, text, wrong)?;
@@ -148,6 +154,7 @@ fn found_keys<'a>(
 }
 
 /// What is found of a document's texts at these spots.
+#[tactic(auto, using(crate::proofs::Found::says_more))]
 fn found_texts<'a>(
     alloc: Global,
     document: &'a str,
@@ -156,10 +163,11 @@ fn found_texts<'a>(
 ) -> Result<Vec<Finding>, AllocError>
     ensures all { IfOk result (λ v. All (IsFound document.now refusal.Line) v.items) }
     ensures length { IfOk result (λ v. length v.items ≡ length notes.now) }
+    ensures says { IfOk result (λ v. map said v.items ≡ map of_text notes.now) }
 {
     let mut found: Vec<Finding> = Vec::new(alloc);
-    for (k, note) in notes.iter().enumerate() {
-        let spot = spot_at(spots, k);
+    for note in notes {
+        let spot = spot_at(spots, found.len());
         let wrong = Wrong::Text(note.form);
         let one = make_finding(alloc, document, spot.at, note.place, note.text, wrong)?;
         found.push(one)?;
@@ -168,7 +176,7 @@ fn found_texts<'a>(
 }
 
 /// What is found of a document's keys.
-#[tactic(auto, using(crate::proofs::Found::in_order))]
+#[tactic(auto, using(crate::proofs::Found::in_order, crate::proofs::Found::says_in_order))]
 pub(crate) fn key_findings<'a>(
     alloc: Global,
     document: &'a str,
@@ -176,6 +184,7 @@ pub(crate) fn key_findings<'a>(
 ) -> Result<Vec<Finding>, AllocError>
     ensures are { IfOk result (λ v. AreFound document.now refusal.Key v.items) }
     ensures length { IfOk result (λ v. length v.items ≡ length notes.now) }
+    ensures says { IfOk result (λ v. IsPermutation (map of_key notes.now) (map said v.items)) }
 {
     let mut ways: Vec<Way<'a>> = Vec::new(alloc);
     for note in notes {
@@ -188,7 +197,7 @@ pub(crate) fn key_findings<'a>(
 }
 
 /// What is found of a document's texts.
-#[tactic(auto, using(crate::proofs::Found::in_order))]
+#[tactic(auto, using(crate::proofs::Found::in_order, crate::proofs::Found::says_in_order))]
 pub(crate) fn text_findings<'a>(
     alloc: Global,
     document: &'a str,
@@ -196,6 +205,7 @@ pub(crate) fn text_findings<'a>(
 ) -> Result<Vec<Finding>, AllocError>
     ensures are { IfOk result (λ v. AreFound document.now refusal.Line v.items) }
     ensures length { IfOk result (λ v. length v.items ≡ length notes.now) }
+    ensures says { IfOk result (λ v. IsPermutation (map of_text notes.now) (map said v.items)) }
 {
     let mut ways: Vec<Way<'a>> = Vec::new(alloc);
     for note in notes {

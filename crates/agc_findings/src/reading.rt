@@ -1,9 +1,11 @@
 //! A bench, or what is wrong with the document that should be one.
-ghost use Rattle.std.specs.Prelude.{◌≡◌, Some, IfOk};
+ghost use Rattle.std.specs.Prelude.{◌≡◌, [], ◌∷◌, ◌++◌, map, Some, IfOk};
+ghost use Rattle.std.specs.List.Sorted.{IsPermutation};
 ghost use Rattle.toml.specs.Parse.{parse_document};
 ghost use Rattle.toml.specs.View.{table_view};
 ghost use Rattle.agc_document.specs.Gives.{AreNoted, IsNotedFor};
 ghost use Rattle.agc_findings.specs.Findings.{AreFindings, ChecksAs, refusal_of};
+ghost use Rattle.agc_findings.specs.Findings.{alone, say, said, of_key, of_text, to_say};
 ghost use Rattle.agc_document.specs.declared.fault.BenchFault.TheVariants as refusal;
 
 use crate::finding::{Finding, key_findings, make_finding, text_findings};
@@ -31,7 +33,8 @@ fn found_only(
     text: &str,
     wrong: Wrong,
 ) -> Result<Vec<Finding>, AllocError>
-    ensures { IfOk result (λ v. AreFindings document.now (refusal_of wrong) v.items) }
+    ensures are { IfOk result (λ v. AreFindings document.now (refusal_of wrong) v.items) }
+    ensures says { IfOk result (λ v. map said v.items ≡ say place wrong text.now ∷ []) }
 {
     let mut findings: Vec<Finding> = Vec::new(alloc);
     let one = make_finding(alloc, document, at, place, text, wrong)?;
@@ -46,7 +49,8 @@ fn found_at(
     place: Place,
     wrong: Wrong,
 ) -> Result<Vec<Finding>, AllocError>
-    ensures { IfOk result (λ v. AreFindings document.now (refusal_of wrong) v.items) }
+    ensures are { IfOk result (λ v. AreFindings document.now (refusal_of wrong) v.items) }
+    ensures says { IfOk result (λ v. map said v.items ≡ alone place wrong) }
 {
     let spots = locate_all(alloc, document, &[Way::to(place)])?;
     let at = match spots.as_slice().first() {
@@ -105,14 +109,17 @@ pub fn found_no_document(
 }
 
 /// What is wrong with keys first, then with texts.
-#[tactic(auto, using(crate::proofs::Found::found_both))]
+#[tactic(auto, using(crate::proofs::Found::found_both, crate::proofs::Found::says_both))]
 fn keys_and_texts(
     alloc: Global,
     document: &str,
     notes: &Notes<'_>,
 ) -> Result<Vec<Finding>, AllocError>
     requires { AreNoted notes.now.keys.items }
-    ensures { IfOk result (λ v. AreFindings document.now refusal.Key v.items) }
+    ensures are { IfOk result (λ v. AreFindings document.now refusal.Key v.items) }
+    ensures says { IfOk result (λ v. IsPermutation
+        (map of_key notes.now.keys.items ++ map of_text notes.now.texts.items)
+        (map said v.items)) }
 {
     let mut found = key_findings(alloc, document, notes.keys.as_slice())?;
     let mut texts = text_findings(alloc, document, notes.texts.as_slice())?;
@@ -124,17 +131,21 @@ fn keys_and_texts(
 #[tactic(auto, using(crate::proofs::Found::found_front))]
 fn texts_alone(alloc: Global, document: &str, notes: &Notes<'_>) -> Result<Vec<Finding>, AllocError>
     requires { AreNoted notes.now.texts.items }
-    ensures { IfOk result (λ v. AreFindings document.now refusal.Line v.items) }
+    ensures are { IfOk result (λ v. AreFindings document.now refusal.Line v.items) }
+    ensures says { IfOk result (λ v. IsPermutation (map of_text notes.now.texts.items)
+        (map said v.items)) }
 {
     let found = text_findings(alloc, document, notes.texts.as_slice())?;
     Ok(found)
 }
 
-/// What is wrong with a document that is refused for this, which was noted. Source: profile.
+/// What is wrong with a document that is refused for this, which was noted: each note is told
+/// once, and nothing else. Source: profile.
 ///
 /// # Errors
 ///
 /// Where there is no memory.
+#[tactic(auto, using(crate::proofs::Found::says_alone))]
 pub fn found_in(
     alloc: Global,
     document: &str,
@@ -142,7 +153,10 @@ pub fn found_in(
     fault: BenchFault,
 ) -> Result<Vec<Finding>, AllocError>
     requires { IsNotedFor notes.now.keys.items notes.now.texts.items fault }
-    ensures { IfOk result (λ v. AreFindings document.now fault v.items) }
+    ensures are { IfOk result (λ v. AreFindings document.now fault v.items) }
+    ensures says { IfOk result (λ v. IsPermutation
+        (to_say notes.now.keys.items notes.now.texts.items notes.now.plan fault)
+        (map said v.items)) }
 {
     match fault {
         BenchFault::NoMemory => Err(AllocError),
