@@ -1,16 +1,22 @@
--- Why a scenario is refused, from why its bench is.
-use Rattle.std.proofs.Common.{◌≡◌, true, refl, ap, subst}
+-- What comes of a text as a scenario: it is no document, it is refused, or it is one. And why a
+-- scenario is refused, from why its bench is.
+use Rattle.std.proofs.Common.{◌≡◌, ℕ, List, [], true, Some, None, refl, ap, subst, sym}
 use Rattle.std.specs.List.{list_all}
+use Rattle.toml.specs.Data.{Members}
+use Rattle.toml.specs.Parse.{parse_document}
 use Rattle.agc_plan.specs.declared.plan.PlanFault.{PlanFault}
 use Rattle.agc_plan.specs.declared.plan.PlanFault.TheVariants as plan
 use Rattle.agc_document.specs.declared.fault.BenchFault.{BenchFault}
+use Rattle.agc_document.specs.declared.fault.BenchFault.TheVariants as refusal
 use Rattle.agc_document.specs.declared.fault.BenchFault.TheVariants.{NoMemory, NotToml, Key, Line, TaskTwice, PhaseTwice, TooManyAreas}
 use Rattle.agc_document.specs.Texts.{Texts}
 use Rattle.agc_document.specs.Benches.{bench_texts}
 use Rattle.agc_document.specs.Faults as bench
 use Rattle.agc_scenario.specs.Texts.{ScenarioTexts, TimingTexts}
-use Rattle.agc_scenario.specs.Scenarios.{Timed, IsTimed, can_be_shown, scenario_texts, timing_texts}
-use Rattle.agc_scenario.specs.Faults.{SpellPlanFault, RefusesTexts}
+use Rattle.agc_scenario.specs.Scenarios.{Scenarioed, Timed, IsScenario, IsTimed, can_be_shown, scenario_texts, timing_texts}
+use Rattle.agc_scenario.specs.Faults.{HasTexts, SpellPlanFault, RefusesTexts, RefusesScenario}
+use Rattle.agc_findings.specs.Findings.{Found, AreFindings}
+use Rattle.agc_scenario.specs.Checks.{ChecksAsScenario}
 
 -- texts, with others of their parts
 with_parts : (texts : ScenarioTexts) (b : Texts) (t : TimingTexts) → texts.bench ≡ b → texts.timing ≡ t → texts ≡ record { bench = b; row_names = texts.row_names; entry_names = texts.entry_names; timing = t }
@@ -34,3 +40,12 @@ refused_bench texts t Line rows entries timed is h = λ s r e. h s.bench r.bench
 refused_bench texts t TaskTwice rows entries timed is h = spells texts t plan.TaskTwice rows entries timed is h
 refused_bench texts t PhaseTwice rows entries timed is h = spells texts t plan.PhaseTwice rows entries timed is h
 refused_bench texts t TooManyAreas rows entries timed is h = spells texts t plan.TooManyAreas rows entries timed is h
+
+pub no_document : (text : List ℕ) (fs : List Found) → parse_document text ≡ None → AreFindings text refusal.NotToml fs → ChecksAsScenario text None fs
+no_document text fs is h = (refusal.NotToml, is, h)
+
+pub refused : (text : List ℕ) (ms : Members) (k : BenchFault) (fs : List Found) → parse_document text ≡ Some ms → RefusesScenario (Some ms) k → AreFindings text k fs → ChecksAsScenario text None fs
+refused text ms k fs is why h = (k, subst (λ d. RefusesScenario d k) (sym is) why, h)
+
+pub accepted : (text : List ℕ) (ms : Members) (s : Scenarioed) (fs : List Found) → parse_document text ≡ Some ms → fs ≡ [] → IsScenario s → HasTexts (Some ms) (scenario_texts s) → ChecksAsScenario text (Some s) fs
+accepted text ms s fs is none h has = (none, h, subst (λ d. HasTexts d (scenario_texts s)) (sym is) has)

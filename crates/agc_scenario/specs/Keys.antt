@@ -1,7 +1,7 @@
 -- A document's numbers and texts by key, as those of a scenario, before any text is read. None
 -- stands for a fault Key.
 use Rattle.std.specs.Prelude.{ℕ, ℤ, List, [], ◌∷◌, codes, map, Option, Some, None}
-use Rattle.std.specs.Prelude.{Bool, true, false, nat_lt, not, ◌&&◌, if◌then◌else◌}
+use Rattle.std.specs.Prelude.{Bool, true, false, nat_lt, not, is_some, ◌&&◌, if◌then◌else◌}
 use Rattle.std.specs.List.{list_all}
 use Rattle.toml.specs.Data.{Data, Members, as_str, as_integer}
 use Rattle.agc_text.specs.Chain.{◌>>=◌}
@@ -184,3 +184,8 @@ scenario_in ms = do
   named ← named_in known
   timing ← timing_in known
   Some (texts_with settings named timing)
+
+-- whether a document has the key `seconds`, and so should be a scenario
+abbrev pub has_seconds : Option Members → Bool
+has_seconds None = false
+has_seconds (Some ms) = is_some (value_of (key.Of of_scenario.Seconds) ms)

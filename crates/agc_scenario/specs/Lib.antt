@@ -2,5 +2,5 @@ pub mod Texts
 pub mod Keys
 pub mod Scenarios
 pub mod Faults
-pub mod Leaving
 pub mod Checks
+pub mod Numbers

@@ -3,6 +3,7 @@ use Rattle.std.specs.Prelude.{◌≡◌, ◌≤◌, ℕ, ◌*◌, Bool, true, Li
 use Rattle.std.specs.Option.{option_map}
 use Rattle.std.specs.List.{AllByRecursion, list_all}
 use Rattle.agc_plan.specs.declared.request.Request.{Request}
+use Rattle.agc_plan.specs.declared.request.Request.TheVariants.{EndOfJob, Sleep}
 use Rattle.agc_plan.specs.Ranges.{IsAddress, IsRequest}
 use Rattle.agc_plan.specs.Plans.{fault_of}
 use Rattle.agc_text.specs.Numbers.{octal}
@@ -16,6 +17,7 @@ use Rattle.agc_clock.specs.Timetables.{Schedule, asked_then}
 use Rattle.agc_clock.specs.declared.timetable.Cost.{Cost}
 use Rattle.agc_clock.specs.declared.timetable.Stolen.{Stolen}
 use Rattle.agc_clock.specs.declared.timetable.Then.{Then}
+use Rattle.agc_clock.specs.declared.timetable.Then.TheVariants as then
 use Rattle.agc_scenario.specs.Texts.{JobTexts, EventTexts, TimingTexts, ScenarioTexts}
 
 -- what a job costs, in centiseconds of computing, that stands at an address, what it is asked then,
@@ -150,3 +152,9 @@ pub record IsInRange (s : Scenarioed) : Type 0 where
 pub record IsScenario (s : Scenarioed) : Type 0 where
   pub in_range : IsInRange s
   pub planned : fault_of s.bench.rows s.bench.entries ≡ None
+
+-- for proofs: what a job does by this request, if it leaves by it
+abbrev pub then_of : Request → Option Then
+then_of EndOfJob = Some then.End
+then_of (Sleep at) = Some (then.Sleep at)
+then_of _ = None

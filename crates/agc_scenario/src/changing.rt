@@ -1,7 +1,19 @@
 //! One number of a scenario, exchanged for another.
+ghost use Rattle.std.specs.Prelude.{◌≡◌, ◌≢◌, ◌≤◌, ◌++◌, ℕ, List, codes, IfSome, IfNone};
+ghost use Rattle.std.specs.Prelude.{OnOk, OnErr};
+ghost use Rattle.std.specs.List.{position};
+ghost use Rattle.std.specs.Str.{bytes_eq};
+ghost use Rattle.agc_text.specs.Numbers.{octal};
+ghost use Rattle.agc_document.specs.Rows.{bounds_of};
+ghost use Rattle.agc_document.specs.Keys.{least, most};
+ghost use Rattle.agc_scenario.specs.declared.changing.Number.{Number as AnyNumber};
+ghost use Rattle.agc_scenario.specs.Numbers.{is_named, job_called, event_called, NamesJob};
+ghost use Rattle.agc_scenario.specs.Numbers.{NamesEvent, NamesNumber, key_of, nearest, change_at};
+ghost use Rattle.agc_scenario.specs.Numbers.{job_with, event_with, exchanged, FitsIn};
+
+use crate::keys::always;
 use crate::scenario::Scenario;
-use crate::timing::{TimedEvent, TimedJob};
-use agc_clock::Stolen;
+use crate::timing::{Name, TimedEvent, TimedJob, Timing};
 use agc_document::{Key, Kind, ScenarioKey};
 use agc_text::parse_address;
 use std::alloc::{AllocError, Global};
@@ -18,71 +30,203 @@ pub enum Number {
     Until(usize),
 }
 
+/// Between which bounds an integer of this kind is, or how many items its array has.
+fn bounds(kind: Kind) -> (u64, u64)
+    ensures { result ≡ bounds_of kind }
+{
+    match kind {
+        Kind::Integer(low, high) => (low, high),
+        Kind::Text(_form) => (0, u64::MAX),
+        Kind::OneOrMore(_form, low, high) => (low, high),
+        Kind::Texts(_form, low, high) => (low, high),
+        Kind::Tables(_level, low, high) => (low, high),
+        Kind::IntegerOrTables(_level, low, high) => (low, high),
+    }
+}
+
 impl Number {
-    fn key(self) -> ScenarioKey {
+    /// The key whose value it is.
+    fn key(self) -> Key
+        ensures { result ≡ key_of self }
+    {
         match self {
-            Number::Steal => ScenarioKey::Steal,
-            Number::Seconds => ScenarioKey::Seconds,
-            Number::Cost(_) => ScenarioKey::Cost,
-            Number::Moment(_) => ScenarioKey::Moment,
-            Number::Every(_) => ScenarioKey::Every,
-            Number::Until(_) => ScenarioKey::Until,
+            Number::Steal => Key::Of(ScenarioKey::Steal),
+            Number::Seconds => Key::Of(ScenarioKey::Seconds),
+            Number::Cost(_) => Key::Of(ScenarioKey::Cost),
+            Number::Moment(_) => Key::Of(ScenarioKey::Moment),
+            Number::Every(_) => Key::Of(ScenarioKey::Every),
+            Number::Until(_) => Key::Of(ScenarioKey::Until),
         }
     }
 
     /// The least and the most that it may be. Source: profile.
-    pub fn range(self) -> (u64, u64) {
-        match Key::Of(self.key()).row().kind {
-            Kind::Integer(low, high) => (low, high),
-            Kind::IntegerOrTables(_level, low, high) => (low, high),
-            _ => (0, 0),
-        }
+    pub fn range(self) -> (u64, u64)
+        ensures least { result.0 ≡ least (key_of self) }
+        ensures most { result.1 ≡ most (key_of self) }
+    {
+        bounds(self.key().row().kind)
+    }
+
+    /// The number in its range that is nearest to this one.
+    #[tactic(auto, using(crate::proofs::Numbers::fits_32, crate::proofs::Numbers::nearest_fits))]
+    fn nearest(self, value: u64) -> u32
+        ensures value { result ≡ nearest self value }
+        ensures fits { FitsIn self result }
+    {
+        let (low, high) = self.range();
+        value.max(low).min(high) as u32
     }
 }
 
-/// The first job of this name, or else the one of this address.
-fn job_called(jobs: &[TimedJob], name: &str) -> Option<usize> {
-    for (k, job) in jobs.iter().enumerate() {
-        if job.name() == Some(name) {
-            return Some(k);
-        }
-    }
-    let at = parse_address(name)?;
-    for (k, job) in jobs.iter().enumerate() {
-        if job.at() == at {
-            return Some(k);
-        }
-    }
-    None
+/// What stands in a text between these two.
+fn between<'a>(text: &'a str, front: &str, back: &str) -> Option<&'a str>
+    ensures found { IfSome result (λ called. text.now ≡ front.now ++ (called.now ++ back.now)) }
+    ensures only { IfNone result
+        ((called : List ℕ) → text.now ≢ front.now ++ (called ++ back.now)) }
+{
+    let rest = text.strip_prefix(front)?;
+    rest.strip_suffix(back)
 }
 
-/// The first event of this name.
-fn event_called(events: &[TimedEvent], name: &str) -> Option<usize> {
-    for (k, event) in events.iter().enumerate() {
-        if event.name() == Some(name) {
-            return Some(k);
-        }
+/// Whether a name is there, and is this text.
+fn is_named(name: &Name, called: &str) -> bool
+    ensures { result ≡ is_named called.now name.now }
+{
+    match name.as_str() {
+        None => false,
+        Some(text) => text == called,
     }
-    None
 }
 
-/// The number of an event that a key names.
-fn of_event(event: usize, key: &str) -> Option<Number> {
-    match key {
-        "at" => Some(Number::Moment(event)),
-        "every" => Some(Number::Every(event)),
-        "until" => Some(Number::Until(event)),
-        _ => None,
+/// Whether a text is a job's address.
+fn is_at(job: &TimedJob, text: &str) -> bool
+    ensures { result ≡ bytes_eq (octal 5 job.now.at) text.now }
+{
+    let at = job.at();
+    match parse_address(text) {
+        None => false,
+        Some(other) => other.get() == at.get(),
     }
+}
+
+/// Exchanges what a job costs.
+fn change_cost(job: &mut TimedJob, value: u32)
+    requires { value ≤ 1000000 }
+    ensures { job.new ≡ job_with value job.old }
+{
+    job.cost = value;
 }
 
 /// Exchanges a number of an event.
-fn exchange_in(event: &mut TimedEvent, number: Number, value: u32) {
+fn change_event(event: &mut TimedEvent, number: Number, value: u32)
+    requires { FitsIn number value }
+    ensures { event.new ≡ event_with number value event.old }
+{
     match number {
         Number::Moment(_) => event.at = value,
-        Number::Every(_) => event.every = Some(value.max(1)),
+        Number::Every(_) => event.every = Some(value),
         Number::Until(_) => event.until = Some(value),
         Number::Steal | Number::Seconds | Number::Cost(_) => {}
+    }
+}
+
+/// Exchanges what the job at this place costs, if there is one.
+#[tactic(auto, using(crate::proofs::Numbers::job_changed, crate::proofs::Numbers::changed_out))]
+fn change_job_at(jobs: &mut Vec<TimedJob>, k: usize, value: u32)
+    requires { value ≤ 1000000 }
+    ensures { jobs.new.items ≡ change_at (job_with value) k jobs.old.items }
+{
+    if k < jobs.len() {
+        change_cost(&mut jobs[k], value);
+    }
+}
+
+/// Exchanges a number of the event at this place, if there is one.
+#[tactic(auto, using(crate::proofs::Numbers::event_changed, crate::proofs::Numbers::changed_out))]
+fn change_event_at(events: &mut Vec<TimedEvent>, k: usize, number: Number, value: u32)
+    requires { FitsIn number value }
+    ensures { events.new.items ≡ change_at (event_with number value) k events.old.items }
+{
+    if k < events.len() {
+        change_event(&mut events[k], number, value);
+    }
+}
+
+impl Timing {
+    /// The first job of this name.
+    fn job_with_name(&self, called: &str) -> Option<usize>
+        ensures { result ≡ position (λ j. is_named called.now j.name) self.now.jobs }
+    {
+        self.jobs.iter().position(|job| is_named(&job.name, called))
+    }
+
+    /// The first job that has this address.
+    fn job_at(&self, called: &str) -> Option<usize>
+        ensures { result ≡ position (λ j. bytes_eq (octal 5 j.at) called.now) self.now.jobs }
+    {
+        self.jobs.iter().position(|job| is_at(job, called))
+    }
+
+    /// The first job of this name, or else the first that has this address.
+    fn job_called(&self, called: &str) -> Option<usize>
+        ensures { result ≡ job_called called.now self.now.jobs }
+    {
+        self.job_with_name(called).or(self.job_at(called))
+    }
+
+    /// The first event of this name.
+    fn event_called(&self, called: &str) -> Option<usize>
+        ensures { result ≡ event_called called.now self.now.events }
+    {
+        self.events
+            .iter()
+            .position(|event| is_named(&event.name, called))
+    }
+
+    /// The job whose cost a text names.
+    fn job_named(&self, text: &str) -> Option<usize>
+        ensures found { IfSome result (NamesJob self.now.jobs text.now) }
+        ensures only { IfNone result ((k : ℕ) → ¬ (NamesJob self.now.jobs text.now k)) }
+    {
+        let called = between(text, "job.", ".cost")?;
+        match self.job_called(called) {
+            Some(job) => Some(job),
+            None => None,
+        }
+    }
+
+    /// The event of which a text names the number of this key.
+    #[tactic(auto, using(crate::proofs::Numbers::only_event))]
+    fn event_named(&self, key: &str, text: &str) -> Option<usize>
+        ensures found { IfSome result (NamesEvent self.now.events key.now text.now) }
+        ensures only { IfNone result
+            ((k : ℕ) → ¬ (NamesEvent self.now.events key.now text.now k)) }
+    {
+        let called = between(text, "event.", key)?;
+        match self.event_called(called) {
+            Some(event) => Some(event),
+            None => None,
+        }
+    }
+
+    /// Exchanges a number. Where there is no memory, nothing is exchanged.
+    fn exchange(&mut self, alloc: Global, number: Number, value: u32) -> Result<(), AllocError>
+        requires { FitsIn number value }
+        ensures ok { OnOk result (self.new ≡ exchanged number value self.old) }
+        ensures err { OnErr result (self.new ≡ self.old) }
+    {
+        match number {
+            Number::Steal => {
+                let rows = always(alloc, value as u64)?;
+                self.stolen = rows;
+            }
+            Number::Seconds => self.seconds = value,
+            Number::Cost(k) => change_job_at(&mut self.jobs, k, value),
+            Number::Moment(k) => change_event_at(&mut self.events, k, number, value),
+            Number::Every(k) => change_event_at(&mut self.events, k, number, value),
+            Number::Until(k) => change_event_at(&mut self.events, k, number, value),
+        }
+        Ok(())
     }
 }
 
@@ -90,56 +234,43 @@ impl Scenario {
     /// The number that is named `steal`, `seconds`, `job.NAME.cost`, `event.NAME.at`,
     /// `event.NAME.every` or `event.NAME.until`, where a job without a name is named by its
     /// address; None where the scenario has no such job or event. Source: profile.
-    pub fn number(&self, name: &str) -> Option<Number> {
-        match name {
-            "steal" => return Some(Number::Steal),
-            "seconds" => return Some(Number::Seconds),
-            _ => {}
+    pub fn number(&self, name: &str) -> Option<Number>
+        ensures found { IfSome result (NamesNumber self.now.timing name.now) }
+        ensures only { IfNone result
+            ((n : AnyNumber) → ¬ (NamesNumber self.now.timing name.now n)) }
+    {
+        let timing = &self.timing;
+        if name == "steal" {
+            return Some(Number::Steal);
         }
-        let (table, rest) = name.split_once('.')?;
-        let (called, key) = rest.rsplit_once('.')?;
-        match table {
-            "job" if key == "cost" => job_called(self.timing.jobs(), called).map(Number::Cost),
-            "event" => of_event(event_called(self.timing.all_events(), called)?, key),
-            _ => None,
+        if name == "seconds" {
+            return Some(Number::Seconds);
+        }
+        match timing.job_named(name) {
+            Some(job) => Some(Number::Cost(job)),
+            None => match timing.event_named(".at", name) {
+                Some(event) => Some(Number::Moment(event)),
+                None => match timing.event_named(".every", name) {
+                    Some(event) => Some(Number::Every(event)),
+                    None => match timing.event_named(".until", name) {
+                        Some(event) => Some(Number::Until(event)),
+                        None => None,
+                    },
+                },
+            },
         }
     }
 
-    /// Exchanges a number that is in its range. Source: profile.
+    /// Exchanges a number for another, or for the nearest in its range. Source: profile.
     ///
     /// # Errors
     ///
     /// Where there is no memory; nothing is exchanged.
-    pub fn exchange(
-        &mut self,
-        alloc: Global,
-        number: Number,
-        value: u64,
-    ) -> Result<(), AllocError> {
-        let (low, high) = number.range();
-        let value = value.max(low).min(high).min(1_000_000) as u32;
-        match number {
-            Number::Steal => {
-                let mut rows = Vec::new(alloc);
-                rows.push(Stolen {
-                    from: 0,
-                    to: 360_001,
-                    percent: value,
-                })?;
-                self.timing.stolen = rows;
-            }
-            Number::Seconds => self.timing.seconds = value.min(3600),
-            Number::Cost(k) => {
-                if let Some(job) = self.timing.jobs.get_mut(k) {
-                    job.cost = value;
-                }
-            }
-            Number::Moment(k) | Number::Every(k) | Number::Until(k) => {
-                if let Some(event) = self.timing.events.get_mut(k) {
-                    exchange_in(event, number, value);
-                }
-            }
-        }
-        Ok(())
+    pub fn exchange(&mut self, alloc: Global, number: Number, value: u64) -> Result<(), AllocError>
+        ensures ok { OnOk result (self.new ≡ record self.old
+            { timing = exchanged number (nearest number value) self.old.timing }) }
+        ensures err { OnErr result (self.new ≡ self.old) }
+    {
+        self.timing.exchange(alloc, number, number.nearest(value))
     }
 }

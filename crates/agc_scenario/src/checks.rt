@@ -18,7 +18,7 @@ pub struct CheckedScenario {
 }
 
 /// The scenario that the table of a text is, or why it is none.
-#[tactic(auto, using(crate::proofs::Found::refused, crate::proofs::Found::accepted))]
+#[tactic(auto, using(crate::proofs::Refusals::refused, crate::proofs::Refusals::accepted))]
 fn checked_table(alloc: Global, text: &str, table: &Table) -> Result<CheckedScenario, AllocError>
     requires { parse_document text.now ≡ Some (table_view table.now) }
     ensures { IfOk result (λ c. ChecksAsScenario text.now c.scenario c.findings.items) }
@@ -47,7 +47,7 @@ fn checked_table(alloc: Global, text: &str, table: &Table) -> Result<CheckedScen
 /// # Errors
 ///
 /// Where there is no memory.
-#[tactic(auto, using(crate::proofs::Found::no_document))]
+#[tactic(auto, using(crate::proofs::Refusals::no_document))]
 pub fn scenario_findings(alloc: Global, text: &str) -> Result<CheckedScenario, AllocError>
     ensures { IfOk result (λ c. ChecksAsScenario text.now c.scenario c.findings.items) }
 {

@@ -239,7 +239,7 @@ fn rows_of(alloc: Global, rows: &[StolenRow]) -> Result<Vec<Stolen>, AllocError>
 }
 
 /// One row for all the time that a scenario may last.
-fn always(alloc: Global, percent: u64) -> Result<Vec<Stolen>, AllocError>
+pub(crate) fn always(alloc: Global, percent: u64) -> Result<Vec<Stolen>, AllocError>
     requires { percent ≤ 100 }
     ensures { IfOk result (λ v. v.items ≡ always percent) }
 {

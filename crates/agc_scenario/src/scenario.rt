@@ -4,6 +4,7 @@ ghost use Rattle.std.specs.List.{list_all};
 ghost use Rattle.toml.specs.Parse.{parse_document};
 ghost use Rattle.toml.specs.View.{table_view};
 ghost use Rattle.agc_document.specs.Gives.{AreNoted, IsNotedFor, RefusedLine};
+ghost use Rattle.agc_scenario.specs.Keys.{has_seconds};
 ghost use Rattle.agc_scenario.specs.Faults.{HasTexts, RefusesTexts, RefusesScenario};
 ghost use Rattle.agc_scenario.specs.Scenarios.{IsScenario, IsTimed, Timed, can_be_shown};
 ghost use Rattle.agc_scenario.specs.Scenarios.{scenario_texts, timing_texts};
@@ -12,7 +13,7 @@ use crate::keys::scenario_in;
 use crate::texts::{NameText, ScenarioTexts, TimingTexts};
 use crate::timing::{Name, Timing};
 use crate::values::{all_copied, can_all_be_shown, timing_of};
-use agc_document::{Bench, BenchFault, Form, Notes, Place, bench_from};
+use agc_document::{Bench, BenchFault, Form, Key, Notes, Place, ScenarioKey, bench_from, value_of};
 use std::alloc::{AllocError, Global};
 use std::marker::Model;
 use toml::Table;
@@ -166,16 +167,38 @@ pub fn read_scenario(alloc: Global, text: &str) -> Result<Scenario, BenchFault>
     }
 }
 
+/// Whether a document has the key `seconds`.
+fn has_seconds(table: &Table) -> bool
+    ensures { result ≡ has_seconds (Some (table_view table.now)) }
+{
+    let mut notes = Notes::new(false);
+    match value_of(
+        table,
+        Key::Of(ScenarioKey::Seconds),
+        Place::Whole,
+        &mut notes,
+    ) {
+        Some(_seconds) => true,
+        None => false,
+    }
+}
+
 /// Whether a text is a document that has the key `seconds`, and so should be a scenario. Source:
 /// profile.
 ///
 /// # Errors
 ///
 /// Where there is no memory.
-pub fn is_scenario(alloc: Global, text: &str) -> Result<bool, AllocError> {
+pub fn is_scenario(alloc: Global, text: &str) -> Result<bool, AllocError>
+    ensures { IfOk result (λ b. b ≡ has_seconds (parse_document text.now)) }
+{
     match toml::table_from_str(alloc, text) {
-        Ok(table) => Ok(table.get("seconds").is_some()),
-        Err(error) if error.is_memory() => Err(AllocError),
-        Err(_error) => Ok(false),
+        Ok(table) => Ok(has_seconds(&table)),
+        Err(error) => {
+            if error.is_memory() {
+                return Err(AllocError);
+            }
+            Ok(false)
+        }
     }
 }

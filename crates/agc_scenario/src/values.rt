@@ -7,8 +7,8 @@ ghost use Rattle.agc_text.specs.Lines.{line_of};
 ghost use Rattle.agc_document.specs.Gives.{RefusedLine};
 ghost use Rattle.agc_clock.specs.Timetables.{asked_then};
 ghost use Rattle.agc_clock.specs.declared.timetable.Then.{Then as Leaves};
-ghost use Rattle.agc_scenario.specs.Leaving.{then_of};
 ghost use Rattle.agc_scenario.specs.Scenarios.{Timed, TimedEvent as Event, TimedJob as Job};
+ghost use Rattle.agc_scenario.specs.Scenarios.{then_of};
 ghost use Rattle.agc_scenario.specs.Scenarios.{can_be_shown, event_texts, job_texts};
 ghost use Rattle.agc_scenario.specs.Scenarios.{timing_texts, IsTimed, IsTimedEvent, IsTimedJob};
 
