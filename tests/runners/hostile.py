@@ -86,6 +86,9 @@ do = "rouse 04100"
 # written in parts already.
 SCENARIO_WORDS = ("trace --brief", "picture --time", "check", "bench", "peaks", "sweep steal 0 100 50")
 
+# In how many places of a long output a write fails: a page's would be seven thousand, and take ten minutes.
+MOST_WRITES = 400
+
 # Workers and devices of which each order leaves the same words and totals.
 THREADS = BENCH + b"""
 [[worker]]
@@ -193,7 +196,8 @@ def writes(hostile):
         singly = hostile.run(word, text, most_written=1)
         whole = singly.text
         hostile.expect(f"{word}, one byte a write", singly.said == DONE and singly.writes == len(whole), singly)
-        for k in (*range(1, min(60, singly.writes)), *range(60, singly.writes, 37), singly.writes):
+        step = max(37, singly.writes // MOST_WRITES)
+        for k in (*range(1, min(60, singly.writes)), *range(60, singly.writes, step), singly.writes):
             ended = hostile.run(word, text, most_written=1, fail_write=k)
             hostile.expect(f"{word}, write {k}", ended.said == OUTPUT and whole.startswith(ended.text), ended)
         ended = hostile.run(word, text, most_written=0)
