@@ -12,7 +12,7 @@ from repository import is_scenario
 
 TOP = os.path.realpath(os.path.join(os.path.dirname(os.path.realpath(__file__)), "../.."))
 LEFT_OUT = [f":!{it}" for it in ("crates/*/src", "crates/*/specs", "crates/*/proofs", "tests")]
-COMMANDS = "crates/agc_watch/src/commands.rt"
+COMMANDS = "crates/agc_commands/src/commands.rt"
 WATCHED = {"trace": "trace", "picture": "svg"}
 BUILT = ["crates/agc/out/agc", "crates/agc_watch/out/agc_watch", "crates/libagc/out/liblibagc.a"]
 MODULE = "libagc/js/agc.wasm"
