@@ -54,7 +54,7 @@ export const LOG_FULL = 101;
 
 /** @type {Source} */
 export const NO_SOURCE = {
-  ...{ document: "", exercise: "", question: "", isHidden: false, isChanged: false },
+  document: "", exercise: "", question: "", isHidden: false, isChanged: false,
 };
 
 // What is kept of each row: bits of `marks`.

@@ -307,8 +307,9 @@ impl Key {
         }
     }
 
-    /// Between which bounds its integer is, or how many items its array has.
-    pub(crate) fn bounds(self) -> (u64, u64)
+    /// The least and the most that its integer may be, or that its array may have of items. Source:
+    /// profile.
+    pub fn bounds(self) -> (u64, u64)
         ensures { result ≡ bounds_of (row_of self).kind }
     {
         match self.row().kind {

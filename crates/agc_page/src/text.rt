@@ -7,8 +7,8 @@ pub(crate) const PART_1: &[u8] = br##"<!DOCTYPE html>
 <meta charset="utf-8">
 <meta http-equiv="Content-Security-Policy" content="default-src 'none';
 base-uri 'none'; form-action 'none';
-script-src 'sha256-pUR4fW3dzccXy1eB10q1b1g9HGJ/qStEBcCxQPP80T8=' 'wasm-unsafe-eval';
-style-src 'sha256-D4+uXJ+Bkwv+1cETyLSyO1SNY14h8IG9MzMV6ZT0yKU='">
+script-src 'sha256-uTGN4Eu+V+5wwrvzjgTmaFM/sOfIEuDeg0u6WC/r6do=' 'wasm-unsafe-eval';
+style-src 'sha256-p+1O1wS4rkhOoFwXxMMSyRVJzmdwiirX5qKSmZrYZJE='">
 <meta name="viewport" content="width=device-width, initial-scale=1">
 <meta name="color-scheme" content="light dark">
 <title>AGC workbench</title>
@@ -115,7 +115,8 @@ margin-top:.5rem;display:flex;flex-direction:column}
 .since{margin:.3rem 0 0;font-size:.88rem;color:var(--soft);min-height:1.4em}
 .since.later{color:var(--ink);font-size:1rem;padding-left:.4rem;
 border-left:.3rem solid var(--focus)}
-#differs{color:var(--ink)}.since.later #since{font-weight:bold}
+.since.later #since{font-weight:bold}
+#differs{color:var(--ink)}
 #outcome{font-weight:bold;margin:.2rem 0 0;scroll-margin-top:10rem}#outcome:empty{margin:0}
 .told.alarm{border-color:var(--edge)}
 .told.alarm h2{color:var(--alarm)}
@@ -3615,7 +3616,7 @@ const LOG_FULL = 101;
 
 
 const NO_SOURCE = {
-  ...{ document: "", exercise: "", question: "", isHidden: false, isChanged: false },
+  document: "", exercise: "", question: "", isHidden: false, isChanged: false,
 };
 
 const ALARM = 1;

@@ -1,5 +1,5 @@
 -- The numbers of a scenario: what names them, and what exchanging one changes.
-use Rattle.std.proofs.Common.{◌≡◌, ◌≢◌, ◌∙◌, ℕ, zero, suc, ◌<◌, ◌≤◌, Bool, true, false, codes, List, [], ◌∷◌, ◌++◌, length, get_or, set, Option, Some, None, sym, ap, refl, arith}
+use Rattle.std.proofs.Common.{◌≡◌, ◌≢◌, ◌∙◌, ℕ, zero, suc, ◌<◌, ◌≤◌, Bool, true, false, codes, List, [], ◌∷◌, ◌++◌, length, get_or, set, Option, Some, None, IfSome, IfNone, sym, ap, refl, arith}
 use Rattle.std.specs.Str.{bytes_eq}
 use Rattle.std.proofs.lemmas.List.{append_cancel_left, append_cancel_right}
 use Rattle.std.proofs.lemmas.Slice.Eq.{bytes_eq-Decides}
@@ -16,11 +16,20 @@ only_called : (find : List ℕ → Option ℕ) (front back text called : List �
 only_called find front back text called is named =
     λ k h. none_or k (find h.0) (named ∙ ap find (append_cancel_right called h.0 back (append_cancel_left front (called ++ back) (h.0 ++ back) (sym is ∙ h.1)))) h.2
 
-pub only_job : (jobs : List TimedJob) (text called : List ℕ) → text ≡ codes "job." ++ (called ++ codes ".cost") → None ≡ job_called called jobs → ((k : ℕ) → ¬ (NamesJob jobs text k))
-only_job jobs text called is named = only_called (λ called. job_called called jobs) (codes "job.") (codes ".cost") text called is named
+-- what a text names by what stands there, and that it names nothing else
+pub names_found : (find : List ℕ → Option ℕ) (front back text called : List ℕ) (found : Option ℕ) → text ≡ front ++ (called ++ back) → found ≡ find called → IfSome found (Names find front back text)
+names_found find front back text called None is e = tt
+names_found find front back text called (Some k) is e = (called, is, sym e)
 
-pub only_event : (events : List TimedEvent) (back text called : List ℕ) → text ≡ codes "event." ++ (called ++ back) → None ≡ event_called called events → ((k : ℕ) → ¬ (NamesEvent events back text k))
-only_event events back text called is named = only_called (λ called. event_called called events) (codes "event.") back text called is named
+names_only : (find : List ℕ → Option ℕ) (front back text called : List ℕ) (found : Option ℕ) → text ≡ front ++ (called ++ back) → found ≡ find called → IfNone found ((k : ℕ) → ¬ (Names find front back text k))
+names_only find front back text called None is e = only_called find front back text called is e
+names_only find front back text called (Some k) is e = tt
+
+pub only_job : (jobs : List TimedJob) (text called : List ℕ) (found : Option ℕ) → text ≡ codes "job." ++ (called ++ codes ".cost") → found ≡ job_called called jobs → IfNone found ((k : ℕ) → ¬ (NamesJob jobs text k))
+only_job jobs text called found is e = names_only (λ called. job_called called jobs) (codes "job.") (codes ".cost") text called found is e
+
+pub only_event : (events : List TimedEvent) (back text called : List ℕ) (found : Option ℕ) → text ≡ codes "event." ++ (called ++ back) → found ≡ event_called called events → IfNone found ((k : ℕ) → ¬ (NamesEvent events back text k))
+only_event events back text called found is e = names_only (λ called. event_called called events) (codes "event.") back text called found is e
 
 pub nothing_named : (t : Timed) (text : List ℕ) → bytes_eq text (codes "steal") ≡ false → bytes_eq text (codes "seconds") ≡ false → ((k : ℕ) → ¬ (NamesJob t.jobs text k)) → ((k : ℕ) → ¬ (NamesEvent t.events (codes ".at") text k)) → ((k : ℕ) → ¬ (NamesEvent t.events (codes ".every") text k)) → ((k : ℕ) → ¬ (NamesEvent t.events (codes ".until") text k)) → (n : Number) → ¬ (NamesNumber t text n)
 nothing_named t text steal seconds cost moment every until Steal = λ h. absurd (cc (steal, (bytes_eq-Decides text (codes "steal")).1 h))

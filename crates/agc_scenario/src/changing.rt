@@ -4,7 +4,6 @@ ghost use Rattle.std.specs.Prelude.{OnOk, OnErr};
 ghost use Rattle.std.specs.List.{position};
 ghost use Rattle.std.specs.Str.{bytes_eq};
 ghost use Rattle.agc_text.specs.Numbers.{octal};
-ghost use Rattle.agc_document.specs.Rows.{bounds_of};
 ghost use Rattle.agc_document.specs.Keys.{least, most};
 ghost use Rattle.agc_scenario.specs.declared.changing.Number.{Number as AnyNumber};
 ghost use Rattle.agc_scenario.specs.Numbers.{is_named, job_called, event_called, NamesJob};
@@ -14,7 +13,7 @@ ghost use Rattle.agc_scenario.specs.Numbers.{job_with, event_with, exchanged, Fi
 use crate::keys::always;
 use crate::scenario::Scenario;
 use crate::timing::{Name, TimedEvent, TimedJob, Timing};
-use agc_document::{Key, Kind, ScenarioKey};
+use agc_document::{Key, ScenarioKey};
 use agc_text::parse_address;
 use std::alloc::{AllocError, Global};
 
@@ -28,20 +27,6 @@ pub enum Number {
     Moment(usize),
     Every(usize),
     Until(usize),
-}
-
-/// Between which bounds an integer of this kind is, or how many items its array has.
-fn bounds(kind: Kind) -> (u64, u64)
-    ensures { result ≡ bounds_of kind }
-{
-    match kind {
-        Kind::Integer(low, high) => (low, high),
-        Kind::Text(_form) => (0, u64::MAX),
-        Kind::OneOrMore(_form, low, high) => (low, high),
-        Kind::Texts(_form, low, high) => (low, high),
-        Kind::Tables(_level, low, high) => (low, high),
-        Kind::IntegerOrTables(_level, low, high) => (low, high),
-    }
 }
 
 impl Number {
@@ -64,7 +49,7 @@ impl Number {
         ensures least { result.0 ≡ least (key_of self) }
         ensures most { result.1 ≡ most (key_of self) }
     {
-        bounds(self.key().row().kind)
+        self.key().bounds()
     }
 
     /// The number in its range that is nearest to this one.
@@ -184,29 +169,22 @@ impl Timing {
     }
 
     /// The job whose cost a text names.
+    #[tactic(auto, using(crate::proofs::Numbers::names_found, crate::proofs::Numbers::only_job))]
     fn job_named(&self, text: &str) -> Option<usize>
         ensures found { IfSome result (NamesJob self.now.jobs text.now) }
         ensures only { IfNone result ((k : ℕ) → ¬ (NamesJob self.now.jobs text.now k)) }
     {
-        let called = between(text, "job.", ".cost")?;
-        match self.job_called(called) {
-            Some(job) => Some(job),
-            None => None,
-        }
+        self.job_called(between(text, "job.", ".cost")?)
     }
 
     /// The event of which a text names the number of this key.
-    #[tactic(auto, using(crate::proofs::Numbers::only_event))]
+    #[tactic(auto, using(crate::proofs::Numbers::names_found, crate::proofs::Numbers::only_event))]
     fn event_named(&self, key: &str, text: &str) -> Option<usize>
         ensures found { IfSome result (NamesEvent self.now.events key.now text.now) }
         ensures only { IfNone result
             ((k : ℕ) → ¬ (NamesEvent self.now.events key.now text.now k)) }
     {
-        let called = between(text, "event.", key)?;
-        match self.event_called(called) {
-            Some(event) => Some(event),
-            None => None,
-        }
+        self.event_called(between(text, "event.", key)?)
     }
 
     /// Exchanges a number. Where there is no memory, nothing is exchanged.
