@@ -7,4 +7,3 @@ pub mod Serving
 pub mod Alarms
 pub mod Roomier
 pub mod Migrating
-pub mod Moments

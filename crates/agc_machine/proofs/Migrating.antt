@@ -7,7 +7,7 @@ use Rattle.agc_word.specs.Layout.{sets_in, set_place, use_place, padded}
 use Rattle.agc_plan.specs.Tasks.{Waiting, StandsFor}
 use Rattle.agc_exec.specs.Blocks.{block_in, blocks_of}
 use Rattle.agc_exec.specs.Sets.{slots_of}
-use Rattle.agc_exec.specs.Image.{held_of, sets_of, Each, IsLawfulBlock, IsTidyBlock, jobs_in, entries_in, use_word}
+use Rattle.agc_exec.specs.Image.{minus_zero, held_of, sets_of, Each, IsLawfulBlock, IsTidyBlock, jobs_in, entries_in, use_word}
 use Rattle.agc_exec.specs.Image as cores
 use Rattle.agc_exec.proofs.Decoding.{held_of-free, held_at, length-sets}
 use Rattle.agc_exec.proofs.Reading.{length-blocks_of, get-blocks_of, get-block_in, block_in-same}
@@ -20,8 +20,12 @@ use Rattle.agc_phase.specs.Writing.{minus_place}
 use Rattle.agc_phase.proofs.Reading.{ArePairs-are, ArePairs-at}
 use Rattle.agc_phase.proofs.Kept.{codes_in-same, phases_in-same}
 use Rattle.agc_machine.specs.Image.{IsLawfulImage, IsTidyImage}
-use Rattle.agc_machine.specs.Migration.{free_set, roomier, Migrates}
+use Rattle.agc_machine.specs.Migration.{roomier, Migrates}
 use Rattle.agc_machine.proofs.Roomier.{slots_of-roomier, is_owned-roomier, jobs_of-roomier, entries_of-roomier, IsStanding-roomier, newjob_of-roomier}
+
+-- the twelve words of a core set that nobody has: PRIORITY, the last, is minus zero
+abbrev free_set : List ℕ
+free_set = replicate 11 0 ++ minus_zero ∷ []
 
 -- the new words begin with the old ones, and PRIORITY of set 7 is minus zero
 pub record Grown (old new : List ℕ) : Type 0 where
@@ -129,11 +133,13 @@ phases_grown old new g lawful = record {
 
 lawful_grown : (old new : List ℕ) → Grown old new → IsLawfulImage old → IsLawfulImage new
 lawful_grown old new g lawful = record {
-  size = inr g.eight;
-  cores = cores_grown old new g lawful.cores;
-  waits = IsLawfulTable-same new old (table_grown old new g) lawful.waits;
+  tables = record {
+    size = inr g.eight;
+    cores = cores_grown old new g lawful.tables.cores;
+    waits = IsLawfulTable-same new old (table_grown old new g) lawful.tables.waits;
+    phases = phases_grown old new g lawful.tables.phases;
+  };
   none_due = ap is_due (waits_of-same new old (table_grown old new g)) ∙ lawful.none_due;
-  phases = phases_grown old new g lawful.phases;
 }
 
 tidy_grown : (old new : List ℕ) → Grown old new → IsTidyImage old → IsTidyImage new
@@ -155,7 +161,7 @@ migrates old new seven lawful is =
       tidy = tidy_grown old new g;
       placed = rw (sets_of-grown old new g) (entries_of-roomier (sets_of old));
       stands = λ plain stands. record {
-        jobs = jobs_grown old new g lawful.cores ∙ ap roomier stands.jobs;
+        jobs = jobs_grown old new g lawful.tables.cores ∙ ap roomier stands.jobs;
         tasks = subst (λ (waits : List Waiting). StandsFor waits plain.work.agenda) (sym (waits_of-same new old (table_grown old new g))) stands.tasks;
         base = base_grown old new g ∙ stands.base;
       };

@@ -18,16 +18,13 @@ use Rattle.agc_machine.specs.declared.totals.Totals.{Totals}
 use Rattle.agc_machine.specs.declared.answer.Refusal.TheVariants.{Spent, LogFull}
 use Rattle.agc_plan.specs.Steps.{Plain, Stepped, acted, step, reached, begins, ended, era}
 use Rattle.agc_machine.specs.Told.{add, nothing, reply_told, alarm_told}
-use Rattle.agc_wait.specs.Table.{waits_of}
-use Rattle.agc_wait.proofs.Dues.{is_due-none}
 use Rattle.agc_phase.specs.Image.{base_of, IsLawfulBase}
 use Rattle.agc_phase.specs.Image as phases
 use Rattle.agc_phase.proofs.Reading.{IsLawfulBase-read}
 use Rattle.agc_machine.specs.Image.{IsImage, IsKept}
 use Rattle.agc_machine.specs.Machines.{Machined, IsLawful, plain_of, places_of, stepped, served, refusal_of, starts_over}
 use Rattle.agc_machine.specs.Stands.{IsReady, StandsFor, Steps, BeginsEra}
-use Rattle.agc_machine.proofs.Frames.{none_counted}
-use Rattle.agc_machine.proofs.Stepping.{places_began}
+use Rattle.agc_machine.proofs.Stepping.{tidy_of, ready_by, lawful_by, stands_by, words_stand, places_began}
 
 bool_cases : (b : Bool) → (b ≡ true) ⊎ (b ≡ false)
 bool_cases true = inl refl
@@ -147,39 +144,20 @@ same_served m asked now over base log totals over_is base_is log_is totals_is = 
 
 -- the words of a machine are sound, with no task due, and stand for what base and log reach
 pub ready_of : (m : Machined) (words : List ℕ) → IsImage m words → IsReady words
-ready_of m words image = record {
-  sound = record {
-    size = image.lawful.size;
-    cores = image.lawful.cores;
-    waits = image.lawful.waits;
-    phases = image.lawful.phases;
-    tidy_cores = image.tidy.cores;
-    tidy_waits = image.tidy.waits;
-  };
-  none_due = none_counted words image.lawful.waits image.lawful.none_due;
-}
+ready_of m words image = ready_by words image.lawful image.tidy
 
 pub stands_of : (m : Machined) (words : List ℕ) → IsImage m words → StandsFor words (plain_of m) (places_of m)
-stands_of m words image = record {
-  work = record { jobs_is = sym image.stands.jobs; places_is = sym image.placed; agenda = image.stands.tasks };
-  base_is = sym image.stands.base;
-}
+stands_of m words image = stands_by words (plain_of m) (places_of m) image.stands image.placed
 
 -- and such words are a lawful machine's
 image_of : (m : Machined) (words : List ℕ) → IsLawful m → sets_in words ≡ m.plan.sets → IsReady words → StandsFor words (plain_of m) (places_of m) → IsImage m words
 image_of m words lawful sets ready stands = record {
   machine = lawful;
   sets = sets;
-  lawful = record {
-    size = ready.sound.size;
-    cores = ready.sound.cores;
-    waits = ready.sound.waits;
-    none_due = is_due-none (waits_of words) ready.none_due;
-    phases = ready.sound.phases;
-  };
-  tidy = record { cores = ready.sound.tidy_cores; waits = ready.sound.tidy_waits };
+  lawful = lawful_by words ready;
+  tidy = tidy_of words ready.sound;
   placed = sym stands.work.places_is;
-  stands = record { jobs = sym stands.work.jobs_is; tasks = stands.work.agenda; base = sym stands.base_is };
+  stands = words_stand words (plain_of m) (places_of m) stands;
 }
 
 -- what is kept after a request that is served

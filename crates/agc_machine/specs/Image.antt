@@ -12,13 +12,17 @@ use Rattle.agc_phase.specs.Image.{base_of}
 use Rattle.agc_phase.specs.Image as phases
 use Rattle.agc_machine.specs.Machines.{Machined, IsLawful, plain_of, places_of}
 
--- lawful words: each table's part is, and no task is due
-pub record IsLawfulImage (words : List ℕ) : Type 0 where
+-- lawful words: each table's part is
+pub record AreLawful (words : List ℕ) : Type 0 where
   pub size : IsSized words
   pub cores : cores.IsLawfulWords words
   pub waits : table.IsLawfulTable words
-  pub none_due : is_due (waits_of words) ≡ false
   pub phases : phases.IsLawfulTable words
+
+-- lawful words between two requests: no task is due
+pub record IsLawfulImage (words : List ℕ) : Type 0 where
+  pub tables : AreLawful words
+  pub none_due : is_due (waits_of words) ≡ false
 
 -- MODE and PUSHLOC of each job are 00000, and no gap is written as minus zero
 pub record IsTidyImage (words : List ℕ) : Type 0 where

@@ -72,7 +72,7 @@ result_of refusal reply = option_map_or Err refusal (Ok reply)
 
 -- what the request is answered
 abbrev pub answer_of : Machined → Request → Result Reply Refusal
-answer_of m asked = result_of (refusal_of m asked) (stepped m asked).reply
+answer_of m asked = option_map_or Err (refusal_of m asked) (Ok (stepped m asked).reply)
 
 -- the tasks that fire in it, in order: none where it is refused
 abbrev pub fired_of : Machined → Request → List Task

@@ -5,10 +5,6 @@ use Rattle.agc_plan.specs.Steps.{Plain}
 use Rattle.agc_exec.specs.Image.{minus_zero, entries_in}
 use Rattle.agc_machine.specs.Image.{IsLawfulImage, IsTidyImage, WordsStandFor}
 
--- the twelve words of a core set that nobody has: PRIORITY, the last, is minus zero
-abbrev pub free_set : List ℕ
-free_set = replicate 11 0 ++ minus_zero ∷ []
-
 -- the same jobs, with a number more, which nobody has
 abbrev pub roomier : Jobs → Jobs
 roomier jobs = record jobs { slots = jobs.slots ++ None ∷ [] }
@@ -17,11 +13,11 @@ roomier jobs = record jobs { slots = jobs.slots ++ None ∷ [] }
 abbrev pub with_roomier : Plain → Plain
 with_roomier plain = record plain { work = record plain.work { jobs = roomier plain.work.jobs } }
 
--- the old words are kept, and an eighth core set stands behind them, free; the new words are
--- lawful, and stand for each plain state for which the old ones do, with each job in the set that
--- it had
+-- the old words are kept, and an eighth core set stands behind them, free: PRIORITY, the last of
+-- its twelve words, is minus zero; the new words are lawful, and stand for each plain state for
+-- which the old ones do, with each job in the set that it had
 pub record Migrates (old new : List ℕ) : Type 0 where
-  pub words : new ≡ old ++ free_set
+  pub words : new ≡ old ++ (replicate 11 0 ++ minus_zero ∷ [])
   pub lawful : IsLawfulImage new
   pub tidy : IsTidyImage old → IsTidyImage new
   pub placed : entries_in new ≡ entries_in old ++ 0 ∷ []

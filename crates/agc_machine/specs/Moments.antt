@@ -1,18 +1,15 @@
 -- The moment when a request has been acted on, and no era has begun with it.
 use Rattle.std.specs.Prelude.{◌≡◌, ℕ, false, List}
-use Rattle.agc_word.specs.Layout.{IsSized, sets_in}
+use Rattle.agc_word.specs.Layout.{sets_in}
 use Rattle.agc_plan.specs.declared.reply.Reply.{Reply}
 use Rattle.agc_plan.specs.declared.request.Request.{Request}
 use Rattle.agc_plan.specs.declared.request.Task.{Task}
 use Rattle.agc_plan.specs.Seats.{places_acted}
 use Rattle.agc_plan.specs.Steps.{acted, begins, fired_in, raised_in}
 use Rattle.agc_exec.specs.Image.{entries_in}
-use Rattle.agc_exec.specs.Image as cores
 use Rattle.agc_wait.specs.Table.{waits_of}
-use Rattle.agc_wait.specs.Table as table
 use Rattle.agc_wait.specs.Waits.{is_due}
-use Rattle.agc_phase.specs.Image as phases
-use Rattle.agc_machine.specs.Image.{IsTidyImage, WordsStandFor}
+use Rattle.agc_machine.specs.Image.{AreLawful, IsTidyImage, WordsStandFor}
 use Rattle.agc_machine.specs.Machines.{Machined, plain_of, places_of}
 
 -- the words then, what is replied, what fired, and which action raised an alarm inside a tick
@@ -26,11 +23,8 @@ pub record Acting : Type 0 where
 -- and where no era begins no task is due; they stand for what the model does, with the jobs in the
 -- core sets of their placement
 pub record IsMoment (m : Machined) (asked : Request) (moment : Acting) : Type 0 where
-  pub size : IsSized moment.words
   pub sets : sets_in moment.words ≡ m.plan.sets
-  pub cores : cores.IsLawfulWords moment.words
-  pub waits : table.IsLawfulTable moment.words
-  pub phases : phases.IsLawfulTable moment.words
+  pub tables : AreLawful moment.words
   pub tidy : IsTidyImage moment.words
   pub none_due : begins moment.reply ≡ false → is_due (waits_of moment.words) ≡ false
   pub placed : entries_in moment.words ≡ places_acted m.plan asked (plain_of m) (places_of m)

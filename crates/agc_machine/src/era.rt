@@ -99,8 +99,8 @@ fn begin_groups<P: Plans>(plan: &P, phases: &[Phase], e: &mut Erasable)
 }
 
 /// An era begins with the phases in these words: all jobs and tasks are gone but those of the
-/// plan's entries. No memory is taken. Source: the listings' FRESH START AND RESTART section.
-pub fn begin<P: Plans>(plan: &P, e: &mut Erasable)
+/// plan's entries.
+pub(crate) fn begin_era<P: Plans>(plan: &P, e: &mut Erasable)
     requires { phases.IsLawfulTable e.old }
     ensures { BeginsEra (planned_with (P.written plan.now) (sets_in e.old)) e.old e.new }
 {

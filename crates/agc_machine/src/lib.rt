@@ -9,15 +9,12 @@ mod moment;
 mod step;
 mod tick;
 mod totals;
-mod whole;
 mod words;
 
 pub use agc_plan::NoMemory;
 pub use answer::{Answer, Refusal};
-pub use era::begin;
 pub use machine::{Machine, recover_into, starts_over};
 pub use migration::migrate;
 pub use moment::Moment;
 pub use totals::Totals;
-pub use whole::step_words;
-pub use words::{act_words, finish_words};
+pub use words::{act_words, begin, finish_words, step_words};

@@ -12,11 +12,13 @@ use Rattle.libagc.specs.Tasks.{NoneDue}
 pub inside_a_tick : (code : ℕ) (array words : List ℕ) → IsImage 7 array → words ≡ image_of 7 array → ¬ IsLawfulImage words → code ≡ 6 → Coded code 7 array (Unit {0}) (Unit {0}) (NoneDue 7 array)
 inside_a_tick code array words image same unlawful is =
     rw is (coded_not_now 7 array _ _ _ image tt tt (λ none. unlawful (subst IsLawfulImage (sym same) (record {
-      size = image.lawful.cores.sets.sized;
-      cores = image.lawful.cores;
-      waits = image.lawful.waits;
+      tables = record {
+        size = image.lawful.cores.sets.sized;
+        cores = image.lawful.cores;
+        waits = image.lawful.waits;
+        phases = image.lawful.phases;
+      };
       none_due = none;
-      phases = image.lawful.phases;
     }))))
 
 -- all words of an array are an image of eight core sets
@@ -26,7 +28,7 @@ eight array long range lawful =
     record {
       count = inr refl;
       words = rw whole range;
-      lawful = rw whole (record { cores = lawful.cores; waits = lawful.waits; phases = lawful.phases });
+      lawful = rw whole (record { cores = lawful.tables.cores; waits = lawful.tables.waits; phases = lawful.tables.phases });
     }
 
 pub migrated_to : (old new words then : List ℕ) → words ≡ image_of 7 old → new ≡ then → length new ≡ 144 → AreWords new → Migrates words then → Migrates (image_of 7 old) new × IsImage 8 new

@@ -9,7 +9,7 @@ use Rattle.agc_plan.specs.Plans.{Planned, planned_with}
 use Rattle.agc_plan.specs.Seats.{no_places, era_places}
 use Rattle.agc_machine.specs.Stands.{Stands, BeginsGroups}
 use Rattle.agc_machine.proofs.Beginning.{Cleared, cleared, same_sets}
-use Rattle.agc_machine.proofs.era.begin.Goals as goal
+use Rattle.agc_machine.proofs.era.begin_era.Goals as goal
 
 pub begin_groups-requires-clause-clear : goal.begin_groups-requires-clause-clear
 begin_groups-requires-clause-clear g c =
