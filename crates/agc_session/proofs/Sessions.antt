@@ -1,5 +1,5 @@
 -- The text of a session.
-use Rattle.std.proofs.Common.{◌≡◌, ℕ, List, [], ◌∷◌, ◌++◌, ◌⊎◌, Option, subst, refl, sym, ap, ◌∙◌, append_assoc, inl, inr}
+use Rattle.std.proofs.Common.{◌≡◌, ℕ, List, [], ◌∷◌, ◌++◌, ◌⊎◌, Option, Result, subst, refl, sym, ap, ◌∙◌, append_assoc, inl, inr}
 use Rattle.std.specs.Io.KnownBytes.{Appends}
 use Rattle.std.specs.List.{fold}
 use Rattle.agc_plan.specs.declared.request.Request.{Request}
@@ -9,15 +9,10 @@ use Rattle.agc_text.specs.Report.{report_text}
 use Rattle.agc_text.specs.Writing.{AppendsFront}
 use Rattle.agc_text.specs.Session.{line_for}
 use Rattle.agc_text.proofs.Steps.{appends_none, appends_both, up_to_start, up_to_more, up_to_front, up_to_more_front}
-use Rattle.agc_session.specs.Session.{IsSession, answer_lines}
-use Rattle.agc_session.specs.Walks.{AllWritten, StopsIn, Writing}
-
--- what a machine writes: the answer's line; where a write fails, a front of it
-abbrev line_written : Writing Machined
-line_written machine request old new = Appends old new (line_for machine request)
-
-abbrev line_stopped : Writing Machined
-line_stopped machine request old new = AppendsFront old new (line_for machine request)
+use Rattle.agc_session.specs.Session.{IsSession, WritesSession, answer_lines}
+use Rattle.agc_session.specs.declared.run_fault.RunFault.{RunFault}
+use Rattle.agc_session.specs.Steps.{line_written, line_stopped}
+use Rattle.agc_session.specs.Walks.{AllWritten, StopsIn}
 
 -- all of them wrote their lines
 pub lines_written : (machine : Machined) (rs : List Request) (o n : Option (List ℕ)) → AllWritten after line_written machine rs o n → Appends o n (answer_lines machine rs)
@@ -73,3 +68,7 @@ session_front o w n machine start m rs from is h k =
 -- a front of the answers' lines was
 pub lines_front : (o n : Option (List ℕ)) (machine start : Machined) (rs : List Request) → start ≡ machine → AppendsFront o n (answer_lines start rs) → AppendsSessionFront o n machine rs
 lines_front o n machine start rs from h = subst (λ (x : Machined). AppendsSessionFront o n x rs) from (inl h)
+
+-- what was written of a machine that is this one
+pub from_machine : {T : Type 0} (o n : Option (List ℕ)) (machine start : Machined) (rs : List Request) (r : Result T RunFault) → start ≡ machine → WritesSession o n start rs r → WritesSession o n machine rs r
+from_machine {T} o n machine start rs r is h = subst (λ (m : Machined). WritesSession o n m rs r) is h

@@ -1,9 +1,12 @@
 -- Of proofs alone: what the steps of a run write.
 use Rattle.std.specs.Prelude.{ℕ, List, Option, Result}
+use Rattle.std.specs.Io.KnownBytes.{Appends}
 use Rattle.agc_machine.specs.Image.{HandsOut}
 use Rattle.agc_machine.specs.Machines.{Machined}
 use Rattle.agc_text.specs.Report.{report_text}
-use Rattle.agc_text.specs.Writing.{Writes}
+use Rattle.agc_text.specs.Session.{line_for}
+use Rattle.agc_text.specs.Writing.{AppendsFront, Writes}
+use Rattle.agc_session.specs.Walks.{Writing}
 
 -- the report of a machine's totals, and of words that are the machine's, was written and nothing
 -- else; where a write failed, a front of it
@@ -11,3 +14,10 @@ abbrev pub WritesReport : {T E : Type 0} → Option (List ℕ) → Option (List 
     → Result T E → Type 0
 WritesReport old new machine result = (words : List ℕ) × HandsOut machine words
     × Writes old new (report_text machine.plan.sets words machine.totals) result
+
+-- what a machine writes of a request: the answer's line; where a write fails, a front of it
+abbrev pub line_written : Writing Machined
+line_written machine request old new = Appends old new (line_for machine request)
+
+abbrev pub line_stopped : Writing Machined
+line_stopped machine request old new = AppendsFront old new (line_for machine request)
