@@ -10,14 +10,14 @@ use std::io::Eprint;
 use std::process::ExitCode;
 
 /// What a program is called, and what it says to words that it doesn't take.
-#[derive(Clone, Copy, Debug)]
+#[derive(Clone, Copy)]
 pub struct Program {
     pub name: &'static str,
     pub usage: &'static str,
 }
 
 /// A fault as a program prints it, as a line on standard error.
-#[derive(Clone, Copy, Debug)]
+#[derive(Clone, Copy)]
 pub struct FaultLine {
     pub program: Program,
     pub fault: Fault,
@@ -41,8 +41,6 @@ impl fmt::Display for FaultLine {
         }
     }
 }
-
-impl std::error::Error for FaultLine {}
 
 /// How a program ends: with status 0, or with a line on standard error and the fault's status.
 pub fn ended(rt: &impl Eprint, program: Program, outcome: Result<(), Fault>) -> ExitCode

@@ -13,7 +13,7 @@ use clap::error::ErrorKind;
 use std::alloc::AllocError;
 
 /// Why a program didn't come to its end. Source: profile.
-#[derive(Clone, Copy, Debug)]
+#[derive(Clone, Copy)]
 pub enum Fault {
     /// The words of the command line are none that it takes.
     Words,
