@@ -15,7 +15,8 @@ use Rattle.agc_plan.specs.Eras.{Work}
 use Rattle.agc_plan.specs.Jobs.{Job, Jobs, Outcome, establish_at, if_running, left_by, run_on, findvac_at, job_in, least_unused, least_unowned, new_job, novac, rouse, sleeper_from, sleeping_at, with_changed, with_priority, with_word, woken}
 use Rattle.agc_plan.specs.Laws.{IsLeastUnused}
 use Rattle.agc_plan.specs.Plans.{Planned, Rows, actions_in}
-use Rattle.agc_plan.specs.Steps.{Did, Fires, Plain, acted, base_after, era, ticked, all_done, and_then, begins, dispatched_work, done, fire, fire_first, later_work, reached, step, those_done, unless_alarm}
+use Rattle.agc_plan.specs.Steps.{Did, Fires, Plain, acted, base_after, era, ticked, all_done, begins, dispatched_work, done, fire, fire_first, later_work, reached, step, those_done, unless_alarm}
+use Rattle.agc_plan.specs.Groups.{and_then}
 use Rattle.agc_plan.specs.Tasks.{count_due, first_due}
 use Rattle.agc_plan.proofs.Searches.{least_unused-least, option_cases}
 use Rattle.agc_machine.specs.Machines.{Machined, after, answer_of, plain_of, refusal_of, result_of, served, stepped}

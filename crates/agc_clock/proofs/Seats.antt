@@ -11,7 +11,8 @@ use Rattle.agc_plan.specs.Jobs.{Job, job_in}
 use Rattle.agc_exec.specs.HeldJob.{HeldJob}
 use Rattle.agc_exec.specs.Image.{IsLawfulWords, jobs_in, sets_of}
 use Rattle.agc_exec.specs.Seats.{seen, seats_in}
-use Rattle.agc_exec.specs.Sets.{Holds, IsLawful, job_of, job_numbered, jobs_of, slots_of}
+use Rattle.agc_exec.specs.Sets.{Holds, IsLawful, job_of, job_numbered, slots_of}
+use Rattle.agc_exec.specs.Stages.{jobs_of}
 use Rattle.agc_exec.specs.declared.seats.Seat.{Seat}
 use Rattle.agc_exec.proofs.Decoding.{IsSet-lengths, length-sets}
 use Rattle.agc_exec.proofs.Seating.{numbered}

@@ -7,7 +7,8 @@ use Rattle.agc_plan.specs.Places.{place_of, with_new, placed_new}
 use Rattle.agc_plan.specs.declared.request.Entry.{Entry}
 use Rattle.agc_plan.specs.declared.reply.Reply.TheVariants.{Established}
 use Rattle.agc_exec.specs.HeldJob.{HeldJob}
-use Rattle.agc_exec.specs.Sets.{job_of, job_numbered, slots_of, number_in, running_in, entries_of, jobs_of, Holds, IsLawful, IsStanding}
+use Rattle.agc_exec.specs.Sets.{job_of, job_numbered, slots_of, number_in, running_in, entries_of, Holds, IsLawful, IsStanding}
+use Rattle.agc_exec.specs.Stages.{jobs_of}
 use Rattle.std.proofs.lemmas.Option.{same_Some}
 use Rattle.agc_exec.proofs.Slots.{None-job_numbered, get_or-slots_from, length-slots_from}
 use Rattle.agc_exec.proofs.Swaps.{Fits, IsLawful-set, slots_of-written}

@@ -14,8 +14,11 @@ use Rattle.agc_plan.specs.Jobs.{Jobs, Outcome, least_unused, establish_at, new_j
 use Rattle.agc_plan.specs.Places.{place_of, with_new, placed_new}
 use Rattle.agc_exec.specs.HeldJob.{HeldJob}
 use Rattle.agc_exec.specs.Blocks.{blocks_of}
-use Rattle.agc_exec.specs.Sets.{IsLawful, slots_of, entries_of, running_in, jobs_of}
-use Rattle.agc_exec.specs.Image.{held_of, sets_of, IsLawfulBlock, IsTidyBlock, Each, IsSet, UsesAgree, IsLawfulWords, jobs_in, entries_in, use_word}
+use Rattle.agc_exec.specs.Sets.{IsLawful, slots_of, entries_of, running_in}
+use Rattle.agc_exec.specs.Stages.{jobs_of}
+use Rattle.agc_exec.specs.Image.{held_of, sets_of, IsLawfulBlock, IsTidyBlock, Each, IsSet, IsLawfulWords, jobs_in, entries_in}
+use Rattle.agc_exec.specs.Stages.{UsesAgree}
+use Rattle.agc_exec.specs.Stages.{use_word}
 use Rattle.agc_exec.proofs.Bests.{place_of_number, running_in-awake}
 use Rattle.agc_exec.proofs.Arriving.{Arrives, Arrives-made, arrived-lawful, Gives-busy, Gives-idle, running_in-found, written-entries, least_unused-fits}
 use Rattle.agc_exec.proofs.Decoding.{job_with, held_of-new, sets_of-set, swap-same, Each-new, Each-fronted, Each-set}

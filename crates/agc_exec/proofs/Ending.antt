@@ -16,8 +16,11 @@ use Rattle.agc_plan.specs.Jobs.{Job, Outcome, best, end_of_job, is_owned, with_j
 use Rattle.agc_plan.specs.Places.{place_of, without, placed_end}
 use Rattle.agc_exec.specs.HeldJob.{HeldJob}
 use Rattle.agc_exec.specs.Blocks.{block_in, blocks_of}
-use Rattle.agc_exec.specs.Sets.{Holds, IsLawful, slots_of, entries_of, running_in, jobs_of, job_of, number_in}
-use Rattle.agc_exec.specs.Image.{held_of, sets_of, IsLawfulBlock, IsTidyBlock, Each, IsSet, UsesAgree, IsLawfulWords, use_word, jobs_in, entries_in}
+use Rattle.agc_exec.specs.Sets.{Holds, IsLawful, slots_of, entries_of, running_in, job_of, number_in}
+use Rattle.agc_exec.specs.Stages.{jobs_of}
+use Rattle.agc_exec.specs.Image.{held_of, sets_of, IsLawfulBlock, IsTidyBlock, Each, IsSet, IsLawfulWords, jobs_in, entries_in}
+use Rattle.agc_exec.specs.Stages.{UsesAgree}
+use Rattle.agc_exec.specs.Stages.{use_word}
 use Rattle.agc_exec.proofs.Bests.{place_of_number, running_in-awake, slot_of, slot_found}
 use Rattle.agc_exec.proofs.Leaving.{Gives-end, cleared-lawful}
 use Rattle.agc_exec.proofs.Areas.{is_owned-false}

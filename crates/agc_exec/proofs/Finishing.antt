@@ -13,7 +13,9 @@ use Rattle.agc_plan.specs.Jobs.{Outcome}
 use Rattle.agc_exec.specs.HeldJob.{HeldJob}
 use Rattle.agc_exec.specs.Blocks.{blocks_of}
 use Rattle.agc_exec.specs.Sets.{Holds, IsLawful, slots_of, running_in}
-use Rattle.agc_exec.specs.Image.{held_of, sets_of, IsLawfulBlock, Each, IsTidy, UsesAgree, newjob_of, front_priority}
+use Rattle.agc_exec.specs.Image.{held_of, sets_of, IsLawfulBlock, Each, IsTidy, front_priority}
+use Rattle.agc_exec.specs.Stages.{newjob_of}
+use Rattle.agc_exec.specs.Stages.{UsesAgree}
 use Rattle.agc_exec.proofs.Decoding.{job_with, held_of-new, IsSized-kept}
 use Rattle.agc_exec.proofs.Bests.{best_ready, ready-none, place_of_number}
 

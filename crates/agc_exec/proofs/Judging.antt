@@ -7,7 +7,8 @@ use Rattle.agc_word.specs.Layout.{IsSized, sets_in, set_place, area_of}
 use Rattle.agc_word.specs.Words.{complement}
 use Rattle.agc_exec.specs.HeldJob.{HeldJob}
 use Rattle.agc_exec.specs.Blocks.{block_in, blocks_of}
-use Rattle.agc_exec.specs.Image.{minus_zero, sign, record_of, held_by, sets_of, IsCoded, IsSet}
+use Rattle.agc_exec.specs.Image.{minus_zero, record_of, held_by, sets_of, IsCoded, IsSet}
+use Rattle.agc_exec.specs.Stages.{sign}
 use Rattle.agc_exec.specs.Sets.{number_in, Holds, IsFronted, running_in}
 use Rattle.agc_exec.specs.Stages.{unsigned, AreSound, IsSoundAt, AreSoundSets, area_held, AllApart, NobodyAwake, FrontRuns, owned_in}
 use Rattle.agc_exec.proofs.Bests.{running_in-awake}

@@ -5,7 +5,9 @@ use Rattle.std.proofs.lemmas.Option.{same_Some}
 use Rattle.agc_word.specs.Layout.{sets_in, set_place}
 use Rattle.agc_exec.specs.HeldJob.{HeldJob}
 use Rattle.agc_exec.specs.Blocks.{block_in}
-use Rattle.agc_exec.specs.Image.{sign, priority_unit, record_of, sets_of, IsSet, newjob_of}
+use Rattle.agc_exec.specs.Image.{priority_unit, record_of, sets_of, IsSet}
+use Rattle.agc_exec.specs.Stages.{newjob_of}
+use Rattle.agc_exec.specs.Stages.{sign}
 use Rattle.agc_exec.specs.Sets.{Holds}
 use Rattle.agc_exec.specs.Stages.{Yields, IsBestRank}
 use Rattle.agc_exec.proofs.Decoding.{length-sets}

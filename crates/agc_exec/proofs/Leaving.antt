@@ -7,7 +7,8 @@ use Rattle.agc_plan.specs.Jobs.{job_in, with_job, best, end_of_job, sleep, sleep
 use Rattle.agc_plan.specs.Places.{place_of, fronted, without, placed_end}
 use Rattle.agc_plan.specs.declared.reply.Reply.TheVariants.{Left}
 use Rattle.agc_exec.specs.HeldJob.{HeldJob}
-use Rattle.agc_exec.specs.Sets.{job_of, slots_of, number_in, running_in, entries_of, jobs_of, Holds, IsLawful, IsStanding}
+use Rattle.agc_exec.specs.Sets.{job_of, slots_of, number_in, running_in, entries_of, Holds, IsLawful, IsStanding}
+use Rattle.agc_exec.specs.Stages.{jobs_of}
 use Rattle.agc_exec.proofs.Swaps.{Fits, IsLawful-set, slots_of-cleared, slots_of-changed}
 use Rattle.agc_exec.proofs.Bests.{slot_of, place_of_number, running_in-awake}
 

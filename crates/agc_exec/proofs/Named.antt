@@ -17,7 +17,8 @@ use Rattle.agc_exec.specs.HeldJob.{HeldJob}
 use Rattle.agc_exec.proofs.Best.{better_of, precedes}
 use Rattle.agc_exec.specs.Blocks.{blocks_of}
 use Rattle.agc_exec.specs.Sets.{Holds, IsLawful, IsStanding, slots_of, running_in}
-use Rattle.agc_exec.specs.Image.{sets_of, IsLawfulBlock, IsTidyBlock, IsLawfulWords, newjob_of, jobs_in, entries_in}
+use Rattle.agc_exec.specs.Image.{sets_of, IsLawfulBlock, IsTidyBlock, IsLawfulWords, jobs_in, entries_in}
+use Rattle.agc_exec.specs.Stages.{newjob_of}
 use Rattle.agc_exec.proofs.Bests.{best_ready, place_of_number}
 use Rattle.agc_exec.proofs.Swaps.{Holds-within, slots_of-swap, swap-Holds, moved}
 use Rattle.agc_exec.proofs.Yielding.{GivesWay-none, GivesWay-swap, Gives-change}

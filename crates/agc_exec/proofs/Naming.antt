@@ -7,8 +7,10 @@ use Rattle.agc_word.specs.Layout.{sets_in}
 use Rattle.agc_word.specs.Layout as layout
 use Rattle.agc_plan.specs.Jobs.{Job, Ready, job_in}
 use Rattle.agc_exec.specs.HeldJob.{HeldJob}
-use Rattle.agc_exec.specs.Image.{sets_of, jobs_in, runner_in, IsLawfulWords, newjob_of}
-use Rattle.agc_exec.specs.Sets.{Holds, IsStanding, awake_in, jobs_of, running_in, slots_of}
+use Rattle.agc_exec.specs.Image.{sets_of, jobs_in, runner_in, IsLawfulWords}
+use Rattle.agc_exec.specs.Stages.{newjob_of}
+use Rattle.agc_exec.specs.Sets.{Holds, IsStanding, awake_in, running_in, slots_of}
+use Rattle.agc_exec.specs.Stages.{jobs_of}
 use Rattle.agc_exec.specs.Stages.{BestBelow}
 use Rattle.agc_exec.proofs.Bests.{best_ready}
 use Rattle.agc_exec.proofs.Decoding.{length-sets}

@@ -9,7 +9,8 @@ use Rattle.agc_word.specs.Layout.{sets_in, set_place}
 use Rattle.agc_plan.specs.Jobs.{best}
 use Rattle.agc_exec.specs.HeldJob.{HeldJob}
 use Rattle.agc_exec.specs.Sets.{Holds, IsLawful, IsStanding, slots_of, running_in}
-use Rattle.agc_exec.specs.Image.{sets_of, IsLawfulWords, newjob_of}
+use Rattle.agc_exec.specs.Image.{sets_of, IsLawfulWords}
+use Rattle.agc_exec.specs.Stages.{newjob_of}
 use Rattle.agc_exec.specs.Stages.{Yields, BestBelow, IsBestAt, BringsBest, FrontRuns, StaysBut, NamesBut, IsNewcomer, IsLed}
 use Rattle.agc_exec.proofs.Arriving.{running_in-found}
 use Rattle.agc_exec.proofs.Bests.{best-is, running_in-awake}

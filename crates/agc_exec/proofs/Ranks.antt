@@ -9,7 +9,8 @@ use Rattle.agc_word.specs.Words.{complement}
 use Rattle.agc_plan.specs.Jobs.{Job, is_sleeper}
 use Rattle.agc_exec.specs.HeldJob.{HeldJob}
 use Rattle.agc_exec.specs.Blocks.{block_in}
-use Rattle.agc_exec.specs.Image.{minus_zero, sign, priority_unit, record_of, held_by, held_of, sets_of}
+use Rattle.agc_exec.specs.Image.{minus_zero, priority_unit, record_of, held_by, held_of, sets_of}
+use Rattle.agc_exec.specs.Stages.{sign}
 use Rattle.agc_exec.specs.Sets.{job_of, job_numbered, number_in, Holds, IsLawful}
 use Rattle.agc_exec.specs.Stages.{sleeper_rank, IsMost, IsSleeperRank, IsMarked, FirstBelow, IsFirstBelow}
 use Rattle.agc_exec.proofs.Decoding.{held_at, length-sets}

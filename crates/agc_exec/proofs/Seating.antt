@@ -7,7 +7,8 @@ use Rattle.agc_word.specs.Words.{complement}
 use Rattle.agc_plan.specs.Jobs.{job_in}
 use Rattle.agc_exec.specs.Blocks.{block_in}
 use Rattle.agc_exec.specs.HeldJob.{HeldJob}
-use Rattle.agc_exec.specs.Image.{sets_of, held_by, minus_zero, sign}
+use Rattle.agc_exec.specs.Image.{sets_of, held_by, minus_zero}
+use Rattle.agc_exec.specs.Stages.{sign}
 use Rattle.agc_exec.specs.Seats.{seen, seats_in}
 use Rattle.agc_exec.specs.Sets.{Holds, IsLawful, job_of, job_numbered, slots_of}
 use Rattle.agc_exec.specs.declared.seats.Seat.{Seat}

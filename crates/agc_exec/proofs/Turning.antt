@@ -15,8 +15,10 @@ use Rattle.agc_plan.specs.Jobs.{Job, Outcome, Ready, best, best_from, sleep, sto
 use Rattle.agc_plan.specs.Places.{fronted}
 use Rattle.agc_exec.specs.HeldJob.{HeldJob}
 use Rattle.agc_exec.specs.Blocks.{block_in, blocks_of}
-use Rattle.agc_exec.specs.Sets.{Holds, IsLawful, slots_of, entries_of, running_in, jobs_of, job_of}
-use Rattle.agc_exec.specs.Image.{held_of, sets_of, IsCoded, IsLawfulBlock, IsTidyBlock, Each, IsTidy, IsSet, IsLawfulWords, priority_word, urgency_word, jobs_in, entries_in, newjob_of, newjob_for, front_priority}
+use Rattle.agc_exec.specs.Sets.{Holds, IsLawful, slots_of, entries_of, running_in, job_of}
+use Rattle.agc_exec.specs.Stages.{jobs_of}
+use Rattle.agc_exec.specs.Image.{held_of, sets_of, IsCoded, IsLawfulBlock, IsTidyBlock, Each, IsTidy, IsSet, IsLawfulWords, priority_word, urgency_word, jobs_in, entries_in, newjob_for, front_priority}
+use Rattle.agc_exec.specs.Stages.{newjob_of}
 use Rattle.agc_exec.proofs.Bests.{running_in-awake, slot_of}
 use Rattle.agc_exec.proofs.Leaving.{Gives-sleep, changed-lawful, changed-entries}
 use Rattle.agc_exec.proofs.Reading.{length-block_in, get-blocks_of, blocks_of-twice}

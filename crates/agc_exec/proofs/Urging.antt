@@ -11,7 +11,8 @@ use Rattle.agc_plan.proofs.Running.{with_running, prio_is}
 use Rattle.agc_plan.specs.Places.{fronted}
 use Rattle.agc_exec.specs.HeldJob.{HeldJob}
 use Rattle.agc_exec.specs.Blocks.{block_in, blocks_of}
-use Rattle.agc_exec.specs.Sets.{Holds, entries_of, running_in, jobs_of}
+use Rattle.agc_exec.specs.Sets.{Holds, entries_of, running_in}
+use Rattle.agc_exec.specs.Stages.{jobs_of}
 use Rattle.agc_exec.specs.Image.{sets_of, IsLawfulBlock, IsTidyBlock, IsSet, IsLawfulWords, urgency_word, jobs_in, entries_in}
 use Rattle.agc_exec.proofs.Bests.{running_in-awake}
 use Rattle.agc_exec.proofs.Yielding.{jobs_of-changed, changed-standing}

@@ -8,7 +8,8 @@ use Rattle.agc_plan.specs.Jobs.{Job, job_in, with_job, best, is_sleeper, sleeper
 use Rattle.agc_plan.specs.Places.{place_of, fronted}
 use Rattle.agc_plan.specs.declared.reply.Reply.TheVariants.{Roused, NoSleeper}
 use Rattle.agc_exec.specs.HeldJob.{HeldJob}
-use Rattle.agc_exec.specs.Sets.{job_of, slots_of, running_in, entries_of, jobs_of, Holds, IsLawful, IsStanding}
+use Rattle.agc_exec.specs.Sets.{job_of, slots_of, running_in, entries_of, Holds, IsLawful, IsStanding}
+use Rattle.agc_exec.specs.Stages.{jobs_of}
 use Rattle.agc_exec.proofs.Swaps.{Holds-within, slots_of-changed}
 use Rattle.agc_exec.proofs.Bests.{slot_found, slot_of, place_of_number, running_in-awake}
 use Rattle.agc_exec.proofs.Arriving.{swap-none, running_in-found}

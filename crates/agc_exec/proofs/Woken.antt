@@ -12,7 +12,8 @@ use Rattle.agc_plan.specs.Jobs.{Outcome, best, rouse, woken, sleeper_from, job_i
 use Rattle.agc_plan.specs.Places.{fronted}
 use Rattle.agc_exec.specs.HeldJob.{HeldJob}
 use Rattle.agc_exec.specs.Blocks.{block_in, blocks_of}
-use Rattle.agc_exec.specs.Sets.{Holds, slots_of, entries_of, running_in, jobs_of, job_of}
+use Rattle.agc_exec.specs.Sets.{Holds, slots_of, entries_of, running_in, job_of}
+use Rattle.agc_exec.specs.Stages.{jobs_of}
 use Rattle.agc_exec.specs.Image.{sets_of, IsLawfulBlock, IsTidyBlock, Each, IsSet, IsLawfulWords, urgency_word, jobs_in, entries_in}
 use Rattle.agc_exec.proofs.Bests.{place_of_number, running_in-awake, slot_of}
 use Rattle.agc_exec.proofs.Swaps.{Holds-within}

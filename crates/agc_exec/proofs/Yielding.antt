@@ -7,7 +7,8 @@ use Rattle.agc_plan.proofs.Running.{with_running, store_is}
 use Rattle.agc_plan.specs.Places.{place_of, fronted}
 use Rattle.agc_plan.specs.declared.reply.Reply.TheVariants.{Runs, Stored}
 use Rattle.agc_exec.specs.HeldJob.{HeldJob}
-use Rattle.agc_exec.specs.Sets.{job_of, slots_of, running_in, entries_of, jobs_of, Holds, IsStanding}
+use Rattle.agc_exec.specs.Sets.{job_of, slots_of, running_in, entries_of, Holds, IsStanding}
+use Rattle.agc_exec.specs.Stages.{jobs_of}
 use Rattle.agc_exec.proofs.Swaps.{Holds-within, slots_of-changed}
 use Rattle.agc_exec.proofs.Bests.{slot_of, place_of_number, running_in-awake, best_ready, BringsBest-swap}
 use Rattle.agc_exec.proofs.Arriving.{swap-none}

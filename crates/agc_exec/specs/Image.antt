@@ -1,23 +1,19 @@
 -- The core sets, use words and NEWJOB, read from the words, and when these are lawful.
-use Rattle.std.specs.Prelude.{◌≡◌, ℕ, ◌+◌, ◌*◌, ◌/◌, ◌%◌, ◌<◌, ◌≤◌, ◌==◌, nat_lt, Bool, true, false}
-use Rattle.std.specs.Prelude.{if◌then◌else◌, List, [], ◌∷◌, Option, Some, None, map, length}
+use Rattle.std.specs.Prelude.{◌≡◌, ℕ, ◌+◌, ◌-◌, ◌*◌, ◌/◌, ◌%◌, ◌<◌, ◌≤◌, ◌==◌, nat_lt, Bool, true}
+use Rattle.std.specs.Prelude.{false, if◌then◌else◌, List, [], ◌∷◌, Option, Some, None, map, length}
 use Rattle.std.specs.Prelude.{slice_index, slice_index_or}
 use Rattle.agc_word.specs.Layout as layout
-use Rattle.agc_word.specs.Layout.{IsSized, use_place, set_size, address_of, area_of}
+use Rattle.agc_word.specs.Layout.{IsSized, set_size, address_of, area_of}
 use Rattle.agc_word.specs.Words.{complement}
 use Rattle.agc_plan.specs.Jobs.{Jobs, Job, Ready, best_from, is_owned}
 use Rattle.agc_plan.specs.Places.{place_of}
 use Rattle.agc_exec.specs.HeldJob.{HeldJob}
 use Rattle.agc_exec.specs.Blocks.{blocks_of}
-use Rattle.agc_exec.specs.Sets.{slots_of, entries_of, jobs_of, running_in, IsStanding}
+use Rattle.agc_exec.specs.Sets.{slots_of, entries_of, running_in, IsStanding}
 
 -- minus zero: 77777 octal
 abbrev pub minus_zero : ℕ
 minus_zero = 0o77777
-
--- the first word whose sign is set: 40000 octal
-abbrev pub sign : ℕ
-sign = 0o40000
 
 -- bit 10, the lowest of PRIORITY's priority: 01000 octal
 abbrev pub priority_unit : ℕ
@@ -36,12 +32,12 @@ record_of block priority asleep = record {
       ∷ slice_index block 5 ∷ slice_index block 6 ∷ [];
 }
 
--- a set with this PRIORITY word: free where it is minus zero, awake where it is positive, else
+-- a set with this PRIORITY word: free where it is minus zero, awake where its sign is not set, else
 -- asleep
 abbrev pub held_by : List ℕ → ℕ → Option HeldJob
 held_by block priority =
     if priority == minus_zero then None
-    else if nat_lt priority sign then Some (record_of block priority false)
+    else if nat_lt priority 0o40000 then Some (record_of block priority false)
     else Some (record_of block (complement priority) true)
 
 -- what the twelve words of a set hold
@@ -94,42 +90,32 @@ pub record IsSet (words : List ℕ) : Type 0 where
   pub coded : Each IsLawfulBlock (blocks_of words)
   pub standing : IsStanding (sets_of words)
 
--- the use word of an area: its address where nobody owns it, else 00000
-abbrev pub use_word : ℕ → List (Option Job) → ℕ
-use_word area slots = if is_owned area slots then 0 else address_of area
-
--- each use word says whether its area is owned
-abbrev pub UsesAgree : List ℕ → List (Option Job) → Type 0
-UsesAgree words slots =
-    (area : ℕ) → 1 ≤ area → area ≤ 5 → slice_index words (use_place area) ≡ use_word area slots
-
 -- the priority of the job in set 0
 abbrev pub front_priority : List (Option HeldJob) → ℕ
 front_priority [] = 0
 front_priority (None ∷ sets) = 0
 front_priority (Some r ∷ sets) = r.priority
 
--- NEWJOB with this best job: its set's name, where it is strictly more urgent than the job in set
--- 0, else 00000
+-- NEWJOB with this best job: 77777 where no job is awake, else its set's name where it is strictly
+-- more urgent than the job in set 0, else 00000
 abbrev pub newjob_for : Option Ready → List (Option HeldJob) → ℕ
 newjob_for None sets = minus_zero
 newjob_for (Some first) sets =
     if nat_lt (front_priority sets) first.priority
     then set_size * place_of first.number (entries_of sets) else 0
 
--- NEWJOB: 77777 where no job is awake
-abbrev pub newjob_of : List (Option HeldJob) → ℕ
-newjob_of sets = newjob_for (best_from 1 (slots_of sets)) sets
-
--- lawful words of the Executive
+-- lawful words of the Executive: each use word has its area's address where nobody owns the area,
+-- else 00000
 pub record IsLawfulWords (words : List ℕ) : Type 0 where
   pub sets : IsSet words
-  pub uses : UsesAgree words (slots_of (sets_of words))
-  pub newjob : slice_index words layout.newjob ≡ newjob_of (sets_of words)
+  pub uses : (area : ℕ) → 1 ≤ area → area ≤ 5 → slice_index words (layout.use_words + (area - 1))
+      ≡ (if is_owned area (slots_of (sets_of words)) then 0 else address_of area)
+  pub newjob : slice_index words layout.newjob
+      ≡ newjob_for (best_from 1 (slots_of (sets_of words))) (sets_of words)
 
 -- the plain jobs for which the words stand
 abbrev pub jobs_in : List ℕ → Jobs
-jobs_in words = jobs_of (sets_of words)
+jobs_in words = record { slots = slots_of (sets_of words); running = running_in (sets_of words) }
 
 -- the placement for which the words stand
 abbrev pub entries_in : List ℕ → List ℕ

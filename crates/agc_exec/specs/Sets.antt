@@ -2,7 +2,7 @@
 use Rattle.std.specs.Prelude.{◌≡◌, ℕ, ◌<◌, ◌≤◌, ◌==◌, false, if◌then◌else◌, List}
 use Rattle.std.specs.Prelude.{[], ◌∷◌, Option, Some, None, map, length, slice_index_or}
 use Rattle.std.specs.List.{range_with_len}
-use Rattle.agc_plan.specs.Jobs.{Job, Jobs}
+use Rattle.agc_plan.specs.Jobs.{Job}
 use Rattle.agc_exec.specs.HeldJob.{HeldJob}
 
 -- the job that a set holds, without its number
@@ -45,10 +45,6 @@ awake_in (Some r) = if r.asleep then None else Some r.number
 abbrev pub running_in : List (Option HeldJob) → Option ℕ
 running_in [] = None
 running_in (set ∷ sets) = awake_in set
-
--- the plain jobs for which the sets stand
-abbrev pub jobs_of : List (Option HeldJob) → Jobs
-jobs_of sets = record { slots = slots_of sets; running = running_in sets }
 
 -- core set k holds this job
 abbrev pub Holds : List (Option HeldJob) → ℕ → HeldJob → Type 0

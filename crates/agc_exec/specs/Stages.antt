@@ -3,9 +3,9 @@ use Rattle.std.specs.Prelude.{◌≡◌, ◌≢◌, ◌⊎◌, ◌%◌, nat_lt, 
 use Rattle.std.specs.Prelude.{◌≤◌, ◌==◌, ◌∷◌, Bool, true, false, if◌then◌else◌, List, [], Option}
 use Rattle.std.specs.Prelude.{None, Some, length, slice_index_or}
 use Rattle.agc_word.specs.Layout as layout
-use Rattle.agc_word.specs.Layout.{sets_in, set_place, address_of, area_of}
+use Rattle.agc_word.specs.Layout.{sets_in, set_place, use_place, address_of, area_of}
 use Rattle.agc_word.specs.Words.{complement}
-use Rattle.agc_plan.specs.Jobs.{Job, Outcome, best, best_from, job_in, outrun_by, is_owned}
+use Rattle.agc_plan.specs.Jobs.{Job, Jobs, Outcome, best, best_from, job_in, outrun_by, is_owned}
 use Rattle.agc_plan.specs.Jobs.{is_sleeper, establish_at, least_unused, new_job, established}
 use Rattle.agc_plan.specs.declared.request.Entry.{Entry}
 use Rattle.agc_plan.specs.declared.reply.Alarm.TheVariants.{A1202}
@@ -14,10 +14,32 @@ use Rattle.agc_plan.specs.declared.reply.Reply.{Reply}
 use Rattle.agc_plan.specs.Places.{fronted, placed_new}
 use Rattle.agc_exec.specs.HeldJob.{HeldJob}
 use Rattle.agc_exec.specs.Blocks.{blocks_of}
-use Rattle.agc_exec.specs.Image.{minus_zero, sign, held_of, sets_of, jobs_in, entries_in, runner_in}
+use Rattle.agc_exec.specs.Image.{minus_zero, newjob_for, held_of, sets_of, jobs_in, entries_in}
+use Rattle.agc_exec.specs.Image.{runner_in}
 use Rattle.agc_exec.specs.Calls.{fronted_blocks, blocks_new, Does}
-use Rattle.agc_exec.specs.Sets.{job_of, number_in, Holds, slots_of, entries_of, running_in, jobs_of}
+use Rattle.agc_exec.specs.Sets.{job_of, number_in, Holds, slots_of, entries_of, running_in}
 use Rattle.agc_exec.specs.Sets.{IsLawful, IsFronted, IsStanding}
+
+-- the first word whose sign is set: 40000 octal
+abbrev pub sign : ℕ
+sign = 0o40000
+
+-- the use word of an area: its address where nobody owns it, else 00000
+abbrev pub use_word : ℕ → List (Option Job) → ℕ
+use_word area slots = if is_owned area slots then 0 else address_of area
+
+-- each use word says whether its area is owned
+abbrev pub UsesAgree : List ℕ → List (Option Job) → Type 0
+UsesAgree words slots =
+    (area : ℕ) → 1 ≤ area → area ≤ 5 → slice_index words (use_place area) ≡ use_word area slots
+
+-- NEWJOB: 77777 where no job is awake
+abbrev pub newjob_of : List (Option HeldJob) → ℕ
+newjob_of sets = newjob_for (best_from 1 (slots_of sets)) sets
+
+-- the plain jobs for which the sets stand
+abbrev pub jobs_of : List (Option HeldJob) → Jobs
+jobs_of sets = record { slots = slots_of sets; running = running_in sets }
 
 -- core set k is free
 abbrev pub IsFreeAt : List (Option HeldJob) → ℕ → Type 0

@@ -2,7 +2,8 @@
 ghost use Rattle.std.specs.Prelude.{◌≡◌, ◌+◌, ◌<◌, ◌≤◌, ◌↔◌, true, false, IsTrue, length};
 ghost use Rattle.std.specs.Prelude.{if◌then◌else◌, replicate, slice_index_or, slice_set};
 ghost use Rattle.agc_word.specs.Layout.{IsSized, sets_in, address_of};
-ghost use Rattle.agc_exec.specs.Image.{sets_of, IsSet, IsLawfulWords, UsesAgree};
+ghost use Rattle.agc_exec.specs.Image.{sets_of, IsSet, IsLawfulWords};
+ghost use Rattle.agc_exec.specs.Stages.{UsesAgree};
 ghost use Rattle.agc_exec.specs.Sets.{slots_of, IsFronted};
 ghost use Rattle.agc_exec.specs.Stages.{unsigned, AreSound, IsSoundAt, AreSoundSets, area_at};
 ghost use Rattle.agc_exec.specs.Stages.{IsApart, AllApart, AreJudged, AreMarked, NobodyAwake};

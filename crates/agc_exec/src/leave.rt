@@ -10,7 +10,8 @@ ghost use Rattle.agc_exec.specs.Blocks.{blocks_of};
 ghost use Rattle.agc_exec.specs.Calls.{blocks_end, fronted_blocks, slept_block, front_block};
 ghost use Rattle.agc_exec.specs.Calls.{DoesEnd, DoesSleep};
 ghost use Rattle.agc_exec.specs.Image.{sets_of, IsSet, Each, IsLawfulBlock, IsLawfulWords};
-ghost use Rattle.agc_exec.specs.Sets.{slots_of, entries_of, running_in, jobs_of};
+ghost use Rattle.agc_exec.specs.Sets.{slots_of, entries_of, running_in};
+ghost use Rattle.agc_exec.specs.Stages.{jobs_of};
 ghost use Rattle.agc_exec.specs.Stages.{FrontRuns, Gives};
 
 use crate::area::{front_area, release_area};

@@ -3,7 +3,8 @@ ghost use Rattle.std.specs.Prelude.{◌≡◌, ◌+◌, ◌<◌, ℕ, true, fals
 ghost use Rattle.agc_word.specs.Layout as layout;
 ghost use Rattle.agc_word.specs.Layout.{sets_in, OutsideCores, Keeps};
 ghost use Rattle.agc_exec.specs.Blocks.{blocks_of};
-ghost use Rattle.agc_exec.specs.Image.{sets_of, IsSet, IsLawfulWords, newjob_of};
+ghost use Rattle.agc_exec.specs.Image.{sets_of, IsSet, IsLawfulWords};
+ghost use Rattle.agc_exec.specs.Stages.{newjob_of};
 ghost use Rattle.agc_plan.specs.Jobs.{best};
 ghost use Rattle.agc_exec.specs.Sets.{slots_of, running_in};
 ghost use Rattle.agc_exec.specs.Stages.{FrontRuns, IsLed, IsNewcomer, Stays, GivesWayTo};

@@ -8,7 +8,8 @@ ghost use Rattle.agc_plan.specs.Places.{fronted};
 ghost use Rattle.agc_exec.specs.Blocks.{blocks_of};
 ghost use Rattle.agc_exec.specs.Calls.{blocks_roused, DoesWake};
 ghost use Rattle.agc_exec.specs.Image.{sets_of, Each, IsLawfulBlock, IsLawfulWords};
-ghost use Rattle.agc_exec.specs.Sets.{entries_of, running_in, jobs_of};
+ghost use Rattle.agc_exec.specs.Sets.{entries_of, running_in};
+ghost use Rattle.agc_exec.specs.Stages.{jobs_of};
 ghost use Rattle.agc_exec.specs.Stages.{FrontRuns, IsFirstAt, IsLed, IsNewcomer, Gives};
 
 use crate::core_set::{PRIORITY, set_word, word_of};

@@ -5,7 +5,7 @@ use Rattle.agc_plan.specs.Begins.{Begins}
 use Rattle.agc_plan.specs.Eras.{Work, no_work, active}
 use Rattle.agc_plan.specs.Groups.{begun_from, group_begun, places_from}
 use Rattle.agc_plan.specs.Jobs.{no_jobs}
-use Rattle.agc_plan.specs.Seats.{no_places}
+use Rattle.agc_plan.specs.Groups.{no_places}
 use Rattle.agc_exec.specs.Calls as cores
 use Rattle.agc_exec.proofs.Decoding.{IsSized-kept}
 use Rattle.agc_exec.proofs.Agreeing.{kept_by_waitlist, jobs_in-agrees, entries_in-agrees, IsTidy-agrees, IsLawfulWords-agrees}

@@ -13,7 +13,8 @@ use Rattle.agc_plan.specs.declared.request.Action.TheVariants as action
 use Rattle.agc_plan.specs.Eras.{Work}
 use Rattle.agc_plan.specs.Plans.{Rows, actions_in}
 use Rattle.agc_plan.specs.Jobs.{Jobs}
-use Rattle.agc_plan.specs.Seats.{Seated, seated_action, seated_by, seated_through}
+use Rattle.agc_plan.specs.Seats.{Seated, seated_action, seated_by}
+use Rattle.agc_plan.specs.Groups.{seated_through}
 use Rattle.agc_plan.specs.Steps.{Did, Fires, done, all_done, those_done, dispatched_work, later_work, raised_by, ticked, fire, fire_first, unless_alarm, fire_all}
 use Rattle.agc_plan.specs.Tasks.{first_due, dispatched, later, count_due}
 use Rattle.agc_plan.proofs.Alarms.{one_done, one_those}

@@ -7,14 +7,16 @@ use Rattle.agc_word.specs.Layout.{sets_in, set_place, use_place, padded}
 use Rattle.agc_plan.specs.Tasks.{Waiting, StandsFor}
 use Rattle.agc_exec.specs.Blocks.{block_in, blocks_of}
 use Rattle.agc_exec.specs.Sets.{slots_of}
-use Rattle.agc_exec.specs.Image.{minus_zero, held_of, sets_of, Each, IsLawfulBlock, IsTidyBlock, jobs_in, entries_in, use_word}
+use Rattle.agc_exec.specs.Image.{minus_zero, held_of, sets_of, Each, IsLawfulBlock, IsTidyBlock, jobs_in, entries_in}
+use Rattle.agc_exec.specs.Stages.{use_word}
 use Rattle.agc_exec.specs.Image as cores
 use Rattle.agc_exec.proofs.Decoding.{held_of-free, held_at, length-sets}
 use Rattle.agc_exec.proofs.Reading.{length-blocks_of, get-blocks_of, get-block_in, block_in-same}
 use Rattle.agc_wait.specs.Table.{SameTable}
 use Rattle.agc_wait.specs.Waits.{is_due}
 use Rattle.agc_wait.proofs.Same.{waits_of-same, IsLawfulTable-same, IsTidy-same}
-use Rattle.agc_phase.specs.Image.{IsCodeWord, IsFailreg, base_of}
+use Rattle.agc_phase.specs.Image.{IsFailreg, base_of}
+use Rattle.agc_phase.specs.Image.{IsCodeWord}
 use Rattle.agc_phase.specs.Image as phases
 use Rattle.agc_phase.specs.Writing.{minus_place}
 use Rattle.agc_phase.proofs.Reading.{ArePairs-are, ArePairs-at}

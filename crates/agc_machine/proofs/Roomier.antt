@@ -3,8 +3,9 @@ use Rattle.std.proofs.Common.{◌≡◌, ℕ, zero, suc, ◌+◌, ◌≤◌, ◌
 use Rattle.std.proofs.lemmas.List.{length-append, map-append}
 use Rattle.agc_plan.specs.Jobs.{Job, is_owned}
 use Rattle.agc_exec.specs.HeldJob.{HeldJob}
-use Rattle.agc_exec.specs.Image.{newjob_of}
-use Rattle.agc_exec.specs.Sets.{job_of, job_numbered, slots_of, number_in, entries_of, running_in, jobs_of, Holds, IsLawful, IsStanding}
+use Rattle.agc_exec.specs.Stages.{newjob_of}
+use Rattle.agc_exec.specs.Sets.{job_of, job_numbered, slots_of, number_in, entries_of, running_in, Holds, IsLawful, IsStanding}
+use Rattle.agc_exec.specs.Stages.{jobs_of}
 use Rattle.agc_exec.specs.Stages.{IsBestBelow, BestBelow}
 use Rattle.agc_exec.proofs.Finishing.{newjob_of-none, newjob_of-best}
 use Rattle.agc_exec.proofs.Named.{best_exists}

@@ -13,7 +13,8 @@ use Rattle.agc_plan.specs.declared.request.Request.TheVariants.{Restart, Fresh}
 use Rattle.agc_word.specs.Layout.{sets_in}
 use Rattle.agc_plan.specs.Plans.{Written, Planned, planned_with}
 use Rattle.agc_plan.specs.Base.{Base}
-use Rattle.agc_plan.specs.Seats.{Placed, placed, placed_step, places_after, era_places}
+use Rattle.agc_plan.specs.Seats.{Placed, placed, places_after, era_places}
+use Rattle.agc_plan.specs.Groups.{placed_step}
 use Rattle.agc_machine.specs.declared.totals.Totals.{Totals}
 use Rattle.agc_machine.specs.declared.answer.Refusal.TheVariants.{Spent, LogFull}
 use Rattle.agc_plan.specs.Steps.{Plain, Stepped, acted, step, reached, begins, ended, era}
@@ -21,7 +22,7 @@ use Rattle.agc_machine.specs.Told.{add, nothing, reply_told, alarm_told}
 use Rattle.agc_phase.specs.Image.{base_of, IsLawfulBase}
 use Rattle.agc_phase.specs.Image as phases
 use Rattle.agc_phase.proofs.Reading.{IsLawfulBase-read}
-use Rattle.agc_machine.specs.Image.{IsImage, IsKept}
+use Rattle.agc_machine.specs.Image.{IsImage}
 use Rattle.agc_machine.specs.Machines.{Machined, IsLawful, plain_of, places_of, stepped, served, refusal_of, starts_over}
 use Rattle.agc_machine.specs.Stands.{IsReady, StandsFor, Steps, BeginsEra}
 use Rattle.agc_machine.proofs.Stepping.{tidy_of, ready_by, lawful_by, stands_by, words_stand, places_began}
@@ -160,6 +161,10 @@ image_of m words lawful sets ready stands = record {
   stands = words_stand words (plain_of m) (places_of m) stands;
 }
 
+-- what a machine keeps: its words are its image, and its log has just the limit's places
+abbrev pub IsKept : Machined → List ℕ → ℕ → Type 0
+IsKept m words room = IsImage m words × (room ≡ m.limit)
+
 -- what is kept after a request that is served
 pub kept_served : (m : Machined) (asked : Request) (words : List ℕ) (reply : Reply) (room : ℕ) → IsLawful m → room ≡ m.limit → refusal_of m asked ≡ None → sets_in words ≡ m.plan.sets → IsReady words → Steps words reply (stepped m asked) (places_after m.plan asked (plain_of m) (places_of m)) → IsKept (served (stepped m asked) asked m) words room
 kept_served m asked words reply room lawful reserved e sets ready steps =
@@ -172,7 +177,7 @@ kept_served m asked words reply room lawful reserved e sets ready steps =
     (places_began m.plan asked (plain_of m) (places_of m))
     (sym (places_more m.plan m.base m.log asked)) in
     let stands : StandsFor words (plain_of (served (stepped m asked) asked m)) (places_of (served (stepped m asked) asked m)) = subst (λ (p : Plain). StandsFor words p (places_of (served (stepped m asked) asked m))) both.1 (subst (λ (l : List ℕ). StandsFor words (stepped m asked).plain l) seats steps.state) in
-    record { image = image_of (served (stepped m asked) asked m) words both.0 sets ready stands; reserved = reserved }
+    (image_of (served (stepped m asked) asked m) words both.0 sets ready stands, reserved)
 
 -- a request that begins no era has room in the log
 pub store_room : (m : Machined) (asked : Request) (reply : Reply) (room : ℕ) → IsLawful m → room ≡ m.limit → refusal_of m asked ≡ None → reply ≡ (stepped m asked).reply → begins reply ≡ false → length m.log < room
@@ -197,10 +202,7 @@ kept_begun plan limit allowance base log totals start words room least most rese
     (subst (λ (l : List Request). IsKept (record { plan = plan; limit = limit; allowance = allowance; base = base_of start; log = l; totals = totals }) words room) (sym empty)
     (subst (λ (t : Totals). IsKept (record { plan = plan; limit = limit; allowance = allowance; base = base_of start; log = []; totals = t }) words room) (sym zero_is)
     (let m : Machined = record { plan = plan; limit = limit; allowance = allowance; base = base_of start; log = []; totals = nothing } in
-    record {
-      image = image_of m words (record { base = IsLawfulBase-read start lawful; least = least; short = omega arith; most = most; allowed = omega arith; fits = fits; restarts = omega arith; alarms = omega arith }) (ap (λ (n : ℕ). (n - 48) / 12) begins_era.same_length ∙ sym sets) begins_era.ready (record { work = begins_era.stands; base_is = sym begins_era.same_base });
-      reserved = reserved;
-    })))
+    (image_of m words (record { base = IsLawfulBase-read start lawful; least = least; short = omega arith; most = most; allowed = omega arith; fits = fits; restarts = omega arith; alarms = omega arith }) (ap (λ (n : ℕ). (n - 48) / 12) begins_era.same_length ∙ sym sets) begins_era.ready (record { work = begins_era.stands; base_is = sym begins_era.same_base }), reserved))))
 
 -- the same machine, with another name of its number of core sets
 pub view_with : (plan : Written) (limit allowance : ℕ) (base : Base) (log : List Request) (totals : Totals) {m n : ℕ} → m ≡ n → ◌≡◌ {A = Machined} (record { plan = planned_with plan m; limit = limit; allowance = allowance; base = base; log = log; totals = totals }) (record { plan = planned_with plan n; limit = limit; allowance = allowance; base = base; log = log; totals = totals })

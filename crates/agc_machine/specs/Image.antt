@@ -50,8 +50,3 @@ pub record HandsOut (m : Machined) (words : List ℕ) : Type 0 where
   pub own : List ℕ
   pub image : IsImage m own
   pub all : words ≡ padded own
-
--- what a machine keeps: its words are its image, and its log has just the limit's places
-pub record IsKept (m : Machined) (words : List ℕ) (room : ℕ) : Type 0 where
-  pub image : IsImage m words
-  pub reserved : room ≡ m.limit

@@ -1,6 +1,6 @@
 -- The machine's step over base, log and totals.
 use Rattle.std.specs.Prelude.{ℕ, ◌+◌, ◌≤◌, ◌<◌, ◌^◌, ◌==◌, ◌&&◌, Bool, true, false, not}
-use Rattle.std.specs.Prelude.{if◌then◌else◌, List, [], ◌∷◌, ◌++◌, length, replicate, Option, Some}
+use Rattle.std.specs.Prelude.{if◌then◌else◌, List, [], ◌∷◌, ◌++◌, length, Option, Some}
 use Rattle.std.specs.Prelude.{None, Result, Ok, Err}
 use Rattle.std.specs.List.{fold}
 use Rattle.std.specs.Option.{option_map_or}
@@ -8,12 +8,11 @@ use Rattle.agc_plan.specs.declared.request.Request.{Request}
 use Rattle.agc_plan.specs.declared.request.Request.TheVariants.{Restart, Fresh}
 use Rattle.agc_plan.specs.declared.request.Task.{Task}
 use Rattle.agc_plan.specs.declared.reply.Reply.{Reply}
-use Rattle.agc_plan.specs.declared.reply.Code.TheVariants.{C1107}
-use Rattle.agc_plan.specs.Base.{Base, fresh_base, with_code}
+use Rattle.agc_plan.specs.Base.{Base}
 use Rattle.agc_plan.specs.Plans.{Planned}
 use Rattle.agc_plan.specs.Seats.{placed}
 use Rattle.agc_plan.specs.Steps.{Plain, Stepped, step, reached, begins, fired_in}
-use Rattle.agc_phase.specs.Image.{phases_in, IsLawfulBase}
+use Rattle.agc_phase.specs.Image.{IsLawfulBase}
 use Rattle.agc_machine.specs.declared.answer.Refusal.{Refusal}
 use Rattle.agc_machine.specs.declared.answer.Refusal.TheVariants.{Spent, LogFull}
 use Rattle.agc_machine.specs.declared.totals.Totals.{Totals}
@@ -103,9 +102,3 @@ after_all m requests = fold after m requests
 -- an era has just begun, and nothing was served
 abbrev pub begun_with : Planned → ℕ → ℕ → Base → Machined
 begun_with plan limit allowance base = record { plan = plan; limit = limit; allowance = allowance; base = base; log = []; totals = nothing }
-
--- the base after power came back: the phases in these words where they agree, else a fresh start's
--- with code 01107
-abbrev pub power_base : Bool → List ℕ → Base
-power_base true words = record { phases = phases_in words; codes = replicate 3 None }
-power_base false words = with_code C1107 fresh_base

@@ -16,7 +16,9 @@ use Rattle.agc_plan.specs.Eras.{Work, no_work}
 use Rattle.agc_plan.specs.Groups.{started, jobs_begun, agenda_begun, begun_from, places_begun}
 use Rattle.agc_plan.specs.Groups.{places_from}
 use Rattle.agc_plan.specs.Plans.{Planned, Rows}
-use Rattle.agc_plan.specs.Seats.{Seated, no_places, seated_action, seated_by, seated_through, seated_new}
+use Rattle.agc_plan.specs.Seats.{Seated, seated_action, seated_by, seated_new}
+use Rattle.agc_plan.specs.Groups.{seated_through}
+use Rattle.agc_plan.specs.Groups.{no_places}
 use Rattle.agc_plan.specs.Seats.{places_acted, places_after, era_places}
 use Rattle.agc_plan.specs.Steps.{Plain, Stepped, Acted, done, begun, acted, step, code_of, fire_all}
 use Rattle.agc_plan.specs.Steps.{all_done, those_done, later_work, tick_fires, raised_by, fired_in, raised_in}

@@ -4,7 +4,7 @@ ghost use Rattle.agc_word.specs.Layout.{sets_in};
 ghost use Rattle.agc_plan.specs.Plans.{planned_with};
 ghost use Rattle.agc_plan.specs.Eras.{active, no_work};
 ghost use Rattle.agc_plan.specs.Groups.{group_begun};
-ghost use Rattle.agc_plan.specs.Seats.{no_places};
+ghost use Rattle.agc_plan.specs.Groups.{no_places};
 ghost use Rattle.agc_phase.specs.Image as phases;
 ghost use Rattle.agc_machine.specs.Stands.{IsSound, Stands, Changes, SameDue, with_job, with_task};
 ghost use Rattle.agc_machine.specs.Stands.{places_with_job, same_places, places_group};

@@ -13,7 +13,7 @@ mod words;
 
 pub use agc_plan::NoMemory;
 pub use answer::{Answer, Refusal};
-pub use machine::{Machine, recover_into, starts_over};
+pub use machine::{Machine, starts_over};
 pub use migration::migrate;
 pub use moment::Moment;
 pub use totals::Totals;

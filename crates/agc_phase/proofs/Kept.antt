@@ -2,7 +2,8 @@
 use Rattle.std.proofs.Common.{◌≡◌, ℕ, ◌+◌, ◌<◌, ◌≤◌, List, slice_index, refl, ap, sym, subst, ◌∙◌, arith}
 use Rattle.agc_word.specs.Layout.{Keeps}
 use Rattle.agc_word.specs.Layout as layout
-use Rattle.agc_phase.specs.Image.{IsCodeWord, IsFailreg, phases_in, phase_words, failreg_word, codes_in, code_of_word, base_of, IsLawfulTable}
+use Rattle.agc_phase.specs.Image.{IsFailreg, phases_in, phase_words, failreg_word, codes_in, code_of_word, base_of, IsLawfulTable}
+use Rattle.agc_phase.specs.Image.{IsCodeWord}
 use Rattle.agc_phase.specs.Writing.{minus_place}
 use Rattle.agc_phase.proofs.Reading.{phases_in-is, phases_in-at, phase_in-at, ArePairs-are, ArePairs-at, codes_in-is}
 

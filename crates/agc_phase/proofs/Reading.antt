@@ -5,7 +5,8 @@ use Rattle.std.proofs.lemmas.Grind.{same_number_lists}
 use Rattle.agc_word.specs.Layout as layout
 use Rattle.agc_plan.specs.declared.reply.Code.{Code}
 use Rattle.agc_plan.specs.declared.reply.Code.TheVariants.{C1107, C1201, C1202, C1203}
-use Rattle.agc_phase.specs.Image.{IsPair, ArePairs, minus_in, phase_in, phases_in, phase_words, code_word, code_of_word, failreg_word, codes_in, IsLawfulBase, IsLawfulTable, base_of}
+use Rattle.agc_phase.specs.Image.{ArePairs, minus_in, phase_in, phases_in, phase_words, code_word, code_of_word, failreg_word, codes_in, IsLawfulBase, IsLawfulTable, base_of}
+use Rattle.agc_phase.specs.Writing.{IsPair}
 use Rattle.agc_phase.specs.Writing.{minus_place}
 
 -- a word among the twelve phase words

@@ -6,7 +6,8 @@ use Rattle.agc_word.specs.Layout as layout
 use Rattle.agc_plan.specs.declared.reply.Code.{Code}
 use Rattle.agc_plan.specs.declared.reply.Code.TheVariants.{C1107, C1201, C1202, C1203}
 use Rattle.agc_plan.specs.Base.{kept_first, with_code}
-use Rattle.agc_phase.specs.Image.{IsCodeWord, AreFirstSecondLatest, IsFailreg, failreg_word, codes_in, code_word, code_of_word, base_of, IsLawfulTable, Becomes}
+use Rattle.agc_phase.specs.Image.{AreFirstSecondLatest, IsFailreg, failreg_word, codes_in, code_word, code_of_word, base_of, IsLawfulTable, Becomes}
+use Rattle.agc_phase.specs.Image.{IsCodeWord}
 use Rattle.agc_phase.specs.Writing.{minus_place}
 use Rattle.agc_phase.specs.Recording.{free_place}
 use Rattle.agc_phase.proofs.Reading.{ArePairs-are, ArePairs-at, code_of_word-code_word, codes_in-is, each_of_three}

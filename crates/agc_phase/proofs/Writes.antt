@@ -7,7 +7,9 @@ use Rattle.agc_word.specs.Layout as layout
 use Rattle.agc_word.proofs.Keeping.{kept_twice, kept_also}
 use Rattle.agc_word.specs.Words.{complement}
 use Rattle.agc_plan.specs.declared.reply.Code.{Code}
-use Rattle.agc_phase.specs.Image.{IsPair, IsCodeWord, IsFailreg, phases_in, phase_words, failreg_word, codes_in, code_of_word, base_of, IsLawfulTable, Becomes}
+use Rattle.agc_phase.specs.Image.{IsFailreg, phases_in, phase_words, failreg_word, codes_in, code_of_word, base_of, IsLawfulTable, Becomes}
+use Rattle.agc_phase.specs.Image.{IsCodeWord}
+use Rattle.agc_phase.specs.Writing.{IsPair}
 use Rattle.agc_phase.specs.Writing.{minus_place, OutsidePair, OutsideFailreg, WritesPair, PairsWritten, CodesWritten}
 use Rattle.agc_phase.proofs.Reading.{phases_in-is, phases_in-at, phase_in-at, ArePairs-are, ArePairs-at, code_of_word-code_word, codes_in-is}
 use Rattle.agc_phase.proofs.Kept.{codes_in-same}

@@ -1,18 +1,15 @@
 -- The words of the phases and of FAILREG: the pairs -PHASE1, PHASE1 to -PHASE6, PHASE6, and after
 -- them FAILREG.
 use Rattle.std.specs.Prelude.{◌≡◌, ℕ, ◌+◌, ◌*◌, ◌<◌, ◌≤◌, ◌==◌, List, [], ◌∷◌, length, take, drop}
-use Rattle.std.specs.Prelude.{slice_index, slice_index_or, Option, Some, None, IsSome}
+use Rattle.std.specs.Prelude.{slice_index, slice_index_or, replicate, Bool, true, false, Option}
+use Rattle.std.specs.Prelude.{Some, None, IsSome}
 use Rattle.std.specs.List.{find}
 use Rattle.agc_word.specs.Layout.{Keeps, OutsidePhases}
 use Rattle.agc_word.specs.Layout as layout
 use Rattle.agc_word.specs.Words.{complement}
 use Rattle.agc_plan.specs.declared.reply.Code.{Code}
 use Rattle.agc_plan.specs.declared.reply.Code.TheVariants.{C1107, C1201, C1202, C1203}
-use Rattle.agc_plan.specs.Base.{Base}
-
--- the words -PHASE and PHASE of a group agree: they are complements, and the phase is at most 127
-abbrev pub IsPair : ℕ → ℕ → Type 0
-IsPair minus phase = (minus ≡ complement phase) × (phase ≤ 127)
+use Rattle.agc_plan.specs.Base.{Base, fresh_base, with_code}
 
 -- -PHASE of a group, counted from 0, in the twelve phase words
 abbrev pub minus_in : List ℕ → ℕ → ℕ
@@ -22,9 +19,11 @@ minus_in words group = slice_index words (2 * group)
 abbrev pub phase_in : List ℕ → ℕ → ℕ
 phase_in words group = slice_index words (2 * group + 1)
 
--- twelve phase words agree, pair by pair
+-- twelve phase words agree, pair by pair: -PHASE is the complement of PHASE, which is at most 127
 abbrev pub ArePairs : List ℕ → Type 0
-ArePairs words = (group : ℕ) → group < 6 → IsPair (minus_in words group) (phase_in words group)
+ArePairs words =
+    (k : ℕ) → k < 6
+    → (slice_index words (2 * k) ≡ complement (phase_in words k)) × (phase_in words k ≤ 127)
 
 -- the phases in twelve phase words
 abbrev pub phases_in : List ℕ → List ℕ
@@ -89,6 +88,12 @@ pub record IsLawfulTable (words : List ℕ) : Type 0 where
   pub pairs : ArePairs (phase_words words)
   pub spelled : (k : ℕ) → k < 3 → IsCodeWord (failreg_word words k)
   pub failreg : IsFailreg (codes_in words)
+
+-- the base after power came back: the phases in these words where they agree, else a fresh start's
+-- with code 01107
+abbrev pub power_base : Bool → List ℕ → Base
+power_base true words = record { phases = phases_in words; codes = replicate 3 None }
+power_base false words = with_code C1107 fresh_base
 
 -- the words are read as this base and are lawful, and nothing outside the table changed
 pub record Becomes (base : Base) (old new : List ℕ) : Type 0 where

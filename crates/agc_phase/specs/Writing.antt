@@ -7,6 +7,10 @@ use Rattle.agc_plan.specs.declared.reply.Code.{Code}
 use Rattle.agc_phase.specs.Image.{failreg_word, code_word, code_of_word, IsCodeWord}
 use Rattle.agc_phase.specs.Image.{AreFirstSecondLatest}
 
+-- the words -PHASE and PHASE of a group agree: they are complements, and the phase is at most 127
+abbrev pub IsPair : ℕ → ℕ → Type 0
+IsPair minus phase = (minus ≡ complement phase) × (phase ≤ 127)
+
 -- three words of FAILREG are code words, in the order in which alarms leave them
 pub record IsLawfulFailreg (first second latest : ℕ) : Type 0 where
   pub first_coded : IsCodeWord first

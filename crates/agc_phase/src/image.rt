@@ -1,7 +1,9 @@
 // How phases and codes are spelled as words.
 ghost use Rattle.std.specs.Prelude.{◌≡◌, ◌+◌, ◌<◌, ◌↔◌, IsSome, IsTrue, IfSome, length};
-ghost use Rattle.agc_phase.specs.Image.{IsPair, ArePairs, phases_in, code_word, code_of_word};
-ghost use Rattle.agc_phase.specs.Image.{IsCodeWord, AreFirstSecondLatest, phase_words};
+ghost use Rattle.agc_phase.specs.Image.{ArePairs, phases_in, code_word, code_of_word};
+ghost use Rattle.agc_phase.specs.Writing.{IsPair};
+ghost use Rattle.agc_phase.specs.Image.{AreFirstSecondLatest, phase_words};
+ghost use Rattle.agc_phase.specs.Image.{IsCodeWord};
 ghost use Rattle.agc_phase.specs.Writing.{IsLawfulFailreg, WritesPair, PairsWritten, CodesWritten};
 
 use crate::bases::Phases;

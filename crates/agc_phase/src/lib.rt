@@ -10,4 +10,4 @@ mod table;
 pub use agc_plan::Code;
 pub use bases::{Base, Phases};
 pub use image::{code_word, recover};
-pub use table::{clear, failreg, is_lawful, phases, record_alarm, set_phase};
+pub use table::{clear, failreg, is_lawful, phases, record_alarm, recover_into, set_phase};

@@ -3,7 +3,7 @@ ghost use Rattle.std.specs.Prelude.{◌≡◌, ◌+◌, ◌<◌, ◌↔◌, IsTr
 ghost use Rattle.agc_word.specs.Layout as layout;
 ghost use Rattle.agc_plan.specs.Base.{fresh_base, with_phase, with_code};
 ghost use Rattle.agc_phase.specs.Image.{base_of, code_word, failreg_words, IsLawfulTable, Becomes};
-ghost use Rattle.agc_phase.specs.Image.{phase_in, phase_words};
+ghost use Rattle.agc_phase.specs.Image.{ArePairs, phase_in, phase_words, power_base};
 ghost use Rattle.agc_phase.specs.Recording.{free_place};
 
 use crate::bases::{Base, Phases};
@@ -99,4 +99,25 @@ pub fn clear(e: &mut Erasable)
     ensures { Becomes fresh_base e.old e.new }
 {
     Base::fresh().restore(e);
+}
+
+/// Writes the phases and codes with which an era begins after power came back with these phase
+/// words, -PHASE1, PHASE1 to -PHASE6, PHASE6: their phases and no codes, or six phases 0 and code
+/// 01107 where not all of them agree. Returns whether they do. Source: the listings' FRESH START
+/// AND RESTART section; the codes are profile.
+pub fn recover_into(words: &[Word; 12], e: &mut Erasable) -> bool
+    ensures recovered { IsTrue result ↔ ArePairs words.now }
+    ensures base { Becomes (power_base result words.now) e.old e.new }
+{
+    match recover(words) {
+        Some(phases) => {
+            Base::with_phases(phases).restore(e);
+            true
+        }
+        None => {
+            clear(e);
+            record_alarm(e, Code::C1107);
+            false
+        }
+    }
 }

@@ -19,7 +19,8 @@ use Rattle.agc_plan.specs.Tasks.{Agenda, Pending, has_room, listed_if_room, firs
 use Rattle.agc_plan.specs.Base.{Base}
 use Rattle.agc_plan.specs.Plans.{Planned, Rows, actions_in, same_task}
 use Rattle.agc_plan.specs.Eras.{Work}
-use Rattle.agc_plan.specs.Steps.{Plain, Fires, alarm_of, with_listed, done, and_then, all_done, those_done, dispatched_work, unless_alarm, fire_first, fire, tick_fires, later_work, fired_in, step, reached}
+use Rattle.agc_plan.specs.Steps.{Plain, Fires, alarm_of, with_listed, done, all_done, those_done, dispatched_work, unless_alarm, fire_first, fire, tick_fires, later_work, fired_in, step, reached}
+use Rattle.agc_plan.specs.Groups.{and_then}
 use Rattle.agc_plan.specs.Laws.{Misses, MissesNothing, NoneMisses, StopsAt, EndsByLast, listings, ListsOne, as_action, living, SomeAreaIsUnowned}
 use Rattle.agc_plan.proofs.Searches.{option_cases}
 use Rattle.agc_plan.proofs.Replies.{novac_1201, novac_1202, findvac_1201, findvac_1202, listed_1203}

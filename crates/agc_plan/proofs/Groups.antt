@@ -16,7 +16,8 @@ use Rattle.agc_plan.specs.Plans.{Planned}
 use Rattle.agc_plan.specs.Jobs.{Jobs}
 use Rattle.agc_plan.specs.Eras.{Work, no_work, active, start_of, actions_of, actions_from}
 use Rattle.agc_plan.specs.Steps.{done, begun}
-use Rattle.agc_plan.specs.Seats.{Seated, no_places, seated_new, seated_action, seated_by, era_places}
+use Rattle.agc_plan.specs.Seats.{Seated, seated_new, seated_action, seated_by, era_places}
+use Rattle.agc_plan.specs.Groups.{no_places}
 use Rattle.agc_plan.specs.Quiet.{alarms_of}
 use Rattle.agc_plan.specs.Groups.{started, jobs_begun, job_alarms, agenda_begun, task_alarms, group_begun, group_alarms, begun_from, alarms_from, places_begun, places_from}
 

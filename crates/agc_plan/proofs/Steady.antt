@@ -22,7 +22,8 @@ use Rattle.agc_plan.specs.Plans.{Planned, Rows, actions_in}
 use Rattle.agc_plan.specs.Eras.{Work, no_work, active}
 use Rattle.agc_plan.specs.Groups.{jobs_begun, agenda_begun, group_begun, begun_from}
 use Rattle.agc_plan.proofs.Groups.{begun_is}
-use Rattle.agc_plan.specs.Steps.{Plain, Did, Fires, Stepped, era, done, and_then, all_done, those_done, dispatched_work, unless_alarm, fire_first, fire, later_work, acted, begins, base_after, ended, step, reached}
+use Rattle.agc_plan.specs.Steps.{Plain, Did, Fires, Stepped, era, done, all_done, those_done, dispatched_work, unless_alarm, fire_first, fire, later_work, acted, begins, base_after, ended, step, reached}
+use Rattle.agc_plan.specs.Groups.{and_then}
 use Rattle.agc_plan.specs.Laws.{SomebodyIsAwake, IsRunnerAwake, IsNoAreaShared, IsEachAreaKnown, IsUnrivalled}
 use Rattle.agc_plan.proofs.Sound.{IsSound, no_jobs_sound, novac_sound, findvac_sound, end_of_job_sound, sleep_sound, change_sound, prio_sound, store_sound, rouse_sound, sound_runner, sound_somebody, sound_areas, sound_known, end_unrivalled, sleep_unrivalled, prio_unrivalled, change_unrivalled}
 

@@ -8,7 +8,7 @@ use Rattle.agc_plan.specs.declared.request.Action.TheVariants as action
 use Rattle.agc_plan.specs.declared.request.JobStart.{JobStart}
 use Rattle.agc_plan.specs.declared.request.JobStart.TheVariants.{Novac, Findvac}
 use Rattle.agc_plan.specs.Jobs.{Jobs, no_jobs}
-use Rattle.agc_plan.specs.Tasks.{Agenda, no_agenda}
+use Rattle.agc_plan.specs.Tasks.{Agenda}
 use Rattle.agc_plan.specs.Begins.{Begins}
 use Rattle.agc_plan.specs.Plans.{entry_at}
 
@@ -17,9 +17,9 @@ pub record Work : Type 0 where
   pub jobs : Jobs
   pub agenda : Agenda
 
--- so many core sets, nobody lives in them, and nothing waits
+-- so many core sets, nobody lives in them, nothing waits, and time begins
 abbrev pub no_work : ℕ → Work
-no_work sets = record { jobs = no_jobs sets; agenda = no_agenda }
+no_work sets = record { jobs = no_jobs sets; agenda = record { tasks = []; time = 0 } }
 
 -- the entry of a group that has a phase other than 0
 abbrev pub active : List Begins → ℕ → ℕ → Option Begins

@@ -1,18 +1,24 @@
--- Helpers of proofs: the beginning of an era, one group after another.
+-- Helpers of proofs: what is done one after another: groups as an era begins, actions, tasks that
+-- fire, and requests.
 use Rattle.std.specs.Prelude.{ℕ, ◌+◌, if◌then◌else◌, List, [], ◌∷◌, ◌++◌, Option, Some, None}
-use Rattle.std.specs.Option.{option_and_then, option_map_or, option_to_list}
+use Rattle.std.specs.Prelude.{replicate}
+use Rattle.std.specs.List.{fold}
+use Rattle.std.specs.Option.{is_some, option_and_then, option_map_or, option_to_list}
 use Rattle.agc_plan.specs.declared.reply.Alarm.{Alarm}
 use Rattle.agc_plan.specs.declared.reply.Alarm.TheVariants.{A1203}
 use Rattle.agc_plan.specs.declared.reply.Reply.TheVariants.{Listed, Alarmed}
+use Rattle.agc_plan.specs.declared.request.Action.{Action}
 use Rattle.agc_plan.specs.declared.request.JobStart.{JobStart}
 use Rattle.agc_plan.specs.declared.request.JobStart.TheVariants.{Novac, Findvac}
+use Rattle.agc_plan.specs.declared.request.Request.{Request}
 use Rattle.agc_plan.specs.declared.request.Task.{Task}
 use Rattle.agc_plan.specs.Jobs.{Jobs, Outcome, novac, findvac}
 use Rattle.agc_plan.specs.Tasks.{Agenda, has_room, listed_if_room}
 use Rattle.agc_plan.specs.Begins.{Begins}
 use Rattle.agc_plan.specs.Eras.{Work, active}
-use Rattle.agc_plan.specs.Seats.{seated_new}
-use Rattle.agc_plan.specs.Steps.{alarm_of}
+use Rattle.agc_plan.specs.Plans.{Planned}
+use Rattle.agc_plan.specs.Seats.{Seated, Placed, seated_new, seated_by, places_after}
+use Rattle.agc_plan.specs.Steps.{Did, alarm_of, step}
 
 -- the job of a phase is established
 abbrev pub started : JobStart → Jobs → Outcome
@@ -77,3 +83,19 @@ places_from entries group (phase ∷ phases) work places =
     let entry = active entries group phase in
     places_from entries (group + 1) phases (group_begun entry work)
     (places_begun entry work.jobs places)
+
+-- no job in any of so many core sets
+abbrev pub no_places : ℕ → List ℕ
+no_places sets = replicate sets 0
+
+-- unless there was an alarm, on with it
+abbrev pub and_then : Did → (Work → Did) → Did
+and_then did next = if is_some did.alarm then did else next did.work
+
+-- the core sets after the actions of one task after another
+abbrev pub seated_through : List (List Action) → Seated → Seated
+seated_through acts seated = fold (λ s its. seated_by its s) seated acts
+
+-- the plain state, and the core sets, after one request
+abbrev pub placed_step : Planned → Request → Placed → Placed
+placed_step plan asked placed = record { plain = (step plan asked placed.plain).plain; places = places_after plan asked placed.plain placed.places }

@@ -14,10 +14,6 @@ use Rattle.agc_plan.specs.Plans.{Planned}
 use Rattle.agc_plan.specs.Eras.{actions_from}
 use Rattle.agc_plan.specs.Steps.{Plain, era, step, begins, tick_fires}
 
--- no job in any of so many core sets
-abbrev pub no_places : ℕ → List ℕ
-no_places sets = replicate sets 0
-
 -- the jobs, and the core sets that hold them
 pub record Seated : Type 0 where
   pub jobs : Jobs
@@ -27,24 +23,17 @@ pub record Seated : Type 0 where
 abbrev pub seated_new : Outcome → List ℕ → Seated
 seated_new outcome places = record { jobs = outcome.jobs; places = placed_new (established outcome.reply) outcome.jobs.running places }
 
--- nobody came and nobody left, and the running job has core set 0
-abbrev pub seated_front : Outcome → List ℕ → Seated
-seated_front outcome places = record { jobs = outcome.jobs; places = fronted outcome.jobs.running places }
-
--- an action of the plan is done
+-- an action of the plan is done; after a rouse nobody came and nobody left, and the running job has
+-- core set 0
 abbrev pub seated_action : Action → Seated → Seated
 seated_action (action.Novac priority entry) seated = seated_new (novac priority entry seated.jobs) seated.places
 seated_action (action.Findvac priority entry) seated = seated_new (findvac priority entry seated.jobs) seated.places
-seated_action (action.Rouse at) seated = seated_front (rouse at seated.jobs) seated.places
+seated_action (action.Rouse at) seated = record { jobs = (rouse at seated.jobs).jobs; places = fronted (rouse at seated.jobs).jobs.running seated.places }
 seated_action other seated = seated
 
 -- these actions are done, in order
 abbrev pub seated_by : List Action → Seated → Seated
 seated_by actions seated = fold (λ s act. seated_action act s) seated actions
-
--- and those of one task after another
-abbrev pub seated_through : List (List Action) → Seated → Seated
-seated_through acts seated = fold (λ s its. seated_by its s) seated acts
 
 -- the core sets after a request, before an era begins with it
 abbrev pub places_acted : Planned → Request → Plain → List ℕ → List ℕ
@@ -57,13 +46,13 @@ places_acted plan (request.Prio priority) plain places = fronted (prio priority 
 places_acted plan request.Change plain places = fronted (change plain.work.jobs).jobs.running places
 places_acted plan request.Tick plain places =
     let before : Seated = record { jobs = plain.work.jobs; places = places } in
-    (seated_through (tick_fires plan.rows plain.work).acts before).places
+    (fold (λ s its. seated_by its s) before (tick_fires plan.rows plain.work).acts).places
 places_acted plan other plain places = places
 
 -- the core sets with which an era begins
 abbrev pub era_places : Planned → Base → List ℕ
 era_places plan base =
-    let empty : Seated = record { jobs = no_jobs plan.sets; places = no_places plan.sets } in
+    let empty : Seated = record { jobs = no_jobs plan.sets; places = replicate plan.sets 0 } in
     (seated_by (actions_from plan.entries 1 base.phases) empty).places
 
 -- the core sets after one request
@@ -77,10 +66,8 @@ pub record Placed : Type 0 where
   pub plain : Plain
   pub places : List ℕ
 
--- one request
-abbrev pub placed_step : Planned → Request → Placed → Placed
-placed_step plan asked placed = record { plain = (step plan asked placed.plain).plain; places = places_after plan asked placed.plain placed.places }
-
 -- what the log reaches from the beginning of an era, and the core sets then
 abbrev pub placed : Planned → Base → List Request → Placed
-placed plan base log = fold (λ p asked. placed_step plan asked p) (record { plain = era plan base; places = era_places plan base }) log
+placed plan base log =
+    let start : Placed = record { plain = era plan base; places = era_places plan base } in
+    fold (λ p asked. record { plain = (step plan asked p.plain).plain; places = places_after plan asked p.plain p.places }) start log

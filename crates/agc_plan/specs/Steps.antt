@@ -64,14 +64,11 @@ done (action.Findvac priority entry) work = did_of (with_jobs (findvac priority 
 done (action.Rouse at) work = did_of (with_jobs (rouse at work.jobs) work)
 done (action.List delay task) work = did_of (with_listed delay task work)
 
--- unless there was an alarm, on with it
-abbrev pub and_then : Did → (Work → Did) → Did
-and_then did next = if is_some did.alarm then did else next did.work
-
 -- actions are done, in order, up to the first that raises an alarm
 abbrev pub all_done : List Action → Work → Did
 all_done [] work = record { work = work; alarm = None }
-all_done (act ∷ acts) work = and_then (done act work) (all_done acts)
+all_done (act ∷ acts) work =
+    if is_some (done act work).alarm then done act work else all_done acts (done act work).work
 
 -- those that are
 abbrev pub those_done : List Action → Work → List Action

@@ -13,10 +13,6 @@ pub record Agenda : Type 0 where
   pub tasks : List Pending
   pub time : ℕ
 
--- nothing waits, and time begins
-abbrev pub no_agenda : Agenda
-no_agenda = record { tasks = []; time = 0 }
-
 -- there is room for nine tasks
 abbrev pub has_room : Agenda → Bool
 has_room agenda = nat_lt (length agenda.tasks) 9

@@ -9,7 +9,8 @@ use Rattle.agc_plan.specs.Steps.{Plain}
 use Rattle.agc_exec.specs.HeldJob.{HeldJob}
 use Rattle.agc_exec.specs.Image.{sets_of, jobs_in, entries_in, IsLawfulWords}
 use Rattle.agc_exec.specs.Seats.{named_of, seen, seats_in}
-use Rattle.agc_exec.specs.Sets.{Holds, IsLawful, job_of, jobs_of, number_in}
+use Rattle.agc_exec.specs.Sets.{Holds, IsLawful, job_of, number_in}
+use Rattle.agc_exec.specs.Stages.{jobs_of}
 use Rattle.agc_exec.specs.declared.seats.Seat.{Seat}
 use Rattle.agc_exec.proofs.Seating.{numbered}
 use Rattle.agc_wait.specs.Table.{waits_of}

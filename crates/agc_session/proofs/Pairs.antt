@@ -6,7 +6,8 @@ use Rattle.std.proofs.lemmas.Bool.Decides.{nat_tests, same_from_decides}
 use Rattle.std.proofs.lemmas.List.FromFn.{get_or-range_with_len}
 use Rattle.std.proofs.lemmas.List.Sums.{AllPass-from_list_all, list_all-from_AllPass}
 use Rattle.agc_word.specs.Words.{complement}
-use Rattle.agc_phase.specs.Image.{IsPair, ArePairs, minus_in, phase_in}
+use Rattle.agc_phase.specs.Image.{ArePairs, minus_in, phase_in}
+use Rattle.agc_phase.specs.Writing.{IsPair}
 use Rattle.agc_session.specs.Runs.{pair_agrees, pairs_agree}
 
 equal_is : (a b : ℕ) → (a == b) ≡ true → a ≡ b

@@ -6,7 +6,8 @@ use Rattle.agc_plan.specs.declared.request.Request.{Request}
 use Rattle.agc_plan.specs.Base.{Base, fresh_base}
 use Rattle.agc_plan.specs.Plans.{Written, Planned, planned_with}
 use Rattle.agc_phase.specs.Image.{minus_in, phase_in}
-use Rattle.agc_machine.specs.Machines.{Machined, begun_with, power_base}
+use Rattle.agc_machine.specs.Machines.{Machined, begun_with}
+use Rattle.agc_phase.specs.Image.{power_base}
 use Rattle.agc_plan.specs.declared.line.Line.{Line}
 use Rattle.agc_plan.specs.Pulses.{pulse_requests, repeated}
 use Rattle.agc_document.specs.Benches.{Benched}

@@ -16,7 +16,10 @@ use Rattle.agc_plan.specs.Eras.{Work, no_work, actions_from}
 use Rattle.agc_plan.specs.Jobs.{Job, Jobs, no_jobs, least_unused, least_unowned, new_job, establish_at, findvac_at, end_of_job, sleep, rouse, prio, change, store}
 use Rattle.agc_plan.specs.Places.{place_of, with_new, without, fronted, placed_end}
 use Rattle.agc_plan.specs.Plans.{Planned, Rows, actions_in}
-use Rattle.agc_plan.specs.Seats.{Seated, Placed, seated_new, seated_action, seated_by, seated_through, places_acted, places_after, era_places, placed_step, placed, no_places}
+use Rattle.agc_plan.specs.Seats.{Seated, Placed, seated_new, seated_action, seated_by, places_acted, places_after, era_places, placed}
+use Rattle.agc_plan.specs.Groups.{placed_step}
+use Rattle.agc_plan.specs.Groups.{seated_through}
+use Rattle.agc_plan.specs.Groups.{no_places}
 use Rattle.agc_plan.specs.Steps.{Plain, Did, Fires, done, all_done, those_done, dispatched_work, later_work, unless_alarm, fire_first, fire, tick_fires, acted, base_after, begins, era, step, reached}
 use Rattle.agc_plan.specs.Tasks.{first_due, count_due}
 use Rattle.agc_machine.specs.Stands.{seated_in}

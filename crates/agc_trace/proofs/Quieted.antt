@@ -10,7 +10,8 @@ use Rattle.agc_plan.specs.declared.request.Request.{Request}
 use Rattle.agc_plan.specs.declared.request.Task.{Task}
 use Rattle.agc_plan.specs.Base.{Base}
 use Rattle.agc_plan.specs.Plans.{Planned}
-use Rattle.agc_plan.specs.Seats.{Placed, era_places, placed, placed_step, places_acted, places_after}
+use Rattle.agc_plan.specs.Seats.{Placed, era_places, placed, places_acted, places_after}
+use Rattle.agc_plan.specs.Groups.{placed_step}
 use Rattle.agc_plan.specs.Steps.{Plain, acted, base_after, begins, era, fired_in, reached, step}
 use Rattle.agc_machine.specs.declared.answer.Refusal.{Refusal}
 use Rattle.agc_machine.specs.declared.answer.Refusal.TheVariants as refusal

@@ -17,7 +17,8 @@ use Rattle.agc_plan.specs.Tasks.{has_room, first_due, count_due}
 use Rattle.agc_plan.specs.Places.{fronted, placed_end}
 use Rattle.agc_plan.specs.Plans.{Planned, Rows, actions_in}
 use Rattle.agc_plan.specs.Eras.{Work}
-use Rattle.agc_plan.specs.Seats.{seated_through, places_acted}
+use Rattle.agc_plan.specs.Seats.{places_acted}
+use Rattle.agc_plan.specs.Groups.{seated_through}
 use Rattle.agc_plan.specs.Steps.{Plain, Did, Fires, with_listed, done, all_done, those_done, dispatched_work, later_work, unless_alarm, fire_first, fire, tick_fires, acted, fired_in}
 use Rattle.agc_plan.proofs.Searches.{option_cases}
 use Rattle.agc_scene.specs.Scenes.{Scene, scene_of, seat_of}

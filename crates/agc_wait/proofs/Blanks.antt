@@ -4,7 +4,8 @@ use Rattle.agc_word.specs.Layout as layout
 use Rattle.agc_word.specs.Layout.{Keeps, OutsideWaitlist}
 use Rattle.agc_plan.specs.Tasks.{Waiting, StandsFor}
 use Rattle.agc_wait.specs.Waits.{due_now}
-use Rattle.agc_wait.specs.Table.{blank_gap, waits_of, time3, lst1, at_in, bank_in, distance_of}
+use Rattle.agc_wait.specs.Table.{blank_gap, waits_of, time3, lst1, at_in, bank_in}
+use Rattle.agc_wait.specs.Parts.{distance_of}
 use Rattle.agc_wait.specs.Writing.{IsBlank}
 use Rattle.agc_wait.specs.Moving.{filled}
 use Rattle.agc_wait.specs.Calls.{Clears}

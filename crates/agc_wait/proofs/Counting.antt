@@ -9,7 +9,8 @@ use Rattle.agc_word.proofs.Keeping.{kept, kept_set, kept_also}
 use Rattle.agc_plan.specs.Tasks.{Waiting, Agenda, StandsFor, later}
 use Rattle.agc_wait.specs.Waits.{is_due, due_now}
 use Rattle.agc_wait.proofs.Spreading.{nearer}
-use Rattle.agc_wait.specs.Table.{IsLawfulTable, waits_of, time3, lst1, at_in, distance_of, gap_of}
+use Rattle.agc_wait.specs.Table.{IsLawfulTable, waits_of, time3, lst1, at_in, gap_of}
+use Rattle.agc_wait.specs.Parts.{distance_of}
 use Rattle.agc_wait.specs.Writing.{place_in, IsCounted}
 use Rattle.agc_wait.specs.Calls.{Counts}
 use Rattle.agc_wait.proofs.Distances.{StandsFor-counted, is_due-iff}

@@ -2,7 +2,8 @@
 use Rattle.std.proofs.Common.{◌≡◌, ◌≢◌, ◌⊎◌, ℕ, ◌-◌, ◌<◌, ◌≤◌, ◌==◌, refl, inl, inr, arith}
 use Rattle.std.proofs.lemmas.Bool.{cases_eq, cases_lt}
 use Rattle.std.proofs.lemmas.Grind.{common_steps}
-use Rattle.agc_wait.specs.Table.{distance_of, gap_of}
+use Rattle.agc_wait.specs.Table.{gap_of}
+use Rattle.agc_wait.specs.Parts.{distance_of}
 use Rattle.agc_wait.specs.Writing.{counter_at, gap_word}
 
 pub gap_of-gap_word : (gap : ℕ) → gap ≤ 16250 → gap_of (gap_word gap) ≡ gap

@@ -5,7 +5,8 @@ use Rattle.std.proofs.lemmas.Grind.{common_steps}
 use Rattle.agc_word.specs.Layout as layout
 use Rattle.agc_plan.specs.declared.request.Task.{Task}
 use Rattle.agc_plan.specs.Tasks.{Pending, Waiting, Agenda, StandsFor, timed}
-use Rattle.agc_wait.specs.Table.{Shows, SameTable, IsTidy, waits_of, time3, lst1, distance_of, gap_of}
+use Rattle.agc_wait.specs.Table.{Shows, SameTable, IsTidy, waits_of, time3, lst1, gap_of}
+use Rattle.agc_wait.specs.Parts.{distance_of}
 use Rattle.agc_wait.specs.Writing.{place_in}
 use Rattle.agc_wait.proofs.Orders.{InOrder-one}
 use Rattle.agc_wait.proofs.Distances.{timed_at}

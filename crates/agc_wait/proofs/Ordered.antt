@@ -2,7 +2,8 @@
 use Rattle.std.proofs.Common.{◌≡◌, ◌≢◌, ℕ, zero, suc, ◌+◌, ◌-◌, ◌<◌, ◌≤◌, ◌==◌, false, List, [], ◌∷◌, ◌++◌, length, refl, sym, ap, ◌∙◌, append_assoc, append-nil, arith}
 use Rattle.std.proofs.lemmas.Grind.{common_steps}
 use Rattle.agc_plan.specs.Tasks.{Waiting}
-use Rattle.agc_wait.specs.Table.{waits_from, waits_of, at_in, bank_in, lst1, gap_of, distance_of, time3}
+use Rattle.agc_wait.specs.Table.{waits_from, waits_of, at_in, bank_in, lst1, gap_of, time3}
+use Rattle.agc_wait.specs.Parts.{distance_of}
 
 abbrev pub wait_at : ℕ → ℕ → List ℕ → Waiting
 wait_at place distance words = record { task = record { at = at_in words place; bank = bank_in words place }; distance = distance }

@@ -9,7 +9,8 @@ use Rattle.agc_word.specs.Layout.{OutsideWaitlist}
 use Rattle.agc_plan.specs.declared.request.Task.{Task}
 use Rattle.agc_plan.specs.Tasks.{Waiting}
 use Rattle.agc_wait.specs.Waits.{place_for}
-use Rattle.agc_wait.specs.Table.{blank_gap, IsLawfulTable, IsTidy, waits_of, time3, at_in, bank_in, lst1, gap_of, distance_of}
+use Rattle.agc_wait.specs.Table.{blank_gap, IsLawfulTable, IsTidy, waits_of, time3, at_in, bank_in, lst1, gap_of}
+use Rattle.agc_wait.specs.Parts.{distance_of}
 use Rattle.agc_wait.specs.Writing.{place_in, distance_in, no_task, gap_word, gap_to_next, counter_at, IsPut}
 use Rattle.agc_wait.specs.Moving.{IsSpot, moved_down, task_put, gap_put}
 use Rattle.agc_wait.proofs.Gaps.{gap_of-gap_word, gap_word-legal, gap_word-tidy, gap_word-word, counter_at-low, distance_of-counter_at}

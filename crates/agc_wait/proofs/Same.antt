@@ -3,7 +3,8 @@ use Rattle.std.proofs.Common.{◌≡◌, ◌⊎◌, ℕ, zero, suc, ◌+◌, ◌
 use Rattle.std.specs.List.{All}
 use Rattle.agc_word.specs.Layout as layout
 use Rattle.agc_plan.specs.Tasks.{Waiting}
-use Rattle.agc_wait.specs.Table.{SameTable, IsLawfulTable, IsTidy, waits_of, waits_from, time3, lst1, at_in, bank_in, distance_of, gap_of}
+use Rattle.agc_wait.specs.Table.{SameTable, IsLawfulTable, IsTidy, waits_of, waits_from, time3, lst1, at_in, bank_in, gap_of}
+use Rattle.agc_wait.specs.Parts.{distance_of}
 use Rattle.agc_wait.proofs.Tables.{Carries-lawful}
 
 lst1-same : (new old : List ℕ) → SameTable new old → (k : ℕ) → k < 9 → lst1 new k ≡ lst1 old k

@@ -5,7 +5,8 @@ use Rattle.std.proofs.lemmas.List.{get_or_past, drop_all, drop_more}
 use Rattle.std.proofs.lemmas.Grind.{common_steps}
 use Rattle.agc_plan.specs.Tasks.{Waiting}
 use Rattle.agc_wait.specs.Waits.{place_for}
-use Rattle.agc_wait.specs.Table.{IsLawfulTable, waits_of, at_in, lst1, time3, distance_of, gap_of, blank_gap}
+use Rattle.agc_wait.specs.Table.{IsLawfulTable, waits_of, at_in, lst1, time3, gap_of, blank_gap}
+use Rattle.agc_wait.specs.Parts.{distance_of}
 use Rattle.agc_wait.specs.Writing.{place_in, no_task}
 use Rattle.agc_wait.specs.Moving.{IsSpot, IsWalked}
 use Rattle.agc_wait.proofs.Tables.{Carries, Carries-lawful}

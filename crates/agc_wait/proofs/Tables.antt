@@ -6,7 +6,8 @@ use Rattle.std.proofs.lemmas.List.{get_or_past, drop_all, drop_more}
 use Rattle.std.proofs.lemmas.List.Elements.{All-get_or, All-from_get_or}
 use Rattle.std.proofs.lemmas.Grind.{common_steps}
 use Rattle.agc_plan.specs.Tasks.{Waiting}
-use Rattle.agc_wait.specs.Table.{blank_gap, InTable, waits_of, waits_from, time3, lst1, at_in, bank_in, distance_of, gap_of, IsLawfulTable}
+use Rattle.agc_wait.specs.Table.{blank_gap, InTable, waits_of, waits_from, time3, lst1, at_in, bank_in, gap_of, IsLawfulTable}
+use Rattle.agc_wait.specs.Parts.{distance_of}
 use Rattle.agc_wait.specs.Writing.{place_in, no_task}
 
 -- the words hold these tasks, at most nine and none further than the longest delay, and all else in

@@ -9,7 +9,8 @@ use Rattle.agc_word.specs.Layout.{OutsideWaitlist}
 use Rattle.agc_plan.specs.declared.request.Task.{Task}
 use Rattle.agc_plan.specs.Tasks.{Waiting}
 use Rattle.agc_wait.specs.Waits.{is_due, due_now}
-use Rattle.agc_wait.specs.Table.{blank_gap, IsLawfulTable, IsTidy, waits_of, time3, lst1, at_in, bank_in, distance_of, gap_of}
+use Rattle.agc_wait.specs.Table.{blank_gap, IsLawfulTable, IsTidy, waits_of, time3, lst1, at_in, bank_in, gap_of}
+use Rattle.agc_wait.specs.Parts.{distance_of}
 use Rattle.agc_wait.specs.Writing.{place_in, no_task, counter_at, IsTaken}
 use Rattle.agc_wait.specs.Moving.{moved_up}
 use Rattle.agc_wait.specs.Calls.{Dispatches}

@@ -4,7 +4,8 @@ use Rattle.std.proofs.lemmas.Bool.{cases_eq, cases_lt}
 use Rattle.std.proofs.lemmas.List.Elements.{All-get_or, All-from_get_or}
 use Rattle.agc_word.specs.Layout as layout
 use Rattle.agc_plan.specs.Tasks.{Waiting}
-use Rattle.agc_wait.specs.Table.{IsLawfulTable, waits_of, time3, lst1, at_in, distance_of, gap_of}
+use Rattle.agc_wait.specs.Table.{IsLawfulTable, waits_of, time3, lst1, at_in, gap_of}
+use Rattle.agc_wait.specs.Parts.{distance_of}
 use Rattle.agc_wait.specs.Writing.{no_task, distance_in}
 use Rattle.agc_wait.specs.Parts.{AreTasks, AreWords, IsBlankBehind, IsCounter, IsGap}
 use Rattle.agc_wait.proofs.Places.{at_each_place}

@@ -1,8 +1,13 @@
 -- Helpers of proofs: the rules of a lawful table, one part after the other.
-use Rattle.std.specs.Prelude.{◌≡◌, ◌⊎◌, ℕ, ◌+◌, ◌-◌, ◌*◌, ◌<◌, ◌≤◌, List, length, slice_index}
+use Rattle.std.specs.Prelude.{◌≡◌, ◌⊎◌, ℕ, ◌+◌, ◌-◌, ◌*◌, ◌<◌, ◌≤◌, ◌==◌, if◌then◌else◌, List}
+use Rattle.std.specs.Prelude.{length, slice_index}
 use Rattle.agc_word.specs.Layout as layout
 use Rattle.agc_wait.specs.Table.{InTable, time3, lst1, at_in, waits_of, blank_gap}
 use Rattle.agc_wait.specs.Writing.{distance_in}
+
+-- how far the first task is, by TIME3
+abbrev pub distance_of : ℕ → ℕ
+distance_of counter = if counter == 0 then 0 else 0o40000 - counter
 
 -- no word of the table has more than fifteen bits
 abbrev pub AreWords : List ℕ → Type 0

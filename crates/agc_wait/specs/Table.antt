@@ -21,10 +21,6 @@ at_in words k = slice_index words (layout.lst2 + 2 * k)
 abbrev pub bank_in : List ℕ → ℕ → ℕ
 bank_in words k = slice_index words (layout.lst2 + 1 + 2 * k)
 
--- how far the first task is, by TIME3
-abbrev pub distance_of : ℕ → ℕ
-distance_of counter = if counter == 0 then 0 else 0o40000 - counter
-
 -- how much further the next task is, by a word of LST1: one less the word's value, which is zero
 -- for either zero
 abbrev pub gap_of : ℕ → ℕ
@@ -38,10 +34,10 @@ waits_from (suc left) k distance words =
     else (record { task = record { at = at_in words k; bank = bank_in words k }; distance = distance }
     ∷ waits_from left (k + 1) (distance + gap_of (lst1 words k)) words)
 
--- the tasks that are read from the words, up to the first empty place: which places are occupied
--- is read from LST2 alone
+-- the tasks that are read from the words, up to the first empty place: TIME3 says how far the first
+-- is, and which places are occupied is read from LST2 alone
 unfoldable pub waits_of : List ℕ → List Waiting
-waits_of words = waits_from 9 0 (distance_of (time3 words)) words
+waits_of words = waits_from 9 0 (if time3 words == 0 then 0 else 0o40000 - time3 words) words
 
 -- a place of the table
 abbrev pub InTable : ℕ → Type 0
@@ -52,15 +48,15 @@ abbrev pub blank_gap : ℕ
 blank_gap = 0o57777
 
 -- the table is in order: no word has more than fifteen bits, what is read is within its range, and
--- all else is blank
+-- all else is blank, which is 57777 where no gap is
 pub record IsLawfulTable (words : List ℕ) : Type 0 where
-  pub word : (i : ℕ) → InTable i → slice_index words i < 32768
+  pub word : (i : ℕ) → (layout.time3 ≤ i) × (i < layout.phase_words) → slice_index words i < 32768
   pub counter : time3 words < 0o40000
   pub idle : waits_of words ≡ [] → time3 words ≡ 0
   pub near : All (λ w. w.distance ≤ 16250) (waits_of words)
   pub address : (k : ℕ) → k < 9 → at_in words k < 0o40000
   pub gap : (k : ℕ) → k + 1 < length (waits_of words) → (lst1 words k ≤ 1) ⊎ (0o40000 ≤ lst1 words k)
-  pub no_gap : (k : ℕ) → length (waits_of words) ≤ k + 1 → k < 8 → lst1 words k ≡ blank_gap
+  pub no_gap : (k : ℕ) → length (waits_of words) ≤ k + 1 → k < 8 → lst1 words k ≡ 0o57777
   pub no_task : (k : ℕ) → length (waits_of words) ≤ k → k < 9 → (at_in words k ≡ 0) × (bank_in words k ≡ 0)
 
 -- no gap is written as minus zero

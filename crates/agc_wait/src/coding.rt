@@ -1,6 +1,7 @@
 // How distances and gaps are written as words, and read from them.
 ghost use Rattle.std.specs.Prelude.{◌≡◌, ◌⊎◌, ◌<◌, ◌≤◌};
-ghost use Rattle.agc_wait.specs.Table.{distance_of, gap_of};
+ghost use Rattle.agc_wait.specs.Table.{gap_of};
+ghost use Rattle.agc_wait.specs.Parts.{distance_of};
 ghost use Rattle.agc_wait.specs.Writing.{counter_at, gap_word};
 
 use agc_word::Word;

@@ -12,7 +12,7 @@ use Rattle.agc_image.specs.declared.lent.AgcPhaseEntry.{AgcPhaseEntry}
 use Rattle.agc_image.specs.Images.{IsSets, IsOpened, IsWritten, Changed, size_with, image_of, behind}
 use Rattle.agc_image.specs.Written.{written_told}
 use Rattle.agc_image.proofs.Frames.{changed, sets_of_size}
-use Rattle.agc_machine.specs.Machines.{power_base}
+use Rattle.agc_phase.specs.Image.{power_base}
 use Rattle.agc_machine.specs.Stands.{BeginsEra, Stands}
 use Rattle.agc_machine.proofs.Beginning.{same_sets}
 use Rattle.libagc.specs.Stepping.{plan_for}

@@ -8,7 +8,7 @@ use Rattle.agc_plan.specs.Steps.{begun}
 use Rattle.agc_phase.specs.Image.{ArePairs, base_of, code_of_word}
 use Rattle.agc_image.specs.declared.lent.AgcPhaseEntry.{AgcPhaseEntry}
 use Rattle.agc_image.specs.Images.{AreWords, IsImage, IsSets, image_of, behind}
-use Rattle.agc_machine.specs.Machines.{power_base}
+use Rattle.agc_phase.specs.Image.{power_base}
 use Rattle.agc_machine.specs.Stands.{IsReady, Stands}
 use Rattle.libagc.specs.Stepping.{first_of, plan_for, ImageThen}
 

@@ -14,8 +14,8 @@ use agc_image::{
     AgcPhaseEntry, Fault, Lent, alarm_code, blank, image_fault, open, plan_lacks, twelve,
     write_back,
 };
-use agc_machine::{begin, recover_into};
-use agc_phase::record_alarm;
+use agc_machine::begin;
+use agc_phase::{record_alarm, recover_into};
 use agc_word::{Erasable, Sets, Word};
 
 /// Whether a number is an alarm to be recorded, or 0 where none is.

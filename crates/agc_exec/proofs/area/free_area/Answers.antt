@@ -2,7 +2,8 @@ use Rattle.std.proofs.Common.{◌≡◌, ◌≢◌, ◌∙◌, ap, sym, arith, �
 use Rattle.agc_word.specs.Layout.{address_of}
 use Rattle.agc_plan.specs.Jobs.{is_owned}
 use Rattle.agc_exec.specs.Sets.{slots_of}
-use Rattle.agc_exec.specs.Image.{sets_of, use_word}
+use Rattle.agc_exec.specs.Image.{sets_of}
+use Rattle.agc_exec.specs.Stages.{use_word}
 use Rattle.agc_exec.proofs.Areas.{owned_in-false, is_owned_slots}
 use Rattle.agc_exec.proofs.area.free_area.Goals as goal
 

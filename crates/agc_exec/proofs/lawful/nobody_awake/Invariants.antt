@@ -1,5 +1,5 @@
 use Rattle.std.proofs.Common.{◌<◌, ◌≤◌, ℕ, ◌+◌, slice_index}
-use Rattle.agc_exec.specs.Image.{sign}
+use Rattle.agc_exec.specs.Stages.{sign}
 use Rattle.agc_word.specs.Layout.{set_place}
 use Rattle.agc_exec.proofs.lawful.nobody_awake.Given as goal
 

@@ -1,7 +1,8 @@
 use Rattle.std.proofs.Common.{◌≡◌, ◌∙◌, ap, sym, cond, inl, inr, arith, slice_index}
 use Rattle.std.proofs.lemmas.Bool.{cases_eq}
 use Rattle.agc_word.specs.Layout.{use_place, address_of}
-use Rattle.agc_exec.specs.Image.{sets_of, use_word}
+use Rattle.agc_exec.specs.Image.{sets_of}
+use Rattle.agc_exec.specs.Stages.{use_word}
 use Rattle.agc_exec.specs.Sets.{slots_of}
 use Rattle.agc_exec.proofs.Areas.{is_owned_slots}
 use Rattle.agc_exec.proofs.lawful.uses_agree.Goals as goal

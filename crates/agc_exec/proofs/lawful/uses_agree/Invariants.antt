@@ -1,5 +1,6 @@
 use Rattle.std.proofs.Common.{◌≡◌, ◌<◌, ◌≤◌, ℕ, slice_index}
-use Rattle.agc_exec.specs.Image.{sets_of, use_word}
+use Rattle.agc_exec.specs.Image.{sets_of}
+use Rattle.agc_exec.specs.Stages.{use_word}
 use Rattle.agc_word.specs.Layout.{use_place}
 use Rattle.agc_exec.specs.Sets.{slots_of}
 use Rattle.agc_exec.proofs.lawful.uses_agree.Given as goal

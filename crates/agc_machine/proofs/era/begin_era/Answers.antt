@@ -6,7 +6,8 @@ use Rattle.agc_phase.specs.Image.{base_of}
 use Rattle.agc_word.specs.Layout.{sets_in}
 use Rattle.agc_plan.specs.Eras.{Work, no_work}
 use Rattle.agc_plan.specs.Plans.{Planned, planned_with}
-use Rattle.agc_plan.specs.Seats.{no_places, era_places}
+use Rattle.agc_plan.specs.Seats.{era_places}
+use Rattle.agc_plan.specs.Groups.{no_places}
 use Rattle.agc_machine.specs.Stands.{Stands, BeginsGroups}
 use Rattle.agc_machine.proofs.Beginning.{Cleared, cleared, same_sets}
 use Rattle.agc_machine.proofs.era.begin_era.Goals as goal

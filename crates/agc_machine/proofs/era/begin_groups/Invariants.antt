@@ -2,7 +2,7 @@ use Rattle.std.proofs.Common.{◌≡◌, ℕ, ◌+◌, drop, List, length}
 use Rattle.agc_word.specs.Layout.{sets_in}
 use Rattle.agc_plan.specs.Eras.{Work, no_work}
 use Rattle.agc_plan.specs.Groups.{begun_from, places_from}
-use Rattle.agc_plan.specs.Seats.{no_places}
+use Rattle.agc_plan.specs.Groups.{no_places}
 use Rattle.agc_phase.specs.Image.{base_of}
 use Rattle.agc_machine.specs.Stands.{IsSound, SameDue, Stands}
 use Rattle.agc_machine.proofs.era.begin_groups.Given as goal

@@ -1,5 +1,6 @@
 use Rattle.std.proofs.Common.{◌≡◌, ℕ, ◌<◌, length, slice_index}
-use Rattle.agc_phase.specs.Image.{IsPair, minus_in, phase_in}
+use Rattle.agc_phase.specs.Image.{minus_in, phase_in}
+use Rattle.agc_phase.specs.Writing.{IsPair}
 use Rattle.agc_phase.proofs.image.recover.Given as goal
 
 abbrev pub invariant-loop-group : goal.invariant-loop-group

@@ -1,5 +1,6 @@
 use Rattle.std.proofs.Common.{◌≡◌, ap, ◌∙◌, refl, arith}
-use Rattle.agc_wait.specs.Table.{at_in, gap_of, distance_of}
+use Rattle.agc_wait.specs.Table.{at_in, gap_of}
+use Rattle.agc_wait.specs.Parts.{distance_of}
 use Rattle.agc_wait.proofs.Whole.{AreTasks-more, AreTasks-start}
 use Rattle.agc_wait.proofs.lawful.are_tasks.Goals as goal
 

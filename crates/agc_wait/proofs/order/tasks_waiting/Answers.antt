@@ -1,5 +1,6 @@
 use Rattle.std.proofs.Common.{◌≡◌, ◌≢◌, ℕ, ◌+◌, ◌≤◌, refl, ap, ◌∙◌, arith}
-use Rattle.agc_wait.specs.Table.{at_in, distance_of, gap_of, lst1, time3}
+use Rattle.agc_wait.specs.Table.{at_in, gap_of, lst1, time3}
+use Rattle.agc_wait.specs.Parts.{distance_of}
 use Rattle.agc_wait.proofs.Ordered.{begins, ended, far, none_found, one}
 use Rattle.agc_wait.proofs.Spots.{none_there}
 use Rattle.agc_wait.proofs.order.tasks_waiting.Goals as goal

@@ -1,5 +1,6 @@
 use Rattle.std.proofs.Common.{◌≡◌, ◌≢◌, ◌≤◌, ◌∙◌, refl, ap, arith}
-use Rattle.agc_wait.specs.Table.{waits_of, at_in, gap_of, lst1, time3, distance_of}
+use Rattle.agc_wait.specs.Table.{waits_of, at_in, gap_of, lst1, time3}
+use Rattle.agc_wait.specs.Parts.{distance_of}
 use Rattle.agc_wait.proofs.Tables.{Carries-lawful}
 use Rattle.agc_wait.proofs.Spots.{none_there, walked-start, walked-end, walked-here, walked-more, walked-near, walked-gap, Carries-occupied}
 use Rattle.agc_wait.proofs.spot.spot_for.Goals as goal

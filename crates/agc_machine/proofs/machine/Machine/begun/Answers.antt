@@ -2,9 +2,8 @@ use Rattle.std.proofs.Common.{◌≡◌, ℕ, refl, sym, subst, arith}
 use Rattle.std.specs.Vec.{vec_capacity}
 use Rattle.agc_word.specs.Layout.{sets_in}
 use Rattle.agc_plan.specs.Plans.{planned_with}
-use Rattle.agc_machine.specs.Image.{IsKept}
 use Rattle.agc_machine.proofs.Beginning.{same_sets}
-use Rattle.agc_machine.proofs.Serving.{kept_begun}
+use Rattle.agc_machine.proofs.Serving.{IsKept, kept_begun}
 use Rattle.agc_machine.proofs.machine.Machine.begun.Goals as goal
 
 pub invariant_of-result : goal.invariant_of-result

@@ -6,4 +6,4 @@ use Rattle.agc_machine.proofs.machine.Machine.erasable.Goals as goal
 pub returns : goal.returns
 returns c =
     subst (λ (m : Machined). IsImage m c.self.inside.erasable) c.self.view_is
-    c.self.invariant.image
+    c.self.invariant.0

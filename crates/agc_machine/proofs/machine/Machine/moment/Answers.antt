@@ -31,9 +31,9 @@ moment_is m words asked moment image acts fires raises none_due =
     }
 
 pub moment_of-requires : goal.moment_of-requires
-moment_of-requires c = record { ready = ready_of _ c.self.inside.erasable c.self.invariant.image }
+moment_of-requires c = record { ready = ready_of _ c.self.inside.erasable c.self.invariant.0 }
 
 pub returns : goal.returns
 returns c =
     subst (λ (m : Machined). IsMoment m c.args.request.now c.moment_of.result) c.self.view_is
-    (moment_is _ c.self.inside.erasable c.args.request.now c.moment_of.result c.self.invariant.image c.moment_of.ensures.acts c.moment_of.ensures.fired c.moment_of.ensures.raised c.moment_of.ensures.none_due)
+    (moment_is _ c.self.inside.erasable c.args.request.now c.moment_of.result c.self.invariant.0 c.moment_of.ensures.acts c.moment_of.ensures.fired c.moment_of.ensures.raised c.moment_of.ensures.none_due)
