@@ -1,5 +1,6 @@
 -- Why a bench is refused, from why a part of it is.
-use Rattle.std.proofs.Common.{◌≡◌, ◌≢◌, ◌⊎◌, inl, inr, List, Option, Some, sym, subst}
+use Rattle.std.proofs.Common.{◌≡◌, ◌≢◌, ◌⊎◌, inl, inr, List, Option, Some, sym, ap, subst}
+use Rattle.std.specs.Option.{option_map}
 use Rattle.agc_plan.specs.Plans.{Rows, fault_of}
 use Rattle.agc_plan.specs.Begins.{Begins}
 use Rattle.agc_plan.specs.declared.plan.PlanFault.{PlanFault}
@@ -11,7 +12,7 @@ use Rattle.agc_document.specs.Texts.{Texts}
 use Rattle.agc_document.specs.Keys.{texts_in}
 use Rattle.agc_document.specs.Benches.{Benched, bench_texts, IsInRange}
 use Rattle.agc_document.specs.Gives.{AreNoted, IsNotedFor, RefusedLine}
-use Rattle.agc_document.specs.Faults.{bench_fault, HasTexts, HasPlanFault, SpellPlanFault, RefusesTexts, RefusesBench}
+use Rattle.agc_document.specs.Faults.{bench_fault, HasTexts, RefusesTexts, RefusesBench}
 
 pub refused_because : (why other : Type 0) (fault : BenchFault) → (why → other) → RefusedLine why fault → RefusedLine other fault
 refused_because why other NoMemory f h = tt
@@ -35,26 +36,23 @@ refused_line texts TooManyAreas h = absurd h
 -- texts of a bench whose rows and entries make no plan
 plan_refused : (texts : Texts) (b : Benched) (f : PlanFault) → IsInRange b → texts ≡ bench_texts b → fault_of b.rows b.entries ≡ Some f → RefusesTexts texts (bench_fault f)
 plan_refused texts b plan.NoMemory r t h = tt
-plan_refused texts b plan.TaskTwice r t h = (b, r, t, h)
-plan_refused texts b plan.PhaseTwice r t h = (b, r, t, h)
-plan_refused texts b plan.TooManyAreas r t h = (b, r, t, h)
+plan_refused texts b plan.TaskTwice r t h = (b, r, t, ap (option_map bench_fault) h)
+plan_refused texts b plan.PhaseTwice r t h = (b, r, t, ap (option_map bench_fault) h)
+plan_refused texts b plan.TooManyAreas r t h = (b, r, t, ap (option_map bench_fault) h)
 
 pub refused_plan : (texts : Texts) (b : Benched) (fault : BenchFault) → IsInRange b → texts ≡ bench_texts b → (fault ≡ NoMemory) ⊎ ((f : PlanFault) × (fault ≡ bench_fault f) × (fault_of b.rows b.entries ≡ Some f)) → RefusesTexts texts fault
 refused_plan texts b fault r t (inl is) = subst (RefusesTexts texts) (sym is) tt
 refused_plan texts b fault r t (inr h) = subst (RefusesTexts texts) (sym h.1) (plan_refused texts b h.0 r t h.2)
 
 -- a document whose texts spell none
-has_plan_fault : (document : Option Members) (texts : Texts) (f : PlanFault) → HasTexts document texts → SpellPlanFault texts f → HasPlanFault document f
-has_plan_fault document texts f h s = (s.0, s.1, subst (HasTexts document) s.2 h, s.3)
-
 pub refused_texts : (document : Option Members) (ms : Members) (texts : Texts) (fault : BenchFault) → document ≡ Some ms → texts_in ms ≡ Some texts → RefusesTexts texts fault → RefusesBench document fault
 refused_texts document ms texts NoMemory d t h = tt
 refused_texts document ms texts Line d t h = (texts, (ms, d, t), h)
 refused_texts document ms texts NotToml d t h = absurd h
 refused_texts document ms texts Key d t h = absurd h
-refused_texts document ms texts TaskTwice d t h = has_plan_fault document texts plan.TaskTwice (ms, d, t) h
-refused_texts document ms texts PhaseTwice d t h = has_plan_fault document texts plan.PhaseTwice (ms, d, t) h
-refused_texts document ms texts TooManyAreas d t h = has_plan_fault document texts plan.TooManyAreas (ms, d, t) h
+refused_texts document ms texts TaskTwice d t h = (texts, (ms, d, t), h)
+refused_texts document ms texts PhaseTwice d t h = (texts, (ms, d, t), h)
+refused_texts document ms texts TooManyAreas d t h = (texts, (ms, d, t), h)
 
 -- a fault of texts is noted as one, and what makes no plan needs no note
 pub noted_line : {N M : Type 0} → (keys : List N) (texts : List M) (why : Type 0) (fault : BenchFault) → RefusedLine why fault → AreNoted texts → IsNotedFor keys texts fault

@@ -1,6 +1,5 @@
 -- A bench: its values, their ranges and their texts.
-use Rattle.std.specs.Prelude.{◌≡◌, ◌≤◌, ℕ, Bool, List, codes, map, length, Option, Some}
-use Rattle.std.specs.Prelude.{None}
+use Rattle.std.specs.Prelude.{◌≡◌, ◌≤◌, ℕ, Bool, List, codes, map, length, Option, None, IfSome}
 use Rattle.std.specs.Option.{option_map}
 use Rattle.std.specs.List.{AllByRecursion}
 use Rattle.agc_plan.specs.declared.request.Task.{Task}
@@ -106,31 +105,20 @@ AreActions actions = AllByRecursion IsAction actions × IsBetween 1 4 (length ac
 abbrev pub IsRow : Task × List Action → Type 0
 IsRow r = IsTask r.0 × AreActions r.1
 
--- a job's numbers are in their ranges
-abbrev pub IsJob : Option JobStart → Type 0
-IsJob None = Unit {0}
-IsJob (Some j) = IsRequest (job_request j)
-
--- the numbers of a task and its delay are in their ranges
-abbrev pub IsTimed : Option (ℕ × Task) → Type 0
-IsTimed None = Unit {0}
-IsTimed (Some t) = IsRequest (timed_request t)
-
 -- a phase entry's numbers are in their ranges
 pub record IsEntry (b : Begins) : Type 0 where
   pub group : IsSix b.group
   pub phase : IsBetween 1 127 b.phase
-  pub job : IsJob b.job
-  pub task : IsTimed b.task
+  pub job : IfSome b.job (λ j. IsRequest (job_request j))
+  pub task : IfSome b.task (λ t. IsRequest (timed_request t))
 
 -- a device's pulses are in their range
 abbrev pub IsDevice : Line × ℕ → Type 0
 IsDevice d = d.1 ≤ 1000000
 
 -- twelve words
-abbrev pub IsPower : Option (List ℕ) → Type 0
-IsPower None = Unit {0}
-IsPower (Some words) = (length words ≡ 12) × AllByRecursion IsWord words
+abbrev pub IsPower : List ℕ → Type 0
+IsPower words = (length words ≡ 12) × AllByRecursion IsWord words
 
 -- the ranges of a bench
 pub record IsInRange (b : Benched) : Type 0 where
@@ -140,7 +128,7 @@ pub record IsInRange (b : Benched) : Type 0 where
   pub attends : b.attends ≤ 1000
   pub key : AreActions b.key
   pub radar : AreActions b.radar
-  pub power : IsPower b.power
+  pub power : IfSome b.power IsPower
   pub script : AllByRecursion IsRequest b.script
   pub rows : AllByRecursion IsRow b.rows
   pub entries : AllByRecursion IsEntry b.entries

@@ -1,5 +1,6 @@
 -- When each fault of a bench comes.
 use Rattle.std.specs.Prelude.{◌≡◌, ◌≢◌, Option, Some, None}
+use Rattle.std.specs.Option.{option_map}
 use Rattle.toml.specs.Data.{Members}
 use Rattle.agc_plan.specs.Plans.{fault_of}
 use Rattle.agc_plan.specs.declared.plan.PlanFault.{PlanFault}
@@ -27,33 +28,19 @@ bench_fault ManyAreas = TooManyAreas
 abbrev pub HasTexts : Option Members → Texts → Type 0
 HasTexts document texts = (ms : Members) × (document ≡ Some ms) × (texts_in ms ≡ Some texts)
 
--- the document gives the texts of a bench in its ranges, whose rows and entries have this fault
-abbrev pub HasPlanFault : Option Members → PlanFault → Type 0
-HasPlanFault document fault = (b : Benched) × IsInRange b × HasTexts document (bench_texts b)
-    × (fault_of b.rows b.entries ≡ Some fault)
-
--- these are the texts of a bench in its ranges, whose rows and entries have this fault
-abbrev pub SpellPlanFault : Texts → PlanFault → Type 0
-SpellPlanFault texts fault =
-    (b : Benched) × IsInRange b × (texts ≡ bench_texts b) × (fault_of b.rows b.entries ≡ Some fault)
-
--- why numbers and texts spell no bench, by their first fault, want of memory aside
+-- why numbers and texts spell no bench, by their first fault, want of memory aside: a text of no
+-- form, or a bench in its ranges whose rows and entries make no plan
 abbrev pub RefusesTexts : Texts → BenchFault → Type 0
 RefusesTexts texts NoMemoryForBench = Unit {0}
 RefusesTexts texts NotToml = ⊥
 RefusesTexts texts Key = ⊥
 RefusesTexts texts NoLine = (b : Benched) → IsInRange b → texts ≢ bench_texts b
-RefusesTexts texts TaskTwice = SpellPlanFault texts TwiceTask
-RefusesTexts texts PhaseTwice = SpellPlanFault texts TwicePhase
-RefusesTexts texts TooManyAreas = SpellPlanFault texts ManyAreas
+RefusesTexts texts fault = (b : Benched) × IsInRange b × (texts ≡ bench_texts b)
+    × (option_map bench_fault (fault_of b.rows b.entries) ≡ Some fault)
 
 -- why a document is no bench, by its first fault, want of memory aside
 abbrev pub RefusesBench : Option Members → BenchFault → Type 0
 RefusesBench document NoMemoryForBench = Unit {0}
 RefusesBench document NotToml = document ≡ None
 RefusesBench document Key = (ms : Members) × (document ≡ Some ms) × (texts_in ms ≡ None)
-RefusesBench document NoLine = (texts : Texts) × HasTexts document texts
-    × ((b : Benched) → IsInRange b → texts ≢ bench_texts b)
-RefusesBench document TaskTwice = HasPlanFault document TwiceTask
-RefusesBench document PhaseTwice = HasPlanFault document TwicePhase
-RefusesBench document TooManyAreas = HasPlanFault document ManyAreas
+RefusesBench document fault = (texts : Texts) × HasTexts document texts × RefusesTexts texts fault

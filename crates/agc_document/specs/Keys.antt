@@ -60,13 +60,9 @@ abbrev pub read_or : {X : Type 0} → X → (Data → Option X) → Option Data 
 read_or missing read None = Some missing
 read_or missing read (Some d) = read d
 
--- a text that might be missing, and is there
-abbrev pub given_text : Data → Option (Option (List ℕ))
-given_text d = as_str d >>= λ s. Some (Some s)
-
--- a number that might be missing, and is there
-abbrev pub given_number : BenchKey → Data → Option (Option ℕ)
-given_number k d = number_of k d >>= λ n. Some (Some n)
+-- what reading gives of a value that might be missing, and is there
+abbrev pub given : {X : Type 0} → (Data → Option X) → Data → Option (Option X)
+given read d = read d >>= λ x. Some (Some x)
 
 -- what reading gives of each item in turn
 abbrev pub each : {X : Type 0} → (Data → Option X) → Items → Option (List X)
@@ -78,17 +74,9 @@ abbrev pub items_of : {X : Type 0} → (Data → Option X) → BenchKey → Data
 items_of read k d = (as_array d >>= each read) >>= λ xs.
     if nat_lt (length xs) (least k) || nat_lt (most k) (length xs) then None else Some xs
 
--- texts that might be missing, and are there
-abbrev pub given_texts : BenchKey → Data → Option (Option (List (List ℕ)))
-given_texts k d = items_of as_str k d >>= λ ts. Some (Some ts)
-
 -- some texts, or one alone
-abbrev pub texts_by : Option (List ℕ) → BenchKey → Data → Option (List (List ℕ))
-texts_by (Some text) k d = Some (text ∷ [])
-texts_by None k d = items_of as_str k d
-
 abbrev pub some_texts : BenchKey → Data → Option (List (List ℕ))
-some_texts k d = texts_by (as_str d) k d
+some_texts k d = elim (as_str d) [ Some text ↦ Some (text ∷ []) | None ↦ items_of as_str k d ]
 
 -- the texts of the row that a table has
 unfoldable pub row_in : Members → Option RowTexts
@@ -107,8 +95,8 @@ unfoldable pub entry_in : Members → Option EntryTexts
 entry_in ms = do
   group ← read_at (number_of key.Group) key.Group ms
   phase ← read_at (number_of key.Phase) key.Phase ms
-  job ← read_or None given_text (value_of key.Job ms)
-  task ← read_or None given_text (value_of key.Listing ms)
+  job ← read_or None (given as_str) (value_of key.Job ms)
+  task ← read_or None (given as_str) (value_of key.Listing ms)
   Some (record { group = group; phase = phase; job = job; task = task })
 
 -- the numbers and texts of a phase entry
@@ -136,7 +124,7 @@ settings_in ms = do
   attends ← read_or 16 (number_of key.Attends) (value_of key.Attends ms)
   pressed ← read_or (codes "nothing" ∷ []) (some_texts key.Key) (value_of key.Key ms)
   radar ← read_or (codes "nothing" ∷ []) (some_texts key.Radar) (value_of key.Radar ms)
-  power ← read_or None (given_texts key.Power) (value_of key.Power ms)
+  power ← read_or None (given (items_of as_str key.Power)) (value_of key.Power ms)
   Some (record {
     sets = sets;
     names_sets = is_some (value_of key.Sets ms);

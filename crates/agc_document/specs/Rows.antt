@@ -3,7 +3,7 @@ use Rattle.std.specs.Prelude.{ℕ, List, [], ◌∷◌, map, codes, Bool, true, 
 use Rattle.agc_document.specs.declared.key.Key.{Key as BenchKey}
 use Rattle.agc_document.specs.declared.key.Key.TheVariants as key
 use Rattle.agc_document.specs.declared.key.ScenarioKey.{ScenarioKey}
-use Rattle.agc_document.specs.declared.key.ScenarioKey.TheVariants as of_scenario
+use Rattle.agc_document.specs.declared.key.ScenarioKey.TheVariants as scenario
 use Rattle.agc_document.specs.declared.key.Level.{Level}
 use Rattle.agc_document.specs.declared.key.Level.TheVariants as level
 use Rattle.agc_document.specs.declared.key.Form.TheVariants as form
@@ -28,26 +28,23 @@ any = 18446744073709551615
 
 -- the row of a key that only a scenario has
 abbrev pub scenario_row_of : ScenarioKey → KeyRow
-scenario_row_of of_scenario.Seconds = needed (codes "seconds") (kind.Integer 1 3600)
-scenario_row_of of_scenario.Title = optional (codes "title") (kind.Text form.Name)
-scenario_row_of of_scenario.Steal =
-    optional (codes "steal") (kind.IntegerOrTables level.Steal 0 100)
-scenario_row_of of_scenario.NamedTasks =
-    optional (codes "task") (kind.Tables level.NamedTask 0 any)
-scenario_row_of of_scenario.NamedPhases =
-    optional (codes "phase") (kind.Tables level.NamedPhase 0 any)
-scenario_row_of of_scenario.Jobs = optional (codes "job") (kind.Tables level.Job 0 100)
-scenario_row_of of_scenario.Events = optional (codes "event") (kind.Tables level.Event 0 1000)
-scenario_row_of of_scenario.Name = optional (codes "name") (kind.Text form.Name)
-scenario_row_of of_scenario.From = needed (codes "from") (kind.Integer 0 360000)
-scenario_row_of of_scenario.To = needed (codes "to") (kind.Integer 0 360000)
-scenario_row_of of_scenario.Percent = needed (codes "percent") (kind.Integer 0 100)
-scenario_row_of of_scenario.Cost = needed (codes "cost") (kind.Integer 1 1000000)
-scenario_row_of of_scenario.Then = optional (codes "then") (kind.Text form.Leaving)
-scenario_row_of of_scenario.Moment = needed (codes "at") (kind.Integer 0 360000)
-scenario_row_of of_scenario.Do = needed (codes "do") (kind.OneOrMore form.Request 1 16)
-scenario_row_of of_scenario.Every = optional (codes "every") (kind.Integer 1 360000)
-scenario_row_of of_scenario.Until = optional (codes "until") (kind.Integer 0 360000)
+scenario_row_of scenario.Seconds = needed (codes "seconds") (kind.Integer 1 3600)
+scenario_row_of scenario.Title = optional (codes "title") (kind.Text form.Name)
+scenario_row_of scenario.Steal = optional (codes "steal") (kind.IntegerOrTables level.Steal 0 100)
+scenario_row_of scenario.NamedTasks = optional (codes "task") (kind.Tables level.NamedTask 0 any)
+scenario_row_of scenario.NamedPhases = optional (codes "phase") (kind.Tables level.NamedPhase 0 any)
+scenario_row_of scenario.Jobs = optional (codes "job") (kind.Tables level.Job 0 100)
+scenario_row_of scenario.Events = optional (codes "event") (kind.Tables level.Event 0 1000)
+scenario_row_of scenario.Name = optional (codes "name") (kind.Text form.Name)
+scenario_row_of scenario.From = needed (codes "from") (kind.Integer 0 360000)
+scenario_row_of scenario.To = needed (codes "to") (kind.Integer 0 360000)
+scenario_row_of scenario.Percent = needed (codes "percent") (kind.Integer 0 100)
+scenario_row_of scenario.Cost = needed (codes "cost") (kind.Integer 1 1000000)
+scenario_row_of scenario.Then = optional (codes "then") (kind.Text form.Leaving)
+scenario_row_of scenario.Moment = needed (codes "at") (kind.Integer 0 360000)
+scenario_row_of scenario.Do = needed (codes "do") (kind.OneOrMore form.Request 1 16)
+scenario_row_of scenario.Every = optional (codes "every") (kind.Integer 1 360000)
+scenario_row_of scenario.Until = optional (codes "until") (kind.Integer 0 360000)
 
 -- the row of a key
 abbrev pub row_of : BenchKey → KeyRow
@@ -85,19 +82,18 @@ keys_of level.Phase = key.Group ∷ key.Phase ∷ key.Job ∷ key.Listing ∷ []
 keys_of level.Worker = key.Requests ∷ []
 keys_of level.Device = key.Line ∷ key.Pulses ∷ []
 keys_of level.Scenario =
-    key.Of of_scenario.Seconds ∷ key.Of of_scenario.Title ∷ key.Sets ∷ key.Limit ∷ key.Allowance
-    ∷ key.Key ∷ key.Radar ∷ key.Power ∷ key.Of of_scenario.Steal ∷ key.Of of_scenario.NamedTasks
-    ∷ key.Of of_scenario.NamedPhases ∷ key.Of of_scenario.Jobs ∷ key.Of of_scenario.Events ∷ []
-keys_of level.NamedTask = key.At ∷ key.Bank ∷ key.Action ∷ key.Of of_scenario.Name ∷ []
+    key.Of scenario.Seconds ∷ key.Of scenario.Title ∷ key.Sets ∷ key.Limit ∷ key.Allowance ∷ key.Key
+    ∷ key.Radar ∷ key.Power ∷ key.Of scenario.Steal ∷ key.Of scenario.NamedTasks
+    ∷ key.Of scenario.NamedPhases ∷ key.Of scenario.Jobs ∷ key.Of scenario.Events ∷ []
+keys_of level.NamedTask = key.At ∷ key.Bank ∷ key.Action ∷ key.Of scenario.Name ∷ []
 keys_of level.NamedPhase =
-    key.Group ∷ key.Phase ∷ key.Job ∷ key.Listing ∷ key.Of of_scenario.Name ∷ []
-keys_of level.Steal =
-    key.Of of_scenario.From ∷ key.Of of_scenario.To ∷ key.Of of_scenario.Percent ∷ []
+    key.Group ∷ key.Phase ∷ key.Job ∷ key.Listing ∷ key.Of scenario.Name ∷ []
+keys_of level.Steal = key.Of scenario.From ∷ key.Of scenario.To ∷ key.Of scenario.Percent ∷ []
 keys_of level.Job =
-    key.At ∷ key.Of of_scenario.Cost ∷ key.Of of_scenario.Then ∷ key.Of of_scenario.Name ∷ []
+    key.At ∷ key.Of scenario.Cost ∷ key.Of scenario.Then ∷ key.Of scenario.Name ∷ []
 keys_of level.Event =
-    key.Of of_scenario.Moment ∷ key.Of of_scenario.Do ∷ key.Of of_scenario.Every
-    ∷ key.Of of_scenario.Until ∷ key.Of of_scenario.Name ∷ []
+    key.Of scenario.Moment ∷ key.Of scenario.Do ∷ key.Of scenario.Every ∷ key.Of scenario.Until
+    ∷ key.Of scenario.Name ∷ []
 
 -- their names
 abbrev pub names_of : Level → List (List ℕ)

@@ -7,7 +7,7 @@ use crate::values::{is_name, job_of, leaving_of, parse_kind, timed_of};
 use agc_text::{parse_action, parse_address, parse_line, parse_word};
 
 /// A key of a bench, of a scenario, or of one of their tables. Source: profile.
-#[derive(Clone, Copy, PartialEq, Eq, Debug)]
+#[derive(Clone, Copy)]
 pub enum Key {
     Sets,
     Limit,
@@ -36,7 +36,7 @@ pub enum Key {
 }
 
 /// A key of a scenario or of one of its tables, which a bench doesn't have. Source: profile.
-#[derive(Clone, Copy, PartialEq, Eq, Debug)]
+#[derive(Clone, Copy)]
 pub enum ScenarioKey {
     Seconds,
     Title,
@@ -59,7 +59,7 @@ pub enum ScenarioKey {
 
 /// Which table a key belongs to: the bench or scenario itself, or a table of an array. Source:
 /// profile.
-#[derive(Clone, Copy, PartialEq, Eq, Debug)]
+#[derive(Clone, Copy, PartialEq, Eq)]
 pub enum Level {
     Bench,
     Task,
@@ -75,7 +75,7 @@ pub enum Level {
 }
 
 /// What a text spells. Source: profile.
-#[derive(Clone, Copy, PartialEq, Eq, Debug)]
+#[derive(Clone, Copy)]
 pub enum Form {
     Request,
     Action,
@@ -94,7 +94,7 @@ pub enum Form {
 }
 
 /// What the value of a key is. Source: profile.
-#[derive(Clone, Copy, PartialEq, Eq, Debug)]
+#[derive(Clone, Copy)]
 pub enum Kind {
     /// An integer between two bounds.
     Integer(u64, u64),
@@ -110,7 +110,7 @@ pub enum Kind {
 }
 
 /// A row of the table of keys. Source: profile.
-#[derive(Clone, Copy, PartialEq, Eq, Debug)]
+#[derive(Clone, Copy)]
 pub struct Row {
     pub name: &'static str,
     pub kind: Kind,

@@ -1,10 +1,8 @@
 //! What is wrong with a key.
-ghost use Rattle.std.specs.Prelude.{◌≡◌};
-
 use crate::key::{Key, Level};
 
 /// What is wrong with a key. Source: profile.
-#[derive(Clone, Copy, PartialEq, Eq, Debug)]
+#[derive(Clone, Copy)]
 pub enum KeyFault {
     /// The finding's text is no key of a table of this level.
     Unknown(Level),

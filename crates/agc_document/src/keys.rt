@@ -7,7 +7,7 @@ ghost use Rattle.agc_word.specs.Profiles.{count_of};
 ghost use Rattle.agc_plan.specs.Ranges.{IsBetween};
 ghost use Rattle.agc_document.specs.Gives.{AreNoted, GivesOrKey};
 ghost use Rattle.agc_document.specs.Keys.{least, most, value_of, read_at, read_or, items_of};
-ghost use Rattle.agc_document.specs.Keys.{given_texts, some_texts, row, row_in, entry, entry_in};
+ghost use Rattle.agc_document.specs.Keys.{given, some_texts, row, row_in, entry, entry_in};
 ghost use Rattle.agc_document.specs.Keys.{worker, device, settings_in, lists_in, texts_in};
 ghost use Rattle.agc_document.specs.declared.key.Key.TheVariants as key_of;
 
@@ -202,8 +202,8 @@ fn power_at<'a>(
     notes: &mut Notes<'a>,
 ) -> Result<Option<Vec<Text<'a>>>, BenchFault>
     ensures value { GivesOrKey (λ o. option_map (λ v. v.items) o) result
-        (read_or None (given_texts key_of.Power) (value_of key_of.Power (table_view table.now)))
-        notes.new.keys.items }
+        (read_or None (given (items_of as_str key_of.Power))
+        (value_of key_of.Power (table_view table.now))) notes.new.keys.items }
     ensures kept { AreNoted notes.old.keys.items → AreNoted notes.new.keys.items }
 {
     let key = Key::Power;

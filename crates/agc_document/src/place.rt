@@ -3,7 +3,7 @@ use crate::key::Key;
 
 /// Where in a bench something stands. Numbers are from 1, in the order of the document. Source:
 /// profile.
-#[derive(Clone, Copy, PartialEq, Eq, Debug)]
+#[derive(Clone, Copy)]
 pub enum Place {
     /// The document.
     Whole,

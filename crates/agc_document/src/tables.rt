@@ -10,8 +10,8 @@ ghost use Rattle.agc_plan.specs.Ranges.{IsBetween};
 ghost use Rattle.agc_document.specs.Gives.{AreNoted, GivesOrKey};
 ghost use Rattle.agc_document.specs.Rows.{row_of, names_of};
 ghost use Rattle.agc_document.specs.Keys.{is_among, has_only, known_to, value_of, number_of};
-ghost use Rattle.agc_document.specs.Keys.{least, most, read_at, read_or, given_text, each};
-ghost use Rattle.agc_document.specs.Keys.{given_number, items_of, some_texts};
+ghost use Rattle.agc_document.specs.Keys.{least, most, read_at, read_or, given, each};
+ghost use Rattle.agc_document.specs.Keys.{items_of, some_texts};
 
 use crate::fault::BenchFault;
 use crate::key::{Key, Level};
@@ -234,7 +234,7 @@ pub fn optional_number<'a>(
     notes: &mut Notes<'a>,
 ) -> Result<Option<u64>, BenchFault>
     ensures value { GivesOrKey (λ o. o) result
-        (read_or None (given_number key) (value_of key (table_view table.now)))
+        (read_or None (given (number_of key)) (value_of key (table_view table.now)))
         notes.new.keys.items }
     ensures range { IfOk result (λ o. IfSome o (λ n. (least key ≤ n) × (n ≤ most key))) }
     ensures kept { AreNoted notes.old.keys.items → AreNoted notes.new.keys.items }
@@ -274,7 +274,7 @@ pub fn optional_text<'a>(
     notes: &mut Notes<'a>,
 ) -> Result<Option<&'a str>, BenchFault>
     ensures value { GivesOrKey (λ o. option_map (λ s. s.now) o) result
-        (read_or None given_text (value_of key (table_view table.now))) notes.new.keys.items }
+        (read_or None (given as_str) (value_of key (table_view table.now))) notes.new.keys.items }
     ensures kept { AreNoted notes.old.keys.items → AreNoted notes.new.keys.items }
 {
     match value_of(table, key, place, notes) {

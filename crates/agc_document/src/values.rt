@@ -14,8 +14,8 @@ ghost use Rattle.agc_plan.specs.declared.line.Line.{Line};
 ghost use Rattle.agc_text.specs.Numbers.{octal, IsWord};
 ghost use Rattle.agc_text.specs.Lines.{line_of, action_line_of};
 ghost use Rattle.agc_document.specs.Benches.{job_request, timed_request, kind_text, row_texts};
-ghost use Rattle.agc_document.specs.Benches.{entry_texts, device_texts, IsRow, IsJob, IsTimed};
-ghost use Rattle.agc_document.specs.Benches.{IsEntry, IsDevice, IsPower};
+ghost use Rattle.agc_document.specs.Benches.{entry_texts, device_texts, IsRow, IsEntry};
+ghost use Rattle.agc_document.specs.Benches.{IsDevice, IsPower};
 ghost use Rattle.agc_document.specs.Kinds.{job_of, timed_of, leaving_of, is_name};
 ghost use Rattle.agc_document.specs.Gives.{RefusedLine};
 
@@ -140,9 +140,10 @@ pub fn is_name(text: &str) -> bool
 
 /// The job of a phase entry, if its text is there. None where that text spells none.
 fn parse_job(text: Option<&str>) -> Option<Option<JobStart>>
-    ensures found { IfSome result (λ j. IsJob j
+    ensures found { IfSome result (λ j. IfSome j (λ x. IsRequest (job_request x))
         × (option_map (λ s. s.now) text.entry ≡ option_map (λ x. line_of (job_request x)) j)) }
-    ensures only { IfNone result ((j : Option JobStart) → IsJob j
+    ensures only { IfNone result ((j : Option JobStart)
+        → IfSome j (λ x. IsRequest (job_request x))
         → option_map (λ s. s.now) text.entry ≢ option_map (λ x. line_of (job_request x)) j) }
 {
     match text {
@@ -157,9 +158,10 @@ fn parse_job(text: Option<&str>) -> Option<Option<JobStart>>
 
 /// The task of a phase entry, if its text is there. None where that text spells none.
 fn parse_timed(text: Option<&str>) -> Option<Option<(Delay, Task)>>
-    ensures found { IfSome result (λ t. IsTimed t
+    ensures found { IfSome result (λ t. IfSome t (λ x. IsRequest (timed_request x))
         × (option_map (λ s. s.now) text.entry ≡ option_map (λ x. line_of (timed_request x)) t)) }
-    ensures only { IfNone result ((t : Option (ℕ × Task)) → IsTimed t
+    ensures only { IfNone result ((t : Option (ℕ × Task))
+        → IfSome t (λ x. IsRequest (timed_request x))
         → option_map (λ s. s.now) text.entry ≢ option_map (λ x. line_of (timed_request x)) t) }
 {
     match text {
@@ -268,9 +270,8 @@ pub(crate) fn devices_of(
 
 /// The twelve words that as many texts spell.
 fn words_of(texts: &[Text<'_>]) -> Option<[Word; 12]>
-    ensures found { IfSome result (λ ws. IsPower (Some ws) × (texts.now ≡ map (octal 5) ws)) }
-    ensures only { IfNone result ((ws : List ℕ) → IsPower (Some ws)
-        → texts.now ≢ map (octal 5) ws) }
+    ensures found { IfSome result (λ ws. IsPower ws × (texts.now ≡ map (octal 5) ws)) }
+    ensures only { IfNone result ((ws : List ℕ) → IsPower ws → texts.now ≢ map (octal 5) ws) }
 {
     if texts.len() != 12 {
         return None;
@@ -287,9 +288,9 @@ fn words_of(texts: &[Text<'_>]) -> Option<[Word; 12]>
 
 /// The phase words of a power-up, if their texts are there. None where one of these spells no word.
 pub(crate) fn power_of(texts: &Option<Vec<Text<'_>>>) -> Option<Option<[Word; 12]>>
-    ensures found { IfSome result (λ p. IsPower p
+    ensures found { IfSome result (λ p. IfSome p IsPower
         × (option_map (λ v. v.items) texts.now ≡ option_map (map (octal 5)) p)) }
-    ensures only { IfNone result ((p : Option (List ℕ)) → IsPower p
+    ensures only { IfNone result ((p : Option (List ℕ)) → IfSome p IsPower
         → option_map (λ v. v.items) texts.now ≢ option_map (map (octal 5)) p) }
 {
     match texts {

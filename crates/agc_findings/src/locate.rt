@@ -5,7 +5,7 @@ use toml_parser::text::{first, skip, skip_blank, skip_ws};
 use toml_parser::{ParseError, dotted_key, quoted, starts_string, unquoted};
 
 /// One step of the way from the document to a value.
-#[derive(Clone, Copy, PartialEq, Eq, Debug)]
+#[derive(Clone, Copy, PartialEq, Eq)]
 pub(crate) enum Step<'a> {
     Name(&'a str),
     /// From 1.
@@ -13,7 +13,7 @@ pub(crate) enum Step<'a> {
 }
 
 /// The way to a value, from the document on.
-#[derive(Clone, Copy, Debug)]
+#[derive(Clone, Copy)]
 pub(crate) struct Way<'a> {
     steps: [Option<Step<'a>>; 4],
 }
@@ -59,7 +59,7 @@ impl<'a> Way<'a> {
 }
 
 /// Where a key or an item begins, and where its value does.
-#[derive(Clone, Copy, PartialEq, Eq, Debug)]
+#[derive(Clone, Copy)]
 pub(crate) struct Spot {
     pub(crate) at: usize,
     pub(crate) value: usize,
@@ -120,7 +120,7 @@ impl<'a> Trail<'a> {
 }
 
 /// What comes next in a document.
-#[derive(Clone, Copy, PartialEq, Eq, Debug)]
+#[derive(Clone, Copy)]
 enum Next {
     /// A header, or a key and its value.
     Line,
@@ -136,7 +136,7 @@ enum Next {
 
 /// An array or an inline table that is open: how many steps lead to it, and how many of its items
 /// have begun.
-#[derive(Clone, Copy, Debug)]
+#[derive(Clone, Copy)]
 struct Frame {
     is_table: bool,
     length: usize,

@@ -1,10 +1,8 @@
 //! Why a document is no bench.
-ghost use Rattle.std.specs.Prelude.{◌≡◌};
-
 use agc_document::{Form, KeyFault};
 
 /// Why a document is no bench, at one place. Source: profile.
-#[derive(Clone, Copy, PartialEq, Eq, Debug)]
+#[derive(Clone, Copy)]
 pub enum Wrong {
     /// It is no TOML document. The finding's text says why, in the words of the parser.
     NotToml,

@@ -11,7 +11,7 @@ use Rattle.agc_document.specs.declared.key.ScenarioKey.TheVariants as of_scenari
 use Rattle.agc_document.specs.declared.key.Level.TheVariants as level
 use Rattle.agc_document.specs.Texts.{Lists, Settings, Texts}
 use Rattle.agc_document.specs.Keys.{is_among, known_to, table_of, value_of, number_of, read_at}
-use Rattle.agc_document.specs.Keys.{read_or, given_text, given_number, items_of, some_texts}
+use Rattle.agc_document.specs.Keys.{read_or, given, items_of, some_texts}
 use Rattle.agc_document.specs.Keys.{row_in, entry_in, settings_in}
 use Rattle.agc_clock.specs.declared.timetable.Stolen.{Stolen}
 use Rattle.agc_scenario.specs.Texts.{NamedRow, NamedEntry, NamedTexts, JobTexts, EventTexts}
@@ -22,7 +22,7 @@ name_key = key.Of of_scenario.Name
 
 -- the name of what a table has, if it is there
 abbrev pub name_in : Members → Option (Option (List ℕ))
-name_in ms = read_or None given_text (value_of name_key ms)
+name_in ms = read_or None (given as_str) (value_of name_key ms)
 
 -- the texts of a task's row, and its name
 unfoldable pub named_row : Data → Option NamedRow
@@ -46,7 +46,7 @@ number_in k ms = read_at (number_of k) k ms
 
 -- an integer of a table, if it is there
 abbrev pub number_if : BenchKey → Members → Option (Option ℕ)
-number_if k ms = read_or None (given_number k) (value_of k ms)
+number_if k ms = read_or None (given (number_of k)) (value_of k ms)
 
 -- a row of stolen time that ends after it begins
 abbrev pub forward : Stolen → Option Stolen
@@ -85,7 +85,7 @@ job d = do
   ms ← table_of level.Job d
   at ← read_at as_str key.At ms
   cost ← number_in (key.Of of_scenario.Cost) ms
-  leaving ← read_or None given_text (value_of (key.Of of_scenario.Then) ms)
+  leaving ← read_or None (given as_str) (value_of (key.Of of_scenario.Then) ms)
   name ← name_in ms
   Some (record { at = at; cost = cost; leaving = text_or_end leaving; name = name })
 
@@ -123,7 +123,7 @@ if_apart t =
 unfoldable pub timing_in : Members → Option TimingTexts
 timing_in ms = do
   seconds ← number_in (key.Of of_scenario.Seconds) ms
-  title ← read_or None given_text (value_of (key.Of of_scenario.Title) ms)
+  title ← read_or None (given as_str) (value_of (key.Of of_scenario.Title) ms)
   stolen ← read_or [] stolen_rows (value_of (key.Of of_scenario.Steal) ms)
   jobs ← read_or [] (items_of job (key.Of of_scenario.Jobs))
       (value_of (key.Of of_scenario.Jobs) ms)

@@ -32,7 +32,7 @@ pub enum Warning {
 }
 
 /// A warning, and where in the bench its reason stands. Source: profile.
-#[derive(Clone, Copy, PartialEq, Eq, Debug)]
+#[derive(Clone, Copy)]
 pub struct Warned {
     pub place: Place,
     pub warning: Warning,
