@@ -2,7 +2,7 @@
 ghost use Rattle.std.specs.Prelude.{◌≡◌};
 ghost use Rattle.agc_commands.specs.declared.words.Refused.TheVariants.{NoMemory};
 
-use crate::commands::{Name, named_command, whole_command};
+use crate::commands::{named_command, whole_command};
 use agc_orders::Options;
 use agc_plan::Alarm;
 use agc_trace::Choice;
@@ -14,7 +14,7 @@ use std::alloc::{AllocError, Global};
 const STATES: u64 = 200_000;
 
 /// What the program is to do with its input.
-#[derive(Clone, Copy, Debug, PartialEq, Eq)]
+#[derive(Clone, Copy)]
 pub enum Work {
     /// The trace of a bench, of the requests that are chosen.
     Trace(Choice),
@@ -31,7 +31,7 @@ pub enum Work {
 }
 
 /// How wide a picture over time is, and which centiseconds it shows.
-#[derive(Clone, Copy, Debug, PartialEq, Eq)]
+#[derive(Clone, Copy)]
 pub struct Times {
     pub width: u64,
     pub from: u64,
@@ -41,7 +41,7 @@ pub struct Times {
 }
 
 /// The values to try of the number that the key names, and whether they are written as CSV.
-#[derive(Clone, Copy, Debug)]
+#[derive(Clone, Copy)]
 pub struct Values<'a> {
     pub key: &'a str,
     pub from: u64,
@@ -51,7 +51,7 @@ pub struct Values<'a> {
 }
 
 /// What the program is to tell of a scenario, or of a bench in the course of time.
-#[derive(Clone, Copy, Debug)]
+#[derive(Clone, Copy)]
 pub enum Telling<'a> {
     /// The picture over time.
     Picture(Times),
@@ -65,7 +65,7 @@ pub enum Telling<'a> {
 
 /// What the program is to do: work on its input, tell what all orders of a bench come to, tell of a
 /// scenario, or play from a bench.
-#[derive(Clone, Copy, Debug)]
+#[derive(Clone, Copy)]
 pub enum Task<'a> {
     Work(Work),
     Explore(Options),
@@ -74,7 +74,7 @@ pub enum Task<'a> {
 }
 
 /// What the program is asked for.
-#[derive(Clone, Copy, Debug)]
+#[derive(Clone, Copy)]
 pub struct Asked<'a> {
     pub task: Task<'a>,
     /// The name of the file to read; standard input without one, or an empty plan to play from.
@@ -99,50 +99,60 @@ impl From<AllocError> for Refused {
     }
 }
 
-/// The number of an option or a word, if it is given; an error, if that is no number.
-fn number_in(matches: &ArgMatches<'_>, name: &str) -> Result<Option<u64>, ()> {
-    match matches.get_str(name) {
-        None => Ok(None),
-        Some(_) => match matches.get_one::<u64>(name) {
-            Some(number) => Ok(Some(number)),
-            None => Err(()),
-        },
+/// The number of an option, if it is given; this reason, if that is no number.
+fn number_in(
+    given: &ArgMatches<'_>,
+    name: &str,
+    reason: &'static str,
+) -> Result<Option<u64>, &'static str> {
+    match (given.get_str(name), given.get_one::<u64>(name)) {
+        (Some(_), None) => Err(reason),
+        (_, number) => Ok(number),
     }
 }
 
-/// Which requests a trace is to tell, or why the words are wrong.
-fn choice_of(matches: &ArgMatches<'_>) -> Result<Choice, &'static str> {
-    let Ok(from) = number_in(matches, "from") else {
-        return Err("--from wants a number");
-    };
-    let Ok(to) = number_in(matches, "to") else {
-        return Err("--to wants a number");
+/// The file that a command names.
+fn file_of<'a>(given: &ArgMatches<'a>) -> Option<&'a str> {
+    match given.get_str("file") {
+        Some("-") => None,
+        named => named,
+    }
+}
+
+/// This task, on the file that a command names.
+fn to_do<'a>(task: Task<'a>, given: &ArgMatches<'a>, has_progress: bool) -> Asked<'a> {
+    Asked {
+        task,
+        file: file_of(given),
+        has_progress,
+    }
+}
+
+/// Work, on the file that a command names.
+fn to_work<'a>(work: Work, given: &ArgMatches<'a>) -> Asked<'a> {
+    to_do(Task::Work(work), given, given.get_flag("progress"))
+}
+
+/// What the words after `trace` ask for, or why they are wrong.
+fn trace_of<'a>(given: &ArgMatches<'a>) -> Result<Asked<'a>, &'static str> {
+    let from = number_in(given, "from", "--from wants a number")?;
+    let to = number_in(given, "to", "--to wants a number")?;
+    let choice = Choice {
+        alarms: given.get_flag("alarms"),
+        from,
+        to,
+        brief: given.get_flag("brief"),
     };
     match (from, to) {
         (Some(first), Some(last)) if first > last => Err("--from is beyond --to"),
-        _ => Ok(Choice {
-            alarms: matches.get_flag("alarms"),
-            from,
-            to,
-            brief: matches.get_flag("brief"),
-        }),
-    }
-}
-
-/// What `picture`, `page` or `check` asks to be done; nothing, where there is no such command.
-fn work_of(name: &str, matches: &ArgMatches<'_>) -> Option<Work> {
-    match name {
-        "picture" => Some(Work::Picture),
-        "page" => Some(Work::Page),
-        "check" if matches.get_flag("script") => Some(Work::CheckScript),
-        "check" => Some(Work::CheckBench),
-        _ => None,
+        _ if given.get_flag("script") => Ok(to_work(Work::TraceScript(choice), given)),
+        _ => Ok(to_work(Work::Trace(choice), given)),
     }
 }
 
 /// The alarm that an option names, if it was given; an error, where it is none.
-fn alarm_of(matches: &ArgMatches<'_>, option: &str) -> Result<Option<Alarm>, ()> {
-    match matches.get_str(option) {
+fn alarm_of(given: &ArgMatches<'_>, option: &str) -> Result<Option<Alarm>, ()> {
+    match given.get_str(option) {
         None => Ok(None),
         Some("1201") => Ok(Some(Alarm::A1201)),
         Some("1202") => Ok(Some(Alarm::A1202)),
@@ -151,55 +161,20 @@ fn alarm_of(matches: &ArgMatches<'_>, option: &str) -> Result<Option<Alarm>, ()>
     }
 }
 
-/// What is asked of all orders, or why the words are wrong.
-fn orders_of(matches: &ArgMatches<'_>) -> Result<Options, &'static str> {
-    let Ok(states) = number_in(matches, "states") else {
-        return Err("--states wants a number");
-    };
-    match (alarm_of(matches, "alarm"), alarm_of(matches, "bench")) {
-        (Ok(alarm), Ok(bench)) => Ok(Options {
-            states: states.unwrap_or(STATES),
-            alarm,
-            through: matches.get_flag("through"),
-            bench,
-        }),
+/// What the words after `explore` ask for, or why they are wrong.
+fn orders_of<'a>(given: &ArgMatches<'a>) -> Result<Asked<'a>, &'static str> {
+    let states = number_in(given, "states", "--states wants a number")?;
+    match (alarm_of(given, "alarm"), alarm_of(given, "bench")) {
+        (Ok(alarm), Ok(bench)) => {
+            let options = Options {
+                states: states.unwrap_or(STATES),
+                alarm,
+                through: given.get_flag("through"),
+                bench,
+            };
+            Ok(to_do(Task::Explore(options), given, true))
+        }
         _ => Err("an alarm is 1201, 1202 or 1203"),
-    }
-}
-
-/// The file that a command names.
-fn file_of<'a>(matches: &ArgMatches<'a>) -> Option<&'a str> {
-    match matches.get_str("file") {
-        Some("-") => None,
-        named => named,
-    }
-}
-
-/// What the words after `trace` ask for.
-fn asked_to_trace<'a>(alloc: Global, given: &ArgMatches<'a>) -> Result<Asked<'a>, Refused> {
-    match choice_of(given) {
-        Ok(choice) => Ok(Asked {
-            task: Task::Work(if given.get_flag("script") {
-                Work::TraceScript(choice)
-            } else {
-                Work::Trace(choice)
-            }),
-            file: file_of(given),
-            has_progress: given.get_flag("progress"),
-        }),
-        Err(reason) => Err(refused_words(alloc, Name::Trace, "agc_watch trace", reason)),
-    }
-}
-
-/// What the words after `explore` ask for.
-fn asked_to_explore<'a>(alloc: Global, given: &ArgMatches<'a>) -> Result<Asked<'a>, Refused> {
-    match orders_of(given) {
-        Ok(options) => Ok(Asked {
-            task: Task::Explore(options),
-            file: file_of(given),
-            has_progress: true,
-        }),
-        Err(reason) => Err(refused_words(alloc, Name::Explore, "agc_watch explore", reason)),
     }
 }
 
@@ -220,12 +195,8 @@ fn step_and_file<'a>(given: &ArgMatches<'a>) -> Option<(u64, Option<&'a str>)> {
 /// What the words after `sweep` ask for, or why they are wrong.
 fn sweep_of<'a>(given: &ArgMatches<'a>) -> Result<Asked<'a>, &'static str> {
     let key = given.get_str("key").unwrap_or("");
-    let Some(from) = given.get_one::<u64>("from") else {
-        return Err("FROM is no number");
-    };
-    let Some(to) = given.get_one::<u64>("to") else {
-        return Err("TO is no number");
-    };
+    let from = given.get_one::<u64>("from").ok_or("FROM is no number")?;
+    let to = given.get_one::<u64>("to").ok_or("TO is no number")?;
     let csv = given.get_flag("csv");
     match step_and_file(given) {
         None => Err("STEP is no number"),
@@ -245,9 +216,9 @@ fn sweep_of<'a>(given: &ArgMatches<'a>) -> Result<Asked<'a>, &'static str> {
     }
 }
 
-/// Words after a command that are wrong for a reason that `clap` doesn't know.
-fn refused_words(alloc: Global, name: Name, called: &str, reason: &str) -> Refused {
-    match named_command(alloc, name, called) {
+/// Words after the command that is called so, which are wrong for a reason that `clap` doesn't know.
+fn refused_words(alloc: Global, called: &str, reason: &str) -> Refused {
+    match named_command(alloc, called) {
         Ok(mut command) => refused_as(&mut command, reason),
         Err(_no_memory) => Refused::NoMemory,
     }
@@ -255,63 +226,52 @@ fn refused_words(alloc: Global, name: Name, called: &str, reason: &str) -> Refus
 
 /// Words after `sweep` that don't suit its scenario.
 pub fn refused_sweep(alloc: Global, reason: &str) -> Refused {
-    refused_words(alloc, Name::Sweep, "agc_watch sweep", reason)
+    refused_words(alloc, "agc_watch sweep", reason)
 }
 
 /// The number that a part of seconds is; nothing, if it has another letter than a digit, or is too
 /// long.
 fn number_of(digits: &str) -> Option<u64> {
-    let mut number = 0u64;
-    if digits.is_empty() || digits.len() > 12 {
-        return None;
+    let is_decimal = digits.as_bytes().iter().all(u8::is_ascii_digit);
+    if is_decimal && digits.len() <= 12 {
+        digits.parse::<u64>().ok()
+    } else {
+        None
     }
-    for byte in digits.as_bytes() {
-        match *byte {
-            b'0'..=b'9' => {
-                let digit = u64::from(*byte - b'0');
-                number = number.saturating_mul(10).saturating_add(digit);
-            }
-            _ => return None,
-        }
-    }
-    Some(number)
 }
 
 /// The centiseconds that a text of seconds says, with at most two decimals.
 fn centiseconds_of(text: &str) -> Option<u64> {
-    let (whole, rest) = match text.split_once('.') {
-        None => (number_of(text)?, 0),
-        Some((whole, rest)) => match rest.len() {
-            1 => (number_of(whole)?, number_of(rest)?.saturating_mul(10)),
-            2 => (number_of(whole)?, number_of(rest)?),
-            _ => return None,
-        },
+    let (whole, rest) = text.split_once('.').unwrap_or((text, "00"));
+    let times = match rest.len() {
+        1 => 10,
+        2 => 1,
+        _ => return None,
     };
-    Some(whole.saturating_mul(100).saturating_add(rest))
+    let rest = number_of(rest)?.saturating_mul(times);
+    Some(number_of(whole)?.saturating_mul(100).saturating_add(rest))
 }
 
-/// The centiseconds of an option, if it is given; an error, if it says no seconds.
-fn seconds_of(given: &ArgMatches<'_>, name: &str) -> Result<Option<u64>, ()> {
-    match given.get_str(name) {
-        None => Ok(None),
-        Some(text) => match centiseconds_of(text) {
-            Some(time) => Ok(Some(time)),
-            None => Err(()),
-        },
+/// The centiseconds of an option, if it is given; this reason, if it says no seconds.
+fn seconds_of(
+    given: &ArgMatches<'_>,
+    name: &str,
+    reason: &'static str,
+) -> Result<Option<u64>, &'static str> {
+    let Some(text) = given.get_str(name) else {
+        return Ok(None);
+    };
+    match centiseconds_of(text) {
+        None => Err(reason),
+        time => Ok(time),
     }
 }
 
 /// The picture over time that is asked for, if one is, or why the words are wrong.
 fn times_of(given: &ArgMatches<'_>) -> Result<Option<Times>, &'static str> {
-    let Ok(width) = number_in(given, "width") else {
-        return Err("--width wants a number");
-    };
-    let Ok(from) = seconds_of(given, "from") else {
-        return Err("--from is seconds, such as 12.5");
-    };
-    let Ok(to) = seconds_of(given, "to") else {
-        return Err("--to is seconds, such as 12.5");
-    };
+    let width = number_in(given, "width", "--width wants a number")?;
+    let from = seconds_of(given, "from", "--from is seconds, such as 12.5")?;
+    let to = seconds_of(given, "to", "--to is seconds, such as 12.5")?;
     if !given.get_flag("time") {
         return match (width, from, to) {
             (None, None, None) => Ok(None),
@@ -335,41 +295,11 @@ fn times_of(given: &ArgMatches<'_>) -> Result<Option<Times>, &'static str> {
     }
 }
 
-/// What the words after `picture` ask for.
-fn asked_to_draw<'a>(
-    alloc: Global,
-    command: &mut Command<'a>,
-    given: &ArgMatches<'a>,
-) -> Result<Asked<'a>, Refused> {
-    match times_of(given) {
-        Ok(None) => asked_to_work(command, "picture", given),
-        Ok(Some(times)) => Ok(asked_to_tell(Telling::Picture(times), given)),
-        Err(reason) => Err(refused_words(alloc, Name::Picture, "agc_watch picture", reason)),
-    }
-}
-
-/// What a command asks for that works on its input.
-fn asked_to_work<'a>(
-    command: &mut Command<'a>,
-    name: &str,
-    given: &ArgMatches<'a>,
-) -> Result<Asked<'a>, Refused> {
-    match work_of(name, given) {
-        Some(work) => Ok(Asked {
-            task: Task::Work(work),
-            file: file_of(given),
-            has_progress: given.get_flag("progress"),
-        }),
-        None => Err(refused_as(command, "there is no such command")),
-    }
-}
-
-/// What these words ask to be told of an input.
-fn asked_to_tell<'a>(telling: Telling<'a>, given: &ArgMatches<'a>) -> Asked<'a> {
-    Asked {
-        task: Task::Tell(telling),
-        file: file_of(given),
-        has_progress: false,
+/// What the words after `picture` ask for, or why they are wrong.
+fn picture_of<'a>(given: &ArgMatches<'a>) -> Result<Asked<'a>, &'static str> {
+    match times_of(given)? {
+        None => Ok(to_work(Work::Picture, given)),
+        Some(times) => Ok(to_do(Task::Tell(Telling::Picture(times)), given, false)),
     }
 }
 
@@ -382,20 +312,20 @@ fn asked_by<'a>(
     let Some((name, given)) = matches.subcommand() else {
         return Err(refused_as(command, "a command is missing"));
     };
-    match name {
-        "trace" => asked_to_trace(alloc, given),
-        "picture" => asked_to_draw(alloc, command, given),
-        "explore" => asked_to_explore(alloc, given),
-        "bench" => Ok(asked_to_tell(Telling::Bench, given)),
-        "peaks" => Ok(asked_to_tell(Telling::Peaks, given)),
-        "play" => Ok(Asked {
-            task: Task::Play,
-            file: file_of(given),
-            has_progress: false,
-        }),
-        "sweep" => sweep_of(given).map_err(|reason| refused_sweep(alloc, reason)),
-        _ => asked_to_work(command, name, given),
-    }
+    let (called, found) = match name {
+        "trace" => ("agc_watch trace", trace_of(given)),
+        "picture" => ("agc_watch picture", picture_of(given)),
+        "page" => return Ok(to_work(Work::Page, given)),
+        "check" if given.get_flag("script") => return Ok(to_work(Work::CheckScript, given)),
+        "check" => return Ok(to_work(Work::CheckBench, given)),
+        "explore" => ("agc_watch explore", orders_of(given)),
+        "bench" => return Ok(to_do(Task::Tell(Telling::Bench), given, false)),
+        "peaks" => return Ok(to_do(Task::Tell(Telling::Peaks), given, false)),
+        "sweep" => ("agc_watch sweep", sweep_of(given)),
+        "play" => return Ok(to_do(Task::Play, given, false)),
+        _ => return Err(refused_as(command, "there is no such command")),
+    };
+    found.map_err(|reason| refused_words(alloc, called, reason))
 }
 
 /// Words that are wrong for a reason that `clap` doesn't know.

@@ -4,7 +4,7 @@ use crate::names::Named;
 use agc_text::numbers::{address, delay, group, phase, place, priority, word};
 
 /// What a word of a line is, after the first. Source: profile.
-#[derive(Clone, Copy, PartialEq, Eq, Debug)]
+#[derive(Clone, Copy)]
 pub enum Part {
     /// Two octal digits, 01 to 37.
     Priority,
@@ -48,23 +48,10 @@ impl Part {
             Part::Phase => "a phase is decimal, 0 to 127",
         }
     }
-
-    /// The letter that stands for it in the form of a line.
-    pub(crate) fn letter(self) -> char {
-        match self {
-            Part::Priority => 'P',
-            Part::Address => 'A',
-            Part::Word => 'W',
-            Part::Delay => 'D',
-            Part::Place => 'K',
-            Part::Group => 'G',
-            Part::Phase => 'N',
-        }
-    }
 }
 
 /// What a line asks for, by its first word. Source: profile.
-#[derive(Clone, Copy, PartialEq, Eq, Debug)]
+#[derive(Clone, Copy)]
 pub enum Kind {
     Nothing,
     Novac,
@@ -139,16 +126,16 @@ impl Named for Kind {
 }
 
 impl Kind {
-    /// What follows its word.
-    pub(crate) fn parts(self) -> &'static [Part] {
+    /// The letters that stand for what follows its word, and what that is.
+    pub(crate) fn form(self) -> (&'static str, &'static [Part]) {
         match self {
-            Kind::Novac | Kind::Findvac => &[Part::Priority, Part::Address, Part::Word],
-            Kind::Sleep | Kind::Rouse => &[Part::Address],
-            Kind::Prio => &[Part::Priority],
-            Kind::Store => &[Part::Place, Part::Word],
-            Kind::Listing => &[Part::Delay, Part::Address, Part::Word],
-            Kind::SetPhase => &[Part::Group, Part::Phase],
-            _ => &[],
+            Kind::Novac | Kind::Findvac => (" P A W", &[Part::Priority, Part::Address, Part::Word]),
+            Kind::Sleep | Kind::Rouse => (" A", &[Part::Address]),
+            Kind::Prio => (" P", &[Part::Priority]),
+            Kind::Store => (" K W", &[Part::Place, Part::Word]),
+            Kind::Listing => (" D A W", &[Part::Delay, Part::Address, Part::Word]),
+            Kind::SetPhase => (" G N", &[Part::Group, Part::Phase]),
+            _ => ("", &[]),
         }
     }
 }

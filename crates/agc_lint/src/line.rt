@@ -4,7 +4,7 @@ use crate::names::{Named, called, meant_by};
 use std::fmt;
 
 /// Why a line is no request. Source: profile.
-#[derive(Clone, Copy, PartialEq, Eq, Debug)]
+#[derive(Clone, Copy)]
 pub enum LineFault {
     Empty,
     /// It ends with a carriage return.
@@ -23,7 +23,7 @@ pub enum LineFault {
 
 /// What is wrong with a line of this kind.
 fn wrong_words(text: &str, kind: Kind) -> LineFault {
-    let parts = kind.parts();
+    let (_letters, parts) = kind.form();
     let words = text.split(' ').skip(1);
     if text.split(' ').skip(1).count() == parts.len() {
         for (part, word) in parts.iter().zip(words) {
@@ -72,15 +72,6 @@ fn write_words<W: fmt::Write>(f: &mut fmt::Formatter<W>) -> fmt::Result {
     Ok(())
 }
 
-/// Writes how a line of this kind is written.
-fn write_form<W: fmt::Write>(f: &mut fmt::Formatter<W>, kind: Kind) -> fmt::Result {
-    write!(f, "it has the form \"{}", kind.name())?;
-    for part in kind.parts() {
-        write!(f, " {}", part.letter())?;
-    }
-    f.write_str("\", with single spaces")
-}
-
 impl fmt::Display for LineFault {
     fn fmt<W: fmt::Write>(&self, f: &mut fmt::Formatter<W>) -> fmt::Result {
         match *self {
@@ -100,7 +91,10 @@ impl fmt::Display for LineFault {
                 let name = kind.name();
                 write!(f, "its first word is unknown; did you mean \"{name}\"?")
             }
-            LineFault::Form(kind) => write_form(f, kind),
+            LineFault::Form(kind) => {
+                let (name, (letters, _parts)) = (kind.name(), kind.form());
+                write!(f, "it has the form \"{name}{letters}\", with single spaces")
+            }
             LineFault::Wrong(part) => f.write_str(part.spelling()),
         }
     }

@@ -103,12 +103,14 @@ fn add_finding(told: &mut String, finding: &Finding<'_>) -> Result<(), AllocErro
 pub fn script_told(alloc: Global, findings: &[Finding<'_>]) -> Result<String, AllocError> {
     let mut told = String::new(alloc);
     for finding in findings {
-        if finding.fault == LineFault::OfBench {
+        let is_of_bench = matches!(finding.fault, LineFault::OfBench);
+        if is_of_bench {
             told.clear();
-            add_finding(&mut told, finding)?;
-            break;
         }
         add_finding(&mut told, finding)?;
+        if is_of_bench {
+            break;
+        }
     }
     Ok(told)
 }

@@ -31,27 +31,37 @@ fn parted(line: &str) -> Option<(&str, &str)> {
     }
 }
 
+/// Writes a table after its name, in a line of this length, or in the next one. Returns the length
+/// of the line then.
+fn put_table<W: Write>(
+    writer: &mut W,
+    length: usize,
+    name: &str,
+    table: &str,
+) -> io::Result<usize> {
+    let added = name.len().saturating_add(table.len()).saturating_add(3);
+    let (before, length) = if length == 0 {
+        ("    ", 2)
+    } else if length.saturating_add(added) > WIDTH {
+        ("\n    ", 2)
+    } else {
+        ("  ", length)
+    };
+    write!(writer, "{before}{name} {table}")?;
+    Ok(length.saturating_add(added))
+}
+
 /// Writes the tables of a row, each after its name.
 fn put_tables<W: Write>(writer: &mut W, tables: &str) -> io::Result<()> {
     let contents = tables
         .split("  ")
         .map(str::trim)
         .filter(|table| !table.is_empty());
-    let mut length = 0usize;
+    let mut length = 0;
     for (name, table) in NAMES.iter().zip(contents) {
-        let added = name.len().saturating_add(table.len()).saturating_add(3);
-        let before = if length == 0 {
-            "    "
-        } else if length.saturating_add(added) > WIDTH {
-            length = 0;
-            "\n    "
-        } else {
-            "  "
-        };
-        write!(writer, "{before}{name} {table}")?;
-        length = length.max(2).saturating_add(added);
+        length = put_table(writer, length, name, table)?;
     }
-    write!(writer, "\n")
+    writer.write_all(b"\n")
 }
 
 /// Writes a line of a trace.

@@ -1,5 +1,5 @@
 //! What a line asks for, and what is said of one that asks for nothing.
-use agc_lint::{Finding, LineFault, add, add_decimal, script_findings, script_told};
+use agc_lint::{Finding, LineFault, script_findings, script_told};
 use agc_plan::Request;
 use agc_text::parse_line;
 use std::alloc::{AllocError, Global};
@@ -8,7 +8,7 @@ use std::alloc::{AllocError, Global};
 const MOST_TICKS: u32 = 1_000_000;
 
 /// What a line asks for.
-#[derive(Clone, Copy, Debug)]
+#[derive(Clone, Copy)]
 pub(crate) enum Asked<'a> {
     Request(Request),
     Ticks(u32),
@@ -92,11 +92,7 @@ fn form_of(line: &str) -> Option<&'static str> {
 
 /// A line about the line of this number.
 fn told_of(alloc: Global, number: u64, sentence: &str) -> Result<String, AllocError> {
-    let mut told = String::new(alloc);
-    add(&mut told, &["line "])?;
-    add_decimal(&mut told, number)?;
-    add(&mut told, &[": ", sentence, "\n"])?;
-    Ok(told)
+    format!(in alloc; "line {number}: {sentence}\n")
 }
 
 /// What is said of a line that asks for nothing, by its number: of one that may have been meant as
@@ -106,7 +102,7 @@ pub(crate) fn wrong_told(alloc: Global, number: u64, text: &str) -> Result<Strin
         return told_of(alloc, number, form);
     }
     let fault = fault_of(alloc, text)?;
-    if fault == LineFault::OfBench {
+    if matches!(fault, LineFault::OfBench) {
         let sentence = "this is a line of a bench; agc_watch play FILE begins from a bench";
         return told_of(alloc, number, sentence);
     }
@@ -117,7 +113,7 @@ pub(crate) fn wrong_told(alloc: Global, number: u64, text: &str) -> Result<Strin
     };
     let mut told = script_told(alloc, &[finding])?;
     if let LineFault::Unknown(_) = fault {
-        add(&mut told, &["help says what else a line may be\n"])?;
+        told.push_str("help says what else a line may be\n")?;
     }
     Ok(told)
 }

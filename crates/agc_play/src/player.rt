@@ -19,7 +19,7 @@ use std::io::Write;
 use std::marker::Model;
 
 /// What came of a request, beside its row.
-#[derive(Clone, Copy, Debug, PartialEq, Eq)]
+#[derive(Clone, Copy)]
 pub(crate) enum Came {
     /// There is nothing more to say.
     Served,
@@ -91,9 +91,9 @@ fn put_seat<W: Write>(writer: &mut W, k: usize, seat: Seat) -> io::Result<()> {
 /// Writes which job is running, and what the core sets hold.
 fn put_jobs<W: Write>(writer: &mut W, scene: &Scene) -> io::Result<()> {
     match scene.running() {
-        None => write!(writer, "    no job is running\n")?,
-        Some(number) => write!(writer, "    job {} is running\n", number.get())?,
-    }
+        None => write!(writer, "    no job is running\n"),
+        Some(number) => write!(writer, "    job {} is running\n", number.get()),
+    }?;
     if let Some(number) = scene.named() {
         write!(
             writer,

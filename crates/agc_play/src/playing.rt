@@ -49,7 +49,7 @@ P is octal, 01 to 37. A and W are five octal digits. The others are decimal.
 
 /// How answers are shown: on a terminal there is a prompt, and the tables of a row are listed below
 /// it. Source: profile.
-#[derive(Clone, Copy, Debug, PartialEq, Eq)]
+#[derive(Clone, Copy)]
 pub struct Manner {
     /// Whether a prompt is written on standard error.
     pub prompts: bool,
@@ -203,16 +203,14 @@ impl<'a> Played<'a> {
 
     /// Writes the heading, what came of power-up, and where the bench's own requests ended.
     fn begin<W: Write>(&self, alloc: Global, writer: &mut W) -> Result<(), PlayFault> {
-        let first = Player::after(alloc, self.bench, &[])?;
-        first.begin(self.bench, writer)?;
+        Player::after(alloc, self.bench, &[])?.begin(self.bench, writer)?;
         let count = self.requests.len();
         if count == 0 {
             return Ok(());
         }
         let ending = if count == 1 { " was" } else { "s were" };
         written(write!(writer, "{count} request{ending} asked by the bench\n"))?;
-        self.put_state(writer)?;
-        Ok(())
+        Ok(self.put_state(writer)?)
     }
 
     /// Asks for one request. Returns whether it was refused.
@@ -267,8 +265,7 @@ impl<'a> Played<'a> {
         };
         if count <= left {
             self.steps.pop();
-            written(write!(writer, "nothing was asked that could be taken back\n"))?;
-            return Ok(());
+            return Ok(written(writer.write_all(b"nothing was asked that could be taken back\n"))?);
         }
         let requests = self.requests.as_slice();
         self.player = Player::after(alloc, self.bench, &requests[..left])?;
@@ -277,8 +274,7 @@ impl<'a> Played<'a> {
         let taken = count - left;
         let ending = if taken == 1 { " is" } else { "s are" };
         written(write!(writer, "{taken} request{ending} taken back\n"))?;
-        self.put_state(writer)?;
-        Ok(())
+        Ok(self.put_state(writer)?)
     }
 
     /// Writes all that was asked to a file, as a bench.
@@ -294,11 +290,10 @@ impl<'a> Played<'a> {
         }
         let (count, length) = (self.requests.len(), text.len());
         if length > MOST_BYTES {
-            written(write!(
+            return Ok(written(write!(
                 writer,
                 "{name}: not written: it would have {length} bytes, and agc reads {MOST_BYTES}\n"
-            ))?;
-            return Ok(());
+            ))?);
         }
         let put = match fs::write(rt, name, text.as_slice()) {
             Ok(()) => {
@@ -307,8 +302,7 @@ impl<'a> Played<'a> {
             }
             Err(error) => write!(writer, "{name}: not written: {error}\n"),
         };
-        written(put)?;
-        Ok(())
+        Ok(written(put)?)
     }
 
     /// Does what a line asks for, of this number.
@@ -323,20 +317,22 @@ impl<'a> Played<'a> {
             Asked::Request(request) => {
                 self.steps.push(self.requests.len())?;
                 self.ask(&request, true, writer)?;
+                Ok(())
             }
-            Asked::Ticks(count) => self.ask_ticks(count, writer)?,
-            Asked::Undo => self.undo(rt.alloc(), writer)?,
-            Asked::Show => self.put_state(writer)?,
-            Asked::Save(name) => self.save(rt, name, writer)?,
-            Asked::Help => written(writer.write_all(HELP.as_bytes()))?,
-            Asked::Quit => {}
-            Asked::Nothing => {
-                let told = wrong_told(rt.alloc(), number, line)?;
-                written(writer.write_all(told.as_bytes()))?;
-            }
+            Asked::Ticks(count) => self.ask_ticks(count, writer),
+            Asked::Undo => self.undo(rt.alloc(), writer),
+            Asked::Show => Ok(self.put_state(writer)?),
+            Asked::Save(name) => self.save(rt, name, writer),
+            Asked::Help => Ok(written(writer.write_all(HELP.as_bytes()))?),
+            Asked::Quit => Ok(()),
+            Asked::Nothing => put_told(writer, wrong_told(rt.alloc(), number, line)),
         }
-        Ok(())
     }
+}
+
+/// Writes a text, if there was memory for it.
+fn put_told<W: Write>(writer: &mut W, told: Result<String, AllocError>) -> Result<(), PlayFault> {
+    Ok(written(writer.write_all(told?.as_bytes()))?)
 }
 
 /// Ends an answer with an empty line, and flushes it.
@@ -376,9 +372,7 @@ fn answer<H: AllocGlobal + Files, W: Write>(
     let served = match text_of(line) {
         Some("quit") => return Ok(false),
         Some(text) => played.serve(rt, number, text, writer),
-        None => not_text_told(rt.alloc(), number)
-            .map_err(PlayFault::from)
-            .and_then(|told| Ok(written(writer.write_all(told.as_bytes()))?)),
+        None => put_told(writer, not_text_told(rt.alloc(), number)),
     };
     match served {
         Err(PlayFault::NoMemory) => {
@@ -398,7 +392,7 @@ fn prompt<H: Eprint>(rt: &H, manner: Manner, text: &str) {
     }
 }
 
-/// Answers each line, before the next one is read.
+/// Begins, and answers each line before the next one is read.
 fn answer_all<H: AllocGlobal + Files + Eprint, R: BufRead, W: Write>(
     rt: &H,
     played: &mut Played<'_>,
@@ -406,6 +400,10 @@ fn answer_all<H: AllocGlobal + Files + Eprint, R: BufRead, W: Write>(
     reader: &mut R,
     writer: &mut W,
 ) -> Result<(), PlayFault> {
+    played.begin(rt.alloc(), writer)?;
+    end_answer(writer)?;
+    prompt(rt, manner, GREETING);
+    prompt(rt, manner, "\n");
     for number in 1..u64::MAX {
         prompt(rt, manner, "> ");
         let line = next_line(rt.alloc(), reader)?;
@@ -440,9 +438,5 @@ pub fn play<H: AllocGlobal + Files + Eprint, R: BufRead, W: Write>(
 ) -> Result<(), PlayFault> {
     let mut folded = Folded::new(writer, manner.folds);
     let mut played = Played::new(rt.alloc(), bench)?;
-    played.begin(rt.alloc(), &mut folded)?;
-    end_answer(&mut folded)?;
-    prompt(rt, manner, GREETING);
-    prompt(rt, manner, "\n");
     answer_all(rt, &mut played, manner, reader, &mut folded)
 }

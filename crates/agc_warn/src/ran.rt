@@ -18,7 +18,7 @@ use std::marker::Model;
 const MOST_RUN: u64 = 200_000;
 
 /// What the requests of a run come to. Source: profile.
-#[derive(Clone, Copy, PartialEq, Eq, Debug, Default)]
+#[derive(Clone, Copy, Default)]
 pub struct Ran {
     /// How many were asked.
     pub requests: u64,

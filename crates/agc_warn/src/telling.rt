@@ -1,11 +1,12 @@
 //! The lines that tell of warnings, and what a run comes to, in one line.
 use crate::ran::{Ran, run_requests};
-use crate::warning::Warned;
+use crate::warning::{REFUSED, Warned};
 use agc_document::Place;
 use agc_findings::{line_at, places_in};
 use agc_lint::add_where;
 use agc_plan::Request;
 use std::alloc::{AllocError, Global};
+use std::fmt;
 use std::fmt::Write;
 
 /// How many requests the log of a script holds.
@@ -35,12 +36,18 @@ pub fn warnings_told(
     Ok(told)
 }
 
-/// Appends a number of things.
-fn add_count(told: &mut String, number: u64, thing: &str) -> Result<(), AllocError> {
-    match number {
-        0 => write!(told, "no {thing}"),
-        1 => write!(told, "1 {thing}"),
-        _ => write!(told, "{number} {thing}s"),
+/// So many things, which are named by the word for one of them.
+#[derive(Clone, Copy)]
+struct Amount(u64, &'static str);
+
+impl fmt::Display for Amount {
+    fn fmt<W: fmt::Write>(&self, f: &mut fmt::Formatter<W>) -> fmt::Result {
+        let Amount(number, thing) = *self;
+        match number {
+            0 => write!(f, "no {thing}"),
+            1 => write!(f, "1 {thing}"),
+            _ => write!(f, "{number} {thing}s"),
+        }
     }
 }
 
@@ -51,13 +58,10 @@ fn add_count(told: &mut String, number: u64, thing: &str) -> Result<(), AllocErr
 ///
 /// Where there is no memory.
 pub fn add_summary(told: &mut String, ran: &Ran) -> Result<(), AllocError> {
-    write!(told, "ok: {}", if ran.is_cut { "the first " } else { "" })?;
-    add_count(told, ran.requests, "request")?;
-    write!(told, ", ")?;
-    add_count(told, ran.fired, "task")?;
-    write!(told, " fired, ")?;
-    add_count(told, ran.alarms, "alarm")?;
-    write!(told, "\n")
+    let first = if ran.is_cut { "the first " } else { "" };
+    let requests = Amount(ran.requests, "request");
+    let (tasks, alarms) = (Amount(ran.fired, "task"), Amount(ran.alarms, "alarm"));
+    write!(told, "ok: {first}{requests}, {tasks} fired, {alarms}\n")
 }
 
 /// Appends what the requests of a script come to, and before that a warning where its log is too
@@ -71,13 +75,12 @@ pub fn add_script_summary(
     told: &mut String,
     requests: &[Request],
 ) -> Result<(), AllocError> {
-    let (_machine, ran) = run_requests(alloc, requests)?;
+    let ran = run_requests(alloc, requests)?.1;
     if let Some(first) = ran.log_full {
         write!(
             told,
-            "line {first}: warning: request {first} is the first that is refused: "
+            "line {first}: warning: request {first} {REFUSED}: log full (limit {SCRIPT_LIMIT})\n"
         )?;
-        write!(told, "log full (limit {SCRIPT_LIMIT})\n")?;
     }
     add_summary(told, &ran)
 }

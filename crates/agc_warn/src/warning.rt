@@ -7,7 +7,7 @@ use std::fmt;
 
 /// What a bench may have that is no fault, and of which nothing comes, or less than it asks for.
 /// Source: profile.
-#[derive(Clone, Copy, PartialEq, Eq, Debug)]
+#[derive(Clone, Copy, PartialEq, Eq)]
 pub enum Warning {
     /// A task is listed, and the bench has no row.
     NoRows,
@@ -42,6 +42,9 @@ const NO_ROWS: &str = "the bench has no task row, so nothing is done when a task
 
 const CUT: &str = "only the first 200000 requests were run, so a later one may be refused too";
 
+/// What is said of the request of a number.
+pub(crate) const REFUSED: &str = "is the first that is refused";
+
 /// Writes that no row has a task.
 fn write_rowless<W: fmt::Write>(f: &mut fmt::Formatter<W>, task: Task) -> fmt::Result {
     let (at, bank) = (task.at.get(), task.bank.bits());
@@ -62,13 +65,11 @@ impl fmt::Display for Warning {
             }
             Warning::NeverListed => f.write_str("nothing else lists this task, so it never fires"),
             Warning::NoEntry(group, phase) => {
+                let (group, phase) = (group.get(), phase.get());
                 write!(
                     f,
-                    "group {} has no entry for phase {}, ",
-                    group.get(),
-                    phase.get()
-                )?;
-                f.write_str("so nothing begins again in it")
+                    "group {group} has no entry for phase {phase}, so nothing begins again in it"
+                )
             }
             Warning::NoRequest(line) => {
                 let name = Source::Pulse(line);
@@ -78,12 +79,14 @@ impl fmt::Display for Warning {
                 )
             }
             Warning::LogFull(first, limit) => {
-                write!(f, "request {first} is the first that is refused: ")?;
-                write!(f, "log full (limit {})", limit.get())
+                let limit = limit.get();
+                write!(f, "request {first} {REFUSED}: log full (limit {limit})")
             }
             Warning::Spent(first, allowance) => {
-                write!(f, "request {first} is the first that is refused: ")?;
-                write!(f, "spent (allowance {allowance}, all served)")
+                write!(
+                    f,
+                    "request {first} {REFUSED}: spent (allowance {allowance}, all served)"
+                )
             }
             Warning::Cut => f.write_str(CUT),
         }
