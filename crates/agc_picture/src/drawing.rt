@@ -1,34 +1,45 @@
-// The columns of requests.
-ghost use Rattle.std.specs.Prelude.{◌≡◌};
+// A run that is drawn: its machine is watched, and its events are drawn.
+ghost use Rattle.std.specs.Prelude.{◌≡◌, IfOk, OnOk};
+ghost use Rattle.std.specs.List.{fold};
+ghost use Rattle.agc_scenario.specs.Scenarios.{schedule_of};
 ghost use Rattle.agc_scene.specs.Events.{watched, watching_from};
+ghost use Rattle.agc_session.specs.Runs.{bench_requests};
+ghost use Rattle.agc_trace.specs.Following.{clock_requests};
 
-use crate::blocks::column_at;
-use crate::frame::{put_head, width_of};
-use crate::labels::Labels;
-use crate::lanes::{Part, below, put_part};
-use crate::marks::{put_axis, put_mark};
+use crate::pen::Pen;
 use agc_clock::Asked;
+use agc_document::Bench;
 use agc_machine::Machine;
 use agc_plan::Request;
+use agc_scenario::Timing;
 use agc_scene::{Event, Scene, Watched};
-use agc_session::{Follows, Source};
+use agc_session::{Follows, Progress, Source, follow_bench};
 use agc_text::Output;
-use agc_trace::FollowsClock;
-use std::io;
+use agc_trace::{FollowsClock, follow_clock};
 use std::io::Write;
 use std::marker::Model;
 
-/// A run that is drawn: the machine that is watched, what was drawn last, how many requests there
-/// are, and what jobs are called. Contracts see the machine.
-#[derive(Drop)]
-pub(crate) struct Drawing {
-    watched: Watched,
-    drawn: Scene,
-    count: u64,
-    labels: Labels,
+/// How the events of a run are drawn.
+pub(crate) trait Draws: Drop {
+    /// Writes what comes before the first event, in this scene.
+    fn begin<W: Write>(&mut self, pen: &mut Pen<'_, W>, scene: Scene);
+
+    /// Draws an event.
+    fn draw<W: Write>(&mut self, pen: &mut Pen<'_, W>, event: Event);
+
+    /// Writes what comes after the last event.
+    fn finish<W: Write>(&mut self, pen: &mut Pen<'_, W>);
 }
 
-impl Model for Drawing {
+/// A run that is drawn: the machine that is watched, and how its events are drawn. Contracts see
+/// the machine.
+#[derive(Drop)]
+pub(crate) struct Drawing<D: Draws> {
+    watched: Watched,
+    pub(crate) form: D,
+}
+
+impl<D: Draws> Model for Drawing<D> {
     ghost use Rattle.agc_scene.specs.Events.{Watching};
 
     ghost Value = { Watching };
@@ -36,49 +47,14 @@ impl Model for Drawing {
     ghost view = { λ d. d.watched };
 }
 
-/// Writes the column of an event, after what was drawn last: in it what has changed. Where an era
-/// begins, its mark stands at the end of the column, and in the next what began.
-fn put_event<W: Write>(
-    writer: &mut W,
-    labels: &Labels,
-    drawn: &Scene,
-    width: u64,
-    event: &Event,
-) -> io::Result<()> {
-    let column = column_at(width, event.number);
-    put_axis(writer, column, event.time)?;
-    put_part(writer, labels, column, drawn, Part::Changed, &event.scene)?;
-    match &event.era {
-        None => Ok(()),
-        Some(era) => {
-            let next = column_at(width, event.number.saturating_add(1));
-            let end = below(era).saturating_add(170);
-            put_mark(writer, event, next.x, end)?;
-            put_part(writer, labels, next, &event.scene, Part::Begun, era)
-        }
-    }
-}
-
-/// What is drawn after an event.
-fn drawn_after(event: Event) -> Scene {
-    match event.era {
-        None => event.scene,
-        Some(era) => era,
-    }
-}
-
-impl Drawing {
-    /// Nothing was asked of this machine, and so many requests will be; its jobs are called so.
-    pub(crate) fn new(machine: Machine, count: u64, labels: Labels) -> Drawing
+impl<D: Draws> Drawing<D> {
+    /// Nothing was asked of this machine, and what will be is drawn so.
+    pub(crate) fn new(machine: Machine, form: D) -> Drawing<D>
         ensures { result ≡ watching_from machine }
     {
-        let watched = Watched::new(machine);
-        let drawn = watched.scene();
         Drawing {
-            watched,
-            drawn,
-            count,
-            labels,
+            watched: Watched::new(machine),
+            form,
         }
     }
 
@@ -89,39 +65,36 @@ impl Drawing {
         self.watched
     }
 
-    /// Writes the head, and column 0, of the scene with which the machine begins.
-    pub(crate) fn begin<W: Write>(&self, writer: &mut W) -> io::Result<()> {
-        let first = column_at(width_of(self.count), 0);
-        let scene = &self.drawn;
-        put_head(
-            writer,
-            scene.seats().len(),
-            below(scene),
-            &self.labels,
-            self.count,
-        )?;
-        put_axis(writer, first, 0)?;
-        put_part(writer, &self.labels, first, scene, Part::All, scene)
+    /// Writes what comes before the first event.
+    fn begin<W: Write>(&mut self, writer: &mut W) -> Result<(), Output>
+        ensures { self.new ≡ self.old }
+    {
+        let mut pen = Pen::new(writer);
+        self.form.begin(&mut pen, self.watched.scene());
+        pen.end()
     }
-}
 
-impl Drawing {
-    /// Asks for one request, and writes its column.
+    /// Asks for one request, and draws it.
     fn follow_one<W: Write>(&mut self, request: &Request, writer: &mut W) -> Result<(), Output>
         ensures { self.new ≡ watched self.old request.now }
     {
         let event = self.watched.ask(request);
-        let width = width_of(self.count);
-        let put = put_event(writer, &self.labels, &self.drawn, width, &event);
-        self.drawn = drawn_after(event);
-        match put {
-            Ok(()) => Ok(()),
-            Err(_failed) => Err(Output),
-        }
+        let mut pen = Pen::new(writer);
+        self.form.draw(&mut pen, event);
+        pen.end()
+    }
+
+    /// Writes what comes after the last event.
+    fn finish<W: Write>(&mut self, writer: &mut W) -> Result<(), Output>
+        ensures { self.new ≡ self.old }
+    {
+        let mut pen = Pen::new(writer);
+        self.form.finish(&mut pen);
+        pen.end()
     }
 }
 
-impl Follows for Drawing {
+impl<D: Draws> Follows for Drawing<D> {
     ghost use Rattle.agc_scene.specs.Events.{watched};
 
     ghost next = { λ drawing request. watched drawing request };
@@ -136,7 +109,7 @@ impl Follows for Drawing {
     }
 }
 
-impl FollowsClock for Drawing {
+impl<D: Draws> FollowsClock for Drawing<D> {
     ghost use Rattle.agc_scene.specs.Events.{watched};
 
     ghost next = { λ drawing request. watched drawing request };
@@ -144,4 +117,35 @@ impl FollowsClock for Drawing {
     fn follow_asked<W: Write>(&mut self, asked: &Asked, writer: &mut W) -> Result<(), Output> {
         self.follow_one(&asked.request, writer)
     }
+}
+
+/// Draws the requests of a bench: all of them, in order, are asked for.
+pub(crate) fn draw<D: Draws, P: Progress, W: Write>(
+    drawing: &mut Drawing<D>,
+    bench: &Bench,
+    progress: &mut P,
+    writer: &mut W,
+) -> Result<(), Output>
+    ensures { OnOk result (drawing.new ≡ fold watched drawing.old (bench_requests bench.now)) }
+{
+    drawing.begin(writer)?;
+    follow_bench(drawing, progress, bench, writer)?;
+    drawing.finish(writer)
+}
+
+/// Draws the requests for which a scenario's clock asks this machine: all of them, in order.
+pub(crate) fn draw_clock<D: Draws, P: Progress, W: Write>(
+    machine: Machine,
+    mut drawing: Drawing<D>,
+    timing: &Timing,
+    progress: &mut P,
+    writer: &mut W,
+) -> Result<Drawing<D>, Output>
+    ensures { IfOk result
+        (λ d. d ≡ fold watched drawing (clock_requests (schedule_of timing.now) machine)) }
+{
+    drawing.begin(writer)?;
+    let mut drawing = follow_clock(machine, timing, drawing, progress, writer)?;
+    drawing.finish(writer)?;
+    Ok(drawing)
 }

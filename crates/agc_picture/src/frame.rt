@@ -1,23 +1,54 @@
 // What stands around the lanes.
-use crate::blocks::column_at;
 use crate::labels::Labels;
-use std::io;
+use crate::pen::Filling::{Bytes, Number, Text};
+use crate::pen::Pen;
 use std::io::Write;
+
+/// A column of a picture: the request's number, and where it begins, in points from the left.
+#[derive(Clone, Copy)]
+pub(crate) struct Column {
+    pub(crate) number: u64,
+    pub(crate) x: u64,
+}
+
+/// The column of a request, where columns are so wide.
+pub(crate) fn column_at(width: u64, number: u64) -> Column {
+    Column {
+        number,
+        x: width.saturating_mul(number).saturating_add(110),
+    }
+}
 
 /// The ground, the fonts, the marks, and the colours of jobs that are awake and of those that
 /// sleep.
-const STYLE: [&str; 10] = [
-    "<rect width=\"100%\" height=\"100%\" fill=\"#fff\"/>\n<style>\n",
-    "text{font:12px sans-serif;fill:#000}.j1 text,.j8 text{fill:#fff}\n",
-    ".m,.n{text-anchor:end}.m text{fill:#c00;font-weight:bold}\n",
-    ".m path{stroke:#c00;stroke-width:2}\n",
-    ".n path{stroke:#333;stroke-width:2;stroke-dasharray:4 3}\n",
-    ".f{fill:#eee}.r{fill:#000}.t{fill:#aaa}\n",
-    ".j1{fill:#0072b2}.j2{fill:#e69f00}.j3{fill:#009e73}.j4{fill:#cc79a7}\n",
-    ".j5{fill:#56b4e9}.j6{fill:#d55e00}.j7{fill:#f0e442}.j8{fill:#000}\n",
-    ".s1{fill:#a6cee4}.s2{fill:#f6dda6}.s3{fill:#a6ddce}.s4{fill:#edd0e0}\n",
-    ".s5{fill:#c4e5f7}.s6{fill:#f0c7a6}.s7{fill:#faf6bd}.s8{fill:#a6a6a6}\n</style>\n",
-];
+const STYLE: &str = "<rect width=\"100%\" height=\"100%\" fill=\"#fff\"/>
+<style>
+text{font:12px sans-serif;fill:#000}.j1 text,.j8 text{fill:#fff}
+.m,.n{text-anchor:end}.m text{fill:#c00;font-weight:bold}
+.m path{stroke:#c00;stroke-width:2}
+.n path{stroke:#333;stroke-width:2;stroke-dasharray:4 3}
+.f{fill:#eee}.r{fill:#000}.t{fill:#aaa}
+.j1{fill:#0072b2}.j2{fill:#e69f00}.j3{fill:#009e73}.j4{fill:#cc79a7}
+.j5{fill:#56b4e9}.j6{fill:#d55e00}.j7{fill:#f0e442}.j8{fill:#000}
+.s1{fill:#a6cee4}.s2{fill:#f6dda6}.s3{fill:#a6ddce}.s4{fill:#edd0e0}
+.s5{fill:#c4e5f7}.s6{fill:#f0c7a6}.s7{fill:#faf6bd}.s8{fill:#a6a6a6}
+</style>
+";
+
+/// The names above the lanes of core sets.
+const ABOVE: &str = "<text x=\"8\" y=\"30\">request</text>
+<text x=\"8\" y=\"43\">time (cs)</text>
+<text x=\"80\" y=\"82\">runs</text>
+";
+
+/// The names of the lanes below those, and what colours and lines mean.
+const BELOW: &str = "<text x=\"8\" y=\"{}\">VAC areas</text>
+<text x=\"8\" y=\"{}\">tasks (max 9)</text>
+<text x=\"8\" y=\"{}\">Each block shows its job's {}; pale means asleep.</text>
+<text x=\"8\" y=\"{}\">Black bar below set 0: its job is running.</text>
+<text x=\"8\" y=\"{}\">Dashed line: restart or fresh start. Red line: alarm.</text>
+<text x=\"8\" y=\"{}\">What was there before is to the left of the line.</text>
+";
 
 /// How much room the lanes need at least, in points, for a picture as wide as its legend.
 const LEAST: u64 = 290;
@@ -50,85 +81,52 @@ fn right_of(labels: &Labels, count: u64) -> u64 {
         .max(last.saturating_add(NUMBER))
 }
 
-/// Writes a name at the left.
-fn put_name<W: Write>(writer: &mut W, y: u64, name: &str) -> io::Result<()> {
-    write!(writer, "<text x=\"8\" y=\"{y}\">{name}</text>\n")
-}
-
-/// Writes the names of the core sets, and `runs` at the mark of the running job.
-fn put_set_names<W: Write>(writer: &mut W, sets: usize) -> io::Result<()> {
-    write!(writer, "<text x=\"80\" y=\"82\">runs</text>\n")?;
+/// Writes all names, and the legend.
+fn put_names<W: Write>(pen: &mut Pen<'_, W>, sets: u64, labels: &Labels) {
+    pen.text(ABOVE);
     for k in 0..sets {
-        let y = 69 + 27 * (k as u64).min(7);
-        write!(writer, "<text x=\"8\" y=\"{y}\">set {k}</text>\n")?;
+        let y = 69 + 27 * k.min(7);
+        pen.put(
+            "<text x=\"8\" y=\"{}\">set {}</text>\n",
+            &[Number(y), Number(k)],
+        );
     }
-    Ok(())
-}
-
-/// Writes all names, and the legend; the lanes below the core sets are this far down.
-fn put_names<W: Write>(writer: &mut W, sets: usize, below: u64, labels: &Labels) -> io::Result<()> {
-    put_name(writer, 30, "request")?;
-    put_name(writer, 43, "time (cs)")?;
-    put_set_names(writer, sets)?;
-    put_name(writer, below.saturating_add(95), "VAC areas")?;
-    put_name(writer, below.saturating_add(152), "tasks (max 9)")?;
-    put_legend(writer, below, labels)
-}
-
-/// Writes what colours and lines mean, below the lanes.
-fn put_legend<W: Write>(writer: &mut W, below: u64, labels: &Labels) -> io::Result<()> {
-    let (base, told) = (below.saturating_add(190), labels.told());
-    write!(
-        writer,
-        "<text x=\"8\" y=\"{base}\">Each block shows its job's {told}; pale means asleep.</text>\n"
-    )?;
-    put_name(
-        writer,
-        below.saturating_add(206),
-        "Black bar below set 0: its job is running.",
-    )?;
-    put_name(
-        writer,
-        below.saturating_add(222),
-        "Dashed line: restart or fresh start. Red line: alarm.",
-    )?;
-    put_name(
-        writer,
-        below.saturating_add(238),
-        "What was there before is to the left of the line.",
-    )
+    let below = 27 * sets.min(8);
+    pen.put(
+        BELOW,
+        &[
+            Number(below + 95),
+            Number(below + 152),
+            Number(below + 190),
+            Text(labels.told()),
+            Number(below + 206),
+            Number(below + 222),
+            Number(below + 238),
+        ],
+    );
 }
 
 /// Writes the picture's title, or else how many requests there are.
-fn put_title<W: Write>(writer: &mut W, labels: &Labels, count: u64) -> io::Result<()> {
-    write!(writer, "<title>")?;
+fn put_title<W: Write>(pen: &mut Pen<'_, W>, labels: &Labels, count: u64) {
+    let ending = if count == 1 { "" } else { "s" };
     match labels.title() {
-        Some(title) => writer.write_all(title)?,
-        None if count == 1 => write!(writer, "A run of 1 request")?,
-        None => write!(writer, "A run of {count} requests")?,
+        Some(title) => pen.put("<title>{}</title>\n", &[Bytes(title)]),
+        None => pen.put(
+            "<title>A run of {} request{}</title>\n",
+            &[Number(count), Text(ending)],
+        ),
     }
-    write!(writer, "</title>\n")
 }
 
-/// Writes the head of a picture of so many core sets and requests; the lanes below the core sets
-/// are this far down.
-pub(crate) fn put_head<W: Write>(
-    writer: &mut W,
-    sets: usize,
-    below: u64,
-    labels: &Labels,
-    count: u64,
-) -> io::Result<()> {
-    let (width, height) = (right_of(labels, count), below.saturating_add(246));
-    write!(writer, "<svg xmlns=\"http://www.w3.org/2000/svg\"")?;
-    write!(
-        writer,
-        " viewBox=\"0 0 {width} {height}\" width=\"{width}\""
-    )?;
-    write!(writer, " height=\"{height}\">\n")?;
-    put_title(writer, labels, count)?;
-    for rule in STYLE {
-        write!(writer, "{rule}")?;
-    }
-    put_names(writer, sets, below, labels)
+/// Writes the head of a picture of so many core sets and requests.
+pub(crate) fn put_head<W: Write>(pen: &mut Pen<'_, W>, sets: u64, labels: &Labels, count: u64) {
+    let (width, height) = (right_of(labels, count), 246 + 27 * sets.min(8));
+    pen.text("<svg xmlns=\"http://www.w3.org/2000/svg\"");
+    pen.put(
+        " viewBox=\"0 0 {} {}\" width=\"{}\" height=\"{}\">\n",
+        &[Number(width), Number(height), Number(width), Number(height)],
+    );
+    put_title(pen, labels, count);
+    pen.text(STYLE);
+    put_names(pen, sets, labels);
 }

@@ -2,10 +2,10 @@
 ghost use Rattle.std.specs.Prelude.{◌≡◌, IfErr};
 
 use crate::escaping::escaped;
+use crate::pen::{Filling, Pen};
 use agc_scenario::Scenario;
 use agc_session::RunFault;
 use std::alloc::{AllocError, Global};
-use std::io;
 use std::io::Write;
 
 /// A text as it is in markup, and how many letters it has.
@@ -126,22 +126,25 @@ impl Labels {
         self.job(at).map(|label| label.name.letters)
     }
 
-    /// Writes the name of a job at this address, or its number.
-    pub(crate) fn put_job<W: Write>(&self, writer: &mut W, number: u64, at: u16) -> io::Result<()> {
+    /// The name of a job at this address, or its number.
+    pub(crate) fn job_name(&self, number: u64, at: u16) -> Filling<'_> {
         match self.job(at) {
-            None => write!(writer, "{number}"),
-            Some(label) => writer.write_all(label.name.markup.as_slice()),
+            None => Filling::Number(number),
+            Some(label) => Filling::Bytes(label.name.markup.as_slice()),
         }
     }
 
     /// Writes where a job is: behind its name, if it has one.
-    pub(crate) fn put_place<W: Write>(&self, writer: &mut W, at: u16) -> io::Result<()> {
+    pub(crate) fn put_place<W: Write>(&self, pen: &mut Pen<'_, W>, at: u16) {
         match self.job(at) {
-            None => write!(writer, "{at:05o}"),
-            Some(label) => {
-                writer.write_all(label.name.markup.as_slice())?;
-                write!(writer, " ({at:05o})")
-            }
+            None => pen.add(Filling::Octal(at)),
+            Some(label) => pen.put(
+                "{} ({})",
+                &[
+                    Filling::Bytes(label.name.markup.as_slice()),
+                    Filling::Octal(at),
+                ],
+            ),
         }
     }
 }

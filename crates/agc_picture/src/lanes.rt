@@ -1,18 +1,17 @@
-// The lanes: core sets, the running job's mark, VAC areas, tasks.
-use crate::blocks::{Column, Look, put_close, put_ground, put_job_label, put_label, put_open};
+// The columns of requests.
+use crate::drawing::Draws;
+use crate::frame::{Column, column_at, put_head, width_of};
+use crate::held::{Held, PLACES, Place, code, full_table, held_in, put_job, put_name};
 use crate::labels::Labels;
-use agc_exec::Seat;
-use agc_scene::Scene;
-use std::io;
+use crate::pen::Filling::{Number, Text};
+use crate::pen::Pen;
+use agc_scene::{Event, Scene};
 use std::io::Write;
-
-/// The height at which the running job is marked, just below core set 0, in points.
-const RUNS_Y: u64 = 76;
 
 /// What is drawn of a scene: all lanes, those that have changed, or, as an era begins, these and
 /// those in which something is there, since what was there before is gone.
 #[derive(Clone, Copy)]
-pub(crate) enum Part {
+enum Part {
     All,
     Changed,
     Begun,
@@ -29,204 +28,227 @@ impl Part {
     }
 }
 
-/// What core set k holds in a scene.
-pub(crate) fn seat_in(scene: &Scene, k: usize) -> Option<Seat> {
-    match scene.seats().get(k) {
-        Some(seat) => *seat,
-        None => None,
+/// How the requests of a run are drawn, a column each: the scene that was drawn last, how many
+/// requests there are, and what jobs are called.
+#[derive(Drop)]
+pub(crate) struct Columns {
+    drawn: Option<Scene>,
+    count: u64,
+    labels: Labels,
+}
+
+impl Columns {
+    /// So many requests will be drawn, and jobs are called so.
+    pub(crate) fn new(count: u64, labels: Labels) -> Columns {
+        Columns {
+            drawn: None,
+            count,
+            labels,
+        }
     }
 }
 
-/// How far down the lanes below so many core sets begin.
-pub(crate) fn below(scene: &Scene) -> u64 {
-    27 * scene.seats().len() as u64
+/// How far down a lane is, and how high.
+fn spot(place: Place, sets: u64) -> (u64, u64) {
+    let below = 27 * sets.min(8);
+    match place {
+        Place::Set(k) => (54 + 27 * k.min(7), 22),
+        Place::Runs => (76, 4),
+        Place::Area(area) => (below + 50 + 12 * u64::from(area).min(5), 10),
+        Place::Tasks => (below + 130, 36),
+    }
 }
 
-/// Writes the block of a free core set.
-fn put_free<W: Write>(writer: &mut W, column: Column, k: usize, y: u64) -> io::Result<()> {
-    put_open(writer, Look::Free)?;
-    write!(writer, "set {k}: free")?;
-    put_ground(writer, column, y, 22)?;
-    put_close(writer)
+/// Writes what is in a lane, as a title.
+fn put_title<W: Write>(pen: &mut Pen<'_, W>, labels: &Labels, place: Place, held: Held) {
+    match place {
+        Place::Runs if held.number == 0 => pen.text("no job is running"),
+        Place::Runs => pen.put("job {} runs", &[Number(held.number)]),
+        Place::Tasks if held.number == 1 => pen.text("1 task waits"),
+        Place::Tasks => pen.put("{} tasks wait", &[Number(held.number)]),
+        Place::Set(_) | Place::Area(_) => {
+            put_name(pen, place);
+            pen.text(": ");
+            if held.number == 0 {
+                pen.text("free");
+            } else {
+                put_job(pen, labels, held);
+            }
+        }
+    }
 }
 
-/// Writes the block of a job in a core set.
-fn put_job<W: Write>(
-    writer: &mut W,
+/// Ends a title with the request's number, and writes the block's rectangle, from the column to the
+/// right edge.
+fn put_ground<W: Write>(pen: &mut Pen<'_, W>, column: Column, y: u64, height: u64) {
+    let Column { number, x } = column;
+    pen.put(
+        ", from request {}</title><rect x=\"{}\" y=\"{}\" width=\"100%\" height=\"{}\"/>",
+        &[Number(number), Number(x), Number(y), Number(height)],
+    );
+}
+
+/// Writes a block from its column to the right edge, so far down and so high, and its title, but
+/// not its end.
+fn put_block<W: Write>(
+    pen: &mut Pen<'_, W>,
     labels: &Labels,
     column: Column,
-    k: usize,
-    y: u64,
-    seat: Seat,
-) -> io::Result<()> {
-    let Seat {
-        number,
-        at,
-        priority,
-        asleep,
-        ..
-    } = seat;
-    let look = if asleep {
-        Look::Asleep(number)
-    } else {
-        Look::Awake(number)
-    };
-    let sleeps = if asleep { ", asleep" } else { "" };
-    put_open(writer, look)?;
-    write!(
-        writer,
-        "set {k}: job {number}, priority {priority:02o}, at "
-    )?;
-    labels.put_place(writer, at)?;
-    write!(writer, "{sleeps}")?;
-    put_ground(writer, column, y, 22)?;
-    put_job_label(writer, labels, column.x, y.saturating_add(15), seat)?;
-    put_close(writer)
+    class: &str,
+    (y, height): (u64, u64),
+    (place, held): (Place, Held),
+) {
+    pen.put("<g class=\"{}\"><title>", &[Text(class)]);
+    put_title(pen, labels, place, held);
+    put_ground(pen, column, y, height);
 }
 
-/// Writes a core set's block.
-fn put_set<W: Write>(
-    writer: &mut W,
+/// Writes the blocks of tasks, at most nine: their lane's ground, and a bar with their number.
+fn put_tasks<W: Write>(pen: &mut Pen<'_, W>, labels: &Labels, column: Column, y: u64, held: Held) {
+    let height = 4 * held.number.min(9);
+    let top = y.saturating_add(36 - height);
+    put_block(pen, labels, column, "f", (y, 36), (Place::Tasks, held));
+    pen.text("</g>\n");
+    put_block(
+        pen,
+        labels,
+        column,
+        "t",
+        (top, height),
+        (Place::Tasks, held),
+    );
+    pen.put(
+        "<text x=\"{}\" y=\"{}\" dx=\"1\">{}</text></g>\n",
+        &[
+            Number(column.x),
+            Number(y.saturating_add(12)),
+            Number(held.number),
+        ],
+    );
+}
+
+/// Writes the blocks of a lane: of another than that of tasks what is in it, and the name or number
+/// of the job in a core set.
+fn put_lane<W: Write>(
+    pen: &mut Pen<'_, W>,
     labels: &Labels,
     column: Column,
-    k: usize,
-    seat: Option<Seat>,
-) -> io::Result<()> {
-    let y = 54 + 27 * (k as u64).min(7);
-    match seat {
-        None => put_free(writer, column, k, y),
-        Some(seat) => put_job(writer, labels, column, k, y, seat),
+    sets: u64,
+    (place, held): (Place, Held),
+) {
+    let (y, height) = spot(place, sets);
+    if let Place::Tasks = place {
+        put_tasks(pen, labels, column, y, held);
+        return;
     }
-}
-
-/// Marks the running job, or shows that no job is running.
-fn put_runs<W: Write>(writer: &mut W, column: Column, running: Option<u16>) -> io::Result<()> {
-    match running {
-        None => {
-            put_open(writer, Look::Free)?;
-            write!(writer, "no job is running")?;
-        }
-        Some(number) => {
-            put_open(writer, Look::Runs)?;
-            write!(writer, "job {number} runs")?;
-        }
+    put_block(
+        pen,
+        labels,
+        column,
+        held.class(place),
+        (y, height),
+        (place, held),
+    );
+    if let Some(seat) = held.seat {
+        let name = labels.job_name(held.number, seat.at);
+        pen.put(
+            "<text x=\"{}\" y=\"{}\" dx=\"1\">{}</text>",
+            &[Number(column.x), Number(y.saturating_add(15)), name],
+        );
     }
-    put_ground(writer, column, RUNS_Y, 4)?;
-    put_close(writer)
-}
-
-/// Writes an area's block.
-fn put_area<W: Write>(
-    writer: &mut W,
-    column: Column,
-    y: u64,
-    area: u16,
-    owner: Option<u16>,
-) -> io::Result<()> {
-    match owner {
-        None => {
-            put_open(writer, Look::Free)?;
-            write!(writer, "area {area}: free")?;
-        }
-        Some(number) => {
-            put_open(writer, Look::Awake(number))?;
-            write!(writer, "area {area}: job {number}")?;
-        }
-    }
-    put_ground(writer, column, y, 10)?;
-    put_close(writer)
-}
-
-/// Writes how many tasks wait, as a title.
-fn put_tasks_title<W: Write>(writer: &mut W, count: u64) -> io::Result<()> {
-    if count == 1 {
-        write!(writer, "1 task waits")
-    } else {
-        write!(writer, "{count} tasks wait")
-    }
-}
-
-/// Writes the blocks of the tasks' lane, at most nine: its ground, and a bar with their number.
-fn put_tasks<W: Write>(writer: &mut W, column: Column, y: u64, count: u64) -> io::Result<()> {
-    let height = 4 * count.min(9);
-    put_open(writer, Look::Free)?;
-    put_tasks_title(writer, count)?;
-    put_ground(writer, column, y, 36)?;
-    put_close(writer)?;
-    put_open(writer, Look::Tasks)?;
-    put_tasks_title(writer, count)?;
-    put_ground(writer, column, y.saturating_add(36 - height), height)?;
-    put_label(writer, column.x, y.saturating_add(12), count)?;
-    put_close(writer)
-}
-
-/// The number of the running job, if one runs.
-pub(crate) fn runner(scene: &Scene) -> Option<u16> {
-    match scene.running() {
-        None => None,
-        Some(number) => Some(number.get() as u16),
-    }
-}
-
-/// Writes the blocks of core sets.
-fn put_sets<W: Write>(
-    writer: &mut W,
-    labels: &Labels,
-    column: Column,
-    before: &Scene,
-    part: Part,
-    scene: &Scene,
-) -> io::Result<()> {
-    for k in 0..scene.seats().len() {
-        let seat = seat_in(scene, k);
-        if part.has(seat != seat_in(before, k), seat.is_some()) {
-            put_set(writer, labels, column, k, seat)?;
-        }
-    }
-    Ok(())
-}
-
-/// Writes the blocks of areas.
-fn put_areas<W: Write>(
-    writer: &mut W,
-    column: Column,
-    before: &Scene,
-    part: Part,
-    scene: &Scene,
-) -> io::Result<()> {
-    for area in 1..6u16 {
-        let owner = scene.owner(area);
-        if part.has(owner != before.owner(area), owner.is_some()) {
-            let y = below(scene).saturating_add(50 + 12 * area as u64);
-            put_area(writer, column, y, area, owner)?;
-        }
-    }
-    Ok(())
+    pen.text("</g>\n");
 }
 
 /// Writes this part of a scene, after another.
-pub(crate) fn put_part<W: Write>(
-    writer: &mut W,
+fn put_part<W: Write>(
+    pen: &mut Pen<'_, W>,
     labels: &Labels,
     column: Column,
     before: &Scene,
-    part: Part,
-    scene: &Scene,
-) -> io::Result<()> {
-    put_sets(writer, labels, column, before, part, scene)?;
-    let running = runner(scene);
-    if part.has(running != runner(before), running.is_some()) {
-        put_runs(writer, column, running)?;
+    (part, scene): (Part, &Scene),
+) {
+    let sets = scene.seats().len() as u64;
+    for place in PLACES {
+        let held = held_in(scene, place);
+        let has_changed = !held.is(held_in(before, place));
+        if place.is_of(sets) && part.has(has_changed, held.number > 0) {
+            put_lane(pen, labels, column, sets, (place, held));
+        }
     }
-    put_areas(writer, column, before, part, scene)?;
-    let count = scene.waits().len();
-    if part.has(count != before.waits().len(), count > 0) {
-        put_tasks(
-            writer,
-            column,
-            below(scene).saturating_add(130),
-            count as u64,
-        )?;
+}
+
+/// Writes the mark of an event's alarm, or of its restart, at the end of its column, down to this
+/// end.
+fn put_mark<W: Write>(pen: &mut Pen<'_, W>, event: &Event, x: u64, end: u64) {
+    let (class, title, name) = match event.alarm() {
+        None => ("n", "restart", "restart"),
+        Some(alarm) => ("m", full_table(alarm, &event.scene), code(alarm)),
+    };
+    pen.put(
+        "<g class=\"{}\"><title>{}, at request {}</title><path d=\"M{} 18V{}\"/>",
+        &[
+            Text(class),
+            Text(title),
+            Number(event.number),
+            Number(x.saturating_sub(1)),
+            Number(end),
+        ],
+    );
+    pen.put(
+        "<text x=\"{}\" y=\"14\">{}</text></g>\n",
+        &[Number(x), Text(name)],
+    );
+}
+
+/// Writes the column's number and the time, above each fifth column.
+fn put_axis<W: Write>(pen: &mut Pen<'_, W>, column: Column, time: u64) {
+    let (number, x) = (Number(column.number), Number(column.x));
+    if column.number % 5 == 0 {
+        pen.put(
+            "<text x=\"{}\" y=\"30\">{}</text><text x=\"{}\" y=\"43\">{}</text>\n",
+            &[x, number, x, Number(time)],
+        );
     }
-    Ok(())
+}
+
+impl Draws for Columns {
+    /// Writes the head, and column 0, of the scene with which the machine begins.
+    fn begin<W: Write>(&mut self, pen: &mut Pen<'_, W>, scene: Scene) {
+        let first = column_at(width_of(self.count), 0);
+        put_head(pen, scene.seats().len() as u64, &self.labels, self.count);
+        put_axis(pen, first, 0);
+        put_part(pen, &self.labels, first, &scene, (Part::All, &scene));
+        self.drawn = Some(scene);
+    }
+
+    /// Writes the column of an event: in it what has changed. Where an era begins, its mark stands
+    /// at the end of the column, and in the next what began.
+    fn draw<W: Write>(&mut self, pen: &mut Pen<'_, W>, event: Event) {
+        let width = width_of(self.count);
+        let column = column_at(width, event.number);
+        put_axis(pen, column, event.time);
+        if let Some(drawn) = &self.drawn {
+            put_part(
+                pen,
+                &self.labels,
+                column,
+                drawn,
+                (Part::Changed, &event.scene),
+            );
+        }
+        if let Some(era) = &event.era {
+            let next = column_at(width, event.number.saturating_add(1));
+            let end = 170 + 27 * (era.seats().len() as u64).min(8);
+            put_mark(pen, &event, next.x, end);
+            put_part(pen, &self.labels, next, &event.scene, (Part::Begun, era));
+        }
+        self.drawn = Some(match event.era {
+            None => event.scene,
+            Some(era) => era,
+        });
+    }
+
+    fn finish<W: Write>(&mut self, pen: &mut Pen<'_, W>) {
+        pen.text("</svg>\n");
+    }
 }

@@ -2,16 +2,16 @@
 //! or over time. Source: profile.
 #![tactic(auto)]
 
-mod blocks;
 mod drawing;
 mod escaping;
 mod frame;
+mod held;
 mod labels;
 mod lane;
 mod lanes;
 pub mod laws;
-mod marks;
 mod over_time;
+mod pen;
 mod scale;
 mod sheet;
 mod sizing;

@@ -1,5 +1,5 @@
 // The picture of a run over time.
-ghost use Rattle.std.specs.Prelude.{◌≡◌, IfErr, IfOk, OnOk};
+ghost use Rattle.std.specs.Prelude.{◌≡◌, IfErr, IfOk};
 ghost use Rattle.std.specs.List.{fold};
 ghost use Rattle.agc_scenario.specs.Scenarios.{schedule_of};
 ghost use Rattle.agc_scene.specs.Events.{watched, watching_from};
@@ -7,18 +7,16 @@ ghost use Rattle.agc_session.specs.Runs.{bench_machine, bench_requests};
 ghost use Rattle.agc_session.specs.Shown.{EndsIn};
 ghost use Rattle.agc_trace.specs.Following.{clock_requests};
 
+use crate::drawing::{Drawing, draw, draw_clock};
 use crate::labels::Labels;
 use crate::scale::{Scale, Span};
 use crate::sizing::bench_length;
-use crate::timed::TimeDrawing;
+use crate::timed::OverTime;
 use agc_clock::Timetables;
 use agc_document::Bench;
-use agc_machine::Machine;
-use agc_scenario::{Scenario, Timing};
+use agc_scenario::Scenario;
 use agc_scene::Watched;
-use agc_session::{Progress, RunFault, count_requests, follow_bench, machine_of};
-use agc_text::Output;
-use agc_trace::follow_clock;
+use agc_session::{Progress, RunFault, count_requests, machine_of};
 use std::alloc::Global;
 use std::io::Write;
 
@@ -38,29 +36,15 @@ fn begun(
     bench: &Bench,
     labels: Labels,
     scale: Scale,
-) -> Result<TimeDrawing, RunFault>
+) -> Result<Drawing<OverTime>, RunFault>
     ensures begun { IfOk result (λ d. d ≡ watching_from (bench_machine bench.now)) }
     ensures refused { IfErr result (λ e. e ≡ RunFault.NoMemory) }
 {
     let machine = machine_of(alloc, bench)?;
-    match TimeDrawing::new(alloc, machine, scale, labels) {
-        Ok(drawing) => Ok(drawing),
+    match OverTime::new(alloc, bench.sets().count() as u64, scale, labels) {
+        Ok(form) => Ok(Drawing::new(machine, form)),
         Err(_no_memory) => Err(RunFault::NoMemory),
     }
-}
-
-/// Draws the requests of a bench: all of them, in order, are asked for.
-fn draw<P: Progress, W: Write>(
-    drawing: &mut TimeDrawing,
-    bench: &Bench,
-    progress: &mut P,
-    writer: &mut W,
-) -> Result<(), Output>
-    ensures { OnOk result (drawing.new ≡ fold watched drawing.old (bench_requests bench.now)) }
-{
-    drawing.begin(writer)?;
-    follow_bench(drawing, progress, bench, writer)?;
-    drawing.finish(writer)
 }
 
 /// Writes the picture of a bench over time, an SVG as wide as the span says: its machine is asked
@@ -92,23 +76,6 @@ pub fn time_picture<P: Progress, W: Write>(
     progress.expect(count_requests(bench).requests);
     draw(&mut drawing, bench, progress, writer)?;
     Ok(drawing.into_watched())
-}
-
-/// Draws the requests for which a scenario's clock asks this machine: all of them, in order.
-fn draw_clock<P: Progress, W: Write>(
-    machine: Machine,
-    drawing: TimeDrawing,
-    timing: &Timing,
-    progress: &mut P,
-    writer: &mut W,
-) -> Result<TimeDrawing, Output>
-    ensures { IfOk result
-        (λ d. d ≡ fold watched drawing (clock_requests (schedule_of timing.now) machine)) }
-{
-    drawing.begin(writer)?;
-    let mut drawing = follow_clock(machine, timing, drawing, progress, writer)?;
-    drawing.finish(writer)?;
-    Ok(drawing)
 }
 
 /// Writes the picture of a scenario over time, as [`time_picture`] does a bench's, with its title,

@@ -1,6 +1,5 @@
 // Which column of a picture over time a moment has.
-use std::io;
-use std::io::Write;
+use crate::pen::Filling;
 
 /// What of a run is drawn over time, and how. Times are in centiseconds since the start. Source:
 /// profile.
@@ -30,25 +29,12 @@ pub(crate) struct Scale {
     pub(crate) columns: u64,
 }
 
-/// Centiseconds, as seconds are written.
-#[derive(Clone, Copy)]
-pub(crate) struct Seconds(pub(crate) u64);
-
-impl Seconds {
-    /// Writes them with two decimals.
-    pub(crate) fn put<W: Write>(self, writer: &mut W) -> io::Result<()> {
-        let (whole, rest) = (self.0 / 100, self.0 % 100);
-        write!(writer, "{whole}.{rest:02}")
-    }
-
-    /// Writes them with decimals where they aren't whole.
-    pub(crate) fn put_short<W: Write>(self, writer: &mut W) -> io::Result<()> {
-        if self.0 % 100 == 0 {
-            let whole = self.0 / 100;
-            write!(writer, "{whole}")
-        } else {
-            self.put(writer)
-        }
+/// Centiseconds, as seconds with decimals where they aren't whole.
+pub(crate) fn short(time: u64) -> Filling<'static> {
+    if time % 100 == 0 {
+        Filling::Number(time / 100)
+    } else {
+        Filling::Seconds(time)
     }
 }
 

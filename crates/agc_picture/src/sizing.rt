@@ -1,92 +1,48 @@
 // How long a run lasts, and how many requests it has.
 ghost use Rattle.std.specs.Prelude.{◌≡◌, IfErr};
-ghost use Rattle.agc_scene.specs.Events.{watched};
 
-use agc_clock::Asked;
+use crate::drawing::{Drawing, Draws};
+use crate::pen::Pen;
 use agc_document::Bench;
-use agc_machine::Machine;
-use agc_plan::Request;
 use agc_scenario::Scenario;
-use agc_scene::Watched;
-use agc_session::{Follows, RunFault, Silent, Source, follow_bench, machine_of};
-use agc_text::Output;
-use agc_trace::{FollowsClock, follow_clock};
+use agc_scene::{Event, Scene};
+use agc_session::{RunFault, Silent, follow_bench, machine_of};
+use agc_trace::follow_clock;
 use std::alloc::Global;
 use std::io;
 use std::io::Write;
-use std::marker::Model;
 
-/// A run of which only the time is taken, and the number of the last request. Contracts see the
-/// machine.
-#[derive(Drop)]
-struct Sized {
-    watched: Watched,
+/// A run of which only the time is taken, and the number of the last request.
+#[derive(Clone, Copy)]
+struct Size {
     time: u64,
     requests: u64,
 }
 
-impl Model for Sized {
-    ghost use Rattle.agc_scene.specs.Events.{Watching};
+impl Draws for Size {
+    fn begin<W: Write>(&mut self, _pen: &mut Pen<'_, W>, _scene: Scene) {}
 
-    ghost Value = { Watching };
-
-    ghost view = { λ s. s.watched };
-}
-
-impl Sized {
-    /// Asks for one request, and takes note of its number and the time.
-    fn follow_one(&mut self, request: &Request)
-        ensures { self.new ≡ watched self.old request.now }
-    {
-        let event = self.watched.ask(request);
+    fn draw<W: Write>(&mut self, _pen: &mut Pen<'_, W>, event: Event) {
         self.time = event.total;
         self.requests = event.number;
     }
+
+    fn finish<W: Write>(&mut self, _pen: &mut Pen<'_, W>) {}
 }
 
-impl Follows for Sized {
-    ghost use Rattle.agc_scene.specs.Events.{watched};
-
-    ghost next = { λ drawing request. watched drawing request };
-
-    fn follow<W: Write>(
-        &mut self,
-        _source: Source,
-        request: &Request,
-        _writer: &mut W,
-    ) -> Result<(), Output> {
-        self.follow_one(request);
-        Ok(())
-    }
-}
-
-impl FollowsClock for Sized {
-    ghost use Rattle.agc_scene.specs.Events.{watched};
-
-    ghost next = { λ drawing request. watched drawing request };
-
-    fn follow_asked<W: Write>(&mut self, asked: &Asked, _writer: &mut W) -> Result<(), Output> {
-        self.follow_one(&asked.request);
-        Ok(())
-    }
-}
-
-/// A run of this machine, of which nothing was asked yet.
-fn begun(machine: Machine) -> Sized {
-    Sized {
-        watched: Watched::new(machine),
-        time: 0,
-        requests: 0,
-    }
-}
+/// Of a run of which nothing was asked yet.
+const NONE: Size = Size {
+    time: 0,
+    requests: 0,
+};
 
 /// How many centiseconds a bench's run lasts.
 pub(crate) fn bench_length(alloc: Global, bench: &Bench) -> Result<u64, RunFault>
     ensures { IfErr result (λ e. e ≡ RunFault.NoMemory) }
 {
-    let mut sized = begun(machine_of(alloc, bench)?);
+    let mut sized = Drawing::new(machine_of(alloc, bench)?, NONE);
     let _ = follow_bench(&mut sized, &mut Silent, bench, &mut io::sink());
-    Ok(sized.time)
+    Ok(sized.form.time)
 }
 
 /// How many requests a scenario's clock asks for.
@@ -94,7 +50,7 @@ pub(crate) fn clock_size(alloc: Global, scenario: &Scenario) -> Result<u64, RunF
     ensures { IfErr result (λ e. e ≡ RunFault.NoMemory) }
 {
     let machine = machine_of(alloc, scenario.bench())?;
-    let sized = begun(machine_of(alloc, scenario.bench())?);
+    let sized = Drawing::new(machine_of(alloc, scenario.bench())?, NONE);
     let ran = follow_clock(
         machine,
         scenario.timing(),
@@ -103,7 +59,7 @@ pub(crate) fn clock_size(alloc: Global, scenario: &Scenario) -> Result<u64, RunF
         &mut io::sink(),
     );
     match ran {
-        Ok(sized) => Ok(sized.requests),
+        Ok(sized) => Ok(sized.form.requests),
         Err(_failed) => Ok(0),
     }
 }

@@ -1,5 +1,5 @@
 // The picture of a run: its head, the columns of its requests, and its end.
-ghost use Rattle.std.specs.Prelude.{◌≡◌, IfErr, IfOk, OnOk};
+ghost use Rattle.std.specs.Prelude.{◌≡◌, IfErr, IfOk};
 ghost use Rattle.std.specs.List.{fold};
 ghost use Rattle.agc_scenario.specs.Scenarios.{schedule_of};
 ghost use Rattle.agc_scene.specs.Events.{watched, watching_from};
@@ -7,40 +7,16 @@ ghost use Rattle.agc_session.specs.Runs.{bench_machine, bench_requests};
 ghost use Rattle.agc_session.specs.Shown.{EndsIn};
 ghost use Rattle.agc_trace.specs.Following.{clock_requests};
 
-use crate::drawing::Drawing;
+use crate::drawing::{Drawing, draw, draw_clock};
 use crate::labels::Labels;
+use crate::lanes::Columns;
 use crate::sizing::clock_size;
 use agc_document::Bench;
-use agc_machine::Machine;
-use agc_scenario::{Scenario, Timing};
+use agc_scenario::Scenario;
 use agc_scene::Watched;
-use agc_session::{Progress, RunFault, count_requests, follow_bench, machine_of};
-use agc_text::{Output, put};
-use agc_trace::follow_clock;
+use agc_session::{Progress, RunFault, count_requests, machine_of};
 use std::alloc::Global;
 use std::io::Write;
-
-/// Draws the head.
-fn begin<W: Write>(drawing: &Drawing, writer: &mut W) -> Result<(), Output> {
-    match drawing.begin(writer) {
-        Ok(()) => Ok(()),
-        Err(_failed) => Err(Output),
-    }
-}
-
-/// Draws the requests of a bench: all of them, in order, are asked for.
-fn draw<P: Progress, W: Write>(
-    drawing: &mut Drawing,
-    bench: &Bench,
-    progress: &mut P,
-    writer: &mut W,
-) -> Result<(), Output>
-    ensures { OnOk result (drawing.new ≡ fold watched drawing.old (bench_requests bench.now)) }
-{
-    begin(drawing, writer)?;
-    follow_bench(drawing, progress, bench, writer)?;
-    put(writer, "</svg>\n".as_bytes())
-}
 
 /// Writes the picture of a bench, an SVG: its machine is asked for the requests in the order of
 /// `serial`, and each has a column, 24 points wide, or 8 where there are more than 60, or more than
@@ -66,36 +42,19 @@ pub fn picture<P: Progress, W: Write>(
     let machine = machine_of(alloc, bench)?;
     let count = count_requests(bench).requests;
     progress.expect(count);
-    let mut drawing = Drawing::new(machine, count, Labels::none(alloc));
+    let mut drawing = Drawing::new(machine, Columns::new(count, Labels::none(alloc)));
     draw(&mut drawing, bench, progress, writer)?;
     Ok(drawing.into_watched())
 }
 
-/// Draws the requests for which a scenario's clock asks this machine: all of them, in order.
-fn draw_clock<P: Progress, W: Write>(
-    machine: Machine,
-    drawing: Drawing,
-    timing: &Timing,
-    progress: &mut P,
-    writer: &mut W,
-) -> Result<Drawing, Output>
-    ensures { IfOk result
-        (λ d. d ≡ fold watched drawing (clock_requests (schedule_of timing.now) machine)) }
-{
-    begin(&drawing, writer)?;
-    let drawing = follow_clock(machine, timing, drawing, progress, writer)?;
-    put(writer, "</svg>\n".as_bytes())?;
-    Ok(drawing)
-}
-
 /// A drawing of a scenario's machine, which was asked for nothing yet.
-fn begun(alloc: Global, scenario: &Scenario, count: u64) -> Result<Drawing, RunFault>
+fn begun(alloc: Global, scenario: &Scenario, count: u64) -> Result<Drawing<Columns>, RunFault>
     ensures begun { IfOk result (λ d. d ≡ watching_from (bench_machine scenario.now.bench)) }
     ensures refused { IfErr result (λ e. e ≡ RunFault.NoMemory) }
 {
     let labels = Labels::of(alloc, scenario)?;
     let machine = machine_of(alloc, scenario.bench())?;
-    Ok(Drawing::new(machine, count, labels))
+    Ok(Drawing::new(machine, Columns::new(count, labels)))
 }
 
 /// Writes the picture of a scenario in the same way, with its title, and with names of jobs in

@@ -5,5 +5,5 @@ use Rattle.agc_picture.proofs.whole.begun.Goals as goal
 
 pub returns-clause-begun : goal.returns-clause-begun
 returns-clause-begun c =
-    c.new.ensures
+    c.new-2.ensures
     ∙ ap watching_from (c.in_ok-machine.ensures.machine ∙ ap bench_machine c.bench.ensures)

@@ -1,0 +1,161 @@
+// What a lane holds in a scene, and how it is told.
+use crate::labels::Labels;
+use crate::pen::Filling::{Number, Priority};
+use crate::pen::Pen;
+use agc_exec::Seat;
+use agc_plan::Alarm;
+use agc_scene::Scene;
+use std::io::Write;
+
+/// What a lane is of: the running job, a core set, a VAC area, or the tasks that wait.
+#[derive(Clone, Copy)]
+pub(crate) enum Place {
+    Runs,
+    Set(u64),
+    Area(u16),
+    Tasks,
+}
+
+/// What lanes are of, in a machine of eight core sets.
+pub(crate) const PLACES: [Place; 15] = [
+    Place::Set(0),
+    Place::Set(1),
+    Place::Set(2),
+    Place::Set(3),
+    Place::Set(4),
+    Place::Set(5),
+    Place::Set(6),
+    Place::Set(7),
+    Place::Runs,
+    Place::Area(1),
+    Place::Area(2),
+    Place::Area(3),
+    Place::Area(4),
+    Place::Area(5),
+    Place::Tasks,
+];
+
+impl Place {
+    /// Whether a machine of so many core sets has it.
+    pub(crate) fn is_of(self, sets: u64) -> bool {
+        match self {
+            Place::Set(k) => k < sets,
+            _ => true,
+        }
+    }
+}
+
+/// What is in a lane: the job in a core set; of another lane only the job's number, or how many
+/// tasks wait. The number is 0 where nothing is.
+#[derive(Clone, Copy)]
+pub(crate) struct Held {
+    pub(crate) number: u64,
+    pub(crate) seat: Option<Seat>,
+}
+
+/// The classes of jobs that are awake and of those that sleep, by which the style sheets colour
+/// them; first that of nothing.
+const AWAKE: [&str; 9] = ["f", "j1", "j2", "j3", "j4", "j5", "j6", "j7", "j8"];
+
+const ASLEEP: [&str; 9] = ["f", "s1", "s2", "s3", "s4", "s5", "s6", "s7", "s8"];
+
+impl Held {
+    /// Whether it is the same.
+    pub(crate) fn is(self, other: Held) -> bool {
+        self.number == other.number && self.seat == other.seat
+    }
+
+    /// The class of a job.
+    fn job_class(self) -> &'static str {
+        let classes = match self.seat {
+            Some(seat) if seat.asleep => ASLEEP,
+            _ => AWAKE,
+        };
+        match classes.get(self.number as usize) {
+            None => "f",
+            Some(class) => *class,
+        }
+    }
+
+    /// The class by which the style sheet colours it.
+    pub(crate) fn class(self, place: Place) -> &'static str {
+        match place {
+            Place::Runs if self.number > 0 => "r",
+            Place::Tasks if self.number > 0 => "t",
+            Place::Runs | Place::Tasks => "f",
+            Place::Set(_) | Place::Area(_) => self.job_class(),
+        }
+    }
+}
+
+/// What core set k holds in a scene.
+fn seat_in(scene: &Scene, k: u64) -> Held {
+    match scene.seats().get(k as usize) {
+        Some(Some(seat)) => Held {
+            number: seat.number as u64,
+            seat: Some(*seat),
+        },
+        _ => Held {
+            number: 0,
+            seat: None,
+        },
+    }
+}
+
+/// The number of the running job, or 0.
+fn runner(scene: &Scene) -> u64 {
+    match scene.running() {
+        None => 0,
+        Some(number) => number.get() as u64,
+    }
+}
+
+/// What is in a lane, in a scene.
+pub(crate) fn held_in(scene: &Scene, place: Place) -> Held {
+    let number = match place {
+        Place::Set(k) => return seat_in(scene, k),
+        Place::Runs => runner(scene),
+        Place::Area(area) => scene.owner(area).unwrap_or(0) as u64,
+        Place::Tasks => scene.waits().len() as u64,
+    };
+    Held { number, seat: None }
+}
+
+/// Writes a lane's name.
+pub(crate) fn put_name<W: Write>(pen: &mut Pen<'_, W>, place: Place) {
+    match place {
+        Place::Runs => pen.text("runs"),
+        Place::Set(k) => pen.put("set {}", &[Number(k)]),
+        Place::Area(area) => pen.put("area {}", &[Number(area as u64)]),
+        Place::Tasks => pen.text("tasks"),
+    }
+}
+
+/// Writes which job it is, of a core set also its priority, and where it is.
+pub(crate) fn put_job<W: Write>(pen: &mut Pen<'_, W>, labels: &Labels, held: Held) {
+    pen.put("job {}", &[Number(held.number)]);
+    if let Some(seat) = held.seat {
+        pen.put(", priority {}, at ", &[Priority(seat.priority)]);
+        labels.put_place(pen, seat.at);
+        pen.text(if seat.asleep { ", asleep" } else { "" });
+    }
+}
+
+/// Which table was full, in a scene.
+pub(crate) fn full_table(alarm: Alarm, scene: &Scene) -> &'static str {
+    match alarm {
+        Alarm::A1201 => "alarm 1201: all five VAC areas are owned",
+        Alarm::A1202 if scene.seats().len() == 8 => "alarm 1202: all eight core sets are in use",
+        Alarm::A1202 => "alarm 1202: all seven core sets are in use",
+        Alarm::A1203 => "alarm 1203: nine tasks wait",
+    }
+}
+
+/// The alarm's code.
+pub(crate) fn code(alarm: Alarm) -> &'static str {
+    match alarm {
+        Alarm::A1201 => "1201",
+        Alarm::A1202 => "1202",
+        Alarm::A1203 => "1203",
+    }
+}
