@@ -2,18 +2,49 @@
 use clap::{Arg, ArgAction, Command};
 use std::alloc::{AllocError, Global};
 
-/// What the commands are called, in the order of the help.
-const CALLED: [&str; 9] = [
-    "agc_watch trace",
-    "agc_watch picture",
-    "agc_watch page",
-    "agc_watch check",
-    "agc_watch explore",
-    "agc_watch bench",
-    "agc_watch peaks",
-    "agc_watch sweep",
-    "agc_watch play",
+/// The commands.
+#[derive(Clone, Copy)]
+pub(crate) enum Name {
+    Trace,
+    Picture,
+    Page,
+    Check,
+    Explore,
+    Bench,
+    Peaks,
+    Sweep,
+    Play,
+}
+
+/// The commands, in the order of the help.
+const NAMES: [Name; 9] = [
+    Name::Trace,
+    Name::Picture,
+    Name::Page,
+    Name::Check,
+    Name::Explore,
+    Name::Bench,
+    Name::Peaks,
+    Name::Sweep,
+    Name::Play,
 ];
+
+impl Name {
+    /// What the command is called in its own errors.
+    fn called(self) -> &'static str {
+        match self {
+            Name::Trace => "agc_watch trace",
+            Name::Picture => "agc_watch picture",
+            Name::Page => "agc_watch page",
+            Name::Check => "agc_watch check",
+            Name::Explore => "agc_watch explore",
+            Name::Bench => "agc_watch bench",
+            Name::Peaks => "agc_watch peaks",
+            Name::Sweep => "agc_watch sweep",
+            Name::Play => "agc_watch play",
+        }
+    }
+}
 
 /// The text below the help of `sweep`.
 const SWEPT: &str = "\
@@ -217,25 +248,25 @@ fn play_command<'a>(alloc: Global) -> Result<Command<'a>, AllocError> {
         .arg(optional_word(alloc, "file", "FILE", file))
 }
 
-/// The command that is called so, with its options.
-fn command_of<'a>(alloc: Global, called: &str) -> Result<Command<'a>, AllocError> {
-    match called {
-        "agc_watch trace" => with_progress(alloc, trace_command(alloc)),
-        "agc_watch picture" => with_progress(alloc, picture_command(alloc)),
-        "agc_watch page" => with_progress(alloc, page_command(alloc)),
-        "agc_watch check" => with_progress(alloc, check_command(alloc)),
-        "agc_watch explore" => explore_command(alloc),
-        "agc_watch bench" => bench_command(alloc),
-        "agc_watch peaks" => peaks_command(alloc),
-        "agc_watch sweep" => sweep_command(alloc),
-        _ => play_command(alloc),
+/// A command, with its options.
+fn command_of<'a>(alloc: Global, name: Name) -> Result<Command<'a>, AllocError> {
+    match name {
+        Name::Trace => with_progress(alloc, trace_command(alloc)),
+        Name::Picture => with_progress(alloc, picture_command(alloc)),
+        Name::Page => with_progress(alloc, page_command(alloc)),
+        Name::Check => with_progress(alloc, check_command(alloc)),
+        Name::Explore => explore_command(alloc),
+        Name::Bench => bench_command(alloc),
+        Name::Peaks => peaks_command(alloc),
+        Name::Sweep => sweep_command(alloc),
+        Name::Play => play_command(alloc),
     }
 }
 
 /// A command as its own error calls it, for words that are wrong for a reason that `clap` doesn't
 /// know.
-pub(crate) fn named_command<'a>(alloc: Global, called: &'a str) -> Result<Command<'a>, AllocError> {
-    command_of(alloc, called)?.bin_name(called)
+pub(crate) fn named_command<'a>(alloc: Global, name: Name) -> Result<Command<'a>, AllocError> {
+    command_of(alloc, name)?.bin_name(name.called())
 }
 
 /// The program that has this command too, unless memory ran out already.
@@ -255,8 +286,8 @@ pub(crate) fn whole_command<'a>(alloc: Global) -> Result<Command<'a>, AllocError
             .subcommand_required(true)
             .arg_required_else_help(true),
     );
-    for called in CALLED {
-        program = with_command(program, command_of(alloc, called));
+    for name in NAMES {
+        program = with_command(program, command_of(alloc, name));
     }
     program
 }

@@ -2,7 +2,7 @@
 ghost use Rattle.std.specs.Prelude.{◌≡◌};
 ghost use Rattle.agc_commands.specs.declared.words.Refused.TheVariants.{NoMemory};
 
-use crate::commands::{named_command, whole_command};
+use crate::commands::{Name, named_command, whole_command};
 use agc_orders::Options;
 use agc_plan::Alarm;
 use agc_trace::Choice;
@@ -216,9 +216,9 @@ fn sweep_of<'a>(given: &ArgMatches<'a>) -> Result<Asked<'a>, &'static str> {
     }
 }
 
-/// Words after the command that is called so, which are wrong for a reason that `clap` doesn't know.
-fn refused_words(alloc: Global, called: &str, reason: &str) -> Refused {
-    match named_command(alloc, called) {
+/// Words after this command that are wrong for a reason that `clap` doesn't know.
+fn refused_words(alloc: Global, name: Name, reason: &str) -> Refused {
+    match named_command(alloc, name) {
         Ok(mut command) => refused_as(&mut command, reason),
         Err(_no_memory) => Refused::NoMemory,
     }
@@ -226,7 +226,7 @@ fn refused_words(alloc: Global, called: &str, reason: &str) -> Refused {
 
 /// Words after `sweep` that don't suit its scenario.
 pub fn refused_sweep(alloc: Global, reason: &str) -> Refused {
-    refused_words(alloc, "agc_watch sweep", reason)
+    refused_words(alloc, Name::Sweep, reason)
 }
 
 /// The number that a part of seconds is; nothing, if it has another letter than a digit, or is too
@@ -309,23 +309,23 @@ fn asked_by<'a>(
     command: &mut Command<'a>,
     matches: &ArgMatches<'a>,
 ) -> Result<Asked<'a>, Refused> {
-    let Some((name, given)) = matches.subcommand() else {
+    let Some((word, given)) = matches.subcommand() else {
         return Err(refused_as(command, "a command is missing"));
     };
-    let (called, found) = match name {
-        "trace" => ("agc_watch trace", trace_of(given)),
-        "picture" => ("agc_watch picture", picture_of(given)),
+    let (name, found) = match word {
+        "trace" => (Name::Trace, trace_of(given)),
+        "picture" => (Name::Picture, picture_of(given)),
         "page" => return Ok(to_work(Work::Page, given)),
         "check" if given.get_flag("script") => return Ok(to_work(Work::CheckScript, given)),
         "check" => return Ok(to_work(Work::CheckBench, given)),
-        "explore" => ("agc_watch explore", orders_of(given)),
+        "explore" => (Name::Explore, orders_of(given)),
         "bench" => return Ok(to_do(Task::Tell(Telling::Bench), given, false)),
         "peaks" => return Ok(to_do(Task::Tell(Telling::Peaks), given, false)),
-        "sweep" => ("agc_watch sweep", sweep_of(given)),
+        "sweep" => (Name::Sweep, sweep_of(given)),
         "play" => return Ok(to_do(Task::Play, given, false)),
         _ => return Err(refused_as(command, "there is no such command")),
     };
-    found.map_err(|reason| refused_words(alloc, called, reason))
+    found.map_err(|reason| refused_words(alloc, name, reason))
 }
 
 /// Words that are wrong for a reason that `clap` doesn't know.

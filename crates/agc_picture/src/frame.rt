@@ -118,14 +118,19 @@ fn put_title<W: Write>(pen: &mut Pen<'_, W>, labels: &Labels, count: u64) {
     }
 }
 
-/// Writes the head of a picture of so many core sets and requests.
-pub(crate) fn put_head<W: Write>(pen: &mut Pen<'_, W>, sets: u64, labels: &Labels, count: u64) {
-    let (width, height) = (right_of(labels, count), 246 + 27 * sets.min(8));
+/// Begins an SVG, so many points wide and high.
+pub(crate) fn begin_svg<W: Write>(pen: &mut Pen<'_, W>, width: u64, height: u64) {
+    let (width, height) = (Number(width), Number(height));
     pen.text("<svg xmlns=\"http://www.w3.org/2000/svg\"");
     pen.put(
         " viewBox=\"0 0 {} {}\" width=\"{}\" height=\"{}\">\n",
-        &[Number(width), Number(height), Number(width), Number(height)],
+        &[width, height, width, height],
     );
+}
+
+/// Writes the head of a picture of so many core sets and requests.
+pub(crate) fn put_head<W: Write>(pen: &mut Pen<'_, W>, sets: u64, labels: &Labels, count: u64) {
+    begin_svg(pen, right_of(labels, count), 246 + 27 * sets.min(8));
     put_title(pen, labels, count);
     pen.text(STYLE);
     put_names(pen, sets, labels);

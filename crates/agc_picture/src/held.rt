@@ -60,8 +60,8 @@ const AWAKE: [&str; 9] = ["f", "j1", "j2", "j3", "j4", "j5", "j6", "j7", "j8"];
 const ASLEEP: [&str; 9] = ["f", "s1", "s2", "s3", "s4", "s5", "s6", "s7", "s8"];
 
 impl Held {
-    /// Whether it is the same.
-    pub(crate) fn is(self, other: Held) -> bool {
+    /// Whether the other is the same job, in the same state, or as many tasks.
+    pub(crate) fn is_same(self, other: Held) -> bool {
         self.number == other.number && self.seat == other.seat
     }
 
@@ -148,14 +148,5 @@ pub(crate) fn full_table(alarm: Alarm, scene: &Scene) -> &'static str {
         Alarm::A1202 if scene.seats().len() == 8 => "alarm 1202: all eight core sets are in use",
         Alarm::A1202 => "alarm 1202: all seven core sets are in use",
         Alarm::A1203 => "alarm 1203: nine tasks wait",
-    }
-}
-
-/// The alarm's code.
-pub(crate) fn code(alarm: Alarm) -> &'static str {
-    match alarm {
-        Alarm::A1201 => "1201",
-        Alarm::A1202 => "1202",
-        Alarm::A1203 => "1203",
     }
 }

@@ -47,7 +47,7 @@ impl Run {
                 && self.has_gap == other.has_gap
                 && self.most == other.most
         } else {
-            block.held.is(its.held) && block.at == its.at && block.since == its.since
+            block.held.is_same(its.held) && block.at == its.at && block.since == its.since
         }
     }
 
@@ -264,7 +264,7 @@ impl Lane {
     /// From this time on this is in it, a job of this address, if it is one. Where an era begins,
     /// what is there is another.
     pub(crate) fn change(&mut self, held: Held, at: Option<u16>, time: u64, is_era: bool) {
-        if held.is(self.block.held) && (!is_era || held.number == 0) {
+        if held.is_same(self.block.held) && (!is_era || held.number == 0) {
             return;
         }
         self.is_joined = self.is_joined || self.is_new;

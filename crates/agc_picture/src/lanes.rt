@@ -1,11 +1,12 @@
 // The columns of requests.
 use crate::drawing::Draws;
 use crate::frame::{Column, column_at, put_head, width_of};
-use crate::held::{Held, PLACES, Place, code, full_table, held_in, put_job, put_name};
+use crate::held::{Held, PLACES, Place, full_table, held_in, put_job, put_name};
 use crate::labels::Labels;
 use crate::pen::Filling::{Number, Text};
 use crate::pen::Pen;
 use agc_scene::{Event, Scene};
+use agc_spelling::alarm_code;
 use std::io::Write;
 
 /// What is drawn of a scene: all lanes, those that have changed, or, as an era begins, these and
@@ -170,7 +171,7 @@ fn put_part<W: Write>(
     let sets = scene.seats().len() as u64;
     for place in PLACES {
         let held = held_in(scene, place);
-        let has_changed = !held.is(held_in(before, place));
+        let has_changed = !held.is_same(held_in(before, place));
         if place.is_of(sets) && part.has(has_changed, held.number > 0) {
             put_lane(pen, labels, column, sets, (place, held));
         }
@@ -182,7 +183,7 @@ fn put_part<W: Write>(
 fn put_mark<W: Write>(pen: &mut Pen<'_, W>, event: &Event, x: u64, end: u64) {
     let (class, title, name) = match event.alarm() {
         None => ("n", "restart", "restart"),
-        Some(alarm) => ("m", full_table(alarm, &event.scene), code(alarm)),
+        Some(alarm) => ("m", full_table(alarm, &event.scene), alarm_code(alarm)),
     };
     pen.put(
         "<g class=\"{}\"><title>{}, at request {}</title><path d=\"M{} 18V{}\"/>",

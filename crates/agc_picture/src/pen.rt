@@ -80,7 +80,7 @@ impl<'a, W: Write> Pen<'a, W> {
         self.text(rest);
     }
 
-    /// What came of it.
+    /// Whether all that was to be written was.
     pub(crate) fn end(&self) -> Result<(), Output> {
         if self.failed { Err(Output) } else { Ok(()) }
     }

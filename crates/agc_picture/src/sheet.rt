@@ -1,4 +1,5 @@
 // What stands around the lanes of a picture over time.
+use crate::frame::begin_svg;
 use crate::held::{Place, put_name};
 use crate::labels::Labels;
 use crate::lane::Strip;
@@ -95,15 +96,8 @@ fn put_heading<W: Write>(pen: &mut Pen<'_, W>, labels: &Labels, scale: Scale) {
 
 /// Writes the head of a picture of so many core sets, up to the names of its lanes.
 pub(crate) fn put_head<W: Write>(pen: &mut Pen<'_, W>, labels: &Labels, sets: u64, scale: Scale) {
-    let (width, height) = (
-        Number(scale.width),
-        Number(bottom(sets).saturating_add(122)),
-    );
-    pen.text("<svg xmlns=\"http://www.w3.org/2000/svg\"");
-    pen.put(
-        " viewBox=\"0 0 {} {}\" width=\"{}\" height=\"{}\">\n<title>",
-        &[width, height, width, height],
-    );
+    begin_svg(pen, scale.width, bottom(sets).saturating_add(122));
+    pen.text("<title>");
     put_title(pen, labels, scale);
     pen.text("</title>\n");
     pen.text(STYLE);

@@ -1,6 +1,6 @@
 // How a run is drawn over time.
 use crate::drawing::Draws;
-use crate::held::{Held, PLACES, Place, code, full_table, held_in};
+use crate::held::{Held, PLACES, Place, full_table, held_in};
 use crate::labels::Labels;
 use crate::lane::Lane;
 use crate::pen::Filling::{Number, Seconds, Text};
@@ -8,6 +8,7 @@ use crate::pen::Pen;
 use crate::scale::Scale;
 use crate::sheet::{put_foot, put_ground, put_head, strip_of};
 use agc_scene::{Event, Scene};
+use agc_spelling::alarm_code;
 use std::alloc::{AllocError, Global};
 use std::io::Write;
 
@@ -184,7 +185,7 @@ impl OverTime {
             if let Some(y) = self.room.takes_code(x) {
                 pen.put(
                     "<g class=\"m\"><text x=\"{}\" y=\"{}\">{}</text></g>\n",
-                    &[Number(x), Number(y), Text(code(alarm))],
+                    &[Number(x), Number(y), Text(alarm_code(alarm))],
                 );
             }
         }
