@@ -7,8 +7,9 @@
     tests/run edits --check          only looks whether each edit can be applied, and proves nothing
     tests/run edits --compile        only looks whether each edit still compiles, and proves nothing
 
-    --share K/N     cuts the edits into N shares, spread over all crates, and tries the K-th; K is
-                    any whole number from 0 on, and is taken modulo N
+    --share K/N     cuts the edits into N shares of neighbours, which have one or two crates, so that
+                    many can be made at once, and tries the K-th; K is any whole number from 0 on, and
+                    is taken modulo N
     --seconds S     ends after S seconds; edits that have no verdict by then are no failure
     --jobs N        works in N copies at a time (as many as there are processors to use)
     --together N    makes up to N edits of a crate at once, each of other functions (1)
@@ -485,7 +486,8 @@ def chosen(edits, given):
     found = [it for it in edits if not given.crates or it.crate in given.crates]
     found = [it for it in found if not given.only or it.name in given.only]
     found = [it for it in found if not given.always or it.is_always]
-    return found[given.share[0] :: given.share[1]]
+    number, of = given.share
+    return found[len(found) * number // of : len(found) * (number + 1) // of]
 
 
 def check():

@@ -3,12 +3,17 @@
     tests/run refused             all
     tests/run refused NAME ..     those named, with .case or without
 
-Each is a library on the desk's crates, or on those that its line '// crates: ' names. Its first lines
-say what comes of it: '// refused: ' and what the compiler says, a line for each error, or
+Each is a module of a library on the desk's crates, or on those that its line '// crates: ' names. Its
+first lines say what comes of it: '// refused: ' and what the compiler says, a line for each error, or
 '// compiles'; the tests of one that compiles are run. In tests/refused/desk.cases a line
 '=== case NAME' stands above each; of examples/embedding each file NAME.case is one.
+Those that have to compile are compiled together, and so are the others. What didn't come out as it has
+to is compiled again without the rest, since the compiler passes over its later steps where an earlier
+one found an error; what is left in the end is compiled alone, and what the compiler says then is
+printed. None may name a crate that isn't its own.
 Nothing is proved; all is done in folders that are removed at the end.
 """
+import bisect
 import concurrent.futures
 import os
 import re
@@ -27,6 +32,14 @@ HIGHEST = "agc_desk"
 # A test that does nothing, so that what compiles is run.
 PASSES = "\n#[test]\nfn compiles(rt: HostRuntime) {\n    assert!(rt; true);\n}\n"
 
+# A name that may be a crate's.
+NAMED = re.compile(r"\b\w+(?=::)")
+
+# An error, with its line, and a test that passed, with its module.
+ERROR = re.compile(r"(?m)^src/lib\.rt:(\d+):\d+: error\[.*$")
+PASSED = re.compile(r"(?m)^test attempt_(\d+)::.* \.\.\. ok$")
+ALL_PASSED = re.compile(r"(?m)^test result: ok\. [1-9]\d* passed; 0 failed")
+
 
 class Attempt:
     """A library, and what its first lines say: the compiler's errors, in their order, or that it compiles."""
@@ -40,33 +53,70 @@ class Attempt:
 
     def fault(self):
         """Returns why it cannot be tried, or ""."""
-        if self.compiles or self.errors and self.text.startswith("// refused: "):
-            return ""
-        return f"{self.place}: it is no line '// refused: ..' or '// compiles'"
+        if not (self.compiles or self.errors and self.text.startswith("// refused: ")):
+            return f"{self.place}: it is no line '// refused: ..' or '// compiles'"
+        beyond = sorted({*NAMED.findall(self.text)} & {*repository.crates()} - {*self.used})
+        return f"{self.place}: it names {beyond[0]}, which is none of its crates" if beyond else ""
 
-    def tried(self):
-        """Compiles it, and runs its tests. Returns what is wrong, and what was said, or nothing."""
-        with tempfile.TemporaryDirectory(prefix="refused-") as room:
-            repository.copy_crates(room, f"attempt: {' '.join(self.used)}")
-            folder = f"{room}/crates/attempt"
-            repository.write(f"{folder}/src/lib.rt", f"#![tactic(auto)]\n{self.text}{PASSES}")
-            path = f"{TOP}/tools/without-hint:{os.environ['PATH']}"
-            ran = subprocess.run(
-                ["rt", "try", "--test"], cwd=folder, env={**os.environ, "PATH": path}, stdin=subprocess.DEVNULL,
-                stdout=subprocess.PIPE, stderr=subprocess.STDOUT, text=True, errors="replace", check=False)
-        why = self.differs(ran.returncode, ran.stdout)
-        return f"{self.place}: {why}\n" + re.sub("(?m)^", "    ", ran.stdout.rstrip("\n")) if why else ""
+    def are_wanted(self, errors):
+        """Whether the compiler's errors are those of its first lines, in their order, and no more."""
+        return len(errors) == len(self.errors) and all(want in it for want, it in zip(self.errors, errors))
 
     def differs(self, status, said):
-        """Returns in what that which came of it isn't what its first lines say, or ""."""
+        """Returns in what that which came of it alone isn't what its first lines say, or ""."""
         if self.compiles:
-            has_passed = re.search(r"(?m)^test result: ok\. [1-9]\d* passed; 0 failed", said)
-            return "" if status == 0 and has_passed else "it has to compile"
+            return "" if status == 0 and ALL_PASSED.search(said) else "it has to compile"
         if status == 0:
             return "it compiles"
-        errors = [it for it in said.split("\n") if "error[" in it]
-        is_so = len(errors) == len(self.errors) and all(want in it for want, it in zip(self.errors, errors))
+        is_so = self.are_wanted([it for it in said.split("\n") if "error[" in it])
         return "" if is_so else "the compiler has to say what its first lines do, and no more"
+
+    def tried_alone(self):
+        """Compiles it alone. Returns what is wrong, and what was said, or nothing."""
+        _, status, said = compiled([self])
+        why = self.differs(status, said)
+        return f"{self.place}: {why}\n" + re.sub("(?m)^", "    ", said.rstrip("\n")) if why else ""
+
+
+def compiled(found):
+    """Compiles attempts as the modules of one library, and runs its tests. Returns the line on which each module
+    begins, the status, and what was said."""
+    starts, text = [], "#![tactic(auto)]\n"
+    for at, it in enumerate(found):
+        starts.append(text.count("\n") + 1)
+        text += f"mod attempt_{at} {{\n{it.text}{PASSES}}}\n"
+    with tempfile.TemporaryDirectory(prefix="refused-") as room:
+        used = dict.fromkeys(crate for it in found for crate in it.used)
+        repository.copy_crates(room, f"attempt: {' '.join(used)}")
+        folder = f"{room}/crates/attempt"
+        repository.write(f"{folder}/src/lib.rt", text)
+        path = f"{TOP}/tools/without-hint:{os.environ['PATH']}"
+        ran = subprocess.run(
+            ["rt", "try", "--test"], cwd=folder, env={**os.environ, "PATH": path}, stdin=subprocess.DEVNULL,
+            stdout=subprocess.PIPE, stderr=subprocess.STDOUT, text=True, errors="replace", check=False)
+    return starts, ran.returncode, ran.stdout
+
+
+def good_together(found):
+    """Compiles attempts together. Returns those of which came what has to."""
+    starts, status, said = compiled(found)
+    if found[0].compiles:
+        passed = {int(it) for it in PASSED.findall(said)} if status == 0 and ALL_PASSED.search(said) else {}
+        return [it for at, it in enumerate(found) if at in passed]
+    errors = [[] for _ in found]
+    for it in ERROR.finditer(said):
+        errors[bisect.bisect_right(starts, int(it[1])) - 1].append(it[0])
+    return [it for it, own in zip(found, errors) if status and it.are_wanted(own)]
+
+
+def tried(found):
+    """Compiles attempts that all have to compile, or all not, as few times as it takes. Returns what is wrong, and what
+    was said, a text for each of which something else came."""
+    left, good = found, found
+    while len(left) > 1 and good:
+        good = good_together(left)
+        left = [it for it in left if it not in good]
+    return [said for said in map(Attempt.tried_alone, left) if said]
 
 
 def attempts():
@@ -107,11 +157,12 @@ def run(given):
     found, wrong = read(given.names)
     if wrong:
         return counting.checked("refused", len(found), wrong)
-    failed = 0
+    kinds = [[it for it in found if it.compiles], [it for it in found if not it.compiles]]
     with concurrent.futures.ThreadPoolExecutor(len(os.sched_getaffinity(0))) as pool:
-        for said in pool.map(Attempt.tried, found):
-            failed += bool(said)
-            print(said, end="\n" if said else "", flush=True)
+        wrong = [said for group in pool.map(tried, kinds) for said in group]
+    for said in wrong:
+        print(said, flush=True)
+    failed = len(wrong)
     is_all = not given.names
     if is_all and not (any(it.compiles for it in found) and any(it.errors for it in found)):
         counting.refuse("refused", "of those that compile, and of those that don't, there has to be one")
