@@ -6,7 +6,6 @@ ghost use Rattle.agc_scene.specs.Events.{watched, watching_from};
 ghost use Rattle.agc_session.specs.Runs.{bench_requests};
 ghost use Rattle.agc_trace.specs.Following.{clock_requests};
 
-use crate::pen::Pen;
 use agc_clock::Asked;
 use agc_document::Bench;
 use agc_machine::Machine;
@@ -14,6 +13,7 @@ use agc_plan::Request;
 use agc_scenario::Timing;
 use agc_scene::{Event, Scene, Watched};
 use agc_session::{Follows, Progress, Source, follow_bench};
+use agc_spelling::Pen;
 use agc_text::Output;
 use agc_trace::{FollowsClock, follow_clock};
 use std::io::Write;

@@ -1,10 +1,10 @@
 // What a lane holds in a scene, and how it is told.
 use crate::labels::Labels;
-use crate::pen::Filling::{Number, Priority};
-use crate::pen::Pen;
 use agc_exec::Seat;
 use agc_plan::Alarm;
 use agc_scene::Scene;
+use agc_spelling::Filling::{Number, Priority};
+use agc_spelling::Pen;
 use std::io::Write;
 
 /// What a lane is of: the running job, a core set, a VAC area, or the tasks that wait.

@@ -2,9 +2,9 @@
 ghost use Rattle.std.specs.Prelude.{◌≡◌, IfErr};
 
 use crate::escaping::escaped;
-use crate::pen::{Filling, Pen};
 use agc_scenario::Scenario;
 use agc_session::RunFault;
+use agc_spelling::{Filling, Pen};
 use std::alloc::{AllocError, Global};
 use std::io::Write;
 

@@ -1,9 +1,9 @@
 // A lane of a picture over time: what is in it, column by column.
 use crate::held::{Held, Place, put_job, put_name};
 use crate::labels::Labels;
-use crate::pen::Filling::{Number, Seconds, Text};
-use crate::pen::Pen;
 use crate::scale::{COLUMN, Scale};
+use agc_spelling::Filling::{Number, Seconds, Text};
+use agc_spelling::Pen;
 use std::io::Write;
 
 /// How wide a letter of a name may be, in points.

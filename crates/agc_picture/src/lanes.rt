@@ -3,10 +3,9 @@ use crate::drawing::Draws;
 use crate::frame::{Column, column_at, put_head, width_of};
 use crate::held::{Held, PLACES, Place, full_table, held_in, put_job, put_name};
 use crate::labels::Labels;
-use crate::pen::Filling::{Number, Text};
-use crate::pen::Pen;
 use agc_scene::{Event, Scene};
-use agc_spelling::alarm_code;
+use agc_spelling::Filling::{Number, Text};
+use agc_spelling::{Pen, alarm_code};
 use std::io::Write;
 
 /// What is drawn of a scene: all lanes, those that have changed, or, as an era begins, these and

@@ -11,7 +11,6 @@ mod lane;
 mod lanes;
 pub mod laws;
 mod over_time;
-mod pen;
 mod scale;
 mod sheet;
 mod sizing;

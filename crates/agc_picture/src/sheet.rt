@@ -3,9 +3,9 @@ use crate::frame::begin_svg;
 use crate::held::{Place, put_name};
 use crate::labels::Labels;
 use crate::lane::Strip;
-use crate::pen::Filling::{Bytes, Number, Seconds, Text};
-use crate::pen::Pen;
 use crate::scale::{LEFT, Scale, short};
+use agc_spelling::Filling::{Bytes, Number, Seconds, Text};
+use agc_spelling::Pen;
 use std::io::Write;
 
 /// The fonts, the marks, and the colours: on light ground, and then those that are others on dark.

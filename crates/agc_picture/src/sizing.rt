@@ -2,11 +2,11 @@
 ghost use Rattle.std.specs.Prelude.{◌≡◌, IfErr};
 
 use crate::drawing::{Drawing, Draws};
-use crate::pen::Pen;
 use agc_document::Bench;
 use agc_scenario::Scenario;
 use agc_scene::{Event, Scene};
 use agc_session::{RunFault, Silent, follow_bench, machine_of};
+use agc_spelling::Pen;
 use agc_trace::follow_clock;
 use std::alloc::Global;
 use std::io;

@@ -3,12 +3,11 @@ use crate::drawing::Draws;
 use crate::held::{Held, PLACES, Place, full_table, held_in};
 use crate::labels::Labels;
 use crate::lane::Lane;
-use crate::pen::Filling::{Number, Seconds, Text};
-use crate::pen::Pen;
 use crate::scale::Scale;
 use crate::sheet::{put_foot, put_ground, put_head, strip_of};
 use agc_scene::{Event, Scene};
-use agc_spelling::alarm_code;
+use agc_spelling::Filling::{Number, Seconds, Text};
+use agc_spelling::{Pen, alarm_code};
 use std::alloc::{AllocError, Global};
 use std::io::Write;
 

@@ -3,11 +3,14 @@ use agc_text::Output;
 use std::io;
 use std::io::Write;
 
-/// What fills a gap of a text.
+/// What fills a gap of a text. Source: profile.
 #[derive(Clone, Copy)]
-pub(crate) enum Filling<'a> {
+pub enum Filling<'a> {
+    /// A text as it is.
     Text(&'a str),
+    /// Bytes as they are.
     Bytes(&'a [u8]),
+    /// A decimal number.
     Number(u64),
     /// Five octal digits at least.
     Octal(u16),
@@ -17,9 +20,9 @@ pub(crate) enum Filling<'a> {
     Seconds(u64),
 }
 
-/// A writer, and whether a write to it failed: nothing more is written then.
+/// A writer, and whether a write to it failed: nothing more is written then. Source: profile.
 #[derive(Drop)]
-pub(crate) struct Pen<'a, W> {
+pub struct Pen<'a, W> {
     writer: &'a mut W,
     failed: bool,
 }
@@ -48,28 +51,35 @@ fn put_filling<W: Write>(writer: &mut W, filling: Filling<'_>) -> io::Result<()>
 }
 
 impl<'a, W: Write> Pen<'a, W> {
-    /// Nothing is written yet.
-    pub(crate) fn new(writer: &'a mut W) -> Pen<'a, W> {
+    /// Nothing is written yet. Source: profile.
+    pub fn new(writer: &'a mut W) -> Pen<'a, W> {
         Pen {
             writer,
             failed: false,
         }
     }
 
-    /// Writes this, unless a write failed.
-    pub(crate) fn add(&mut self, filling: Filling<'_>) {
+    /// Writes this, unless a write failed. Source: profile.
+    pub fn add(&mut self, filling: Filling<'_>) {
         if !self.failed {
             self.failed = put_filling(self.writer, filling).is_err();
         }
     }
 
-    /// Writes a text.
-    pub(crate) fn text(&mut self, text: &str) {
+    /// Writes a text, unless a write failed. Source: profile.
+    pub fn text(&mut self, text: &str) {
         self.add(Filling::Text(text));
     }
 
-    /// Writes a text, each gap `{}` of which is filled by the next of these.
-    pub(crate) fn put(&mut self, text: &str, fillings: &[Filling<'_>]) {
+    /// Writes a text and what follows it, up to the first write that fails. Source: profile.
+    pub fn fill(&mut self, text: &str, filling: Filling<'_>) {
+        self.text(text);
+        self.add(filling);
+    }
+
+    /// Writes a text, each gap `{}` of which is filled by the next of these, up to the first write
+    /// that fails. Source: profile.
+    pub fn put(&mut self, text: &str, fillings: &[Filling<'_>]) {
         let mut rest = text;
         for filling in fillings {
             let (before, behind) = cut(rest);
@@ -80,8 +90,12 @@ impl<'a, W: Write> Pen<'a, W> {
         self.text(rest);
     }
 
-    /// Whether all that was to be written was.
-    pub(crate) fn end(&self) -> Result<(), Output> {
+    /// Whether all that was to be written was. Source: profile.
+    ///
+    /// # Errors
+    ///
+    /// Where a write failed.
+    pub fn end(&self) -> Result<(), Output> {
         if self.failed { Err(Output) } else { Ok(()) }
     }
 }
