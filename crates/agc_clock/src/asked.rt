@@ -13,7 +13,7 @@ pub enum Source {
 }
 
 /// A request, and who asks for it. Source: profile.
-#[derive(Clone, Copy, PartialEq, Eq, Debug)]
+#[derive(Clone, Copy, PartialEq, Eq)]
 pub struct Asked {
     pub request: Request,
     pub source: Source,

@@ -13,7 +13,7 @@ use agc_word::layout::{NEWJOB, SET_SIZE, area_of};
 /// The job in a core set: its number, 1 to 8; the address where it begins, or at which it sleeps;
 /// its priority, 1 to 31; and its VAC area, 1 to 5, or 0 for none. Source: the listings' EXECUTIVE
 /// section; numbers: profile.
-#[derive(Clone, Copy, PartialEq, Eq, Debug)]
+#[derive(Clone, Copy, PartialEq, Eq)]
 pub struct Seat {
     pub number: u16,
     pub at: u16,

@@ -236,7 +236,7 @@ impl Accounts {
 }
 
 /// What became of the pulses of all latches that were settled, per line. Source: profile.
-#[derive(Clone, Copy, PartialEq, Eq, Debug)]
+#[derive(Clone, Copy)]
 pub struct Settled {
     /// How many were posted. Source: profile.
     pub posted: [u64; 3],

@@ -5,7 +5,7 @@ use agc_plan::Alarm;
 
 /// Counts of served requests: a machine's since it was made, or those whose answers the holder of a
 /// share was told; each at most the allowance. Source: profile.
-#[derive(Clone, Copy, PartialEq, Eq, Debug)]
+#[derive(Clone, Copy, PartialEq, Eq)]
 pub struct Totals {
     /// All requests that were served. Refused ones are not counted.
     pub served: u64,

@@ -15,7 +15,7 @@ pub type Phases = [Phase; 6];
 /// What a restart keeps: the phases of the six restart groups, and the first, the second and the
 /// latest alarm code. Source: the listings' PHASE TABLE MAINTENANCE section; what FAILREG keeps is
 /// profile.
-#[derive(Clone, Copy, PartialEq, Eq, Debug)]
+#[derive(Clone, Copy)]
 pub struct Base {
     phases: Phases,
     codes: [Option<Code>; 3],

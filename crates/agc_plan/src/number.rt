@@ -4,7 +4,7 @@ use std::marker::Model;
 
 /// A job's priority, 1 to 31: the greater is the more urgent. Source: the listings' EXECUTIVE
 /// section.
-#[derive(Clone, Copy, PartialEq, Eq, Debug)]
+#[derive(Clone, Copy, PartialEq, Eq)]
 pub struct Priority {
     value: u8,
 }
@@ -85,7 +85,7 @@ impl Address {
 }
 
 /// A job's number, 1 to 8: a living job keeps it wherever its core set goes. Source: profile.
-#[derive(Clone, Copy, PartialEq, Eq, Debug)]
+#[derive(Clone, Copy, PartialEq, Eq)]
 pub struct JobNo {
     value: u8,
 }
@@ -126,7 +126,7 @@ impl JobNo {
 }
 
 /// A delay of the Waitlist in centiseconds, 1 to 16250. Source: profile.
-#[derive(Clone, Copy, PartialEq, Eq, Debug)]
+#[derive(Clone, Copy, PartialEq, Eq)]
 pub struct Delay {
     value: u16,
 }
@@ -166,7 +166,7 @@ impl Delay {
 }
 
 /// A restart group, 1 to 6. Source: the listings' PHASE TABLE MAINTENANCE section.
-#[derive(Clone, Copy, PartialEq, Eq, Debug)]
+#[derive(Clone, Copy, PartialEq, Eq)]
 pub struct Group {
     number: u8,
 }
@@ -206,7 +206,7 @@ impl Group {
 }
 
 /// The phase of a restart group, 0 to 127; 0 is inactive. Source: profile.
-#[derive(Clone, Copy, PartialEq, Eq, Debug)]
+#[derive(Clone, Copy, PartialEq, Eq)]
 pub struct Phase {
     value: u8,
 }
@@ -246,7 +246,7 @@ impl Phase {
 }
 
 /// The place of a job's work word, 1 to 6: MPAC+1 to MPAC+6. Source: profile.
-#[derive(Clone, Copy, PartialEq, Eq, Debug)]
+#[derive(Clone, Copy, PartialEq, Eq)]
 pub struct Place {
     offset: u8,
 }
@@ -286,7 +286,7 @@ impl Place {
 }
 
 /// How many requests a log may hold, 1 to 1,000,000. Source: profile.
-#[derive(Clone, Copy, PartialEq, Eq, Debug)]
+#[derive(Clone, Copy, PartialEq, Eq)]
 pub struct Limit {
     value: u32,
 }

@@ -17,7 +17,7 @@ pub enum Alarm {
 
 /// An alarm code as FAILREG holds it: 01107, 01201, 01202 or 01203. Source: the listings' FRESH
 /// START AND RESTART section.
-#[derive(Clone, Copy, PartialEq, Eq, Debug)]
+#[derive(Clone, Copy, PartialEq, Eq)]
 pub enum Code {
     /// The phase words that were found at power-up don't agree, or a phase is above 127.
     C1107,
@@ -31,7 +31,7 @@ pub enum Code {
 
 /// What a request is answered, but for the tasks that fired in a tick. It is small: what fired goes
 /// into a list that the caller lends. Source: profile.
-#[derive(Clone, Copy, PartialEq, Eq, Debug)]
+#[derive(Clone, Copy, PartialEq, Eq)]
 pub enum Reply {
     /// A job with this number was established.
     Established(JobNo),

@@ -7,7 +7,7 @@ use std::marker::Model;
 
 /// Where a job begins: its address, and the word for its bank. Source: the listings' EXECUTIVE
 /// section.
-#[derive(Clone, Copy, PartialEq, Eq, Debug)]
+#[derive(Clone, Copy, PartialEq, Eq)]
 pub struct Entry {
     /// Where the job begins.
     pub at: Address,
@@ -17,7 +17,7 @@ pub struct Entry {
 
 /// A task of the Waitlist: its address, and the word for its bank. Source: the listings' WAITLIST
 /// section.
-#[derive(Clone, Copy, PartialEq, Eq, Debug)]
+#[derive(Clone, Copy, PartialEq, Eq)]
 pub struct Task {
     /// Where the task begins.
     pub at: Address,
@@ -26,7 +26,7 @@ pub struct Task {
 }
 
 /// What a plan has done when a task fires, or for a key or radar pulse. Source: profile.
-#[derive(Clone, Copy, PartialEq, Eq, Debug)]
+#[derive(Clone, Copy, PartialEq, Eq)]
 pub enum Action {
     /// Nothing is done.
     Nothing,
@@ -41,7 +41,7 @@ pub enum Action {
 }
 
 /// How the job of a phase is established: without a VAC area, or with one. Source: profile.
-#[derive(Clone, Copy, PartialEq, Eq, Debug)]
+#[derive(Clone, Copy, PartialEq, Eq)]
 pub enum JobStart {
     /// Without a VAC area, of this priority.
     Novac(Priority, Entry),
@@ -50,7 +50,7 @@ pub enum JobStart {
 }
 
 /// What may be asked of the machine. Source: at each request.
-#[derive(Clone, Copy, PartialEq, Eq, Debug)]
+#[derive(Clone, Copy, PartialEq, Eq)]
 pub enum Request {
     /// Establish a job without a VAC area, of this priority. Source: the listings' EXECUTIVE
     /// section, as for all up to `Change`.
@@ -137,7 +137,7 @@ impl Request {
 
 /// What begins again with a restart while a group is in a phase: a job, a task, both or neither.
 /// Contracts see its four parts. Source: profile.
-#[derive(Clone, Copy, PartialEq, Eq, Debug)]
+#[derive(Clone, Copy, PartialEq, Eq)]
 pub struct PhaseEntry {
     group: Group,
     phase: Phase,

@@ -9,7 +9,7 @@ use std::marker::Model;
 
 /// With which request a job or a task came, 0 being power-up; and whether with the restart of it.
 /// Source: profile.
-#[derive(Clone, Copy, Default, PartialEq, Eq, Debug)]
+#[derive(Clone, Copy, Default)]
 pub struct Since {
     pub request: u64,
     pub restart: bool,

@@ -12,7 +12,7 @@ use std::marker::Model;
 
 /// A task that waits, and in how many centiseconds it is due, 0 to 16,250. Source: the listings'
 /// WAITLIST section.
-#[derive(Clone, Copy, PartialEq, Eq, Debug)]
+#[derive(Clone, Copy)]
 pub struct Waiting {
     pub task: Task,
     pub distance: u32,

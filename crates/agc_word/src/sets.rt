@@ -3,7 +3,7 @@ ghost use Rattle.agc_word.specs.Profiles.{count_of};
 
 /// How many core sets a computer has, which says how many words its erasable memory has. Source:
 /// profile.
-#[derive(Clone, Copy, PartialEq, Eq, Debug)]
+#[derive(Clone, Copy, PartialEq, Eq)]
 pub enum Sets {
     /// Seven core sets, 132 words.
     Seven,
