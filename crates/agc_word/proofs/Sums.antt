@@ -1,5 +1,8 @@
 -- Laws of values, complements and sums of words.
-use Rattle.std.proofs.Common.{◌≡◌, ℕ, ℤ, pos, neg_ℤ, ◌+◌, ◌<◌, ◌≤◌, ◌+ℤ◌, ◌-ℤ◌, ◌≤ℤ◌, ◌<ℤ◌, ◌⊎◌, true, ◌∙◌, ap, arith, inl, inr}
+use Rattle.std.proofs.Common.{◌≡◌, ℕ, ℤ, pos, neg_ℤ, ◌+◌, ◌<◌, ◌≤◌, ◌+ℤ◌, ◌-ℤ◌, ◌≤ℤ◌, ◌<ℤ◌, ◌⊎◌, true, w32, to_z, of_z, refl, ◌∙◌, ap, subst, arith, inl, inr}
+use lib.IntN.{nat_abs}
+use Rattle.std.specs.Int.Signed.{le_z, le_z_yes}
+use Rattle.std.proofs.lemmas.Float.{T_from_true}
 use Rattle.std.proofs.lemmas.Bool.{cases_lt}
 use Rattle.std.proofs.lemmas.Int.{ints}
 use Rattle.agc_word.specs.Words.{value_of, complement, sum_of, carried_round}
@@ -71,3 +74,77 @@ value_of-below a b m r x y p q low e f =
 pub value_of-within : (a b m : ℕ) (x y : ℤ) → a < 32768 → b < 32768 → x ≡ value_of a → y ≡ value_of b → (x +ℤ y) <ℤ pos 16384 → neg_ℤ (pos 16384) <ℤ (x +ℤ y) → m ≡ carried_round (a + b) → value_of m ≡ value_of a +ℤ value_of b
 value_of-within a b m x y h k p q high low e =
     ap value_of e ∙ value_of-carried_round a b x y h k p q high low ∙ ap (λ z. z +ℤ y) p ∙ ap (λ z. value_of a +ℤ z) q
+
+-- the sum of two values, as the code computes it
+abbrev pub computed : ℤ → ℤ → ℤ
+computed x y = to_z w32 (of_z w32 (to_z w32 (of_z w32 x) +ℤ to_z w32 (of_z w32 y)))
+
+-- what is left of a sum above the range
+abbrev pub left_above : ℤ → ℤ → ℕ
+left_above x y = nat_abs (to_z w32 (of_z w32 (computed x y -ℤ pos 16384)))
+
+-- what is left of a sum below the range
+abbrev pub left_below : ℤ → ℤ → ℕ
+left_below x y = nat_abs (to_z w32 (of_z w32 (to_z w32 (of_z w32 (pos 0 -ℤ computed x y)) -ℤ pos 16384)))
+
+-- a value of a word
+abbrev pub IsValue : ℤ → Type 0
+IsValue x = (neg_ℤ (pos 16383) ≤ℤ x) × (x ≤ℤ pos 16383)
+
+pub computed_is : (x y : ℤ) → IsValue x → IsValue y → computed x y ≡ x +ℤ y
+computed_is x y p q = grind (arith, ints)
+
+above_is : (s z : ℤ) (n : ℕ) → pos 16384 ≤ℤ s → s ≤ℤ pos 32766 → z ≡ s → n ≡ nat_abs (to_z w32 (of_z w32 (z -ℤ pos 16384))) → pos n ≡ s -ℤ pos 16384
+above_is s z n low high e is = grind (arith, ints)
+
+below_is : (s z : ℤ) (n : ℕ) → s ≤ℤ neg_ℤ (pos 16384) → neg_ℤ (pos 32766) ≤ℤ s → z ≡ s → n ≡ nat_abs (to_z w32 (of_z w32 (to_z w32 (of_z w32 (pos 0 -ℤ z)) -ℤ pos 16384))) → pos n ≡ neg_ℤ s -ℤ pos 16384
+below_is s z n high low e is = grind (arith, ints)
+
+apart : (s : ℤ) → pos 16384 ≤ℤ s → s ≤ℤ neg_ℤ (pos 16384) → ⊥
+apart s high low = omega (arith, ints)
+
+-- the values of two words, in place of what they are
+of_words : (P : ℤ → Type 0) (a b : ℕ) (x y : ℤ) → x ≡ value_of a → y ≡ value_of b → P (x +ℤ y) → P (value_of a +ℤ value_of b)
+of_words P a b x y p q holds = subst (λ z. P (value_of a +ℤ z)) q (subst (λ z. P (z +ℤ y)) p holds)
+
+-- what is left of a sum above the range
+pub record Above (a b r : ℕ) : Type 0 where
+  pub sum : (r, true) ≡ sum_of a b
+  pub value : value_of r ≡ value_of a +ℤ value_of b -ℤ pos 16384
+  pub range : r < 32768
+  pub not_below : (value_of a +ℤ value_of b) ≤ℤ neg_ℤ (pos 16384) → ⊥
+
+pub above : (a b : ℕ) (x y : ℤ) → x ≡ value_of a → y ≡ value_of b → IsValue x → IsValue y → le_z (pos 16384) (computed x y) ≡ true → Above a b (left_above x y)
+above a b x y p q of_x of_y over =
+    let e : computed x y ≡ x +ℤ y = computed_is x y of_x of_y in
+    let low : pos 16384 ≤ℤ (x +ℤ y) = subst (λ z. pos 16384 ≤ℤ z) e (le_z_yes (T_from_true (le_z (pos 16384) (computed x y)) over)) in
+    let high : (x +ℤ y) ≤ℤ pos 32766 = omega (arith, ints, of_x, of_y) in
+    let left : pos (left_above x y) ≡ x +ℤ y -ℤ pos 16384 = above_is (x +ℤ y) (computed x y) (left_above x y) low high e refl in
+    let small : left_above x y < 16384 = below_half (x +ℤ y) (left_above x y) high left in
+    record {
+      sum = sum_of-above a b (left_above x y) x y p q low left;
+      value = value_of-low (left_above x y) small ∙ left ∙ of_words (λ s. x +ℤ y -ℤ pos 16384 ≡ s -ℤ pos 16384) a b x y p q refl;
+      range = omega (arith, small);
+      not_below = apart (value_of a +ℤ value_of b) (of_words (λ s. pos 16384 ≤ℤ s) a b x y p q low);
+    }
+  where
+    below_half : (s : ℤ) (n : ℕ) → s ≤ℤ pos 32766 → pos n ≡ s -ℤ pos 16384 → n < 16384
+    below_half s n high is = omega (arith, ints)
+
+-- the complement of what is left of a sum below the range
+pub record Below (a b m r : ℕ) : Type 0 where
+  pub sum : (m, true) ≡ sum_of a b
+  pub value : value_of m ≡ value_of a +ℤ value_of b +ℤ pos 16384
+  pub not_above : pos 16384 ≤ℤ (value_of a +ℤ value_of b) → ⊥
+
+pub below : (a b m : ℕ) (x y : ℤ) → x ≡ value_of a → y ≡ value_of b → IsValue x → IsValue y → le_z (computed x y) (neg_ℤ (pos 16384)) ≡ true → m ≡ complement (left_below x y) → Below a b m (left_below x y)
+below a b m x y p q of_x of_y under turned =
+    let e : computed x y ≡ x +ℤ y = computed_is x y of_x of_y in
+    let high : (x +ℤ y) ≤ℤ neg_ℤ (pos 16384) = subst (λ z. z ≤ℤ neg_ℤ (pos 16384)) e (le_z_yes (T_from_true (le_z (computed x y) (neg_ℤ (pos 16384))) under)) in
+    let low : neg_ℤ (pos 32766) ≤ℤ (x +ℤ y) = omega (arith, ints, of_x, of_y) in
+    let left : pos (left_below x y) ≡ neg_ℤ (x +ℤ y) -ℤ pos 16384 = below_is (x +ℤ y) (computed x y) (left_below x y) high low e refl in
+    record {
+      sum = ap (λ (n : ℕ). (n, true)) turned ∙ sum_of-below a b (left_below x y) x y p q high left;
+      value = value_of-below a b m (left_below x y) x y p q low turned left;
+      not_above = λ over. apart (value_of a +ℤ value_of b) over (of_words (λ s. s ≤ℤ neg_ℤ (pos 16384)) a b x y p q high);
+    }
