@@ -1,6 +1,10 @@
 -- Words whose core sets and Waitlist were cleared.
-use Rattle.std.proofs.Common.{◌≡◌, ℕ, ◌+◌, ◌-◌, ◌/◌, ◌<◌, List, ◌∷◌, Option, length, drop, get_or, replicate, add-one, drop-cons, refl, ap, sym, ◌∙◌}
+use Rattle.std.proofs.Common.{◌≡◌, ℕ, ◌+◌, ◌-◌, ◌/◌, ◌<◌, ◌≤◌, List, [], ◌∷◌, Option, length, drop, get_or, replicate, add-one, drop-cons, refl, ap, sym, subst, ◌∙◌}
+use Rattle.std.proofs.lemmas.List.{drop_all}
 use Rattle.agc_word.specs.Layout.{sets_in, others_size, set_size}
+use Rattle.agc_word.specs.declared.sets.Sets.{Sets}
+use Rattle.agc_word.specs.declared.sets.Sets.TheVariants.{Seven, Eight}
+use Rattle.agc_word.specs.Profiles.{size_of, count_of}
 use Rattle.agc_plan.specs.Begins.{Begins}
 use Rattle.agc_plan.specs.Eras.{Work, no_work, active}
 use Rattle.agc_plan.specs.Groups.{begun_from, group_begun, places_from}
@@ -30,6 +34,19 @@ pub one_more : (entries : List Begins) (phases : List ℕ) (k phase group : ℕ)
 one_more entries phases k phase group entry work places lt phase_is group_is entry_is =
     one_more_is entries (k + 1) (drop k phases) (drop (k + 1) phases) phase entry work places
     (rw (add-one) (drop-cons phases k phase lt) ∙ ap (λ (p : ℕ). p ∷ drop (k + 1) phases) (sym phase_is)) (entry_is ∙ ap (λ (g : ℕ). active entries g phase) group_is)
+
+-- words that were made for so many core sets are for as many, whatever they hold
+pub sets_made : (sets : Sets) (made new : List ℕ) → made ≡ replicate (size_of sets) 0 → length new ≡ length made → sets_in new ≡ count_of sets
+sets_made Seven made new is same = ap (λ (n : ℕ). (n - others_size) / set_size) (same ∙ ap length is)
+sets_made Eight made new is same = ap (λ (n : ℕ). (n - others_size) / set_size) (same ∙ ap length is)
+
+-- all groups have begun
+pub all_begun : (entries : List Begins) (phases : List ℕ) (k group : ℕ) (words : List ℕ) (work whole : Work) (places everywhere : List ℕ) → length phases ≤ k → Stands words work places → begun_from entries group (drop k phases) work ≡ whole → places_from entries group (drop k phases) work places ≡ everywhere → Stands words whole everywhere
+all_begun entries phases k group words work whole places everywhere past stands works seats =
+    let none : drop k phases ≡ [] = drop_all k phases past in
+    let work_is : work ≡ whole = ap (λ (rest : List ℕ). begun_from entries group rest work) (sym none) ∙ works in
+    let places_are : places ≡ everywhere = ap (λ (rest : List ℕ). places_from entries group rest work places) (sym none) ∙ seats in
+    subst (λ (p : List ℕ). Stands words whole p) places_are (subst (λ (w : Work). Stands words w places) work_is stands)
 
 -- nobody lives, nothing waits, and phases and codes stay
 pub record Cleared (old new : List ℕ) : Type 0 where
