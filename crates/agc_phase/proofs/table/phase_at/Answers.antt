@@ -1,4 +1,4 @@
-use Rattle.std.proofs.Common.{◌≡◌, ◌≤◌, sym, ◌∙◌, arith}
+use Rattle.std.proofs.Common.{◌≡◌, ◌≤◌, ◌∙◌, arith}
 use Rattle.agc_phase.specs.Image.{phase_in, phase_words}
 use Rattle.agc_phase.proofs.Reading.{phase_in-is}
 use Rattle.agc_phase.proofs.table.phase_at.Goals as goal
