@@ -115,22 +115,28 @@ device d = do
   pulses ← read_at (number_of key.Pulses) key.Pulses ms
   Some (record { line = line; pulses = pulses })
 
--- what a bench has once
-unfoldable pub settings_in : Members → Option Settings
-settings_in ms = do
+-- the numbers of a bench
+unfoldable pub numbers_in : Members → Option (ℕ × ℕ × ℕ × ℕ)
+numbers_in ms = do
   sets ← read_or 7 (number_of key.Sets) (value_of key.Sets ms)
   limit ← read_or 1000 (number_of key.Limit) (value_of key.Limit ms)
   allowance ← read_or 1000000 (number_of key.Allowance) (value_of key.Allowance ms)
   attends ← read_or 16 (number_of key.Attends) (value_of key.Attends ms)
+  Some (sets, limit, allowance, attends)
+
+-- what a bench has once
+unfoldable pub settings_in : Members → Option Settings
+settings_in ms = do
+  numbers ← numbers_in ms
   pressed ← read_or (codes "nothing" ∷ []) (some_texts key.Key) (value_of key.Key ms)
   radar ← read_or (codes "nothing" ∷ []) (some_texts key.Radar) (value_of key.Radar ms)
   power ← read_or None (given (items_of as_str key.Power)) (value_of key.Power ms)
   Some (record {
-    sets = sets;
+    sets = numbers.0;
     names_sets = is_some (value_of key.Sets ms);
-    limit = limit;
-    allowance = allowance;
-    attends = attends;
+    limit = numbers.1;
+    allowance = numbers.2;
+    attends = numbers.3;
     key = pressed;
     radar = radar;
     power = power;
@@ -139,18 +145,12 @@ settings_in ms = do
 -- what a bench has many of
 unfoldable pub lists_in : Members → Option Lists
 lists_in ms = do
-  script ← read_or [] (items_of as_str key.Script) (value_of key.Script ms)
+  first ← read_or [] (items_of as_str key.Script) (value_of key.Script ms)
   rows ← read_or [] (items_of row key.Tasks) (value_of key.Tasks ms)
-  entries ← read_or [] (items_of entry key.Phases) (value_of key.Phases ms)
-  workers ← read_or [] (items_of worker key.Workers) (value_of key.Workers ms)
-  devices ← read_or [] (items_of device key.Devices) (value_of key.Devices ms)
-  Some (record {
-    script = script;
-    rows = rows;
-    entries = entries;
-    workers = workers;
-    devices = devices;
-  })
+  phases ← read_or [] (items_of entry key.Phases) (value_of key.Phases ms)
+  askers ← read_or [] (items_of worker key.Workers) (value_of key.Workers ms)
+  lines ← read_or [] (items_of device key.Devices) (value_of key.Devices ms)
+  Some (record { script = first; rows = rows; entries = phases; workers = askers; devices = lines })
 
 -- the numbers and texts of a bench
 unfoldable pub texts_in : Members → Option Texts

@@ -8,7 +8,8 @@ ghost use Rattle.agc_plan.specs.Ranges.{IsBetween};
 ghost use Rattle.agc_document.specs.Gives.{AreNoted, GivesOrKey};
 ghost use Rattle.agc_document.specs.Keys.{least, most, value_of, read_at, read_or, items_of};
 ghost use Rattle.agc_document.specs.Keys.{given, some_texts, row, row_in, entry, entry_in};
-ghost use Rattle.agc_document.specs.Keys.{worker, device, settings_in, lists_in, texts_in};
+ghost use Rattle.agc_document.specs.Keys.{worker, device, numbers_in, settings_in, lists_in};
+ghost use Rattle.agc_document.specs.Keys.{texts_in};
 ghost use Rattle.agc_document.specs.declared.key.Key.TheVariants as key_of;
 
 use crate::fault::BenchFault;
@@ -38,11 +39,10 @@ pub fn row_in<'a>(
     let at = text_at(table, Key::At, place, notes);
     let bank = text_at(table, Key::Bank, place, notes);
     let actions = some_texts_at(alloc, table, Key::Action, place, notes);
-    Ok(RowTexts {
-        at: at?,
-        bank: bank?,
-        actions: actions?,
-    })
+    match (at, bank, actions) {
+        (Ok(at), Ok(bank), Ok(actions)) => Ok(RowTexts { at, bank, actions }),
+        (Err(fault), _, _) | (_, Err(fault), _) | (_, _, Err(fault)) => Err(fault),
+    }
 }
 
 impl<'a> FromData<'a> for RowTexts<'a> {
@@ -59,9 +59,7 @@ impl<'a> FromData<'a> for RowTexts<'a> {
         let table = table_at(value, key, place, notes)?;
         let place = place.of_table();
         let known = has_only(table, Level::Task, place, notes);
-        let row = row_in(alloc, table, place, notes);
-        known?;
-        row
+        known.and(row_in(alloc, table, place, notes))
     }
 }
 
@@ -80,12 +78,18 @@ pub fn entry_in<'a>(
     let phase = number_at(table, Key::Phase, place, notes);
     let job = optional_text(table, Key::Job, place, notes);
     let task = optional_text(table, Key::Listing, place, notes);
-    Ok(EntryTexts {
-        group: group? as u8,
-        phase: phase? as u8,
-        job: job?,
-        task: task?,
-    })
+    match (group, phase, job, task) {
+        (Ok(group), Ok(phase), Ok(job), Ok(task)) => Ok(EntryTexts {
+            group: group as u8,
+            phase: phase as u8,
+            job,
+            task,
+        }),
+        (Err(fault), _, _, _) => Err(fault),
+        (_, Err(fault), _, _) => Err(fault),
+        (_, _, Err(fault), _) => Err(fault),
+        (_, _, _, Err(fault)) => Err(fault),
+    }
 }
 
 impl<'a> FromData<'a> for EntryTexts<'a> {
@@ -102,9 +106,7 @@ impl<'a> FromData<'a> for EntryTexts<'a> {
         let table = table_at(value, key, place, notes)?;
         let place = place.of_table();
         let known = has_only(table, Level::Phase, place, notes);
-        let entry = entry_in(table, place, notes);
-        known?;
-        entry
+        known.and(entry_in(table, place, notes))
     }
 }
 
@@ -122,9 +124,8 @@ impl<'a> FromData<'a> for WorkerTexts<'a> {
         let table = table_at(value, key, place, notes)?;
         let place = place.of_table();
         let known = has_only(table, Level::Worker, place, notes);
-        let script = script_at(alloc, table, place, notes);
-        known?;
-        Ok(WorkerTexts { script: script? })
+        let script = known.and(script_at(alloc, table, place, notes))?;
+        Ok(WorkerTexts { script })
     }
 }
 
@@ -142,13 +143,15 @@ impl<'a> FromData<'a> for DeviceTexts<'a> {
         let table = table_at(value, key, place, notes)?;
         let place = place.of_table();
         let known = has_only(table, Level::Device, place, notes);
-        let line = text_at(table, Key::Line, place, notes);
+        let line = known.and(text_at(table, Key::Line, place, notes));
         let pulses = number_at(table, Key::Pulses, place, notes);
-        known?;
-        Ok(DeviceTexts {
-            line: line?,
-            pulses: pulses? as u32,
-        })
+        match (line, pulses) {
+            (Ok(line), Ok(pulses)) => Ok(DeviceTexts {
+                line,
+                pulses: pulses as u32,
+            }),
+            (Err(fault), _) | (_, Err(fault)) => Err(fault),
+        }
     }
 }
 
@@ -235,6 +238,32 @@ fn names_sets(table: &Table) -> bool
     value_at(table, Key::Sets.row().name).is_some()
 }
 
+/// The numbers of a bench: its core sets, its limit, its allowance, and how often a thread attends.
+#[tactic(auto, unfolding(crate::specs::Keys::numbers_in))]
+fn numbers_in<'a>(
+    table: &'a Table,
+    notes: &mut Notes<'a>,
+) -> Result<(Sets, u32, u64, u32), BenchFault>
+    ensures value { GivesOrKey (λ n. (count_of n.0, n.1, n.2, n.3)) result
+        (numbers_in (table_view table.now)) notes.new.keys.items }
+    ensures range { IfOk result (λ n. (n.2 ≤ 9223372036854775807) × (n.3 ≤ 1000)) }
+    ensures kept { AreNoted notes.old.keys.items → AreNoted notes.new.keys.items }
+{
+    let sets = number_or(table, Key::Sets, 7, notes);
+    let limit = number_or(table, Key::Limit, 1000, notes);
+    let allowance = number_or(table, Key::Allowance, 1_000_000, notes);
+    let attends = number_or(table, Key::Attends, 16, notes);
+    match (sets, limit, allowance, attends) {
+        (Ok(sets), Ok(limit), Ok(allowance), Ok(attends)) => {
+            Ok((sets_for(sets), limit as u32, allowance, attends as u32))
+        }
+        (Err(fault), _, _, _) => Err(fault),
+        (_, Err(fault), _, _) => Err(fault),
+        (_, _, Err(fault), _) => Err(fault),
+        (_, _, _, Err(fault)) => Err(fault),
+    }
+}
+
 /// What a bench has once, of the table of a document.
 #[tactic(auto, unfolding(crate::specs::Keys::settings_in))]
 pub fn settings_in<'a>(
@@ -246,23 +275,26 @@ pub fn settings_in<'a>(
         notes.new.keys.items }
     ensures kept { AreNoted notes.old.keys.items → AreNoted notes.new.keys.items }
 {
-    let sets = number_or(table, Key::Sets, 7, notes);
-    let limit = number_or(table, Key::Limit, 1000, notes);
-    let allowance = number_or(table, Key::Allowance, 1_000_000, notes);
-    let attends = number_or(table, Key::Attends, 16, notes);
+    let numbers = numbers_in(table, notes);
     let key = pulse_at(alloc, table, Key::Key, notes);
     let radar = pulse_at(alloc, table, Key::Radar, notes);
     let power = power_at(alloc, table, notes);
-    Ok(Settings {
-        sets: sets_for(sets?),
-        names_sets: names_sets(table),
-        limit: limit? as u32,
-        allowance: allowance?,
-        attends: attends? as u32,
-        key: key?,
-        radar: radar?,
-        power: power?,
-    })
+    match (numbers, key, radar, power) {
+        (Ok((sets, limit, allowance, attends)), Ok(key), Ok(radar), Ok(power)) => Ok(Settings {
+            sets,
+            names_sets: names_sets(table),
+            limit,
+            allowance,
+            attends,
+            key,
+            radar,
+            power,
+        }),
+        (Err(fault), _, _, _) => Err(fault),
+        (_, Err(fault), _, _) => Err(fault),
+        (_, _, Err(fault), _) => Err(fault),
+        (_, _, _, Err(fault)) => Err(fault),
+    }
 }
 
 #[tactic(auto, unfolding(crate::specs::Keys::lists_in))]
@@ -280,13 +312,18 @@ fn lists_in<'a>(
     let entries = items_or_none(alloc, table, Key::Phases, notes);
     let workers = items_or_none(alloc, table, Key::Workers, notes);
     let devices = items_or_none(alloc, table, Key::Devices, notes);
-    Ok(Lists {
-        script: script?,
-        rows: rows?,
-        entries: entries?,
-        workers: workers?,
-        devices: devices?,
-    })
+    match (script, rows, entries, workers, devices) {
+        (Ok(script), Ok(rows), Ok(entries), Ok(workers), Ok(devices)) => Ok(Lists {
+            script,
+            rows,
+            entries,
+            workers,
+            devices,
+        }),
+        (Err(fault), _, _, _, _) | (_, Err(fault), _, _, _) => Err(fault),
+        (_, _, Err(fault), _, _) | (_, _, _, Err(fault), _) => Err(fault),
+        (_, _, _, _, Err(fault)) => Err(fault),
+    }
 }
 
 /// The numbers and texts of a document. A fault `Key` where a key or the kind, range or length of
@@ -302,9 +339,8 @@ pub(crate) fn texts_in<'a>(
     let known = has_only(table, Level::Bench, Place::Whole, notes);
     let settings = settings_in(alloc, table, notes);
     let lists = lists_in(alloc, table, notes);
-    known?;
-    Ok(Texts {
-        settings: settings?,
-        lists: lists?,
-    })
+    match (known.and(settings), lists) {
+        (Ok(settings), Ok(lists)) => Ok(Texts { settings, lists }),
+        (Err(fault), _) | (_, Err(fault)) => Err(fault),
+    }
 }
