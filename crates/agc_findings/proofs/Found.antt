@@ -1,6 +1,6 @@
 -- What is found of a document.
 use Rattle.std.proofs.Common.{◌≡◌, ◌∙◌, ℕ, ◌+◌, ◌≤◌, ◌<◌, List, [], ◌∷◌, ◌++◌, length, map, take, get_or, Some, None, sym, ap, ap₂, subst, append-nil, arith}
-use Rattle.std.proofs.lemmas.List.{map-append, take_more}
+use Rattle.std.proofs.lemmas.List.{map-append, take_more, length_push}
 use Rattle.std.proofs.lemmas.List.Elements.{All-nil, All-push}
 use Rattle.std.proofs.lemmas.List.Sorted.{All-permutation, IsPermutation-refl, IsPermutation-map, IsPermutation-append}
 use Rattle.std.specs.List.{All}
@@ -61,10 +61,17 @@ pub found_both : (document : List ℕ) (fs ts gs : List Found) → gs ≡ fs ++ 
 found_both document fs ts gs is some few few_texts h t = record { front = fs; texts = ts; is = is; some = some; few = few; few_texts = few_texts; of_fault = h; of_texts = t }
 
 -- what one finding more says
-pub says_more : {N : Type 0} (of : N → Said) (ns : List N) (i : ℕ) (n : N) (fs gs : List Found) (f : Found) → i < length ns → n ≡ get_or ns i n → map said fs ≡ map of (take i ns) → said f ≡ of n → gs ≡ fs ++ f ∷ [] → map said gs ≡ map of (take (i + 1) ns)
-says_more of ns i n fs gs f l at is one more =
-    ap (map said) more ∙ map-append said fs (f ∷ []) ∙ ap₂ (λ x y. x ++ y ∷ []) is (one ∙ ap of at)
-    ∙ sym (ap (map of) (take_more ns i n l) ∙ map-append of (take i ns) (get_or ns i n ∷ []))
+pub says_more : {N : Type 0} (of : N → Said) (ns : List N) (i : ℕ) (d : N) (fs gs : List Found) (f : Found) → i < length ns → map said fs ≡ map of (take i ns) → said f ≡ of (get_or ns i d) → gs ≡ fs ++ f ∷ [] → map said gs ≡ map of (take (i + 1) ns)
+says_more of ns i d fs gs f l is one more =
+    ap (map said) more ∙ map-append said fs (f ∷ []) ∙ ap₂ (λ x y. x ++ y ∷ []) is one
+    ∙ sym (ap (map of) (take_more ns i d l) ∙ map-append of (take i ns) (get_or ns i d ∷ []))
+
+-- one finding more of a fault, and their number
+pub found_more : (document : List ℕ) (k : BenchFault) (fs gs : List Found) (f : Found) → All (IsFound document k) fs → IsFound document k f → gs ≡ fs ++ f ∷ [] → All (IsFound document k) gs
+found_more document k fs gs f all one is = subst (All (IsFound document k)) (sym is) (All-push (IsFound document k) fs f all one)
+
+pub more_found : (n : ℕ) (fs gs : List Found) (f : Found) → length fs ≡ n → gs ≡ fs ++ f ∷ [] → length gs ≡ n + 1
+more_found n fs gs f so_far is = ap length is ∙ length_push fs f ∙ ap (λ m. m + 1) so_far
 
 -- what findings say in another order, two lists of them, and one alone
 pub says_in_order : (ss : List Said) (fs gs : List Found) → map said fs ≡ ss → IsPermutation fs gs → IsPermutation ss (map said gs)

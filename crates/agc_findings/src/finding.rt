@@ -7,7 +7,7 @@ ghost use Rattle.agc_findings.specs.Findings.{IsFound, AreFound, say, said, of_k
 ghost use Rattle.agc_findings.specs.declared.wrong.Wrong.TheVariants as wrong_of;
 ghost use Rattle.agc_document.specs.declared.fault.BenchFault.TheVariants as refusal;
 
-use crate::locate::{Spot, Way, locate_all};
+use crate::locate::{Spot, spots_of_keys, spots_of_texts};
 use crate::wrong::Wrong;
 use agc_document::{Form, KeyFault, KeyNote, Place, TextNote};
 use std::alloc::{AllocError, Global};
@@ -131,7 +131,6 @@ fn told_text<'a>(document: &'a str, note: &KeyNote<'a>, spot: Spot) -> &'a str
 }
 
 /// What is found of a document's keys at these spots.
-#[tactic(auto, using(crate::proofs::Found::says_more))]
 fn found_keys<'a>(
     alloc: Global,
     document: &'a str,
@@ -154,7 +153,6 @@ fn found_keys<'a>(
 }
 
 /// What is found of a document's texts at these spots.
-#[tactic(auto, using(crate::proofs::Found::says_more))]
 fn found_texts<'a>(
     alloc: Global,
     document: &'a str,
@@ -186,11 +184,7 @@ pub(crate) fn key_findings<'a>(
     ensures length { IfOk result (λ v. length v.items ≡ length notes.now) }
     ensures says { IfOk result (λ v. IsPermutation (map of_key notes.now) (map said v.items)) }
 {
-    let mut ways: Vec<Way<'a>> = Vec::new(alloc);
-    for note in notes {
-        ways.push(Way::to_key(note))?;
-    }
-    let spots = locate_all(alloc, document, ways.as_slice())?;
+    let spots = spots_of_keys(alloc, document, notes)?;
     let mut found = found_keys(alloc, document, notes, spots.as_slice())?;
     put_in_order(&mut found)?;
     Ok(found)
@@ -207,11 +201,7 @@ pub(crate) fn text_findings<'a>(
     ensures length { IfOk result (λ v. length v.items ≡ length notes.now) }
     ensures says { IfOk result (λ v. IsPermutation (map of_text notes.now) (map said v.items)) }
 {
-    let mut ways: Vec<Way<'a>> = Vec::new(alloc);
-    for note in notes {
-        ways.push(Way::to(note.place))?;
-    }
-    let spots = locate_all(alloc, document, ways.as_slice())?;
+    let spots = spots_of_texts(alloc, document, notes)?;
     let mut found = found_texts(alloc, document, notes, spots.as_slice())?;
     put_in_order(&mut found)?;
     Ok(found)

@@ -1,12 +1,12 @@
 //! Where in its text a document has keys and values.
-use agc_document::{Key, KeyFault, KeyNote, Place, ScenarioKey};
+use agc_document::{Key, KeyFault, KeyNote, Place, ScenarioKey, TextNote};
 use std::alloc::{AllocError, Global};
 use toml_parser::text::{first, skip, skip_blank, skip_ws};
 use toml_parser::{ParseError, dotted_key, quoted, starts_string, unquoted};
 
 /// One step of the way from the document to a value.
 #[derive(Clone, Copy, PartialEq, Eq)]
-pub(crate) enum Step<'a> {
+enum Step<'a> {
     Name(&'a str),
     /// From 1.
     Number(u64),
@@ -14,7 +14,7 @@ pub(crate) enum Step<'a> {
 
 /// The way to a value, from the document on.
 #[derive(Clone, Copy)]
-pub(crate) struct Way<'a> {
+struct Way<'a> {
     steps: [Option<Step<'a>>; 4],
 }
 
@@ -28,7 +28,7 @@ fn number<'a>(number: u64) -> Option<Step<'a>> {
 
 impl<'a> Way<'a> {
     /// The way to a place.
-    pub(crate) fn to(place: Place) -> Way<'a> {
+    fn to(place: Place) -> Way<'a> {
         let steps = match place {
             Place::Whole => [None, None, None, None],
             Place::Value(key) => [name(key), None, None, None],
@@ -50,7 +50,7 @@ impl<'a> Way<'a> {
     }
 
     /// The way to what is wrong with a key.
-    pub(crate) fn to_key(note: &KeyNote<'a>) -> Way<'a> {
+    fn to_key(note: &KeyNote<'a>) -> Way<'a> {
         match note.fault {
             KeyFault::Unknown(_level) => Way::to_unknown(note.place, note.text),
             _ => Way::to(note.place),
@@ -410,17 +410,9 @@ fn walk_all(walk: &mut Walk<'_>, text: &str) -> Result<(), AllocError> {
     Ok(())
 }
 
-/// Where the values stand to which these ways lead, in their order; of a way that leads to none,
-/// where as much of it leads as the document has.
-pub(crate) fn locate_all(
-    alloc: Global,
-    text: &str,
-    ways: &[Way<'_>],
-) -> Result<Vec<Spot>, AllocError> {
-    let mut trails = Vec::new(alloc);
-    for way in ways {
-        trails.push(Trail::new(*way))?;
-    }
+/// Where the values stand to which the ways of these trails lead, in their order; of a way that
+/// leads to none, where as much of it leads as the document has.
+fn spots_of(alloc: Global, text: &str, trails: Vec<Trail<'_>>) -> Result<Vec<Spot>, AllocError> {
     let mut walk = Walk::new(alloc, text, trails);
     walk_all(&mut walk, text)?;
     let mut spots = Vec::new(alloc);
@@ -428,6 +420,32 @@ pub(crate) fn locate_all(
         spots.push(trail.spot)?;
     }
     Ok(spots)
+}
+
+/// Where what is wrong with keys stands, in the order of its notes.
+pub(crate) fn spots_of_keys(
+    alloc: Global,
+    document: &str,
+    notes: &[KeyNote<'_>],
+) -> Result<Vec<Spot>, AllocError> {
+    let mut trails = Vec::new(alloc);
+    for note in notes {
+        trails.push(Trail::new(Way::to_key(note)))?;
+    }
+    spots_of(alloc, document, trails)
+}
+
+/// Where texts stand, in the order of their notes.
+pub(crate) fn spots_of_texts(
+    alloc: Global,
+    document: &str,
+    notes: &[TextNote<'_>],
+) -> Result<Vec<Spot>, AllocError> {
+    let mut trails = Vec::new(alloc);
+    for note in notes {
+        trails.push(Trail::new(Way::to(note.place)))?;
+    }
+    spots_of(alloc, document, trails)
 }
 
 /// Where these places begin in a document, in their order; of one that it hasn't, where as much of
@@ -441,11 +459,11 @@ pub fn places_in(
     document: &str,
     places: &[Place],
 ) -> Result<Vec<usize>, AllocError> {
-    let mut ways = Vec::new(alloc);
+    let mut trails = Vec::new(alloc);
     for place in places {
-        ways.push(Way::to(*place))?;
+        trails.push(Trail::new(Way::to(*place)))?;
     }
-    let spots = locate_all(alloc, document, ways.as_slice())?;
+    let spots = spots_of(alloc, document, trails)?;
     let mut places = Vec::new(alloc);
     for spot in spots.as_slice() {
         places.push(spot.at)?;

@@ -9,7 +9,7 @@ ghost use Rattle.agc_findings.specs.Findings.{alone, say, said, of_key, of_text,
 ghost use Rattle.agc_document.specs.declared.fault.BenchFault.TheVariants as refusal;
 
 use crate::finding::{Finding, key_findings, make_finding, text_findings};
-use crate::locate::{Way, locate_all};
+use crate::locate::places_in;
 use crate::wrong::Wrong;
 use agc_document::{Bench, BenchFault, Notes, Place, bench_of};
 use std::alloc::{AllocError, Global};
@@ -52,9 +52,9 @@ fn found_at(
     ensures are { IfOk result (λ v. AreFindings document.now (refusal_of wrong) v.items) }
     ensures says { IfOk result (λ v. map said v.items ≡ alone place wrong) }
 {
-    let spots = locate_all(alloc, document, &[Way::to(place)])?;
-    let at = match spots.as_slice().first() {
-        Some(spot) => spot.at,
+    let places = places_in(alloc, document, &[place])?;
+    let at = match places.as_slice().first() {
+        Some(at) => *at,
         None => 0,
     };
     found_only(alloc, document, at, place, "", wrong)
