@@ -6,78 +6,66 @@ use crate::tables::put_tables;
 use agc_exec::Seat;
 use agc_plan::{Alarm, Phase, Plan, Task};
 use agc_scene::{Event, Scene, Since};
-use agc_spelling::{alarm_code, put_action};
-use std::io;
+use agc_spelling::Filling::{Number, Priority, Text};
+use agc_spelling::{Pen, alarm_code, put_action};
 use std::io::Write;
 
-/// Writes which table was full.
-fn put_full<W: Write>(writer: &mut W, alarm: Alarm, scene: &Scene) -> io::Result<()> {
-    write!(writer, "        alarm {}: ", alarm_code(alarm))?;
+/// Which table was full, in a scene.
+fn full_table(alarm: Alarm, scene: &Scene) -> &'static str {
     match alarm {
-        Alarm::A1201 => write!(writer, "all five VAC areas are owned\n"),
-        Alarm::A1202 if scene.seats().len() == 8 => write!(
-            writer,
-            "all eight core sets are in use\n"
-        ),
-        Alarm::A1202 => write!(writer, "all seven core sets are in use\n"),
-        Alarm::A1203 => write!(writer, "nine tasks wait\n"),
+        Alarm::A1201 => "all five VAC areas are owned",
+        Alarm::A1202 if scene.seats().len() == 8 => "all eight core sets are in use",
+        Alarm::A1202 => "all seven core sets are in use",
+        Alarm::A1203 => "nine tasks wait",
     }
 }
 
 /// Writes the task whose action raised the alarm, and that action, by its number where the task has
 /// several.
 fn put_raiser<W: Write>(
-    writer: &mut W,
+    pen: &mut Pen<'_, W>,
     columns: &Columns,
     plan: &Plan,
     task: Task,
     number: usize,
-) -> io::Result<()> {
+) {
     let actions = plan.actions(&task);
-    write!(writer, "        raised by ")?;
+    pen.text("        raised by ");
     if actions.len() > 1 {
-        write!(writer, "action {number} of ")?;
+        pen.put("action {} of ", &[Number(number as u64)]);
     }
-    write!(writer, "task ")?;
-    columns.put_task(writer, task)?;
-    write!(writer, ": ")?;
+    pen.text("task ");
+    columns.put_task(pen, task);
+    pen.text(": ");
     if let Some(action) = actions.get(number.saturating_sub(1)) {
-        put_action(writer, *action)?;
+        put_action(pen, *action);
     }
-    write!(writer, "\n")
+    pen.text("\n");
 }
 
-/// Writes with which request a job or a task came.
-fn put_since<W: Write>(writer: &mut W, since: Since) -> io::Result<()> {
-    let Since { request, restart } = since;
-    if request == 0 {
-        write!(writer, "since power-up")
-    } else if restart {
-        write!(writer, "since the restart of request {request}")
-    } else {
-        write!(writer, "since request {request}")
-    }
-}
-
-/// Writes since when something is there, where that is known.
-fn put_known<W: Write>(writer: &mut W, since: Option<Since>) -> io::Result<()> {
+/// Ends a line by since when something is there, where that is known: with which request a job or a
+/// task came.
+fn end_known<W: Write>(pen: &mut Pen<'_, W>, since: Option<Since>) {
     match since {
-        None => Ok(()),
-        Some(since) => {
-            write!(writer, ", ")?;
-            put_since(writer, since)
+        None => {}
+        Some(Since { request: 0, .. }) => pen.text(", since power-up"),
+        Some(Since { request, restart }) => {
+            let restarted = if restart { "the restart of " } else { "" };
+            let fillings = [Text(restarted), Number(request)];
+            pen.put(", since {}request {}", &fillings);
         }
     }
+    pen.text("\n");
 }
 
 /// Writes the line of the job in core set k.
 fn put_job<W: Write>(
-    writer: &mut W,
+    pen: &mut Pen<'_, W>,
     columns: &Columns,
     k: usize,
     seat: Seat,
     since: Option<Since>,
-) -> io::Result<()> {
+) {
     let Seat {
         number,
         at,
@@ -85,88 +73,78 @@ fn put_job<W: Write>(
         asleep,
         area,
     } = seat;
-    let place = if asleep { "asleep at" } else { "at" };
-    write!(
-        writer,
-        "          set {k}: job {number}, priority {priority:02o}, {place} "
-    )?;
-    columns.put_place(writer, at)?;
+    let fillings = [
+        Number(k as u64),
+        Number(u64::from(number)),
+        Priority(priority),
+        Text(if asleep { "asleep at" } else { "at" }),
+    ];
+    pen.put("          set {}: job {}, priority {}, {} ", &fillings);
+    columns.put_place(pen, at);
     if area > 0 {
-        write!(writer, ", area {area}")?;
+        pen.fill(", area ", Number(u64::from(area)));
     }
-    put_known(writer, since)?;
-    write!(writer, "\n")
+    end_known(pen, since);
 }
 
 /// Writes the lines of all jobs in core sets.
-fn put_jobs<W: Write>(writer: &mut W, columns: &Columns, event: &Event) -> io::Result<()> {
+fn put_jobs<W: Write>(pen: &mut Pen<'_, W>, columns: &Columns, event: &Event) {
     for (k, seat) in event.scene.seats().iter().enumerate() {
         if let Some(seat) = *seat {
-            put_job(writer, columns, k, seat, event.jobs.of_job(seat.number))?;
+            put_job(pen, columns, k, seat, event.jobs.of_job(seat.number));
         }
     }
-    Ok(())
 }
 
 /// Writes the lines of all tasks that wait.
-fn put_tasks<W: Write>(writer: &mut W, columns: &Columns, event: &Event) -> io::Result<()> {
+fn put_tasks<W: Write>(pen: &mut Pen<'_, W>, columns: &Columns, event: &Event) {
     for (k, wait) in event.scene.waits().iter().enumerate() {
-        write!(writer, "          task ")?;
-        columns.put_task(writer, wait.task)?;
-        write!(writer, ", due in {} cs", wait.distance)?;
-        put_known(writer, event.tasks.as_slice().get(k).map(|one| one.since))?;
-        write!(writer, "\n")?;
+        pen.text("          task ");
+        columns.put_task(pen, wait.task);
+        pen.put(", due in {} cs", &[Number(u64::from(wait.distance))]);
+        end_known(pen, event.tasks.as_slice().get(k).map(|one| one.since));
     }
-    Ok(())
 }
 
-/// Writes phases, after this text.
-pub(crate) fn put_phases<W: Write>(
-    writer: &mut W,
-    columns: &Columns,
-    phases: &[Phase],
-) -> io::Result<()> {
-    write!(writer, "        restart by phases")?;
+/// Writes phases.
+pub(crate) fn put_phases<W: Write>(pen: &mut Pen<'_, W>, columns: &Columns, phases: &[Phase]) {
+    pen.text("        restart by phases");
     for (k, phase) in phases.iter().enumerate() {
-        write!(writer, " ")?;
-        columns.put_phase(writer, k.saturating_add(1), *phase)?;
+        columns.put_phase(pen, k.saturating_add(1), *phase);
     }
-    Ok(())
 }
 
 /// Writes the phases with which the era begins, and its scene.
-fn put_again<W: Write>(
-    writer: &mut W,
-    columns: &Columns,
-    event: &Event,
-    era: &Scene,
-) -> io::Result<()> {
-    let mut line = Line::new(writer);
-    put_phases(&mut line, columns, &event.scene.phases())?;
-    line.end_cell(columns.front_width())?;
-    put_tables(&mut line, columns, era)
+fn put_again<W: Write>(pen: &mut Pen<'_, W>, columns: &Columns, event: &Event, era: &Scene) {
+    let mut line = Line::new(pen, &[]);
+    put_phases(&mut Pen::new(&mut line), columns, &event.scene.phases());
+    line.fill(columns.front_width());
+    put_tables(pen, columns, era);
 }
 
 /// Writes the account of an event's alarm, if it has one.
 pub(crate) fn put_account<W: Write>(
-    writer: &mut W,
+    pen: &mut Pen<'_, W>,
     plan: &Plan,
     columns: &Columns,
     event: &Event,
-) -> io::Result<()> {
+) {
     let Some(alarm) = event.alarm() else {
-        return Ok(());
+        return;
     };
-    put_full(writer, alarm, &event.scene)?;
+    let full = full_table(alarm, &event.scene);
+    pen.put(
+        "        alarm {}: {}\n",
+        &[Text(alarm_code(alarm)), Text(full)],
+    );
     if let Some(task) = event.fired.get(event.fired.len().saturating_sub(1)) {
-        put_raiser(writer, columns, plan, task, event.raised)?;
+        put_raiser(pen, columns, plan, task, event.raised);
     }
     match alarm {
-        Alarm::A1201 | Alarm::A1202 => put_jobs(writer, columns, event)?,
-        Alarm::A1203 => put_tasks(writer, columns, event)?,
+        Alarm::A1201 | Alarm::A1202 => put_jobs(pen, columns, event),
+        Alarm::A1203 => put_tasks(pen, columns, event),
     }
-    match &event.era {
-        None => Ok(()),
-        Some(era) => put_again(writer, columns, event, era),
+    if let Some(era) = &event.era {
+        put_again(pen, columns, event, era);
     }
 }

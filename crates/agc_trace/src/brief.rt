@@ -7,10 +7,9 @@ use agc_exec::Seat;
 use agc_machine::Refusal;
 use agc_plan::{Alarm, Fired, JobNo, Priority, Reply, Request};
 use agc_scene::{Event, Scene};
-use std::fmt;
 
 /// How a request changed nothing but the time.
-#[derive(Clone, Copy, Debug, PartialEq, Eq)]
+#[derive(Clone, Copy, PartialEq, Eq)]
 pub(crate) enum Quiet {
     /// A tick in which nothing fired.
     Tick,
@@ -24,9 +23,10 @@ pub(crate) enum Quiet {
     LogFull,
 }
 
-impl fmt::Display for Quiet {
-    fn fmt<W: fmt::Write>(&self, f: &mut fmt::Formatter<W>) -> fmt::Result {
-        f.write_str(match self {
+impl Quiet {
+    /// What a trace calls it.
+    pub(crate) fn words(self) -> &'static str {
+        match self {
             Quiet::Tick => "tick",
             Quiet::NoSleeper => "no sleeper",
             Quiet::NoJob => "no job",
@@ -34,7 +34,7 @@ impl fmt::Display for Quiet {
             Quiet::Prio => "prio",
             Quiet::Spent => "refused spent",
             Quiet::LogFull => "refused log full",
-        })
+        }
     }
 }
 

@@ -1,12 +1,12 @@
 // Which columns rows have, and what is called by a name in them.
-use crate::line::Line;
+use crate::line::put_source;
 use crate::names::Names;
 use agc_clock::Source as Asker;
 use agc_plan::{Phase, Task};
 use agc_session::Source;
-use agc_spelling::put_task;
+use agc_spelling::Filling::{Number, Octal, Seconds, Text};
+use agc_spelling::{Filling, Pen, put_task};
 use std::alloc::Global;
-use std::io;
 use std::io::Write;
 
 /// How many letters of a name are shown at most.
@@ -74,6 +74,11 @@ impl Columns {
         self.names.title()
     }
 
+    /// How wide the columns are that are before that of the answer.
+    pub(crate) fn widths(&self) -> [Option<usize>; 5] {
+        [Some(8), Some(8), Some(8), self.source, Some(22)]
+    }
+
     /// How wide the columns before the scene are, without the last two blanks.
     pub(crate) fn front_width(&self) -> usize {
         match self.source {
@@ -82,111 +87,78 @@ impl Columns {
         }
     }
 
-    /// Writes a cell of the column that says who asks, where it is there.
-    pub(crate) fn put_source_cell<W: Write>(
-        &self,
-        line: &mut Line<'_, W>,
-        text: &str,
-    ) -> io::Result<()> {
-        match self.source {
-            None => Ok(()),
-            Some(width) => line.put_cell(width, text),
-        }
-    }
-
-    /// Writes who asks, where that is told: an event by its name, or else by its number from 1.
-    pub(crate) fn put_source<W: Write>(&self, line: &mut Line<'_, W>, by: By) -> io::Result<()> {
-        let Some(width) = self.source else {
-            return Ok(());
-        };
+    /// Writes who asks: an event by its name, or else by its number from 1.
+    pub(crate) fn put_source<W: Write>(&self, pen: &mut Pen<'_, W>, by: By) {
         match by {
-            By::Bench(source) => write!(line, "{source}")?,
-            By::Scenario(Asker::Clock) => write!(line, "clock")?,
+            By::Bench(source) => put_source(pen, source),
+            By::Scenario(Asker::Clock) => pen.text("clock"),
             By::Scenario(Asker::Event(event)) => match self.names.event(event) {
-                None => write!(line, "event {}", event.saturating_add(1))?,
-                Some(name) => put_joined(line, name)?,
+                None => pen.fill("event ", Number(event.saturating_add(1) as u64)),
+                Some(name) => put_joined(pen, name),
             },
         }
-        line.end_cell(width)
     }
 
-    /// Writes a time, which is so many ticks.
-    pub(crate) fn put_time<W: Write>(&self, line: &mut Line<'_, W>, ticks: u64) -> io::Result<()> {
+    /// A time, which is so many ticks.
+    pub(crate) fn time(&self, ticks: u64) -> Filling<'static> {
         if self.has_seconds {
-            let (whole, rest) = (ticks / 100, ticks % 100);
-            write!(line, "{whole}.{rest:02}")?;
+            Seconds(ticks)
         } else {
-            write!(line, "{ticks}")?;
+            Number(ticks)
         }
-        line.end_cell(8)
     }
 
     /// Writes the number of a job, followed by its name, if its address has one.
-    pub(crate) fn put_job<W: Write>(&self, writer: &mut W, number: u16, at: u16) -> io::Result<()> {
-        write!(writer, "{number}")?;
-        match self.names.job(at) {
-            None => Ok(()),
-            Some(name) => {
-                write!(writer, ":")?;
-                put_joined(writer, name)
-            }
+    pub(crate) fn put_job<W: Write>(&self, pen: &mut Pen<'_, W>, number: u16, at: u16) {
+        pen.add(Number(u64::from(number)));
+        if let Some(name) = self.names.job(at) {
+            pen.text(":");
+            put_joined(pen, name);
         }
     }
 
     /// Writes the address of a task, followed by its name, if it has one.
-    pub(crate) fn put_waiting<W: Write>(&self, writer: &mut W, task: Task) -> io::Result<()> {
-        write!(writer, "{:05o}", task.at.get())?;
-        match self.names.task(&task) {
-            None => Ok(()),
-            Some(name) => {
-                write!(writer, ":")?;
-                put_joined(writer, name)
-            }
+    pub(crate) fn put_waiting<W: Write>(&self, pen: &mut Pen<'_, W>, task: Task) {
+        pen.add(Octal(task.at.get()));
+        if let Some(name) = self.names.task(&task) {
+            pen.text(":");
+            put_joined(pen, name);
         }
     }
 
     /// Writes where a job is: its name, if it has one, and its address.
-    pub(crate) fn put_place<W: Write>(&self, writer: &mut W, at: u16) -> io::Result<()> {
+    pub(crate) fn put_place<W: Write>(&self, pen: &mut Pen<'_, W>, at: u16) {
         match self.names.job(at) {
-            None => write!(writer, "{at:05o}"),
-            Some(name) => write!(writer, "{name} ({at:05o})"),
+            None => pen.add(Octal(at)),
+            Some(name) => pen.put("{} ({})", &[Text(name), Octal(at)]),
         }
     }
 
     /// Writes a task: its name, if it has one, its address and its bank.
-    pub(crate) fn put_task<W: Write>(&self, writer: &mut W, task: Task) -> io::Result<()> {
+    pub(crate) fn put_task<W: Write>(&self, pen: &mut Pen<'_, W>, task: Task) {
         match self.names.task(&task) {
-            None => put_task(writer, task),
+            None => put_task(pen, task),
             Some(name) => {
-                write!(writer, "{name} (")?;
-                put_task(writer, task)?;
-                write!(writer, ")")
+                pen.put("{} (", &[Text(name)]);
+                put_task(pen, task);
+                pen.text(")");
             }
         }
     }
 
     /// Writes the phase of a group, and its name, if it has one.
-    pub(crate) fn put_phase<W: Write>(
-        &self,
-        writer: &mut W,
-        group: usize,
-        phase: Phase,
-    ) -> io::Result<()> {
-        write!(writer, "{}", phase.get())?;
-        match self.names.phase(group, phase) {
-            None => Ok(()),
-            Some(name) => write!(writer, " ({name})"),
+    pub(crate) fn put_phase<W: Write>(&self, pen: &mut Pen<'_, W>, group: usize, phase: Phase) {
+        pen.fill(" ", Number(u64::from(phase.get())));
+        if let Some(name) = self.names.phase(group, phase) {
+            pen.put(" ({})", &[Text(name)]);
         }
     }
 }
 
 /// Writes a name in a cell, at most so many letters of it, without blanks.
-fn put_joined<W: Write>(writer: &mut W, name: &str) -> io::Result<()> {
+fn put_joined<W: Write>(pen: &mut Pen<'_, W>, name: &str) {
     for letter in name.chars().take(MOST_LETTERS) {
-        match letter {
-            ' ' => write!(writer, "_")?,
-            letter => write!(writer, "{letter}")?,
-        }
+        let letter = if letter == ' ' { '_' } else { letter };
+        pen.text(letter.encode_utf8(&mut [0; 4]));
     }
-    Ok(())
 }

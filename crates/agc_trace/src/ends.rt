@@ -2,59 +2,57 @@
 // were refused, and which pulses asked for nothing.
 use crate::alarms::put_phases;
 use crate::columns::Columns;
+use crate::line::put_source;
 use crate::rows::put_power_row;
 use agc_document::Bench;
 use agc_phase::recover;
 use agc_scene::Scene;
 use agc_session::{Source, asks_nothing};
+use agc_spelling::Filling::{Number, Octal, Text};
+use agc_spelling::Pen;
 use agc_word::Word;
-use std::io;
 use std::io::Write;
 
 /// Writes what is wrong with the two words of a group, if anything is.
-fn put_pair<W: Write>(writer: &mut W, group: usize, minus: Word, phase: Word) -> io::Result<()> {
+fn put_pair<W: Write>(pen: &mut Pen<'_, W>, group: u64, minus: Word, phase: Word) {
     let bits = phase.bits();
     if minus != phase.neg() {
-        write!(writer, "          group {group}: {:05o}", minus.bits())?;
-        write!(writer, " is not the complement of {bits:05o}\n")
+        pen.put(
+            "          group {}: {} is not the complement of {}\n",
+            &[Number(group), Octal(minus.bits()), Octal(bits)],
+        );
     } else if bits > 127 {
-        write!(
-            writer,
-            "          group {group}: phase {bits} is above 127\n"
-        )
-    } else {
-        Ok(())
+        pen.put(
+            "          group {}: phase {} is above 127\n",
+            &[Number(group), Number(u64::from(bits))],
+        );
     }
 }
 
 /// Writes why power-up was a fresh start.
-fn put_broken<W: Write>(writer: &mut W, words: &[Word; 12]) -> io::Result<()> {
-    write!(
-        writer,
-        "        alarm 1107: no phase can be trusted, and nothing begins again\n"
-    )?;
+fn put_broken<W: Write>(pen: &mut Pen<'_, W>, words: &[Word; 12]) {
+    pen.text("        alarm 1107: no phase can be trusted, and nothing begins again\n");
     for group in 0..6usize {
-        put_pair(writer, group + 1, words[2 * group], words[2 * group + 1])?;
+        let (minus, phase) = (words[2 * group], words[2 * group + 1]);
+        put_pair(pen, group as u64 + 1, minus, phase);
     }
-    Ok(())
 }
 
 /// Writes what came of power-up with these phase words: the scene with which the first era begins.
 pub(crate) fn put_power<W: Write>(
-    writer: &mut W,
+    pen: &mut Pen<'_, W>,
     columns: &Columns,
     words: &[Word; 12],
     scene: &Scene,
-) -> io::Result<()> {
-    match recover(words) {
-        Some(_phases) => put_power_row(writer, columns, "restarted", scene)?,
-        None => {
-            put_power_row(writer, columns, "alarm 1107", scene)?;
-            put_broken(writer, words)?;
-        }
+) {
+    if recover(words).is_some() {
+        put_power_row(pen, columns, "restarted", scene);
+    } else {
+        put_power_row(pen, columns, "alarm 1107", scene);
+        put_broken(pen, words);
     }
-    put_phases(writer, columns, &scene.phases())?;
-    write!(writer, "\n")
+    put_phases(pen, columns, &scene.phases());
+    pen.text("\n");
 }
 
 /// How many requests were refused, for each reason.
@@ -64,45 +62,50 @@ pub(crate) struct Refused {
     pub(crate) spent: u64,
 }
 
-/// Writes so many of a thing, indented.
-fn put_count<W: Write>(writer: &mut W, count: u64, thing: &str) -> io::Result<()> {
-    let ending = if count == 1 { "" } else { "s" };
-    write!(writer, "        {count} {thing}{ending}")
+/// What ends the name of so many things.
+fn ending(count: u64) -> &'static str {
+    if count == 1 { "" } else { "s" }
 }
 
 /// Writes how many requests a machine of this limit and allowance refused.
 pub(crate) fn put_refused<W: Write>(
-    writer: &mut W,
+    pen: &mut Pen<'_, W>,
     refused: Refused,
     limit: u32,
     allowance: u64,
-) -> io::Result<()> {
-    if refused.log_full > 0 {
-        put_count(writer, refused.log_full, "request")?;
-        write!(writer, " refused: log full (limit {limit})\n")?;
+) {
+    let Refused { log_full, spent } = refused;
+    if log_full > 0 {
+        let fillings = [
+            Number(log_full),
+            Text(ending(log_full)),
+            Number(u64::from(limit)),
+        ];
+        pen.put(
+            "        {} request{} refused: log full (limit {})\n",
+            &fillings,
+        );
     }
-    if refused.spent > 0 {
-        put_count(writer, refused.spent, "request")?;
-        write!(
-            writer,
-            " refused: spent (allowance {allowance}, all served)\n"
-        )?;
+    if spent > 0 {
+        let fillings = [Number(spent), Text(ending(spent)), Number(allowance)];
+        pen.put(
+            "        {} request{} refused: spent (allowance {}, all served)\n",
+            &fillings,
+        );
     }
-    Ok(())
 }
 
 /// Writes a line for each device of a bench whose pulses ask for nothing, if it sends any.
-pub(crate) fn put_idle<W: Write>(writer: &mut W, bench: &Bench) -> io::Result<()> {
+pub(crate) fn put_idle<W: Write>(pen: &mut Pen<'_, W>, bench: &Bench) {
     for device in bench.devices() {
         let (line, pulses) = *device;
+        let pulses = u64::from(pulses);
         if pulses > 0 && asks_nothing(bench, line) {
-            let ending = if pulses == 1 { "" } else { "s" };
-            let name = Source::Pulse(line);
-            write!(
-                writer,
-                "        {pulses} {name} pulse{ending} asked for nothing\n"
-            )?;
+            pen.fill("        ", Number(pulses));
+            pen.text(" ");
+            put_source(pen, Source::Pulse(line));
+            pen.fill(" pulse", Text(ending(pulses)));
+            pen.text(" asked for nothing\n");
         }
     }
-    Ok(())
 }

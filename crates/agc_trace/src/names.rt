@@ -20,10 +20,18 @@ pub struct Names {
     events: Vec<Named<usize>>,
 }
 
-/// What is called by this name.
-fn with_name<T: Drop>(alloc: Global, what: T, name: &str) -> Result<Named<T>, AllocError> {
+/// Calls something by a name.
+fn push_name<T: Drop>(
+    all: &mut Vec<Named<T>>,
+    alloc: Global,
+    what: T,
+    name: &str,
+) -> Result<(), AllocError> {
     let name = String::from_str(alloc, name)?;
-    Ok(Named { what, name })
+    match all.push(Named { what, name }) {
+        Ok(()) => Ok(()),
+        Err(_no_memory) => Err(AllocError),
+    }
 }
 
 /// The first of these that is called by a name, and is this.
@@ -62,8 +70,7 @@ impl Names {
     ///
     /// Where there is no memory; nothing is changed.
     pub fn name_job(&mut self, alloc: Global, at: u16, name: &str) -> Result<(), AllocError> {
-        self.jobs.push(with_name(alloc, at, name)?)?;
-        Ok(())
+        push_name(&mut self.jobs, alloc, at, name)
     }
 
     /// Names a task. Source: profile.
@@ -72,8 +79,7 @@ impl Names {
     ///
     /// Where there is no memory; nothing is changed.
     pub fn name_task(&mut self, alloc: Global, task: Task, name: &str) -> Result<(), AllocError> {
-        self.tasks.push(with_name(alloc, task, name)?)?;
-        Ok(())
+        push_name(&mut self.tasks, alloc, task, name)
     }
 
     /// Names a phase of the restart group of this number, 1 to 6. Source: profile.
@@ -88,8 +94,7 @@ impl Names {
         phase: Phase,
         name: &str,
     ) -> Result<(), AllocError> {
-        self.phases.push(with_name(alloc, (group, phase), name)?)?;
-        Ok(())
+        push_name(&mut self.phases, alloc, (group, phase), name)
     }
 
     /// Names the event of this index. Source: profile.
@@ -103,8 +108,7 @@ impl Names {
         event: usize,
         name: &str,
     ) -> Result<(), AllocError> {
-        self.events.push(with_name(alloc, event, name)?)?;
-        Ok(())
+        push_name(&mut self.events, alloc, event, name)
     }
 
     /// What the scenario itself is called.

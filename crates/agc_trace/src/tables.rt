@@ -3,19 +3,24 @@ use crate::columns::Columns;
 use crate::line::Line;
 use agc_exec::Seat;
 use agc_scene::Scene;
-use std::io;
+use agc_spelling::Filling::{Number, Priority, Text};
+use agc_spelling::Pen;
 use std::io::Write;
+
+/// How wide the columns are: of the running job, the core sets and the areas.
+const WIDTHS: [Option<usize>; 3] = [Some(7), Some(56), Some(10)];
 
 /// Writes what a core set holds: a job and its priority, in brackets where it sleeps, and behind
 /// `>` where NEWJOB names it.
 fn put_seat<W: Write>(
-    writer: &mut W,
+    pen: &mut Pen<'_, W>,
     columns: &Columns,
     named: Option<u16>,
     seat: Option<Seat>,
-) -> io::Result<()> {
+) {
     let Some(seat) = seat else {
-        return write!(writer, " .");
+        pen.text(" .");
+        return;
     };
     let Seat {
         number,
@@ -30,59 +35,54 @@ fn put_seat<W: Write>(
     } else {
         (" ", "")
     };
-    write!(writer, "{before}")?;
-    columns.put_job(writer, number, at)?;
-    write!(writer, "/{priority:02o}{behind}")
-}
-
-/// Writes the number of an area's owner.
-fn put_owner<W: Write>(writer: &mut W, owner: Option<u16>) -> io::Result<()> {
-    match owner {
-        None => write!(writer, " ."),
-        Some(number) => write!(writer, " {number}"),
-    }
+    pen.text(before);
+    columns.put_job(pen, number, at);
+    pen.put("/{}{}", &[Priority(priority), Text(behind)]);
 }
 
 /// Writes all tasks in order, each with the centiseconds that it still has.
-fn put_waits<W: Write>(writer: &mut W, columns: &Columns, scene: &Scene) -> io::Result<()> {
+fn put_waits<W: Write>(pen: &mut Pen<'_, W>, columns: &Columns, scene: &Scene) {
     if scene.waits().is_empty() {
-        return write!(writer, " -");
+        pen.text(" -");
     }
     for wait in scene.waits() {
-        write!(writer, " ")?;
-        columns.put_waiting(writer, wait.task)?;
-        write!(writer, "+{}", wait.distance)?;
+        pen.text(" ");
+        columns.put_waiting(pen, wait.task);
+        pen.fill("+", Number(u64::from(wait.distance)));
     }
-    Ok(())
+}
+
+/// Writes the cells of a scene.
+fn put_cells<W: Write>(pen: &mut Pen<'_, W>, columns: &Columns, scene: &Scene) {
+    pen.add(match scene.running() {
+        None => Text("-"),
+        Some(number) => Number(u64::from(number.get())),
+    });
+    pen.text("\t");
+    for seat in scene.seats() {
+        put_seat(pen, columns, scene.named(), *seat);
+    }
+    pen.text("\t");
+    for area in 1..6u16 {
+        let owner = match scene.owner(area) {
+            None => Text("."),
+            Some(number) => Number(u64::from(number)),
+        };
+        pen.fill(" ", owner);
+    }
+    pen.text("\t");
+    put_waits(pen, columns, scene);
 }
 
 /// Writes the columns of a scene, and ends the line.
-pub(crate) fn put_tables<W: Write>(
-    line: &mut Line<'_, W>,
-    columns: &Columns,
-    scene: &Scene,
-) -> io::Result<()> {
-    match scene.running() {
-        None => write!(line, "-")?,
-        Some(number) => write!(line, "{}", number.get())?,
-    }
-    line.end_cell(7)?;
-    for seat in scene.seats() {
-        put_seat(line, columns, scene.named(), *seat)?;
-    }
-    line.end_cell(56)?;
-    for area in 1..6u16 {
-        put_owner(line, scene.owner(area))?;
-    }
-    line.end_cell(10)?;
-    put_waits(line, columns, scene)?;
-    write!(line, "\n")
+pub(crate) fn put_tables<W: Write>(pen: &mut Pen<'_, W>, columns: &Columns, scene: &Scene) {
+    let mut line = Line::new(pen, &WIDTHS);
+    put_cells(&mut Pen::new(&mut line), columns, scene);
+    pen.text("\n");
 }
 
 /// Writes the names of these columns, and ends the line.
-pub(crate) fn put_names<W: Write>(line: &mut Line<'_, W>) -> io::Result<()> {
-    line.put_cell(7, "running")?;
-    line.put_cell(56, " sets")?;
-    line.put_cell(10, " areas")?;
-    write!(line, " tasks\n")
+pub(crate) fn put_names<W: Write>(pen: &mut Pen<'_, W>) {
+    let mut line = Line::new(pen, &WIDTHS);
+    Pen::new(&mut line).text("running\t sets\t areas\t tasks\n");
 }

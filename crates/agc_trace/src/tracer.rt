@@ -15,21 +15,22 @@ use crate::rows::{put_heading, put_row};
 use agc_clock::{Asked, Timetables};
 use agc_document::Bench;
 use agc_machine::{Machine, Refusal};
-use agc_plan::Request;
+use agc_plan::{Plan, Reply, Request};
 use agc_scene::{Event, Scene, Watched};
 use agc_session::{
     Follows, Progress, RunFault, Source, count_requests, follow_all, follow_bench, machine_of,
-    script_machine, written,
+    script_machine,
 };
+use agc_spelling::Filling::{Number, Text};
+use agc_spelling::Pen;
 use agc_text::Output;
 use agc_word::Word;
 use std::alloc::Global;
-use std::io;
 use std::io::Write;
 use std::marker::Model;
 
 /// Which requests a trace shows: those that meet all of these conditions. Source: profile.
-#[derive(Clone, Copy, Debug, PartialEq, Eq)]
+#[derive(Clone, Copy)]
 pub struct Choice {
     /// Only those that raised an alarm.
     pub alarms: bool,
@@ -58,24 +59,14 @@ struct Left {
     count: u64,
 }
 
-/// A run that is traced: the machine that is watched, which requests are told, in which columns,
-/// the quiet ones that were not told yet, and how many were refused. Contracts see the machine.
-/// Source: profile.
+/// What is told of a run: which requests, in which columns; the quiet ones that were not told yet,
+/// and how many were refused.
 #[derive(Drop)]
-pub struct Tracer {
-    watched: Watched,
+struct Telling {
     choice: Choice,
     columns: Columns,
     left: Option<Left>,
     refused: Refused,
-}
-
-impl Model for Tracer {
-    ghost use Rattle.agc_scene.specs.Events.{Watching};
-
-    ghost Value = { Watching };
-
-    ghost view = { λ t. t.watched };
 }
 
 /// How many are quiet in this way, with one more.
@@ -86,6 +77,75 @@ fn counted(left: Option<Left>, quiet: Quiet) -> u64 {
     }
 }
 
+impl Telling {
+    /// Writes how many quiet requests were left out since the last row, if there are any.
+    fn put_left<W: Write>(&mut self, pen: &mut Pen<'_, W>) {
+        if let Some(Left { quiet, count }) = self.left {
+            pen.put("        {} x {}\n", &[Text(quiet.words()), Number(count)]);
+        }
+        self.left = None;
+    }
+
+    /// Counts one more quiet request, or tells of those that were quiet in another way.
+    fn put_quiet<W: Write>(&mut self, pen: &mut Pen<'_, W>, quiet: Quiet) {
+        let count = counted(self.left, quiet);
+        if count == 1 {
+            self.put_left(pen);
+        }
+        self.left = Some(Left { quiet, count });
+    }
+
+    /// Counts a refused request.
+    fn count_refused(&mut self, answer: &Result<Reply, Refusal>) {
+        let Refused { log_full, spent } = self.refused;
+        match answer {
+            Ok(_reply) => {}
+            Err(Refusal::Spent) => self.refused.spent = spent.saturating_add(1),
+            Err(Refusal::LogFull) => self.refused.log_full = log_full.saturating_add(1),
+        }
+    }
+
+    /// Writes the row of an event and the account of its alarm, or counts it: how it is quiet, is
+    /// looked for only in brief.
+    fn put_event<W: Write>(
+        &mut self,
+        pen: &mut Pen<'_, W>,
+        plan: &Plan,
+        before: Option<Scene>,
+        by: By,
+        event: &Event,
+    ) {
+        self.count_refused(&event.answer);
+        if !self.choice.tells(event.number, event.alarm().is_some()) {
+            return;
+        }
+        match before.and_then(|before| quiet_of(&before, event)) {
+            Some(quiet) => self.put_quiet(pen, quiet),
+            None => {
+                self.put_left(pen);
+                put_row(pen, &self.columns, by, event);
+                put_account(pen, plan, &self.columns, event);
+            }
+        }
+    }
+}
+
+/// A run that is traced: the machine that is watched, and what is told of it. Contracts see the
+/// machine. Source: profile.
+#[derive(Drop)]
+pub struct Tracer {
+    watched: Watched,
+    telling: Telling,
+}
+
+impl Model for Tracer {
+    ghost use Rattle.agc_scene.specs.Events.{Watching};
+
+    ghost Value = { Watching };
+
+    ghost view = { λ t. t.watched };
+}
+
 impl Tracer {
     /// Nothing was asked of this machine. The requests of this choice will be told, in these
     /// columns. Source: profile.
@@ -94,10 +154,12 @@ impl Tracer {
     {
         Tracer {
             watched: Watched::new(machine),
-            choice,
-            columns,
-            left: None,
-            refused: Refused::default(),
+            telling: Telling {
+                choice,
+                columns,
+                left: None,
+                refused: Refused::default(),
+            },
         }
     }
 
@@ -115,14 +177,13 @@ impl Tracer {
     ///
     /// Where a write fails.
     pub fn begin<W: Write>(&self, power: Option<[Word; 12]>, writer: &mut W) -> Result<(), Output> {
-        written(put_heading(writer, &self.columns))?;
-        match power {
-            None => Ok(()),
-            Some(words) => {
-                let scene = self.watched.scene();
-                written(put_power(writer, &self.columns, &words, &scene))
-            }
+        let columns = &self.telling.columns;
+        let mut pen = Pen::new(writer);
+        put_heading(&mut pen, columns);
+        if let Some(words) = power {
+            put_power(&mut pen, columns, &words, &self.watched.scene());
         }
+        pen.end()
     }
 
     /// Writes what is told behind the last request, by a machine of this limit and allowance.
@@ -139,81 +200,26 @@ impl Tracer {
     ) -> Result<(), Output>
         ensures { self.new ≡ self.old }
     {
-        written(self.put_left(writer))?;
-        written(put_refused(writer, self.refused, limit, allowance))
-    }
-
-    /// Writes how many quiet requests were left out since the last row, if there are any.
-    fn put_left<W: Write>(&mut self, writer: &mut W) -> io::Result<()>
-        ensures { self.new ≡ self.old }
-    {
-        let left = self.left;
-        self.left = None;
-        match left {
-            None => Ok(()),
-            Some(Left { quiet, count }) => write!(writer, "        {quiet} x {count}\n"),
-        }
-    }
-
-    /// Counts one more quiet request, or tells of those that were quiet in another way.
-    fn put_quiet<W: Write>(&mut self, quiet: Quiet, writer: &mut W) -> io::Result<()>
-        ensures { self.new ≡ self.old }
-    {
-        let count = counted(self.left, quiet);
-        if count == 1 {
-            self.put_left(writer)?;
-        }
-        self.left = Some(Left { quiet, count });
-        Ok(())
-    }
-
-    /// Writes the row of an event, and the account of its alarm.
-    fn put_loud<W: Write>(&mut self, by: By, event: &Event, writer: &mut W) -> io::Result<()>
-        ensures { self.new ≡ self.old }
-    {
-        self.put_left(writer)?;
-        put_row(writer, &self.columns, by, event)?;
-        put_account(writer, self.watched.machine().plan(), &self.columns, event)
-    }
-
-    /// Writes an event, or counts it: how it is quiet, is looked for only in brief.
-    fn put_event<W: Write>(
-        &mut self,
-        before: Option<Scene>,
-        by: By,
-        event: &Event,
-        writer: &mut W,
-    ) -> io::Result<()>
-        ensures { self.new ≡ self.old }
-    {
-        match &event.answer {
-            Ok(_reply) => {}
-            Err(Refusal::Spent) => self.refused.spent = self.refused.spent.saturating_add(1),
-            Err(Refusal::LogFull) => self.refused.log_full = self
-                .refused
-                .log_full
-                .saturating_add(1),
-        }
-        if !self.choice.tells(event.number, event.alarm().is_some()) {
-            return Ok(());
-        }
-        match before.and_then(|before| quiet_of(&before, event)) {
-            None => self.put_loud(by, event, writer),
-            Some(quiet) => self.put_quiet(quiet, writer),
-        }
+        let mut pen = Pen::new(writer);
+        self.telling.put_left(&mut pen);
+        put_refused(&mut pen, self.telling.refused, limit, allowance);
+        pen.end()
     }
 
     /// Asks for one request, and writes its row and account, if it is chosen.
     fn tell<W: Write>(&mut self, by: By, request: &Request, writer: &mut W) -> Result<(), Output>
         ensures { self.new ≡ watched self.old request.now }
     {
-        let before = if self.choice.brief {
+        let before = if self.telling.choice.brief {
             Some(self.watched.scene())
         } else {
             None
         };
         let event = self.watched.ask(request);
-        written(self.put_event(before, by, &event, writer))
+        let plan = self.watched.machine().plan();
+        let mut pen = Pen::new(writer);
+        self.telling.put_event(&mut pen, plan, before, by, &event);
+        pen.end()
     }
 }
 
@@ -256,7 +262,9 @@ fn trace_asked<P: Progress, W: Write>(
     tracer.begin(bench.power(), writer)?;
     follow_bench(tracer, progress, bench, writer)?;
     tracer.end(bench.limit().get(), bench.allowance(), writer)?;
-    written(put_idle(writer, bench))
+    let mut pen = Pen::new(writer);
+    put_idle(&mut pen, bench);
+    pen.end()
 }
 
 /// Writes the trace of a bench: the heading, and what came of power-up, where it has phase words;
@@ -288,6 +296,20 @@ pub fn trace<P: Progress, W: Write>(
     Ok(tracer.into_watched())
 }
 
+/// Traces the requests of a script, in order.
+fn trace_requests<P: Progress, W: Write>(
+    tracer: &mut Tracer,
+    requests: &[Request],
+    progress: &mut P,
+    writer: &mut W,
+) -> Result<(), Output>
+    ensures { OnOk result (tracer.new ≡ fold watched tracer.old requests.now) }
+{
+    tracer.begin(None, writer)?;
+    follow_all(tracer, progress, Source::Script, requests, writer)?;
+    tracer.end(1000, 1_000_000, writer)
+}
+
 /// Writes the trace of a script in the same way: the machine is that of `run_script`. Source:
 /// profile.
 ///
@@ -308,10 +330,16 @@ pub fn trace_script<P: Progress, W: Write>(
     let machine = script_machine(alloc)?;
     progress.expect(requests.len() as u64);
     let mut tracer = Tracer::new(machine, choice, Columns::of_bench(alloc, false));
-    tracer.begin(None, writer)?;
-    follow_all(&mut tracer, progress, Source::Script, requests, writer)?;
-    tracer.end(1000, 1_000_000, writer)?;
+    trace_requests(&mut tracer, requests, progress, writer)?;
     Ok(tracer.into_watched())
+}
+
+/// Writes what is told behind the last request of a scenario.
+fn end_clock<W: Write>(mut tracer: Tracer, bench: &Bench, writer: &mut W) -> Result<Tracer, Output>
+    ensures { IfOk result (λ t. t ≡ tracer) }
+{
+    tracer.end(bench.limit().get(), bench.allowance(), writer)?;
+    Ok(tracer)
 }
 
 /// Traces all requests of a scenario, in order, as its clock asks this machine for them.
@@ -327,9 +355,8 @@ fn trace_clock<T: Timetables, P: Progress, W: Write>(
         ≡ fold watched tracer (clock_requests (T.set_down table.now) machine)) }
 {
     tracer.begin(bench.power(), writer)?;
-    let mut tracer = follow_clock(machine, table, tracer, progress, writer)?;
-    tracer.end(bench.limit().get(), bench.allowance(), writer)?;
-    Ok(tracer)
+    let tracer = follow_clock(machine, table, tracer, progress, writer)?;
+    end_clock(tracer, bench, writer)
 }
 
 /// Writes the trace of a scenario in the same way, in these columns: the machine of this bench is
