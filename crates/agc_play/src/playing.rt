@@ -8,7 +8,7 @@ use agc_document::Bench;
 use agc_machine::Refusal;
 use agc_plan::Request;
 use agc_session::{Follows, RunFault, Silent, Source, follow_bench, written};
-use agc_spelling::put_bench;
+use agc_spelling::{Pen, put_bench};
 use agc_text::Output;
 use std::alloc::{AllocError, AllocFailed, Global};
 use std::io::{BufRead, Eprint, ErrorKind, Read, Write};
@@ -140,6 +140,17 @@ fn requests_of(alloc: Global, bench: &Bench) -> Result<Vec<Request>, PlayFault> 
         return Err(PlayFault::NoMemory);
     }
     Ok(gatherer.requests)
+}
+
+/// Writes a bench of the same machine whose script is these requests.
+fn bench_written<W: Write>(
+    writer: &mut W,
+    bench: &Bench,
+    requests: &[Request],
+) -> Result<(), Output> {
+    let mut pen = Pen::new(writer);
+    put_bench(&mut pen, bench, requests);
+    pen.end()
 }
 
 /// A play: the bench that it began from, all that was asked, from the bench's own requests on, how
@@ -285,7 +296,7 @@ impl<'a> Played<'a> {
         writer: &mut W,
     ) -> Result<(), PlayFault> {
         let mut text = Vec::new(rt.alloc());
-        if let Err(_lacking) = put_bench(&mut text, self.bench, self.requests.as_slice()) {
+        if let Err(Output) = bench_written(&mut text, self.bench, self.requests.as_slice()) {
             return Err(PlayFault::NoMemory);
         }
         let (count, length) = (self.requests.len(), text.len());
