@@ -1,7 +1,10 @@
 //! Rows on a terminal: the tables of a row are listed below it, each with its name.
+use agc_spelling::Filling::{Bytes, Text};
+use agc_spelling::Pen;
+use agc_text::Output;
 use arrayvec::ArrayVec;
 use std::io;
-use std::io::Write;
+use std::io::{ErrorKind, Write};
 
 /// How wide the columns ahead of a row's tables are, in characters.
 const FRONT: usize = 84;
@@ -31,51 +34,38 @@ fn parted(line: &str) -> Option<(&str, &str)> {
     }
 }
 
-/// Writes a table after its name, in a line of this length, or in the next one. Returns the length
-/// of the line then.
-fn put_table<W: Write>(
-    writer: &mut W,
-    length: usize,
-    name: &str,
-    table: &str,
-) -> io::Result<usize> {
-    let added = name.len().saturating_add(table.len()).saturating_add(3);
-    let (before, length) = if length == 0 {
-        ("    ", 2)
-    } else if length.saturating_add(added) > WIDTH {
-        ("\n    ", 2)
-    } else {
-        ("  ", length)
-    };
-    write!(writer, "{before}{name} {table}")?;
-    Ok(length.saturating_add(added))
-}
-
-/// Writes the tables of a row, each after its name.
-fn put_tables<W: Write>(writer: &mut W, tables: &str) -> io::Result<()> {
+/// Writes the tables of a row, each after its name, in as few lines as have room for them.
+fn put_tables<W: Write>(pen: &mut Pen<'_, W>, tables: &str) {
     let contents = tables
         .split("  ")
         .map(str::trim)
         .filter(|table| !table.is_empty());
-    let mut length = 0;
+    let mut length: usize = 0;
     for (name, table) in NAMES.iter().zip(contents) {
-        length = put_table(writer, length, name, table)?;
+        let added = name.len().saturating_add(table.len()).saturating_add(3);
+        let (before, begun) = if length == 0 {
+            ("    ", 2)
+        } else if length.saturating_add(added) > WIDTH {
+            ("\n    ", 2)
+        } else {
+            ("  ", length)
+        };
+        pen.put("{}{} {}", &[Text(before), Text(name), Text(table)]);
+        length = added.saturating_add(begun);
     }
-    writer.write_all(b"\n")
+    pen.text("\n");
 }
 
 /// Writes a line of a trace.
-fn put_line<W: Write>(writer: &mut W, line: &str) -> io::Result<()> {
+fn put_line<W: Write>(pen: &mut Pen<'_, W>, line: &str) {
     let Some((front, tables)) = parted(line) else {
-        return write!(writer, "{line}\n");
+        return pen.put("{}\n", &[Text(line)]);
     };
     if !front.is_empty() {
-        write!(writer, "{front}\n")?;
+        pen.put("{}\n", &[Text(front)]);
     }
-    if tables.starts_with("running") {
-        Ok(())
-    } else {
-        put_tables(writer, tables)
+    if !tables.starts_with("running") {
+        put_tables(pen, tables);
     }
 }
 
@@ -89,36 +79,35 @@ impl<'a, W: Write> Folded<'a, W> {
         }
     }
 
-    /// Writes what is kept of a line as it is.
-    fn put_kept(&mut self) -> io::Result<()> {
-        self.writer.write_all(self.line.as_slice())?;
-        self.line.clear();
-        Ok(())
-    }
-
-    /// Writes the line that has ended.
-    fn end_line(&mut self) -> io::Result<()> {
+    /// Writes what is kept of a line: as it is, or as a row, if it has ended.
+    fn put_kept(&mut self, has_ended: bool) -> io::Result<()> {
+        let mut pen = Pen::new(self.writer);
         match str::from_utf8(self.line.as_slice()) {
-            Ok(line) => put_line(self.writer, line)?,
-            Err(_other) => {
-                self.writer.write_all(self.line.as_slice())?;
-                self.writer.write_all(b"\n")?;
+            Ok(line) if has_ended => put_line(&mut pen, line),
+            _ => {
+                let end = if has_ended { "\n" } else { "" };
+                pen.put("{}{}", &[Bytes(self.line.as_slice()), Text(end)]);
             }
         }
         self.line.clear();
-        Ok(())
+        match pen.end() {
+            Ok(()) => Ok(()),
+            Err(Output) => Err(io::Error::from(ErrorKind::Other)),
+        }
     }
 
     /// Takes a byte of a line.
     fn put_byte(&mut self, byte: u8) -> io::Result<()> {
-        if byte == b'\n' {
-            return self.end_line();
+        let has_ended = byte == b'\n';
+        let put = if has_ended || self.line.is_full() {
+            self.put_kept(has_ended)
+        } else {
+            Ok(())
+        };
+        if !has_ended {
+            let _ = self.line.try_push(byte);
         }
-        if self.line.is_full() {
-            self.put_kept()?;
-        }
-        let _ = self.line.try_push(byte);
-        Ok(())
+        put
     }
 }
 
@@ -134,7 +123,7 @@ impl<W: Write> Write for Folded<'_, W> {
     }
 
     fn flush(&mut self) -> io::Result<()> {
-        self.put_kept()?;
+        self.put_kept(false)?;
         self.writer.flush()
     }
 }

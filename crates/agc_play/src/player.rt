@@ -11,6 +11,8 @@ use agc_phase::code_word;
 use agc_plan::{Reply, Request};
 use agc_scene::{Event, Scene, Watched};
 use agc_session::{Follows, RunFault, Silent, Source, follow_all, machine_of};
+use agc_spelling::Filling::{Number, Octal, Priority, Text};
+use agc_spelling::Pen;
 use agc_text::Output;
 use agc_trace::{Choice, Columns, Tracer};
 use std::alloc::Global;
@@ -23,21 +25,30 @@ use std::marker::Model;
 pub(crate) enum Came {
     /// There is nothing more to say.
     Served,
+    /// It was a tick in which nothing happened.
+    Quiet,
     /// An era began without an alarm, of which the row has no tables.
     Begun,
     Refused(Refusal),
 }
 
+/// The number of the last request, the time after it in the era and since the start, in
+/// centiseconds, and what came of it.
+#[derive(Clone, Copy)]
+struct Last {
+    number: u64,
+    time: u64,
+    total: u64,
+    came: Came,
+}
+
 /// The machine that is played with; a tracer, which has a second one in the same state and writes
-/// the rows; and the number of the last request, with the time after it in the era and since the
-/// start, in centiseconds. Contracts see the machine. Source: profile.
+/// the rows; and what is kept of the last request. Contracts see the machine. Source: profile.
 #[derive(Drop)]
 pub(crate) struct Player {
     watched: Watched,
     tracer: Tracer,
-    number: u64,
-    time: u64,
-    total: u64,
+    last: Last,
 }
 
 impl Model for Player {
@@ -55,90 +66,103 @@ impl Model for Player {
 fn came_of(event: &Event) -> Came {
     match &event.answer {
         Err(refusal) => Came::Refused(*refusal),
+        Ok(Reply::Ticked(None)) if event.fired.len() == 0 => Came::Quiet,
         Ok(_reply) if event.era.is_some() && event.alarm().is_none() => Came::Begun,
         Ok(_reply) => Came::Served,
     }
 }
 
-/// Whether it is a tick in which nothing happened.
-fn is_quiet(event: &Event) -> bool {
-    match &event.answer {
-        Ok(Reply::Ticked(None)) => event.fired.len() == 0,
-        _ => false,
+/// Asks for one request, and returns what is kept of it.
+fn ask(watched: &mut Watched, request: &Request) -> Last
+    ensures { watched.new ≡ watched watched.old request.now }
+{
+    let event = watched.ask(request);
+    Last {
+        number: event.number,
+        time: if event.era.is_some() { 0 } else { event.time },
+        total: event.total,
+        came: came_of(&event),
     }
 }
 
 /// Writes what a core set holds.
-fn put_seat<W: Write>(writer: &mut W, k: usize, seat: Seat) -> io::Result<()> {
-    let Seat {
-        number,
-        at,
-        priority,
-        asleep,
-        area,
-    } = seat;
-    let place = if asleep { "asleep at" } else { "at" };
-    write!(
-        writer,
-        "    set {k}: job {number}, priority {priority:02o}, {place} {at:05o}"
-    )?;
-    if area > 0 {
-        write!(writer, ", area {area}")?;
+fn put_seat<W: Write>(pen: &mut Pen<'_, W>, k: usize, seat: Seat) {
+    let fillings = [
+        Number(k as u64),
+        Number(u64::from(seat.number)),
+        Priority(seat.priority),
+        Text(if seat.asleep { "asleep at" } else { "at" }),
+        Octal(seat.at),
+    ];
+    pen.put("    set {}: job {}, priority {}, {} {}", &fillings);
+    if seat.area > 0 {
+        pen.fill(", area ", Number(u64::from(seat.area)));
     }
-    write!(writer, "\n")
+    pen.text("\n");
 }
 
 /// Writes which job is running, and what the core sets hold.
-fn put_jobs<W: Write>(writer: &mut W, scene: &Scene) -> io::Result<()> {
+fn put_jobs<W: Write>(pen: &mut Pen<'_, W>, scene: &Scene) {
     match scene.running() {
-        None => write!(writer, "    no job is running\n"),
-        Some(number) => write!(writer, "    job {} is running\n", number.get()),
-    }?;
-    if let Some(number) = scene.named() {
-        write!(
-            writer,
-            "    NEWJOB names job {number}, which is more urgent\n"
-        )?;
+        None => pen.text("    no job is running\n"),
+        Some(number) => pen.put(
+            "    job {} is running\n",
+            &[Number(u64::from(number.get()))],
+        ),
     }
-    let mut free = 0usize;
+    if let Some(number) = scene.named() {
+        pen.put(
+            "    NEWJOB names job {}, which is more urgent\n",
+            &[Number(u64::from(number))],
+        );
+    }
     for (k, seat) in scene.seats().iter().enumerate() {
-        match *seat {
-            None => free = free.saturating_add(1),
-            Some(seat) => put_seat(writer, k, seat)?,
+        if let Some(seat) = *seat {
+            put_seat(pen, k, seat);
         }
     }
+}
+
+/// Writes how many core sets and areas are free.
+fn put_free<W: Write>(pen: &mut Pen<'_, W>, scene: &Scene) {
+    let seats = scene.seats();
+    let free = seats.iter().filter(|seat| seat.is_none()).count();
     let areas = (1..6u16)
         .filter(|area| scene.owner(*area).is_none())
         .count();
-    let sets = scene.seats().len();
-    write!(
-        writer,
-        "    {free} of {sets} core sets and {areas} of 5 VAC areas are free\n"
-    )
+    let fillings = [
+        Number(free as u64),
+        Number(seats.len() as u64),
+        Number(areas as u64),
+    ];
+    pen.put(
+        "    {} of {} core sets and {} of 5 VAC areas are free\n",
+        &fillings,
+    );
 }
 
 /// Writes the tasks that wait, the phases and the codes.
-fn put_rest<W: Write>(writer: &mut W, scene: &Scene) -> io::Result<()> {
+fn put_rest<W: Write>(pen: &mut Pen<'_, W>, scene: &Scene) {
     if scene.waits().is_empty() {
-        write!(writer, "    no task waits\n")?;
+        pen.text("    no task waits\n");
     }
     for wait in scene.waits() {
         let (at, bank) = (wait.task.at.get(), wait.task.bank.bits());
-        write!(
-            writer,
-            "    task {at:05o}/{bank:05o}, due in {} cs\n",
-            wait.distance
-        )?;
+        let distance = Number(u64::from(wait.distance));
+        pen.put(
+            "    task {}/{}, due in {} cs\n",
+            &[Octal(at), Octal(bank), distance],
+        );
     }
-    write!(writer, "    phases")?;
+    pen.text("    phases");
     for phase in scene.phases() {
-        write!(writer, " {}", phase.get())?;
+        pen.fill(" ", Number(u64::from(phase.get())));
     }
-    write!(writer, "\n    FAILREG")?;
+    pen.text("\n    FAILREG");
     for code in scene.codes() {
-        write!(writer, " {:05o}", code_word(code).bits())?;
+        pen.fill(" ", Octal(code_word(code).bits()));
     }
-    write!(writer, "\n")
+    pen.text("\n");
 }
 
 /// A bench's machine before its first request.
@@ -164,6 +188,20 @@ fn tracer_of(alloc: Global, bench: &Bench, number: u64) -> Result<Tracer, RunFau
     Ok(Tracer::new(machine, choice, Columns::of_bench(alloc, false)))
 }
 
+/// Writes the heading, and what came of power-up, if the bench has phase words.
+///
+/// # Errors
+///
+/// `NoMemory`, and `Output`, where a write fails.
+pub(crate) fn put_heading<W: Write>(
+    alloc: Global,
+    bench: &Bench,
+    writer: &mut W,
+) -> Result<(), RunFault> {
+    let tracer = tracer_of(alloc, bench, 0)?;
+    Ok(tracer.begin(bench.power(), writer)?)
+}
+
 impl Player {
     /// A bench's machine before its first request; rows are written of the requests after this
     /// number.
@@ -176,12 +214,16 @@ impl Player {
     {
         let watched = watched_of(alloc, bench)?;
         let tracer = tracer_of(alloc, bench, number)?;
-        Ok(Player {
-            watched,
-            tracer,
+        let last = Last {
             number: 0,
             time: 0,
             total: 0,
+            came: Came::Served,
+        };
+        Ok(Player {
+            watched,
+            tracer,
+            last,
         })
     }
 
@@ -215,49 +257,45 @@ impl Player {
         request: &Request,
         is_told: bool,
         writer: &mut W,
-    ) -> Result<Came, Output>
+    ) -> Result<(), Output>
         ensures { self.new ≡ watched self.old request.now }
     {
-        let event = self.watched.ask(request);
-        self.number = event.number;
-        self.time = if event.era.is_some() { 0 } else { event.time };
-        self.total = event.total;
+        self.last = ask(&mut self.watched, request);
         let source = Source::Script;
-        if is_told || !is_quiet(&event) {
-            self.tracer.follow(source, request, writer)?;
+        if is_told || !matches!(self.last.came, Came::Quiet) {
+            self.tracer.follow(source, request, writer)
         } else {
-            self.tracer.follow(source, request, &mut io::sink())?;
+            self.tracer.follow(source, request, &mut io::sink())
         }
-        Ok(came_of(&event))
     }
 
-    /// Writes the heading, and what came of power-up, if the bench has phase words.
-    ///
-    /// # Errors
-    ///
-    /// Where a write fails.
-    pub(crate) fn begin<W: Write>(&self, bench: &Bench, writer: &mut W) -> Result<(), Output> {
-        self.tracer.begin(bench.power(), writer)
+    /// What came of the last request.
+    pub(crate) fn came(&self) -> Came {
+        self.last.came
     }
 
     /// Writes all that is shown of the state: after which request, when, and the tables.
-    pub(crate) fn put_state<W: Write>(&self, bench: &Bench, writer: &mut W) -> io::Result<()> {
-        let Player {
+    pub(crate) fn put_state<W: Write>(&self, pen: &mut Pen<'_, W>, bench: &Bench) {
+        let Last {
             number,
             time,
             total,
             ..
-        } = self;
-        write!(
-            writer,
-            "after request {number}: time {time} of the era, {total} in all\n"
-        )?;
+        } = self.last;
+        pen.put(
+            "after request {}: time {} of the era, {} in all\n",
+            &[Number(number), Number(time), Number(total)],
+        );
         let scene = self.watched.scene();
-        put_jobs(writer, &scene)?;
-        put_rest(writer, &scene)?;
-        let stored = self.watched.machine().log_len();
-        let limit = bench.limit().get();
-        write!(writer, "    the log has {stored} of {limit} requests\n")
+        put_jobs(pen, &scene);
+        put_free(pen, &scene);
+        put_rest(pen, &scene);
+        let stored = u64::from(self.watched.machine().log_len());
+        let limit = u64::from(bench.limit().get());
+        pen.put(
+            "    the log has {} of {} requests\n",
+            &[Number(stored), Number(limit)],
+        );
     }
 }
 
@@ -273,7 +311,6 @@ impl Follows for Player {
         request: &Request,
         writer: &mut W,
     ) -> Result<(), Output> {
-        self.ask(request, true, writer)?;
-        Ok(())
+        self.ask(request, true, writer)
     }
 }

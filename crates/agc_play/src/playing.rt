@@ -2,15 +2,16 @@
 ghost use Rattle.std.specs.Prelude.{◌≡◌, ◌++◌, ◌∷◌, [], OnOk};
 
 use crate::folding::Folded;
-use crate::line::{Asked, asked_by, not_text_told, wrong_told};
-use crate::player::{Came, Player};
+use crate::line::{Asked, asked_by, tell_line, tell_wrong};
+use crate::player::{Came, Player, put_heading};
 use agc_document::Bench;
 use agc_machine::Refusal;
 use agc_plan::Request;
 use agc_session::{Follows, RunFault, Silent, Source, follow_bench, written};
-use agc_spelling::{Pen, put_bench};
+use agc_spelling::Filling::{Number, Text};
+use agc_spelling::{Filling, Pen, put_bench};
 use agc_text::Output;
-use std::alloc::{AllocError, AllocFailed, Global};
+use std::alloc::Global;
 use std::io::{BufRead, Eprint, ErrorKind, Read, Write};
 use std::marker::Model;
 use std::rt::Files;
@@ -22,7 +23,10 @@ const MOST_LINE: usize = 8192;
 /// How many bytes `agc` and `agc_watch` read of a bench.
 const MOST_BYTES: usize = 1_048_576;
 
-const GREETING: &str = "Type a request, such as findvac 20 02000 00005, or help. Ctrl-D ends.";
+/// What is said of a bench that would have more.
+const TOO_LONG: &str = "{}: not written: it would have {} bytes, and agc reads 1048576\n";
+
+const GREETING: &str = "Type a request, such as findvac 20 02000 00005, or help. Ctrl-D ends.\n";
 
 const HELP: &str = "\
 A line is a request, as in a script, or one of these:
@@ -69,24 +73,6 @@ pub enum PlayFault {
     Output,
 }
 
-impl From<AllocError> for PlayFault {
-    fn from(_error: AllocError) -> PlayFault {
-        PlayFault::NoMemory
-    }
-}
-
-impl<T: Drop> From<AllocFailed<T>> for PlayFault {
-    fn from(_error: AllocFailed<T>) -> PlayFault {
-        PlayFault::NoMemory
-    }
-}
-
-impl From<Output> for PlayFault {
-    fn from(_error: Output) -> PlayFault {
-        PlayFault::Output
-    }
-}
-
 impl From<RunFault> for PlayFault {
     fn from(fault: RunFault) -> PlayFault {
         match fault {
@@ -96,11 +82,10 @@ impl From<RunFault> for PlayFault {
     }
 }
 
-/// The requests of a bench, as they are gathered, and whether memory ran out.
+/// The requests of a bench, as they are gathered.
 #[derive(Drop)]
 struct Gatherer {
     requests: Vec<Request>,
-    lacks: bool,
 }
 
 impl Model for Gatherer {
@@ -112,7 +97,7 @@ impl Model for Gatherer {
 impl Follows for Gatherer {
     ghost next = { λ gatherer request. gatherer };
 
-    /// Keeps one request, and writes nothing.
+    /// Keeps one request, and writes nothing: it fails where there is no memory for it.
     fn follow<W: Write>(
         &mut self,
         _source: Source,
@@ -121,36 +106,20 @@ impl Follows for Gatherer {
     ) -> Result<(), Output> {
         match self.requests.push(*request) {
             Ok(()) => Ok(()),
-            Err(_lacking) => {
-                self.lacks = true;
-                Err(Output)
-            }
+            Err(_lacking) => Err(Output),
         }
     }
 }
 
 /// All requests of a bench, in the order of `agc serial`.
-fn requests_of(alloc: Global, bench: &Bench) -> Result<Vec<Request>, PlayFault> {
+fn requests_of(alloc: Global, bench: &Bench) -> Result<Vec<Request>, RunFault> {
     let mut gatherer = Gatherer {
         requests: Vec::new(alloc),
-        lacks: false,
     };
-    let _ = follow_bench(&mut gatherer, &mut Silent, bench, &mut io::sink());
-    if gatherer.lacks {
-        return Err(PlayFault::NoMemory);
+    match follow_bench(&mut gatherer, &mut Silent, bench, &mut io::sink()) {
+        Ok(()) => Ok(gatherer.requests),
+        Err(Output) => Err(RunFault::NoMemory),
     }
-    Ok(gatherer.requests)
-}
-
-/// Writes a bench of the same machine whose script is these requests.
-fn bench_written<W: Write>(
-    writer: &mut W,
-    bench: &Bench,
-    requests: &[Request],
-) -> Result<(), Output> {
-    let mut pen = Pen::new(writer);
-    put_bench(&mut pen, bench, requests);
-    pen.end()
 }
 
 /// A play: the bench that it began from, all that was asked, from the bench's own requests on, how
@@ -179,24 +148,67 @@ impl<'a> Model for Played<'a> {
         ≡ fold watched (watching_from (bench_machine p.bench.now)) p.requests.items };
 }
 
-/// Says why a request was refused, and what helps.
-fn put_refused<W: Write>(writer: &mut W, bench: &Bench, refusal: Refusal) -> io::Result<()> {
-    let (limit, allowance) = (bench.limit().get(), bench.allowance());
+/// What is said of a request that was refused, and of the number in it.
+fn words_of(bench: &Bench, refusal: Refusal) -> (&'static str, u64) {
     match refusal {
-        Refusal::LogFull => write!(
-            writer,
-            "        the log is full (limit {limit}): only restart and fresh are served\n"
+        Refusal::LogFull => (
+            "        the log is full (limit {}): only restart and fresh are served\n",
+            u64::from(bench.limit().get()),
         ),
-        Refusal::Spent => write!(
-            writer,
-            "        spent (allowance {allowance}): nothing more is served\n"
+        Refusal::Spent => (
+            "        spent (allowance {}): nothing more is served\n",
+            bench.allowance(),
         ),
     }
 }
 
+/// Writes a text.
+fn tell<W: Write>(writer: &mut W, text: &str) -> Result<(), RunFault> {
+    Ok(written(writer.write_all(text.as_bytes()))?)
+}
+
+/// A bench of the same machine as another's, whose script is these requests.
+fn bench_of(alloc: Global, bench: &Bench, requests: &[Request]) -> Result<Vec<u8>, RunFault> {
+    let mut text = Vec::new(alloc);
+    match put_script(&mut text, bench, requests) {
+        Ok(()) => Ok(text),
+        Err(Output) => Err(RunFault::NoMemory),
+    }
+}
+
+/// Writes a bench of the same machine as another's, whose script is these requests.
+fn put_script<W: Write>(writer: &mut W, bench: &Bench, requests: &[Request]) -> Result<(), Output> {
+    let mut pen = Pen::new(writer);
+    put_bench(&mut pen, bench, requests);
+    pen.end()
+}
+
+/// Writes a bench of so many requests to a file of this name, and says so.
+fn save<H: Files, W: Write>(
+    rt: &H,
+    name: &str,
+    text: &[u8],
+    count: usize,
+    writer: &mut W,
+) -> Result<(), RunFault> {
+    let length = Number(text.len() as u64);
+    let (words, number) = if text.len() > MOST_BYTES {
+        (TOO_LONG, length)
+    } else if let Err(error) = fs::write(rt, name, text) {
+        return Ok(written(write!(writer, "{name}: not written: {error}\n"))?);
+    } else if count == 1 {
+        ("{}: a bench of {} request\n", Number(1))
+    } else {
+        ("{}: a bench of {} requests\n", Number(count as u64))
+    };
+    let mut pen = Pen::new(writer);
+    pen.put(words, &[Text(name), number]);
+    Ok(pen.end()?)
+}
+
 impl<'a> Played<'a> {
     /// A play that goes on where the bench ends.
-    fn new(alloc: Global, bench: &'a Bench) -> Result<Played<'a>, PlayFault> {
+    fn new(alloc: Global, bench: &'a Bench) -> Result<Played<'a>, RunFault> {
         let requests = requests_of(alloc, bench)?;
         let player = Player::after(alloc, bench, requests.as_slice())?;
         Ok(Played {
@@ -207,51 +219,70 @@ impl<'a> Played<'a> {
         })
     }
 
-    /// Writes the state.
-    fn put_state<W: Write>(&self, writer: &mut W) -> Result<(), Output> {
-        written(self.player.put_state(self.bench, writer))
+    /// Writes the state, after this text, whose gap is filled by this.
+    fn tell_state<W: Write>(
+        &self,
+        words: &str,
+        fillings: &[Filling<'_>],
+        writer: &mut W,
+    ) -> Result<(), RunFault> {
+        let mut pen = Pen::new(writer);
+        pen.put(words, fillings);
+        self.player.put_state(&mut pen, self.bench);
+        Ok(pen.end()?)
     }
 
     /// Writes the heading, what came of power-up, and where the bench's own requests ended.
-    fn begin<W: Write>(&self, alloc: Global, writer: &mut W) -> Result<(), PlayFault> {
-        Player::after(alloc, self.bench, &[])?.begin(self.bench, writer)?;
+    fn begin<W: Write>(&self, alloc: Global, writer: &mut W) -> Result<(), RunFault> {
+        put_heading(alloc, self.bench, writer)?;
         let count = self.requests.len();
-        if count == 0 {
-            return Ok(());
-        }
-        let ending = if count == 1 { " was" } else { "s were" };
-        written(write!(writer, "{count} request{ending} asked by the bench\n"))?;
-        Ok(self.put_state(writer)?)
+        let words = match count {
+            0 => return Ok(()),
+            1 => "{} request was asked by the bench\n",
+            _ => "{} requests were asked by the bench\n",
+        };
+        self.tell_state(words, &[Number(count as u64)], writer)
     }
 
-    /// Asks for one request. Returns whether it was refused.
+    /// Says what came of the last request, beside its row.
+    fn tell_came<W: Write>(&self, writer: &mut W) -> Result<(), Output> {
+        let mut pen = Pen::new(writer);
+        match self.player.came() {
+            Came::Served | Came::Quiet => {}
+            Came::Begun => self.player.put_state(&mut pen, self.bench),
+            Came::Refused(refusal) => {
+                let (words, number) = words_of(self.bench, refusal);
+                pen.put(words, &[Number(number)]);
+            }
+        }
+        pen.end()
+    }
+
+    /// Asks for one request.
     fn ask<W: Write>(
         &mut self,
         request: &Request,
         is_told: bool,
         writer: &mut W,
-    ) -> Result<bool, PlayFault>
+    ) -> Result<(), RunFault>
         ensures { OnOk result (self.new ≡ self.old ++ request.now ∷ []) }
     {
         self.requests.push(*request)?;
-        match self.player.ask(request, is_told, writer)? {
-            Came::Served => Ok(false),
-            Came::Begun => {
-                self.put_state(writer)?;
-                Ok(false)
-            }
-            Came::Refused(refusal) => {
-                written(put_refused(writer, self.bench, refusal))?;
-                Ok(true)
-            }
-        }
+        self.player.ask(request, is_told, writer)?;
+        Ok(self.tell_came(writer)?)
     }
 
-    /// Asks for a tick so many times, up to one that is refused.
-    fn ask_ticks<W: Write>(&mut self, count: u32, writer: &mut W) -> Result<(), PlayFault> {
+    /// Asks for a request so many times, up to one that is refused.
+    fn ask_times<W: Write>(
+        &mut self,
+        request: &Request,
+        times: u32,
+        writer: &mut W,
+    ) -> Result<(), RunFault> {
         self.steps.push(self.requests.len())?;
-        for number in 1..=count {
-            if self.ask(&Request::Tick, number == count, writer)? {
+        for number in 1..=times {
+            self.ask(request, number == times, writer)?;
+            if matches!(self.player.came(), Came::Refused(_)) {
                 return Ok(());
             }
         }
@@ -268,7 +299,7 @@ impl<'a> Played<'a> {
     }
 
     /// Takes back what the last line asked, or the last request of the bench.
-    fn undo<W: Write>(&mut self, alloc: Global, writer: &mut W) -> Result<(), PlayFault> {
+    fn undo<W: Write>(&mut self, alloc: Global, writer: &mut W) -> Result<(), RunFault> {
         let count = self.requests.len();
         let left = match self.steps.as_slice() {
             [.., step] => *step,
@@ -276,16 +307,19 @@ impl<'a> Played<'a> {
         };
         if count <= left {
             self.steps.pop();
-            return Ok(written(writer.write_all(b"nothing was asked that could be taken back\n"))?);
+            return tell(writer, "nothing was asked that could be taken back\n");
         }
         let requests = self.requests.as_slice();
         self.player = Player::after(alloc, self.bench, &requests[..left])?;
         self.requests.truncate(left);
         self.steps.pop();
         let taken = count - left;
-        let ending = if taken == 1 { " is" } else { "s are" };
-        written(write!(writer, "{taken} request{ending} taken back\n"))?;
-        Ok(self.put_state(writer)?)
+        let words = if taken == 1 {
+            "{} request is taken back\n"
+        } else {
+            "{} requests are taken back\n"
+        };
+        self.tell_state(words, &[Number(taken as u64)], writer)
     }
 
     /// Writes all that was asked to a file, as a bench.
@@ -294,26 +328,9 @@ impl<'a> Played<'a> {
         rt: &H,
         name: &str,
         writer: &mut W,
-    ) -> Result<(), PlayFault> {
-        let mut text = Vec::new(rt.alloc());
-        if let Err(Output) = bench_written(&mut text, self.bench, self.requests.as_slice()) {
-            return Err(PlayFault::NoMemory);
-        }
-        let (count, length) = (self.requests.len(), text.len());
-        if length > MOST_BYTES {
-            return Ok(written(write!(
-                writer,
-                "{name}: not written: it would have {length} bytes, and agc reads {MOST_BYTES}\n"
-            ))?);
-        }
-        let put = match fs::write(rt, name, text.as_slice()) {
-            Ok(()) => {
-                let ending = if count == 1 { "" } else { "s" };
-                write!(writer, "{name}: a bench of {count} request{ending}\n")
-            }
-            Err(error) => write!(writer, "{name}: not written: {error}\n"),
-        };
-        Ok(written(put)?)
+    ) -> Result<(), RunFault> {
+        let text = bench_of(rt.alloc(), self.bench, self.requests.as_slice())?;
+        save(rt, name, text.as_slice(), self.requests.len(), writer)
     }
 
     /// Does what a line asks for, of this number.
@@ -323,33 +340,22 @@ impl<'a> Played<'a> {
         number: u64,
         line: &str,
         writer: &mut W,
-    ) -> Result<(), PlayFault> {
+    ) -> Result<(), RunFault> {
         match asked_by(line) {
-            Asked::Request(request) => {
-                self.steps.push(self.requests.len())?;
-                self.ask(&request, true, writer)?;
-                Ok(())
-            }
-            Asked::Ticks(count) => self.ask_ticks(count, writer),
+            Asked::Request(request, times) => self.ask_times(&request, times, writer),
             Asked::Undo => self.undo(rt.alloc(), writer),
-            Asked::Show => Ok(self.put_state(writer)?),
+            Asked::Show => self.tell_state("", &[], writer),
             Asked::Save(name) => self.save(rt, name, writer),
-            Asked::Help => Ok(written(writer.write_all(HELP.as_bytes()))?),
-            Asked::Quit => Ok(()),
-            Asked::Nothing => put_told(writer, wrong_told(rt.alloc(), number, line)),
+            Asked::Help => tell(writer, HELP),
+            Asked::Nothing => tell_wrong(rt.alloc(), number, line, writer),
         }
     }
 }
 
-/// Writes a text, if there was memory for it.
-fn put_told<W: Write>(writer: &mut W, told: Result<String, AllocError>) -> Result<(), PlayFault> {
-    Ok(written(writer.write_all(told?.as_bytes()))?)
-}
-
-/// Ends an answer with an empty line, and flushes it.
-fn end_answer<W: Write>(writer: &mut W) -> Result<(), Output> {
-    written(writer.write_all(b"\n"))?;
-    written(writer.flush())
+/// Ends an answer with this text, and flushes it.
+fn end_answer<W: Write>(writer: &mut W, text: &str) -> Result<(), RunFault> {
+    tell(writer, text)?;
+    Ok(written(writer.flush())?)
 }
 
 /// The bytes of the next line, with its end; none at the end of the input.
@@ -372,28 +378,26 @@ fn text_of(line: &[u8]) -> Option<&str> {
     }
 }
 
-/// Answers a line of this number. Returns whether further ones are read.
+/// Answers a line of this number, which is this text.
 fn answer<H: AllocGlobal + Files, W: Write>(
     rt: &H,
     played: &mut Played<'_>,
     number: u64,
-    line: &[u8],
+    text: Option<&str>,
     writer: &mut W,
-) -> Result<bool, PlayFault> {
-    let served = match text_of(line) {
-        Some("quit") => return Ok(false),
+) -> Result<(), RunFault> {
+    let served = match text {
         Some(text) => played.serve(rt, number, text, writer),
-        None => put_told(writer, not_text_told(rt.alloc(), number)),
+        None => tell_line(writer, number, "not text"),
     };
     match served {
-        Err(PlayFault::NoMemory) => {
+        Ok(()) => end_answer(writer, "\n"),
+        Err(RunFault::Output) => Err(RunFault::Output),
+        Err(_lacking) => {
             played.forget_empty();
-            written(writer.write_all(b"no memory\n"))?;
+            end_answer(writer, "no memory\n\n")
         }
-        served => served?,
     }
-    end_answer(writer)?;
-    Ok(true)
 }
 
 /// Says on standard error that a line is waited for, if that is wanted.
@@ -403,33 +407,29 @@ fn prompt<H: Eprint>(rt: &H, manner: Manner, text: &str) {
     }
 }
 
-/// Begins, and answers each line before the next one is read.
-fn answer_all<H: AllocGlobal + Files + Eprint, R: BufRead, W: Write>(
+/// Reads the next line, of this number, and answers it. Returns whether further ones are read.
+fn answer_next<H: AllocGlobal + Files + Eprint, R: BufRead, W: Write>(
     rt: &H,
     played: &mut Played<'_>,
     manner: Manner,
+    number: u64,
     reader: &mut R,
     writer: &mut W,
-) -> Result<(), PlayFault> {
-    played.begin(rt.alloc(), writer)?;
-    end_answer(writer)?;
-    prompt(rt, manner, GREETING);
-    prompt(rt, manner, "\n");
-    for number in 1..u64::MAX {
-        prompt(rt, manner, "> ");
-        let line = next_line(rt.alloc(), reader)?;
-        if line.is_empty() {
-            prompt(rt, manner, "\n");
-            return Ok(());
-        }
-        if manner.prompts && matches!(line.as_slice(), [b'\n']) {
-            continue;
-        }
-        if !answer(rt, played, number, line.as_slice(), writer)? {
-            return Ok(());
+) -> Result<bool, PlayFault> {
+    prompt(rt, manner, "> ");
+    let line = next_line(rt.alloc(), reader)?;
+    if line.is_empty() {
+        prompt(rt, manner, "\n");
+        return Ok(false);
+    }
+    match text_of(line.as_slice()) {
+        Some("quit") => Ok(false),
+        Some("") if manner.prompts => Ok(true),
+        text => {
+            answer(rt, played, number, text, writer)?;
+            Ok(true)
         }
     }
-    Ok(())
 }
 
 /// Answers requests on a bench's machine, starting where the bench's own requests end. Each line is
@@ -447,7 +447,15 @@ pub fn play<H: AllocGlobal + Files + Eprint, R: BufRead, W: Write>(
     reader: &mut R,
     writer: &mut W,
 ) -> Result<(), PlayFault> {
-    let mut folded = Folded::new(writer, manner.folds);
     let mut played = Played::new(rt.alloc(), bench)?;
-    answer_all(rt, &mut played, manner, reader, &mut folded)
+    let mut folded = Folded::new(writer, manner.folds);
+    played.begin(rt.alloc(), &mut folded)?;
+    end_answer(&mut folded, "\n")?;
+    prompt(rt, manner, GREETING);
+    for number in 1..u64::MAX {
+        if !answer_next(rt, &mut played, manner, number, reader, &mut folded)? {
+            break;
+        }
+    }
+    Ok(())
 }
