@@ -73,10 +73,10 @@ fn came_of(event: &Event) -> Came {
 }
 
 /// Asks for one request, and returns what is kept of it.
-fn ask(watched: &mut Watched, request: &Request) -> Last
-    ensures { watched.new ≡ watched watched.old request.now }
+fn ask(machine: &mut Watched, request: &Request) -> Last
+    ensures { machine.new ≡ watched machine.old request.now }
 {
-    let event = watched.ask(request);
+    let event = machine.ask(request);
     Last {
         number: event.number,
         time: if event.era.is_some() { 0 } else { event.time },
