@@ -10,7 +10,7 @@ use crate::numbers::sets;
 use agc_word::{Erasable, Sets};
 
 /// Why a call isn't served. Source: profile.
-#[derive(Clone, Copy, PartialEq, Eq, Debug)]
+#[derive(Clone, Copy, PartialEq, Eq)]
 pub enum Fault {
     /// The number of core sets is neither 7 nor 8.
     NoSuchSets,
