@@ -6,14 +6,14 @@ use agc_plan::Request;
 
 /// Who asks: the clock itself (for a tick, for a look at NEWJOB, for the end or the sleep of a job
 /// that has used up its cost), or the event of this number, from 0. Source: profile.
-#[derive(Clone, Copy, PartialEq, Eq, Debug)]
+#[derive(Clone, Copy, PartialEq, Eq)]
 pub enum Source {
     Clock,
     Event(usize),
 }
 
 /// A request, and who asks for it. Source: profile.
-#[derive(Clone, Copy, PartialEq, Eq)]
+#[derive(Clone, Copy)]
 pub struct Asked {
     pub request: Request,
     pub source: Source,

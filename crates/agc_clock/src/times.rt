@@ -6,7 +6,7 @@ use std::marker::Model;
 
 /// When an event comes, in centiseconds since the start: at a time, and again each so many
 /// centiseconds, up to a last time and at that too. Source: profile.
-#[derive(Clone, Copy, PartialEq, Eq, Debug)]
+#[derive(Clone, Copy)]
 pub struct Times {
     at: u32,
     every: u32,

@@ -9,7 +9,7 @@ use std::marker::Model;
 /// From centisecond `from` on, before `to`, something else takes `percent` of each centisecond; all
 /// of it where that is above 100. Source: profile.
 #[repr(C)]
-#[derive(Clone, Copy, PartialEq, Eq, Debug)]
+#[derive(Clone, Copy)]
 pub struct Stolen {
     pub from: u32,
     pub to: u32,
@@ -18,7 +18,7 @@ pub struct Stolen {
 
 /// What a job does that has used up its cost: it ends, or sleeps until this address is called.
 /// Source: profile.
-#[derive(Clone, Copy, PartialEq, Eq, Debug)]
+#[derive(Clone, Copy, PartialEq, Eq)]
 pub enum Then {
     End,
     Sleep(Address),
@@ -36,7 +36,7 @@ pub(crate) fn asked_then(then: Then) -> Request
 
 /// What a job at an address costs, in hundredths of a centisecond of computing time, from 1 on (0
 /// costs as much as 1), and what it does when that is used up. Source: profile.
-#[derive(Clone, Copy, PartialEq, Eq, Debug)]
+#[derive(Clone, Copy)]
 pub struct Cost {
     pub at: Address,
     pub hundredths: u32,
