@@ -52,7 +52,7 @@ pub trait Gate {
 }
 
 /// The gate that stops no call. Source: profile.
-#[derive(Clone, Copy, PartialEq, Eq, Debug, Default)]
+#[derive(Clone, Copy)]
 pub struct OpenGate;
 
 impl Gate for OpenGate {

@@ -1,16 +1,17 @@
 ghost use Rattle.std.specs.Prelude.{◌≡◌, ◌+◌, ◌++◌, ◌∷◌, ◌↔◌, ◌<◌, ◌≤◌, ◌⊎◌, [], None, length};
 ghost use Rattle.std.specs.Prelude.{All, IsOk, IsNone, IfOk, IfErr, IfSome, IfNone, OnErr, OnOk};
-ghost use Rattle.std.specs.Prelude.{vec_len};
+ghost use Rattle.std.specs.Prelude.{ℕ, false, nat_eq, true, vec_len};
+ghost use Rattle.std.specs.List.{IsDistinct, list_any};
 ghost use Rattle.agc_latch.specs.Accounts.{Applies, AreAll, Collects, Gives, Settles};
 ghost use Rattle.agc_latch.specs.Accounts.{IsKept, IsOf, with_taker};
 ghost use Rattle.agc_latch.specs.Ends.{new_device};
 ghost use Rattle.agc_latch.specs.Lines.{on};
 ghost use Rattle.agc_machine.specs.Machines.{IsLawful, after, said_of};
-ghost use Rattle.agc_machine.specs.Told.{add, told};
+ghost use Rattle.agc_machine.specs.Told.{add, nothing, told};
 ghost use Rattle.agc_desk.specs.Books.{told_in, told_to};
 ghost use Rattle.agc_desk.specs.Desks.{ArePulses, new_desk, with_lines};
 ghost use Rattle.agc_desk.specs.History.{IsHistory, Leads, new_holder, own_call};
-ghost use Rattle.agc_desk.specs.History.{with_drain, with_heard};
+ghost use Rattle.agc_desk.specs.History.{calls_by, numbers_of, with_drain, with_heard};
 ghost use Rattle.agc_desk.specs.Opening.{names_of};
 ghost use Rattle.agc_plan.specs.Pulses.{pulse_requests};
 ghost use Rattle.agc_desk.specs.Runs.{IsGiven};
@@ -354,6 +355,69 @@ pub struct Ungathered<N: Names> {
     pub shares: Vec<Share<N>>,
 }
 
+// A share is back: its parts of the ledgers, and its number, which was given out and wasn't back.
+fn take_back<N: Names>(ledgers: &mut Ledgers<N>, history: &mut History<N>, share: Share<N>)
+    ensures total { ledgers.new.total ≡ ledgers.old.total }
+    ensures left { ledgers.new.left ≡ ledgers.old.left + 1 }
+    ensures back { ledgers.new.back ≡ add ledgers.old.back (told_in share.heard) }
+    ensures gathered { history.new
+        ≡ record history.old { gathered = history.old.gathered ++ share.number ∷ [] } }
+    ensures heard { calls_by share.number history.old.calls ≡ share.heard }
+    ensures given_out { share.number < history.old.given }
+    ensures apart { list_any (nat_eq share.number) history.old.gathered ≡ false }
+{
+    let Share { amounts, own } = share;
+    ledgers.merge(amounts);
+    history.gather(own);
+}
+
+// All shares are back, where none was.
+fn take_all_back<N: Names>(
+    ledgers: &mut Ledgers<N>,
+    history: &mut History<N>,
+    shares: Vec<Share<N>>,
+)
+    requires none { history.old.gathered ≡ [] }
+    requires nothing { ledgers.old.back ≡ nothing }
+    requires all { ledgers.old.left + length shares.items ≡ 65 }
+    ensures total { ledgers.old.total ≡ told_to shares.items }
+    ensures each { All (λ s. calls_by s.number history.old.calls ≡ s.heard) shares.items }
+    ensures apart { IsDistinct nat_eq (numbers_of shares.items) }
+    ensures below { (k : ℕ) → list_any (nat_eq k) (numbers_of shares.items) ≡ true
+        → k < history.old.given }
+    ensures given { All (λ call. call.by < history.old.given) history.old.calls }
+{
+    for share in shares {
+        take_back(ledgers, history, share);
+    }
+    ledgers.audit();
+    history.check();
+}
+
+// Ends a desk with all of its shares.
+fn end_desk<N: Names>(desk: Desk<N>, shares: Vec<Share<N>>) -> (Machine, Totals)
+    requires { length shares.items ≡ desk.given }
+    ensures machine { result.0 ≡ desk.machine }
+    ensures history { IsHistory N.first shares.items desk.history result.0 }
+    ensures told { result.1 ≡ told_to shares.items }
+    ensures booked { result.1 ≡ desk.booked }
+    ensures pulses { ArePulses N.first.plan desk.history desk.lines.applied desk.lines.begun }
+    ensures kept { IsKept desk.lines }
+    ensures grown { add result.1 N.first.totals ≡ result.0.totals }
+{
+    desk.tell_law();
+    let Desk {
+        machine,
+        since,
+        mut ledgers,
+        mut history,
+        lines: _,
+    } = desk;
+    take_all_back(&mut ledgers, &mut history, shares);
+    let totals = growth(since, machine.totals());
+    (machine, totals)
+}
+
 /// Ends a desk: gives its machine, unchanged, and what the holders of all its shares were told
 /// together, which is what the machine's totals grew by. The history leads to that machine from the
 /// one with which the desk was made; of each share's number it has just what its holder asked and
@@ -382,21 +446,5 @@ pub fn gather<N: Names>(
     if shares.len() as u64 != desk.history.given() {
         return Err(Ungathered { desk, shares });
     }
-    desk.tell_law();
-    let Desk {
-        machine,
-        since,
-        mut ledgers,
-        mut history,
-        lines: _,
-    } = desk;
-    for share in shares {
-        let Share { amounts, own } = share;
-        ledgers.merge(amounts);
-        history.gather(own);
-    }
-    ledgers.audit();
-    history.check();
-    let totals = growth(since, machine.totals());
-    Ok((machine, totals))
+    Ok(end_desk(desk, shares))
 }

@@ -11,7 +11,7 @@ use agc_machine::Refusal;
 use agc_plan::pulse_request;
 
 /// What a drain did. Source: profile.
-#[derive(Clone, Copy, PartialEq, Eq, Debug)]
+#[derive(Clone, Copy, PartialEq, Eq)]
 pub struct Drained {
     /// How many pulses were taken, per line: the timer's, the keyboard's, the radar's. Source:
     /// profile.

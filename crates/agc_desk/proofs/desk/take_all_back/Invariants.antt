@@ -3,7 +3,7 @@ use Rattle.std.specs.List.{IsDistinct, list_any}
 use Rattle.std.specs.Vec.Iter.{into_iter_items, into_iter_len}
 use Rattle.agc_desk.specs.Books.{told_to}
 use Rattle.agc_desk.specs.History.{calls_by, numbers_of}
-use Rattle.agc_desk.proofs.desk.gather.Given as goal
+use Rattle.agc_desk.proofs.desk.take_all_back.Given as goal
 
 abbrev pub invariant-loop-share : goal.invariant-loop-share
 invariant-loop-share g l = record {
