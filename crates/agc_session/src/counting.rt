@@ -12,7 +12,7 @@ use std::marker::Model;
 
 /// How many requests a bench has, up to the greatest number of 64 bits, and whether they come of
 /// more than one source: the script, workers, lines. Source: profile.
-#[derive(Clone, Copy, PartialEq, Eq, Debug)]
+#[derive(Clone, Copy)]
 pub struct Counts {
     pub requests: u64,
     pub is_shared: bool,
