@@ -56,13 +56,12 @@ impl<'a> FromData<'a> for NamedRow<'a> {
         let table = table_at(value, key, place, notes)?;
         let place = place.of_table();
         let known = has_only(table, Level::NamedTask, place, notes);
-        let row = row_in(alloc, table, place, notes);
+        let row = known.and(row_in(alloc, table, place, notes));
         let name = name_in(table, place, notes);
-        known?;
-        Ok(NamedRow {
-            row: row?,
-            name: name?,
-        })
+        match (row, name) {
+            (Ok(row), Ok(name)) => Ok(NamedRow { row, name }),
+            (Err(fault), _) | (_, Err(fault)) => Err(fault),
+        }
     }
 }
 
@@ -80,13 +79,12 @@ impl<'a> FromData<'a> for NamedEntry<'a> {
         let table = table_at(value, key, place, notes)?;
         let place = place.of_table();
         let known = has_only(table, Level::NamedPhase, place, notes);
-        let entry = entry_in(table, place, notes);
+        let entry = known.and(entry_in(table, place, notes));
         let name = name_in(table, place, notes);
-        known?;
-        Ok(NamedEntry {
-            entry: entry?,
-            name: name?,
-        })
+        match (entry, name) {
+            (Ok(entry), Ok(name)) => Ok(NamedEntry { entry, name }),
+            (Err(fault), _) | (_, Err(fault)) => Err(fault),
+        }
     }
 }
 
@@ -116,16 +114,20 @@ impl<'a> FromData<'a> for StolenRow {
         let table = table_at(value, key, place, notes)?;
         let place = place.of_table();
         let known = has_only(table, Level::Steal, place, notes);
-        let from = number_at(table, Key::Of(ScenarioKey::From), place, notes);
+        let from = known.and(number_at(table, Key::Of(ScenarioKey::From), place, notes));
         let to = number_at(table, Key::Of(ScenarioKey::To), place, notes);
         let percent = number_at(table, Key::Of(ScenarioKey::Percent), place, notes);
-        known?;
-        let row = Stolen {
-            from: from? as u32,
-            to: to? as u32,
-            percent: percent? as u32,
-        };
-        forward(row, place, notes)
+        match (from, to, percent) {
+            (Ok(from), Ok(to), Ok(percent)) => {
+                let row = Stolen {
+                    from: from as u32,
+                    to: to as u32,
+                    percent: percent as u32,
+                };
+                forward(row, place, notes)
+            }
+            (Err(fault), _, _) | (_, Err(fault), _) | (_, _, Err(fault)) => Err(fault),
+        }
     }
 }
 
@@ -153,17 +155,20 @@ impl<'a> FromData<'a> for JobTexts<'a> {
         let table = table_at(value, key, place, notes)?;
         let place = place.of_table();
         let known = has_only(table, Level::Job, place, notes);
-        let at = text_at(table, Key::At, place, notes);
+        let at = known.and(text_at(table, Key::At, place, notes));
         let cost = number_at(table, Key::Of(ScenarioKey::Cost), place, notes);
         let leaving = optional_text(table, Key::Of(ScenarioKey::Then), place, notes);
         let name = name_in(table, place, notes);
-        known?;
-        Ok(JobTexts {
-            at: at?,
-            cost: cost? as u32,
-            leaving: text_or_end(leaving?),
-            name: name?,
-        })
+        match (at, cost, leaving, name) {
+            (Ok(at), Ok(cost), Ok(leaving), Ok(name)) => Ok(JobTexts {
+                at,
+                cost: cost as u32,
+                leaving: text_or_end(leaving),
+                name,
+            }),
+            (Err(fault), _, _, _) | (_, Err(fault), _, _) => Err(fault),
+            (_, _, Err(fault), _) | (_, _, _, Err(fault)) => Err(fault),
+        }
     }
 }
 
@@ -211,19 +216,23 @@ impl<'a> FromData<'a> for EventTexts<'a> {
         let table = table_at(value, key, place, notes)?;
         let place = place.of_table();
         let known = has_only(table, Level::Event, place, notes);
-        let at = number_at(table, Key::Of(ScenarioKey::Moment), place, notes);
+        let at = known.and(number_at(table, Key::Of(ScenarioKey::Moment), place, notes));
         let requests = some_texts_at(alloc, table, Key::Of(ScenarioKey::Do), place, notes);
         let every = number_if(table, ScenarioKey::Every, place, notes);
         let until = number_if(table, ScenarioKey::Until, place, notes);
         let name = name_in(table, place, notes);
-        known?;
-        Ok(EventTexts {
-            at: at? as u32,
-            requests: requests?,
-            every: every?,
-            until: until?,
-            name: name?,
-        })
+        match (at, requests, every, until, name) {
+            (Ok(at), Ok(requests), Ok(every), Ok(until), Ok(name)) => Ok(EventTexts {
+                at: at as u32,
+                requests,
+                every,
+                until,
+                name,
+            }),
+            (Err(fault), _, _, _, _) | (_, Err(fault), _, _, _) => Err(fault),
+            (_, _, Err(fault), _, _) | (_, _, _, Err(fault), _) => Err(fault),
+            (_, _, _, _, Err(fault)) => Err(fault),
+        }
     }
 }
 
@@ -327,14 +336,21 @@ fn timing_in<'a>(
     let stolen = stolen_in(alloc, table, notes);
     let jobs = items_or_none(alloc, table, Key::Of(ScenarioKey::Jobs), notes);
     let events = items_or_none(alloc, table, Key::Of(ScenarioKey::Events), notes);
-    let texts = TimingTexts {
-        seconds: seconds? as u32,
-        title: NameText { text: title? },
-        stolen: stolen?,
-        jobs: jobs?,
-        events: events?,
-    };
-    if_apart(texts, notes)
+    match (seconds, title, stolen, jobs, events) {
+        (Ok(seconds), Ok(title), Ok(stolen), Ok(jobs), Ok(events)) => {
+            let texts = TimingTexts {
+                seconds: seconds as u32,
+                title: NameText { text: title },
+                stolen,
+                jobs,
+                events,
+            };
+            if_apart(texts, notes)
+        }
+        (Err(fault), _, _, _, _) | (_, Err(fault), _, _, _) => Err(fault),
+        (_, _, Err(fault), _, _) | (_, _, _, Err(fault), _) => Err(fault),
+        (_, _, _, _, Err(fault)) => Err(fault),
+    }
 }
 
 /// The tasks and phases.
@@ -350,10 +366,10 @@ fn named_in<'a>(
 {
     let rows = items_or_none(alloc, table, Key::Of(ScenarioKey::NamedTasks), notes);
     let entries = items_or_none(alloc, table, Key::Of(ScenarioKey::NamedPhases), notes);
-    Ok(NamedTexts {
-        rows: rows?,
-        entries: entries?,
-    })
+    match (rows, entries) {
+        (Ok(rows), Ok(entries)) => Ok(NamedTexts { rows, entries }),
+        (Err(fault), _) | (_, Err(fault)) => Err(fault),
+    }
 }
 
 /// These texts, in a list of their own.
@@ -371,11 +387,14 @@ fn same_texts<'a>(alloc: Global, texts: &[Text<'a>]) -> Result<Vec<Text<'a>>, Al
 fn same_row<'a>(alloc: Global, row: &RowTexts<'a>) -> Result<RowTexts<'a>, AllocError>
     ensures { IfOk result (λ r. r ≡ row.now) }
 {
-    Ok(RowTexts {
-        at: row.at,
-        bank: row.bank,
-        actions: same_texts(alloc, row.actions.as_slice())?,
-    })
+    match same_texts(alloc, row.actions.as_slice()) {
+        Ok(actions) => Ok(RowTexts {
+            at: row.at,
+            bank: row.bank,
+            actions,
+        }),
+        Err(error) => Err(error),
+    }
 }
 
 /// The rows, without their names.
@@ -384,8 +403,10 @@ fn rows_in<'a>(alloc: Global, named: &[NamedRow<'a>]) -> Result<Vec<RowTexts<'a>
 {
     let mut rows = Vec::new(alloc);
     for one in named {
-        let row = same_row(alloc, &one.row)?;
-        rows.push(row)?;
+        match same_row(alloc, &one.row) {
+            Ok(row) => rows.push(row)?,
+            Err(error) => return Err(error),
+        }
     }
     Ok(rows)
 }
@@ -444,20 +465,28 @@ fn texts_with<'a>(
 ) -> Result<ScenarioTexts<'a>, AllocError>
     ensures { IfOk result (λ t. t ≡ texts_with settings.entry named.entry timing.entry) }
 {
-    let (rows, entries) = (named.rows.as_slice(), named.entries.as_slice());
-    let lists = Lists {
-        script: Vec::new(alloc),
-        rows: rows_in(alloc, rows)?,
-        entries: entries_in(alloc, entries)?,
-        workers: Vec::new(alloc),
-        devices: Vec::new(alloc),
-    };
-    Ok(ScenarioTexts {
-        bench: Texts { settings, lists },
-        row_names: row_names(alloc, rows)?,
-        entry_names: entry_names(alloc, entries)?,
-        timing,
-    })
+    let rows = rows_in(alloc, named.rows.as_slice());
+    let entries = entries_in(alloc, named.entries.as_slice());
+    let row_names = row_names(alloc, named.rows.as_slice());
+    let entry_names = entry_names(alloc, named.entries.as_slice());
+    match (rows, entries, row_names, entry_names) {
+        (Ok(rows), Ok(entries), Ok(row_names), Ok(entry_names)) => {
+            let lists = Lists {
+                script: Vec::new(alloc),
+                rows,
+                entries,
+                workers: Vec::new(alloc),
+                devices: Vec::new(alloc),
+            };
+            Ok(ScenarioTexts {
+                bench: Texts { settings, lists },
+                row_names,
+                entry_names,
+                timing,
+            })
+        }
+        _ => Err(AllocError),
+    }
 }
 
 /// What a scenario has once, as a bench has it; without a limit or an allowance there are the
@@ -473,18 +502,21 @@ fn ample_settings_in<'a>(
     ensures kept { AreNoted notes.old.keys.items → AreNoted notes.new.keys.items }
 {
     let settings = settings_in(alloc, table, notes)?;
-    let limit = number_or(table, Key::Limit, 1_000_000, notes)?;
-    let allowance = number_or(table, Key::Allowance, 9_223_372_036_854_775_807, notes)?;
-    Ok(Settings {
-        sets: settings.sets,
-        names_sets: settings.names_sets,
-        limit: limit as u32,
-        allowance,
-        attends: settings.attends,
-        key: settings.key,
-        radar: settings.radar,
-        power: settings.power,
-    })
+    let limit = number_or(table, Key::Limit, 1_000_000, notes);
+    let allowance = number_or(table, Key::Allowance, 9_223_372_036_854_775_807, notes);
+    match (limit, allowance) {
+        (Ok(limit), Ok(allowance)) => Ok(Settings {
+            sets: settings.sets,
+            names_sets: settings.names_sets,
+            limit: limit as u32,
+            allowance,
+            attends: settings.attends,
+            key: settings.key,
+            radar: settings.radar,
+            power: settings.power,
+        }),
+        (Err(fault), _) | (_, Err(fault)) => Err(fault),
+    }
 }
 
 /// The numbers and texts of a document. A fault `Key` where a key or the kind, range or length of
@@ -502,7 +534,14 @@ pub(crate) fn scenario_in<'a>(
     let settings = ample_settings_in(alloc, table, notes);
     let named = named_in(alloc, table, notes);
     let timing = timing_in(alloc, table, notes);
-    known?;
-    let texts = texts_with(alloc, settings?, named?, timing?)?;
-    Ok(texts)
+    match (known, settings, named, timing) {
+        (Ok(()), Ok(settings), Ok(named), Ok(timing)) => {
+            let texts = texts_with(alloc, settings, named, timing)?;
+            Ok(texts)
+        }
+        (Err(fault), _, _, _) => Err(fault),
+        (_, Err(fault), _, _) => Err(fault),
+        (_, _, Err(fault), _) => Err(fault),
+        (_, _, _, Err(fault)) => Err(fault),
+    }
 }

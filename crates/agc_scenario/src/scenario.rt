@@ -94,17 +94,22 @@ fn spelled(
     ensures found { IfOk result (λ s. IsScenario s × (texts.entry ≡ scenario_texts s)) }
     ensures refused { IfErr result (RefusesTexts texts.entry) }
 {
-    let row_names = names_of(alloc, texts.row_names.as_slice())?;
-    let entry_names = names_of(alloc, texts.entry_names.as_slice())?;
-    let timing = timing_of(alloc, texts.timing)?;
-    match bench_from(alloc, &texts.bench, notes) {
-        Ok(bench) => Ok(Scenario {
-            bench,
-            row_names,
-            entry_names,
-            timing,
-        }),
-        Err(fault) => Err(fault),
+    let row_names = names_of(alloc, texts.row_names.as_slice());
+    let entry_names = names_of(alloc, texts.entry_names.as_slice());
+    let timing = timing_of(alloc, texts.timing);
+    match (row_names, entry_names, timing) {
+        (Ok(row_names), Ok(entry_names), Ok(timing)) => {
+            match bench_from(alloc, &texts.bench, notes) {
+                Ok(bench) => Ok(Scenario {
+                    bench,
+                    row_names,
+                    entry_names,
+                    timing,
+                }),
+                Err(fault) => Err(fault),
+            }
+        }
+        (Err(fault), _, _) | (_, Err(fault), _) | (_, _, Err(fault)) => Err(fault),
     }
 }
 

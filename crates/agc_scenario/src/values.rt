@@ -131,15 +131,18 @@ fn event_of(alloc: Global, texts: &EventTexts<'_>) -> Result<TimedEvent, BenchFa
     ensures refused { IfErr result (RefusedLine
         ((e : Event) → IsTimedEvent e → texts.now ≢ event_texts e)) }
 {
-    let requests = requests_of(alloc, texts.requests.as_slice())?;
-    let name = name_of(alloc, &texts.name)?;
-    Ok(TimedEvent {
-        at: texts.at,
-        requests,
-        every: texts.every,
-        until: texts.until,
-        name,
-    })
+    let requests = requests_of(alloc, texts.requests.as_slice());
+    let name = name_of(alloc, &texts.name);
+    match (requests, name) {
+        (Ok(requests), Ok(name)) => Ok(TimedEvent {
+            at: texts.at,
+            requests,
+            every: texts.every,
+            until: texts.until,
+            name,
+        }),
+        (Err(fault), _) | (_, Err(fault)) => Err(fault),
+    }
 }
 
 /// Events, as their texts spell them, in order.
@@ -163,14 +166,17 @@ pub(crate) fn timing_of(alloc: Global, texts: TimingTexts<'_>) -> Result<Timing,
     ensures refused { IfErr result (RefusedLine
         ((t : Timed) → IsTimed t → texts.entry ≢ timing_texts t)) }
 {
-    let title = name_of(alloc, &texts.title)?;
-    let jobs = jobs_of(alloc, texts.jobs.as_slice())?;
-    let events = events_of(alloc, texts.events.as_slice())?;
-    Ok(Timing {
-        seconds: texts.seconds,
-        title,
-        stolen: texts.stolen,
-        jobs,
-        events,
-    })
+    let title = name_of(alloc, &texts.title);
+    let jobs = jobs_of(alloc, texts.jobs.as_slice());
+    let events = events_of(alloc, texts.events.as_slice());
+    match (title, jobs, events) {
+        (Ok(title), Ok(jobs), Ok(events)) => Ok(Timing {
+            seconds: texts.seconds,
+            title,
+            stolen: texts.stolen,
+            jobs,
+            events,
+        }),
+        (Err(fault), _, _) | (_, Err(fault), _) | (_, _, Err(fault)) => Err(fault),
+    }
 }

@@ -1,4 +1,3 @@
-use Rattle.std.proofs.Common.{◌∙◌}
 use Rattle.agc_document.specs.declared.fault.BenchFault.TheVariants as refusal
 use Rattle.agc_findings.specs.Findings.{of_text}
 use Rattle.agc_findings.proofs.Found.{found_more, more_found, says_more}
