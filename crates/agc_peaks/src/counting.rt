@@ -8,7 +8,7 @@ use agc_wait::tasks_waiting;
 use agc_word::Erasable;
 
 /// How many core sets, areas and places of the Waitlist are taken, and whether somebody runs.
-#[derive(Clone, Copy, Debug, Default)]
+#[derive(Clone, Copy)]
 pub(crate) struct Counts {
     pub(crate) sets: u64,
     pub(crate) areas: u64,
@@ -27,9 +27,7 @@ pub(crate) fn counts_of(e: &Erasable) -> Counts
     for k in 0..e.sets().count() {
         if let Some(seat) = job_at(e, k) {
             sets = sets.saturating_add(1);
-            if seat.area > 0 {
-                areas = areas.saturating_add(1);
-            }
+            areas = areas.saturating_add(u64::from(seat.area > 0));
         }
     }
     Counts {

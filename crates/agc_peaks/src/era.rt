@@ -1,47 +1,30 @@
 //! What is counted of an era.
+use crate::columns::{put_cell, put_cells, put_spaces};
 use crate::counting::Counts;
-use agc_plan::Alarm;
-use std::io;
+use agc_spelling::Filling::{Number, Seconds, Text};
+use agc_spelling::Pen;
 use std::io::Write;
 
-/// Why an era began.
-#[derive(Clone, Copy, PartialEq, Eq, Debug)]
-pub enum Cause {
-    Start,
-    Alarm(Alarm),
-    /// A restart or a fresh start that was asked for.
-    Restart,
-}
+/// The names of the columns.
+const HEADING: &str = " era    begins  by         lasts  requests  begun  ended   sets    since  \
+    areas    since  tasks    since";
 
-/// The code of an alarm. Source: the listings' EXECUTIVE and WAITLIST sections.
-pub(crate) fn code(alarm: Alarm) -> &'static str {
-    match alarm {
-        Alarm::A1201 => "1201",
-        Alarm::A1202 => "1202",
-        Alarm::A1203 => "1203",
-    }
-}
-
-impl Cause {
-    pub(crate) fn text(self) -> &'static str {
-        match self {
-            Cause::Start => "start",
-            Cause::Alarm(alarm) => code(alarm),
-            Cause::Restart => "restart",
-        }
-    }
-}
+/// How wide the columns are from the third of numbers on.
+const WIDTHS: [usize; 10] = [9, 9, 6, 6, 6, 8, 6, 8, 6, 8];
 
 /// The most of something that were there at once, and the centisecond since which they were.
-#[derive(Clone, Copy, Debug, Default)]
-pub struct Most {
-    pub count: u64,
-    pub since: u64,
+#[derive(Clone, Copy)]
+pub(crate) struct Most {
+    pub(crate) count: u64,
+    pub(crate) since: u64,
 }
+
+/// Nothing was there.
+const NONE: Most = Most { count: 0, since: 0 };
 
 impl Most {
     /// So many were there at a centisecond.
-    pub(crate) fn saw(&mut self, count: u64, time: u64) {
+    fn saw(&mut self, count: u64, time: u64) {
         if count > self.count {
             self.count = count;
             self.since = time;
@@ -49,126 +32,107 @@ impl Most {
     }
 }
 
-/// What is counted of an era. Times are centiseconds since the start.
-#[derive(Clone, Copy, Debug)]
-pub struct Era {
-    pub number: u64,
-    pub began: u64,
-    pub by: Cause,
-    pub ended: u64,
-    pub requests: u64,
-    pub jobs_begun: u64,
-    pub jobs_ended: u64,
-    pub sets: Most,
-    pub areas: Most,
-    pub tasks: Most,
-    /// At how many ticks no job was running.
-    pub idle: u64,
-}
-
-/// Centiseconds, as seconds are written.
+/// What is counted of an era: why it began, and how it ended. Times are centiseconds since the
+/// start.
 #[derive(Clone, Copy)]
-pub(crate) struct Seconds(pub(crate) u64);
-
-impl Seconds {
-    /// Writes them in a column of this width.
-    pub(crate) fn put<W: Write>(&self, width: usize, writer: &mut W) -> io::Result<()> {
-        let (whole, rest) = (self.0 / 100, self.0 % 100);
-        let width = width.saturating_sub(3);
-        write!(writer, "{whole:width$}.{rest:02}")
-    }
+pub(crate) struct Era {
+    pub(crate) number: u64,
+    pub(crate) began: u64,
+    pub(crate) by: &'static str,
+    pub(crate) ended: u64,
+    pub(crate) end: &'static str,
+    pub(crate) requests: u64,
+    pub(crate) jobs_begun: u64,
+    pub(crate) jobs_ended: u64,
+    pub(crate) sets: Most,
+    pub(crate) areas: Most,
+    pub(crate) tasks: Most,
+    /// At how many ticks no job was running.
+    pub(crate) idle: u64,
 }
 
 impl Era {
-    /// Nothing is counted yet of an era that begins now.
-    pub(crate) fn new(number: u64, began: u64, by: Cause) -> Era {
-        Era {
+    /// An era that begins now, with tables that are so full.
+    pub(crate) fn new(number: u64, began: u64, by: &'static str, counts: Counts) -> Era {
+        let mut era = Era {
             number,
             began,
             by,
             ended: began,
+            end: "the end",
             requests: 0,
-            jobs_begun: 0,
+            jobs_begun: counts.sets,
             jobs_ended: 0,
-            sets: Most::default(),
-            areas: Most::default(),
-            tasks: Most::default(),
+            sets: NONE,
+            areas: NONE,
+            tasks: NONE,
             idle: 0,
-        }
+        };
+        era.see(counts, began);
+        era
     }
 
     /// The tables are so full at a centisecond.
-    pub(crate) fn see(&mut self, counts: Counts, time: u64) {
+    fn see(&mut self, counts: Counts, time: u64) {
         self.sets.saw(counts.sets, time);
         self.areas.saw(counts.areas, time);
         self.tasks.saw(counts.tasks, time);
     }
 
-    /// A tick was served, before which a job was running or none.
-    pub(crate) fn tick(&mut self, ran: bool) {
-        if !ran {
-            self.idle = self.idle.saturating_add(1);
-        }
-    }
-
-    /// A request was served: so full were the tables before, and so full are they.
-    pub(crate) fn serve(&mut self, before: Counts, counts: Counts) {
+    /// A request was served at a centisecond: so full were the tables before, and so full are they.
+    pub(crate) fn serve(&mut self, before: Counts, counts: Counts, time: u64) {
         let begun = counts.sets.saturating_sub(before.sets);
         let ended = before.sets.saturating_sub(counts.sets);
         self.requests = self.requests.saturating_add(1);
         self.jobs_begun = self.jobs_begun.saturating_add(begun);
         self.jobs_ended = self.jobs_ended.saturating_add(ended);
+        self.see(counts, time);
     }
 
-    /// How many centiseconds it lasted.
-    fn length(&self) -> u64 {
-        self.ended.saturating_sub(self.began)
-    }
-
-    /// The percentage of its ticks at which no job was running.
-    fn idle_percent(&self) -> u64 {
-        match self.length() {
-            0 => 0,
-            length => self.idle.saturating_mul(100) / length,
-        }
-    }
-
-    /// Writes its row: the alarm that ended it, or how it ended.
-    pub(crate) fn put<W: Write>(
-        &self,
-        has_idle: bool,
-        end: &str,
-        writer: &mut W,
-    ) -> io::Result<()> {
-        write!(writer, "{:>4} ", self.number)?;
-        Seconds(self.began).put(9, writer)?;
-        write!(writer, "  {:7} ", self.by.text())?;
-        Seconds(self.length()).put(9, writer)?;
-        write!(
-            writer,
-            " {:>9} {:>6} {:>6}",
-            self.requests, self.jobs_begun, self.jobs_ended
-        )?;
-        for most in [self.sets, self.areas, self.tasks] {
-            write!(writer, " {:>6} ", most.count)?;
-            Seconds(most.since).put(8, writer)?;
-        }
+    /// Writes its row, with the percentage of its ticks at which no job was running, if that is
+    /// wanted.
+    pub(crate) fn put<W: Write>(&self, has_idle: bool, pen: &mut Pen<'_, W>) {
+        let lasts = self.ended.saturating_sub(self.began);
+        put_cell(pen, 4, Number(self.number));
+        pen.text(" ");
+        put_cell(pen, 9, Seconds(self.began));
+        pen.fill("  ", Text(self.by));
+        put_spaces(pen, self.by.len(), 7);
+        put_numbers(self, lasts, pen);
         if has_idle {
-            write!(writer, " {:>4}%", self.idle_percent())?;
+            let percent = self.idle.saturating_mul(100) / lasts.max(1);
+            pen.text(" ");
+            put_cell(pen, 4, Number(percent));
+            pen.text("%");
         }
-        write!(writer, "  {end}\n")
+        pen.fill("  ", Text(self.end));
+        pen.text("\n");
     }
 }
 
+/// Writes the numbers of an era that lasted so long.
+fn put_numbers<W: Write>(era: &Era, lasts: u64, pen: &mut Pen<'_, W>) {
+    let cells = [
+        Seconds(lasts),
+        Number(era.requests),
+        Number(era.jobs_begun),
+        Number(era.jobs_ended),
+        Number(era.sets.count),
+        Seconds(era.sets.since),
+        Number(era.areas.count),
+        Seconds(era.areas.since),
+        Number(era.tasks.count),
+        Seconds(era.tasks.since),
+    ];
+    put_cells(pen, " ", &WIDTHS, &cells);
+}
+
 /// Writes the names of the columns.
-pub(crate) fn put_heading<W: Write>(has_idle: bool, writer: &mut W) -> io::Result<()> {
-    write!(
-        writer,
-        " era    begins  by         lasts  requests  begun  ended   sets    since"
-    )?;
-    write!(writer, "  areas    since  tasks    since")?;
-    if has_idle {
-        write!(writer, "  idle")?;
-    }
-    write!(writer, "  ended by\n")
+pub(crate) fn put_heading<W: Write>(has_idle: bool, pen: &mut Pen<'_, W>) {
+    pen.text(HEADING);
+    pen.text(if has_idle {
+        "  idle  ended by\n"
+    } else {
+        "  ended by\n"
+    });
 }

@@ -2,13 +2,16 @@
 //! the bench that a scenario is. Source: profile.
 #![tactic(auto)]
 
+mod columns;
 mod counting;
 mod era;
 mod machine;
 mod peaks;
+mod rows;
 mod running;
 mod summing;
 mod sweep;
+mod tally;
 mod writing;
 
 pub use peaks::{bench_peaks, scenario_peaks};

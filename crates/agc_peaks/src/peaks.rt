@@ -1,47 +1,34 @@
 //! How full the tables were, era by era.
-use crate::era::{Era, code, put_heading};
-use crate::machine::{Came, CountedMachine};
-use crate::running::{Notes, run_scenario};
+use crate::era::put_heading;
+use crate::machine::{CountedMachine, Told};
+use crate::running::run_scenario;
+use crate::tally::Tally;
 use agc_document::Bench;
-use agc_plan::Request;
 use agc_scenario::Scenario;
-use agc_session::{Follows, RunFault, Silent, Source, follow_bench, machine_of, written};
+use agc_session::{RunFault, Silent, follow_bench, machine_of};
+use agc_spelling::Filling::Number;
+use agc_spelling::Pen;
 use agc_text::Output;
 use std::alloc::Global;
-use std::io;
 use std::io::Write;
-use std::marker::Model;
 
-/// Who writes a row for each era that has ended.
-#[derive(Drop)]
-struct Rows {
-    has_idle: bool,
-}
-
-impl Notes for Rows {
-    fn note<W: Write>(&mut self, request: &Request, came: &Came, writer: &mut W) -> io::Result<()> {
-        match came.ended {
-            None => Ok(()),
-            Some(era) => {
-                let end = match came.alarm {
-                    Some(alarm) => code(alarm),
-                    None if *request == Request::Fresh => "fresh start",
-                    None => "restart",
-                };
-                era.put(self.has_idle, end, writer)
-            }
-        }
-    }
+/// Writes the names of the columns.
+fn put_first<W: Write>(has_idle: bool, writer: &mut W) -> Result<(), Output> {
+    let mut pen = Pen::new(writer);
+    put_heading(has_idle, &mut pen);
+    pen.end()
 }
 
 /// Writes the row of the last era, and how many requests were refused.
-fn put_last<W: Write>(counted: &CountedMachine, has_idle: bool, writer: &mut W) -> io::Result<()> {
-    counted.era().put(has_idle, "the end", writer)?;
-    match counted.refused() {
-        0 => Ok(()),
-        1 => write!(writer, "1 request was refused\n"),
-        count => write!(writer, "{count} requests were refused\n"),
+fn put_last<W: Write>(tally: &Tally, has_idle: bool, writer: &mut W) -> Result<(), Output> {
+    let mut pen = Pen::new(writer);
+    tally.era("the end").put(has_idle, &mut pen);
+    match tally.refused {
+        0 => {}
+        1 => pen.text("1 request was refused\n"),
+        count => pen.put("{} requests were refused\n", &[Number(count)]),
     }
+    pen.end()
 }
 
 /// Runs a scenario, and writes for each era when it began and why, how long it lasted, how many
@@ -57,43 +44,10 @@ pub fn scenario_peaks<W: Write>(
     scenario: &Scenario,
     writer: &mut W,
 ) -> Result<(), RunFault> {
-    let counted = CountedMachine::new(machine_of(alloc, scenario.bench())?);
-    written(put_heading(true, writer))?;
-    let rows = Rows { has_idle: true };
-    let (counted, _rows) = run_scenario(counted, scenario.timing(), rows, writer)?;
-    written(put_last(&counted, true, writer))?;
-    Ok(())
-}
-
-/// A bench's run, of which rows are written.
-#[derive(Drop)]
-struct BenchRun {
-    counted: CountedMachine,
-    rows: Rows,
-}
-
-impl Model for BenchRun {
-    ghost use Rattle.agc_machine.specs.Machines.{Machined};
-
-    ghost Value = { Machined };
-
-    ghost view = { λ r. r.counted };
-}
-
-impl Follows for BenchRun {
-    ghost use Rattle.agc_machine.specs.Machines.{after};
-
-    ghost next = { λ machine request. after machine request };
-
-    fn follow<W: Write>(
-        &mut self,
-        _source: Source,
-        request: &Request,
-        writer: &mut W,
-    ) -> Result<(), Output> {
-        let came = self.counted.ask(request);
-        written(self.rows.note(request, &came, writer))
-    }
+    let counted = CountedMachine::new(machine_of(alloc, scenario.bench())?, Told::Eras(true));
+    put_first(true, writer)?;
+    let counted = run_scenario(counted, scenario.timing(), writer)?;
+    Ok(put_last(&counted.tally, true, writer)?)
 }
 
 /// Asks a bench's machine for all its requests, as `serial` does, and writes the same for each era,
@@ -104,12 +58,8 @@ impl Follows for BenchRun {
 ///
 /// `NoMemory`, and nothing was written. `Output`, where a write failed.
 pub fn bench_peaks<W: Write>(alloc: Global, bench: &Bench, writer: &mut W) -> Result<(), RunFault> {
-    let mut run = BenchRun {
-        counted: CountedMachine::new(machine_of(alloc, bench)?),
-        rows: Rows { has_idle: false },
-    };
-    written(put_heading(false, writer))?;
-    follow_bench(&mut run, &mut Silent, bench, writer)?;
-    written(put_last(&run.counted, false, writer))?;
-    Ok(())
+    let mut counted = CountedMachine::new(machine_of(alloc, bench)?, Told::Eras(false));
+    put_first(false, writer)?;
+    follow_bench(&mut counted, &mut Silent, bench, writer)?;
+    Ok(put_last(&counted.tally, false, writer)?)
 }

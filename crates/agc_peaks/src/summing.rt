@@ -13,7 +13,7 @@ use std::alloc::Global;
 use std::marker::Model;
 
 /// More requests came than were to be asked.
-#[derive(Clone, Copy, Debug)]
+#[derive(Clone, Copy)]
 struct Cut;
 
 /// A machine of which so many requests may still be asked, and what those came to that were.

@@ -1,0 +1,40 @@
+//! Numbers in columns.
+use agc_spelling::{Filling, Pen};
+use std::io::Write;
+
+/// Writes spaces, up to a column, after so many letters.
+pub(crate) fn put_spaces<W: Write>(pen: &mut Pen<'_, W>, letters: usize, column: usize) {
+    for _letter in letters..column {
+        pen.text(" ");
+    }
+}
+
+/// Writes a number or seconds at the right end of a column of this width.
+pub(crate) fn put_cell<W: Write>(pen: &mut Pen<'_, W>, width: usize, cell: Filling<'_>) {
+    let (places, whole) = match cell {
+        Filling::Number(number) => (width, number),
+        Filling::Seconds(time) => (width.saturating_sub(3), time / 100),
+        _ => (0, 0),
+    };
+    let mut rest = whole;
+    for _place in 1..places {
+        rest /= 10;
+        if rest == 0 {
+            pen.text(" ");
+        }
+    }
+    pen.add(cell);
+}
+
+/// Writes cells in columns of these widths, with this before each.
+pub(crate) fn put_cells<W: Write>(
+    pen: &mut Pen<'_, W>,
+    before: &str,
+    widths: &[usize],
+    cells: &[Filling<'_>],
+) {
+    for (width, cell) in widths.iter().zip(cells.iter()) {
+        pen.text(before);
+        put_cell(pen, *width, *cell);
+    }
+}
