@@ -1,7 +1,7 @@
 //! How a program ends.
 ghost use Rattle.std.specs.Prelude.{◌≡◌, Some};
 ghost use Rattle.std.specs.Process.{exit_status};
-ghost use Rattle.agc_program.specs.Messages.{told_text};
+ghost use Rattle.agc_program.specs.Messages.{fault_text, told_text};
 ghost use Rattle.agc_program.specs.Statuses.{status_after};
 
 use crate::fault::Fault;
@@ -28,10 +28,29 @@ impl fmt::Display for FaultLine {
         Some (told_text told.program.name.now told.program.usage.now told.fault) };
 
     fn fmt<W: fmt::Write>(&self, f: &mut fmt::Formatter<W>) -> fmt::Result {
+        let why = FaultText {
+            usage: self.program.usage,
+            fault: self.fault,
+        };
         f.write_str(self.program.name)?;
         f.write_str(": ")?;
+        why.fmt(f)
+    }
+}
+
+/// What a fault's line says behind the program's name.
+#[derive(Clone, Copy)]
+struct FaultText {
+    usage: &'static str,
+    fault: Fault,
+}
+
+impl fmt::Display for FaultText {
+    ghost output = { λ told. Some (fault_text told.usage.now told.fault) };
+
+    fn fmt<W: fmt::Write>(&self, f: &mut fmt::Formatter<W>) -> fmt::Result {
         match &self.fault {
-            Fault::Words => f.write_str(self.program.usage),
+            Fault::Words => f.write_str(self.usage),
             Fault::NoMemory => f.write_str("no memory"),
             Fault::Output => f.write_str("output"),
             Fault::Read(fault) => fault.fmt(f),
