@@ -432,6 +432,25 @@ fn answer_next<H: AllocGlobal + Files + Eprint, R: BufRead, W: Write>(
     }
 }
 
+/// Begins, and answers each line before the next one is read.
+fn answer_all<H: AllocGlobal + Files + Eprint, R: BufRead, W: Write>(
+    rt: &H,
+    played: &mut Played<'_>,
+    manner: Manner,
+    reader: &mut R,
+    writer: &mut W,
+) -> Result<(), PlayFault> {
+    played.begin(rt.alloc(), writer)?;
+    end_answer(writer, "\n")?;
+    prompt(rt, manner, GREETING);
+    for number in 1..u64::MAX {
+        if !answer_next(rt, played, manner, number, reader, writer)? {
+            break;
+        }
+    }
+    Ok(())
+}
+
 /// Answers requests on a bench's machine, starting where the bench's own requests end. Each line is
 /// answered, and the answer flushed, before the next line is read. Returns at the end of the input.
 /// Source: profile.
@@ -447,15 +466,7 @@ pub fn play<H: AllocGlobal + Files + Eprint, R: BufRead, W: Write>(
     reader: &mut R,
     writer: &mut W,
 ) -> Result<(), PlayFault> {
-    let mut played = Played::new(rt.alloc(), bench)?;
     let mut folded = Folded::new(writer, manner.folds);
-    played.begin(rt.alloc(), &mut folded)?;
-    end_answer(&mut folded, "\n")?;
-    prompt(rt, manner, GREETING);
-    for number in 1..u64::MAX {
-        if !answer_next(rt, &mut played, manner, number, reader, &mut folded)? {
-            break;
-        }
-    }
-    Ok(())
+    let mut played = Played::new(rt.alloc(), bench)?;
+    answer_all(rt, &mut played, manner, reader, &mut folded)
 }
