@@ -2,13 +2,13 @@
 use agc_clock::{Then, Timetables};
 use agc_document::{Key, Place, ScenarioKey};
 use agc_findings::{line_at, places_in};
-use agc_lint::{add, add_decimal, add_where, bench_told};
+use agc_lint::{add_where, bench_told};
 use agc_peaks::scenario_sum;
 use agc_plan::{Action, Actions, Address, JobStart, PhaseEntry, Request, Task, action_request};
-use agc_program::Fault;
-use agc_scenario::{Scenario, TimedJob, scenario_findings};
-use agc_warn::{add_summary, run_warnings, warnings_told};
+use agc_scenario::{CheckedScenario, Scenario, TimedJob, scenario_findings};
+use agc_warn::{Warned, add_summary, run_warnings, warnings_told};
 use std::alloc::{AllocError, Global};
+use std::fmt::Write;
 
 /// How many requests are run.
 const MOST_RUN: u64 = 1_000_000;
@@ -60,11 +60,9 @@ fn begins_again(phase: &PhaseEntry, at: Address) -> bool {
     let Some(job) = phase.job() else {
         return false;
     };
-    let request = match job {
-        JobStart::Novac(priority, entry) => Request::Novac(priority, entry),
-        JobStart::Findvac(priority, entry) => Request::Findvac(priority, entry),
-    };
-    begins(&request, at)
+    match job {
+        JobStart::Novac(_priority, entry) | JobStart::Findvac(_priority, entry) => entry.at == at,
+    }
 }
 
 /// Whether anything of a scenario begins a job at an address.
@@ -139,10 +137,9 @@ fn doubt_of(scenario: &Scenario, job: &TimedJob) -> Option<Doubt> {
     }
 }
 
-/// What is doubtful of a scenario's jobs and events, in their order.
-fn doubts_of(alloc: Global, scenario: &Scenario) -> Result<Vec<Doubted>, AllocError> {
+/// Notes what is doubtful of a scenario's jobs and events, in their order.
+fn note_doubts(doubts: &mut Vec<Doubted>, scenario: &Scenario) -> Result<(), AllocError> {
     let timing = scenario.timing();
-    let mut doubts = Vec::new(alloc);
     for (k, job) in timing.jobs().iter().enumerate() {
         if let Some(doubt) = doubt_of(scenario, job) {
             let place = Place::Table(Key::Of(ScenarioKey::Jobs), (k as u64).saturating_add(1));
@@ -156,34 +153,22 @@ fn doubts_of(alloc: Global, scenario: &Scenario) -> Result<Vec<Doubted>, AllocEr
             doubts.push(Doubted { place, doubt })?;
         }
     }
-    Ok(doubts)
+    Ok(())
 }
 
 /// Says what is warned of.
 fn add_doubt(told: &mut String, doubt: Doubt) -> Result<(), AllocError> {
     match doubt {
-        Doubt::NotBegun => add(told, &["nothing begins a job at this address\n"]),
-        Doubt::Late => add(told, &["it comes after the end\n"]),
+        Doubt::NotBegun => told.push_str("nothing begins a job at this address\n"),
+        Doubt::Late => told.push_str("it comes after the end\n"),
         Doubt::NothingLeft(cost, period, stolen) => {
-            add(told, &["it costs "])?;
-            add_decimal(told, cost)?;
-            add(told, &[" of each "])?;
-            add_decimal(told, period)?;
-            add(told, &[" centiseconds, of which "])?;
-            add_decimal(told, stolen)?;
-            add(told, &[" percent are stolen: nothing is left\n"])
+            write!(
+                told,
+                "it costs {cost} of each {period} centiseconds, of which {stolen} "
+            )?;
+            told.push_str("percent are stolen: nothing is left\n")
         }
     }
-}
-
-/// The lines of a document at which these places begin.
-fn lines_of(alloc: Global, text: &str, places: &[Place]) -> Result<Vec<u64>, AllocError> {
-    let found = places_in(alloc, text, places)?;
-    let mut lines = Vec::new(alloc);
-    for at in found.as_slice() {
-        lines.push(line_at(text, *at))?;
-    }
-    Ok(lines)
 }
 
 /// Tells what is doubtful, a line each.
@@ -197,35 +182,61 @@ fn add_doubts(
     for one in doubts.iter().take(MOST_TOLD) {
         places.push(one.place)?;
     }
-    let lines = lines_of(alloc, text, places.as_slice())?;
-    for (one, line) in doubts.iter().zip(lines.iter()) {
-        add_where(told, *line, "warning: ", one.place)?;
+    let found = places_in(alloc, text, places.as_slice())?;
+    for (one, at) in doubts.iter().zip(found.iter()) {
+        add_where(told, line_at(text, *at), "warning: ", one.place)?;
         add_doubt(told, one.doubt)?;
     }
     Ok(())
 }
 
+/// Tells what is warned of a scenario's run, a line each.
+fn add_warnings(
+    alloc: Global,
+    told: &mut String,
+    text: &str,
+    warnings: &[Warned],
+) -> Result<(), AllocError> {
+    let lines = warnings_told(alloc, text, warnings)?;
+    told.push_str(lines.as_str())
+}
+
 /// The report on a scenario in which nothing is wrong: warnings, and a summary of its run.
-fn told_of_scenario(alloc: Global, text: &str, scenario: &Scenario) -> Result<String, Fault> {
-    let ran = match scenario_sum(alloc, scenario, MOST_RUN) {
-        Ok(ran) => ran,
-        Err(fault) => return Err(Fault::Run(fault)),
+fn add_report(
+    alloc: Global,
+    told: &mut String,
+    text: &str,
+    scenario: &Scenario,
+) -> Result<(), AllocError> {
+    let mut doubts = Vec::new(alloc);
+    note_doubts(&mut doubts, scenario)?;
+    add_doubts(alloc, told, text, doubts.as_slice())?;
+    let Ok(ran) = scenario_sum(alloc, scenario, MOST_RUN) else {
+        return Err(AllocError);
     };
     let warnings = run_warnings(alloc, scenario.bench(), &ran)?;
+    add_warnings(alloc, told, text, warnings.as_slice())?;
+    add_summary(told, &ran)
+}
+
+/// The same, as a text of its own.
+fn told_of_scenario(alloc: Global, text: &str, scenario: &Scenario) -> Result<String, AllocError> {
     let mut told = String::new(alloc);
-    let doubts = doubts_of(alloc, scenario)?;
-    add_doubts(alloc, &mut told, text, doubts.as_slice())?;
-    let of_run = warnings_told(alloc, text, warnings.as_slice())?;
-    add(&mut told, &[of_run.as_str()])?;
-    add_summary(&mut told, &ran)?;
+    add_report(alloc, &mut told, text, scenario)?;
     Ok(told)
 }
 
-/// Whether a document is a scenario, and the report on it.
-pub(crate) fn scenario_told(alloc: Global, text: &str) -> Result<(bool, String), Fault> {
-    let checked = scenario_findings(alloc, text)?;
+/// The report on a document, in which this was found.
+fn report_on(alloc: Global, text: &str, checked: &CheckedScenario) -> Result<String, AllocError> {
     match &checked.scenario {
-        Some(scenario) => Ok((true, told_of_scenario(alloc, text, scenario)?)),
-        None => Ok((false, bench_told(alloc, checked.findings.as_slice())?)),
+        Some(scenario) => told_of_scenario(alloc, text, scenario),
+        None => bench_told(alloc, checked.findings.as_slice()),
     }
+}
+
+/// Whether a document is a scenario, and the report on it.
+pub(crate) fn scenario_told(alloc: Global, text: &str) -> Result<(bool, String), AllocError> {
+    let checked = scenario_findings(alloc, text)?;
+    let told = report_on(alloc, text, &checked)?;
+    Ok((checked.scenario.is_some(), told))
 }

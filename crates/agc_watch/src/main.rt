@@ -5,12 +5,13 @@
 //! reads the next.
 #![tactic(auto)]
 
+mod asked;
 mod checking;
-mod exploring;
-mod playing;
+mod naming;
 mod program;
 mod progress;
-mod scenarios;
+mod stops;
+mod sweeping;
 
 use agc_play::Manner;
 use std::io::IsTerminal;

@@ -6,10 +6,9 @@ ghost use Rattle.agc_program.specs.Inputs.{CanEnd, EndsBy};
 ghost use Rattle.agc_watch.specs.Program.{EndsOn, IsBenchIf, IsScriptIf, IsShown, IsShownScript};
 ghost use Rattle.agc_watch.specs.Program.{WorksOn, is_nothing, status_by};
 
-use crate::exploring::run_explore;
-use crate::playing::{EMPTY, run_play};
+use crate::asked::{is_of_scenario, work_buffered};
 use crate::progress::Teller;
-use crate::scenarios::{is_of_scenario, run_shown, run_telling};
+use crate::stops::Stop;
 use agc_commands::{Asked, Refused, Task, Work, asked_for};
 use agc_document::read_bench;
 use agc_findings::{Checked, findings};
@@ -32,6 +31,9 @@ use std::{fs, io};
 
 /// How many bytes an input may have.
 const MOST_BYTES: u64 = 1_048_576;
+
+/// The bench to play from if no file is named: an empty plan, and room for a million requests.
+const EMPTY: &str = "limit = 1000000\nallowance = 9223372036854775807\n";
 
 /// What the program is called, and which words it takes.
 const PROGRAM: Program = Program {
@@ -142,7 +144,7 @@ fn check_script<W: Write>(alloc: Global, text: &str, writer: &mut W) -> Result<b
 fn told_of_bench(alloc: Global, text: &str, checked: &Checked) -> Result<String, AllocError> {
     match &checked.bench {
         Some(bench) => {
-            let (_machine, ran) = run_bench(alloc, bench)?;
+            let ran = run_bench(alloc, bench)?.1;
             let warnings = bench_warnings(alloc, bench, &ran)?;
             let mut told = warnings_told(alloc, text, warnings.as_slice())?;
             add_summary(&mut told, &ran)?;
@@ -250,40 +252,58 @@ fn ended_refused<H: Print + Eprint>(rt: &H, refused: &Refused) -> ExitCode {
     }
 }
 
-/// Does this work on an input, which may be a scenario.
-fn run_on_input<H: AllocGlobal + Clock + Print + Eprint, R: Read>(
-    rt: &H,
-    work: Work,
-    has_progress: bool,
-    reader: &mut R,
-) -> Result<ExitCode, Refused> {
-    let text = match read_all(rt.alloc(), reader) {
-        Ok(text) => text,
-        Err(fault) => return Ok(ended_by(rt, Err(Fault::Read(fault)))),
-    };
-    if is_of_scenario(rt.alloc(), work, text.as_str())? {
-        return run_shown(rt, PROGRAM, work, has_progress, text.as_str());
+/// Says why a command ended early, and how the program ends by that: with status 1 where its input
+/// is refused, or where `agc` doesn't take what was written.
+fn ended_early<H: Print + Eprint>(rt: &H, stop: &Stop) -> ExitCode {
+    match stop {
+        Stop::Fault(fault) => return ended_by(rt, Err(*fault)),
+        Stop::Words(refused) => return ended_refused(rt, refused),
+        Stop::Wrong(fault, told) => {
+            for line in told.lines() {
+                let _ = eprintln!(rt; "agc_watch: {line}");
+            }
+            return ended_by(rt, Err(Fault::Bench(*fault)));
+        }
+        Stop::IsBench => {
+            let _ = eprintln!(rt; "agc_watch: this is a bench; a scenario has the key \"seconds\"");
+        }
+        Stop::TooLong(bytes) => {
+            let _ = eprintln!(rt; "agc_watch: the bench has {bytes} bytes, and agc takes 1048576");
+        }
     }
-    let mut unread = text.as_bytes();
-    Ok(ended_by(rt, run_work(rt, work, has_progress, &mut unread)))
+    ExitCode::from(1)
 }
 
-/// Does what is asked for, of an input.
-fn run_task<H: AllocGlobal + Clock + Files + Input + Print + Eprint, R: Read>(
+/// Does what is asked for of a text.
+fn run_text<H: AllocGlobal + Clock + Files + Input + Print + Eprint>(
+    rt: &H,
+    asked: &Asked<'_>,
+    manner: Manner,
+    text: &str,
+) -> ExitCode {
+    match (is_of_scenario(rt.alloc(), asked.task, text), asked.task) {
+        (Err(_no_memory), _) => ended_by(rt, Err(Fault::NoMemory)),
+        (Ok(false), Task::Work(work)) => {
+            let mut unread = text.as_bytes();
+            ended_by(rt, run_work(rt, work, asked.has_progress, &mut unread))
+        }
+        (Ok(is_scenario), _) => match work_buffered(rt, asked, manner, is_scenario, text) {
+            Ok(status) => ExitCode::from(status),
+            Err(stop) => ended_early(rt, &stop),
+        },
+    }
+}
+
+/// Reads an input whole, and does what is asked for of its text.
+fn run_input<H: AllocGlobal + Clock + Files + Input + Print + Eprint, R: Read>(
     rt: &H,
     asked: &Asked<'_>,
     manner: Manner,
     reader: &mut R,
 ) -> ExitCode {
-    let ending = match asked.task {
-        Task::Work(work) => run_on_input(rt, work, asked.has_progress, reader),
-        Task::Explore(options) => return run_explore(rt, PROGRAM, options, reader),
-        Task::Tell(telling) => run_telling(rt, PROGRAM, telling, reader),
-        Task::Play => return run_play(rt, PROGRAM, manner, reader),
-    };
-    match ending {
-        Ok(code) => code,
-        Err(refused) => ended_refused(rt, &refused),
+    match read_all(rt.alloc(), reader) {
+        Ok(text) => run_text(rt, asked, manner, text.as_str()),
+        Err(fault) => ended_by(rt, Err(Fault::Read(fault))),
     }
 }
 
@@ -295,10 +315,10 @@ fn run_asked<H: AllocGlobal + Clock + Files + Input + Print + Eprint>(
     manner: Manner,
 ) -> ExitCode {
     match (asked.file, asked.task) {
-        (None, Task::Play) => run_task(rt, asked, manner, &mut EMPTY.as_bytes()),
-        (None, _) => run_task(rt, asked, manner, &mut rt.reader()),
+        (None, Task::Play) => run_text(rt, asked, manner, EMPTY),
+        (None, _) => run_input(rt, asked, manner, &mut rt.reader()),
         (Some(name), _) => match read_file(rt, name) {
-            Ok(bytes) => run_task(rt, asked, manner, &mut bytes.as_slice()),
+            Ok(bytes) => run_input(rt, asked, manner, &mut bytes.as_slice()),
             Err(error) => ended_unread(rt, name, &error),
         },
     }

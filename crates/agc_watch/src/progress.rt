@@ -7,8 +7,8 @@ use std::time::{Clock, Instant};
 /// Of how many requests one looks at the clock.
 const STEP: u64 = 1024;
 
-/// One who says on standard error, each second, how many requests were asked; who says nothing
-/// where no time is known at which the run began.
+/// One who says on standard error, each second, how many requests were asked, or how many runs of a
+/// sweep are done; who says nothing where no time is known at which the run began.
 #[derive(Drop)]
 pub(crate) struct Teller<'a, H> {
     rt: &'a H,
@@ -37,8 +37,8 @@ impl<'a, H: Clock> Teller<'a, H> {
 }
 
 impl<H: Clock + Eprint> Teller<'_, H> {
-    /// Says how many requests were asked, where a second has passed.
-    fn tell(&mut self) {
+    /// Says how many of these are done, where a second has passed.
+    fn tell(&mut self, done: u64, of: u64, things: &str) {
         let Some(begun) = self.begun else {
             return;
         };
@@ -48,8 +48,7 @@ impl<H: Clock + Eprint> Teller<'_, H> {
         let seconds = passed.as_secs();
         if seconds > self.seconds {
             self.seconds = seconds;
-            let (asked, expected) = (self.asked, self.expected);
-            let _ = eprintln!(self.rt; "agc_watch: {asked} of {expected} requests");
+            let _ = eprintln!(self.rt; "agc_watch: {done} of {of} {things}");
         }
     }
 }
@@ -62,42 +61,15 @@ impl<H: Clock + Eprint> Progress for Teller<'_, H> {
     fn asked(&mut self) {
         self.asked = self.asked.saturating_add(1);
         if self.asked % STEP == 0 {
-            self.tell();
+            self.tell(self.asked, self.expected, "requests");
         }
     }
 }
 
-/// Reports on standard error, each second, how many runs of a sweep are done.
-#[derive(Drop)]
-pub(crate) struct SweepTeller<'a, H> {
-    rt: &'a H,
-    begun: Option<Instant>,
-    seconds: u64,
-}
-
-impl<'a, H: Clock> SweepTeller<'a, H> {
-    /// A sweep begins now.
-    pub(crate) fn new(rt: &'a H) -> SweepTeller<'a, H> {
-        SweepTeller {
-            rt,
-            begun: Instant::now(rt).ok(),
-            seconds: 0,
-        }
-    }
-}
-
-impl<H: Clock + Eprint> Watches for SweepTeller<'_, H> {
+impl<H: Clock + Eprint> Watches for Teller<'_, H> {
     fn ran(&mut self, done: u64, of: u64) {
-        let Some(begun) = self.begun else {
-            return;
-        };
-        let Ok(passed) = begun.elapsed(self.rt) else {
-            return;
-        };
-        let seconds = passed.as_secs();
-        if seconds > self.seconds && done < of {
-            self.seconds = seconds;
-            let _ = eprintln!(self.rt; "agc_watch: {done} of {of} runs");
+        if done < of {
+            self.tell(done, of, "runs");
         }
     }
 }
