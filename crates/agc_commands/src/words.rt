@@ -2,7 +2,7 @@
 ghost use Rattle.std.specs.Prelude.{◌≡◌};
 ghost use Rattle.agc_commands.specs.declared.words.Refused.TheVariants.{NoMemory};
 
-use crate::commands::{Name, named_command, whole_command};
+use crate::commands::{named_command, whole_command};
 use agc_orders::Options;
 use agc_plan::Alarm;
 use agc_trace::Choice;
@@ -79,7 +79,7 @@ pub struct Asked<'a> {
     pub task: Task<'a>,
     /// The name of the file to read; standard input without one, or an empty plan to play from.
     pub file: Option<&'a str>,
-    /// Progress is reported on standard error.
+    /// Work reports its progress on standard error.
     pub has_progress: bool,
 }
 
@@ -97,136 +97,6 @@ impl From<AllocError> for Refused {
     fn from(_error: AllocError) -> Self {
         Self::NoMemory
     }
-}
-
-/// The number of an option, if it is given; this reason, if that is no number.
-fn number_in(
-    given: &ArgMatches<'_>,
-    name: &str,
-    reason: &'static str,
-) -> Result<Option<u64>, &'static str> {
-    match (given.get_str(name), given.get_one::<u64>(name)) {
-        (Some(_), None) => Err(reason),
-        (_, number) => Ok(number),
-    }
-}
-
-/// The file that a command names.
-fn file_of<'a>(given: &ArgMatches<'a>) -> Option<&'a str> {
-    match given.get_str("file") {
-        Some("-") => None,
-        named => named,
-    }
-}
-
-/// This task, on the file that a command names.
-fn to_do<'a>(task: Task<'a>, given: &ArgMatches<'a>, has_progress: bool) -> Asked<'a> {
-    Asked {
-        task,
-        file: file_of(given),
-        has_progress,
-    }
-}
-
-/// Work, on the file that a command names.
-fn to_work<'a>(work: Work, given: &ArgMatches<'a>) -> Asked<'a> {
-    to_do(Task::Work(work), given, given.get_flag("progress"))
-}
-
-/// What the words after `trace` ask for, or why they are wrong.
-fn trace_of<'a>(given: &ArgMatches<'a>) -> Result<Asked<'a>, &'static str> {
-    let from = number_in(given, "from", "--from wants a number")?;
-    let to = number_in(given, "to", "--to wants a number")?;
-    let choice = Choice {
-        alarms: given.get_flag("alarms"),
-        from,
-        to,
-        brief: given.get_flag("brief"),
-    };
-    match (from, to) {
-        (Some(first), Some(last)) if first > last => Err("--from is beyond --to"),
-        _ if given.get_flag("script") => Ok(to_work(Work::TraceScript(choice), given)),
-        _ => Ok(to_work(Work::Trace(choice), given)),
-    }
-}
-
-/// The alarm that an option names, if it was given; an error, where it is none.
-fn alarm_of(given: &ArgMatches<'_>, option: &str) -> Result<Option<Alarm>, ()> {
-    match given.get_str(option) {
-        None => Ok(None),
-        Some("1201") => Ok(Some(Alarm::A1201)),
-        Some("1202") => Ok(Some(Alarm::A1202)),
-        Some("1203") => Ok(Some(Alarm::A1203)),
-        Some(_) => Err(()),
-    }
-}
-
-/// What the words after `explore` ask for, or why they are wrong.
-fn orders_of<'a>(given: &ArgMatches<'a>) -> Result<Asked<'a>, &'static str> {
-    let states = number_in(given, "states", "--states wants a number")?;
-    match (alarm_of(given, "alarm"), alarm_of(given, "bench")) {
-        (Ok(alarm), Ok(bench)) => {
-            let options = Options {
-                states: states.unwrap_or(STATES),
-                alarm,
-                through: given.get_flag("through"),
-                bench,
-            };
-            Ok(to_do(Task::Explore(options), given, true))
-        }
-        _ => Err("an alarm is 1201, 1202 or 1203"),
-    }
-}
-
-/// The step and the file of a sweep: the word after its values is the file, if it is no number.
-/// Nothing, where there are two words, of which the first is no number.
-fn step_and_file<'a>(given: &ArgMatches<'a>) -> Option<(u64, Option<&'a str>)> {
-    let Some(word) = given.get_str("step") else {
-        return Some((1, None));
-    };
-    match given.get_one::<u64>("step") {
-        Some(step) => Some((step, file_of(given))),
-        None if given.get_str("file").is_some() => None,
-        None if word == "-" => Some((1, None)),
-        None => Some((1, Some(word))),
-    }
-}
-
-/// What the words after `sweep` ask for, or why they are wrong.
-fn sweep_of<'a>(given: &ArgMatches<'a>) -> Result<Asked<'a>, &'static str> {
-    let key = given.get_str("key").unwrap_or("");
-    let from = given.get_one::<u64>("from").ok_or("FROM is no number")?;
-    let to = given.get_one::<u64>("to").ok_or("TO is no number")?;
-    let csv = given.get_flag("csv");
-    match step_and_file(given) {
-        None => Err("STEP is no number"),
-        Some((0, _file)) => Err("STEP is 0"),
-        Some(_) if from > to => Err("FROM is beyond TO"),
-        Some((step, file)) => Ok(Asked {
-            task: Task::Tell(Telling::Sweep(Values {
-                key,
-                from,
-                to,
-                step,
-                csv,
-            })),
-            file,
-            has_progress: true,
-        }),
-    }
-}
-
-/// Words after this command that are wrong for a reason that `clap` doesn't know.
-fn refused_words(alloc: Global, name: Name, reason: &str) -> Refused {
-    match named_command(alloc, name) {
-        Ok(mut command) => refused_as(&mut command, reason),
-        Err(_no_memory) => Refused::NoMemory,
-    }
-}
-
-/// Words after `sweep` that don't suit its scenario.
-pub fn refused_sweep(alloc: Global, reason: &str) -> Refused {
-    refused_words(alloc, Name::Sweep, reason)
 }
 
 /// The number that a part of seconds is; nothing, if it has another letter than a digit, or is too
@@ -248,84 +118,212 @@ fn centiseconds_of(text: &str) -> Option<u64> {
         2 => 1,
         _ => return None,
     };
-    let rest = number_of(rest)?.saturating_mul(times);
-    Some(number_of(whole)?.saturating_mul(100).saturating_add(rest))
-}
-
-/// The centiseconds of an option, if it is given; this reason, if it says no seconds.
-fn seconds_of(
-    given: &ArgMatches<'_>,
-    name: &str,
-    reason: &'static str,
-) -> Result<Option<u64>, &'static str> {
-    let Some(text) = given.get_str(name) else {
-        return Ok(None);
-    };
-    match centiseconds_of(text) {
-        None => Err(reason),
-        time => Ok(time),
+    match (number_of(whole), number_of(rest)) {
+        (Some(whole), Some(rest)) => {
+            Some(
+                whole
+                    .saturating_mul(100)
+                    .saturating_add(rest.saturating_mul(times)),
+            )
+        }
+        _ => None,
     }
 }
 
-/// The picture over time that is asked for, if one is, or why the words are wrong.
-fn times_of(given: &ArgMatches<'_>) -> Result<Option<Times>, &'static str> {
-    let width = number_in(given, "width", "--width wants a number")?;
-    let from = seconds_of(given, "from", "--from is seconds, such as 12.5")?;
-    let to = seconds_of(given, "to", "--to is seconds, such as 12.5")?;
-    if !given.get_flag("time") {
-        return match (width, from, to) {
-            (None, None, None) => Ok(None),
-            (Some(_), _, _) => Err("--width goes with --time"),
-            (None, Some(_), _) => Err("--from goes with --time"),
-            (None, None, Some(_)) => Err("--to goes with --time"),
+/// The file that a word names.
+fn file_of(word: Option<&str>) -> Option<&str> {
+    match word {
+        Some("-") => None,
+        named => named,
+    }
+}
+
+/// The words after a command, the file that they name, and the first reason why they are wrong, if
+/// they are.
+#[derive(Drop)]
+struct Words<'a, 'b> {
+    given: &'b ArgMatches<'a>,
+    file: Option<&'a str>,
+    wrong: Option<&'static str>,
+}
+
+impl<'a, 'b> Words<'a, 'b> {
+    /// Notes this reason, unless all is right, or another reason came before.
+    fn check(&mut self, is_right: bool, reason: &'static str) {
+        if !is_right && self.wrong.is_none() {
+            self.wrong = Some(reason);
+        }
+    }
+
+    /// The number of an option, if it is given; else nothing is noted, but of what is no number.
+    fn number(&mut self, name: &str, reason: &'static str) -> Option<u64> {
+        let number = self.given.get_one::<u64>(name);
+        let is_given = self.given.get_str(name).is_some();
+        self.check(number.is_some() || !is_given, reason);
+        number
+    }
+
+    /// The number that has to be given.
+    fn bound(&mut self, name: &str, reason: &'static str) -> u64 {
+        let number = self.given.get_one::<u64>(name);
+        self.check(number.is_some(), reason);
+        number.unwrap_or(0)
+    }
+
+    /// The centiseconds of an option, if it is given.
+    fn seconds(&mut self, name: &str, reason: &'static str) -> Option<u64> {
+        let text = self.given.get_str(name);
+        let time = text.and_then(centiseconds_of);
+        self.check(time.is_some() || text.is_none(), reason);
+        time
+    }
+
+    /// The alarm that an option names, if it is given.
+    fn alarm(&mut self, option: &str) -> Option<Alarm> {
+        let text = self.given.get_str(option);
+        let alarm = match text {
+            Some("1201") => Some(Alarm::A1201),
+            Some("1202") => Some(Alarm::A1202),
+            Some("1203") => Some(Alarm::A1203),
+            _ => None,
         };
+        let is_right = alarm.is_some() || text.is_none();
+        self.check(is_right, "an alarm is 1201, 1202 or 1203");
+        alarm
     }
-    let (width, from) = (width.unwrap_or(1600), from.unwrap_or(0));
-    if width < 1200 || 10_000 < width {
-        return Err("--width is 1200 to 10000");
+
+    /// What the words after `trace` ask for.
+    fn trace(&mut self) -> Work {
+        let from = self.number("from", "--from wants a number");
+        let to = self.number("to", "--to wants a number");
+        let is_right = from.unwrap_or(0) <= to.unwrap_or(u64::MAX);
+        self.check(is_right, "--from is beyond --to");
+        let choice = Choice {
+            alarms: self.given.get_flag("alarms"),
+            from,
+            to,
+            brief: self.given.get_flag("brief"),
+        };
+        if self.given.get_flag("script") {
+            Work::TraceScript(choice)
+        } else {
+            Work::Trace(choice)
+        }
     }
-    match to {
-        Some(to) if to <= from => Err("--to is not beyond --from"),
-        _ => Ok(Some(Times {
+
+    /// What the words after `picture` ask for.
+    fn picture(&mut self) -> Task<'a> {
+        let width = self.number("width", "--width wants a number");
+        let from = self.seconds("from", "--from is seconds, such as 12.5");
+        let to = self.seconds("to", "--to is seconds, such as 12.5");
+        if !self.given.get_flag("time") {
+            self.check(width.is_none(), "--width goes with --time");
+            self.check(from.is_none(), "--from goes with --time");
+            self.check(to.is_none(), "--to goes with --time");
+            return Task::Work(Work::Picture);
+        }
+        let (width, from) = (width.unwrap_or(1600), from.unwrap_or(0));
+        self.check((1200..=10_000).contains(&width), "--width is 1200 to 10000");
+        let is_right = from < to.unwrap_or(u64::MAX);
+        self.check(is_right, "--to is not beyond --from");
+        Task::Tell(Telling::Picture(Times {
             width,
             from,
             to,
-            has_progress: given.get_flag("progress"),
-        })),
+            has_progress: self.given.get_flag("progress"),
+        }))
     }
-}
 
-/// What the words after `picture` ask for, or why they are wrong.
-fn picture_of<'a>(given: &ArgMatches<'a>) -> Result<Asked<'a>, &'static str> {
-    match times_of(given)? {
-        None => Ok(to_work(Work::Picture, given)),
-        Some(times) => Ok(to_do(Task::Tell(Telling::Picture(times)), given, false)),
+    /// What the words after `explore` ask for.
+    fn explore(&mut self) -> Options {
+        let states = self.number("states", "--states wants a number");
+        Options {
+            states: states.unwrap_or(STATES),
+            alarm: self.alarm("alarm"),
+            through: self.given.get_flag("through"),
+            bench: self.alarm("bench"),
+        }
+    }
+
+    /// The step of a sweep. The word after its values is the file, if it is no number.
+    fn step(&mut self) -> u64 {
+        let word = self.given.get_str("step");
+        match self.given.get_one::<u64>("step") {
+            Some(step) => step,
+            None if word.is_none() => 1,
+            None => {
+                self.check(self.given.get_str("file").is_none(), "STEP is no number");
+                self.file = file_of(word);
+                1
+            }
+        }
+    }
+
+    /// What the words after `sweep` ask for.
+    fn sweep(&mut self) -> Values<'a> {
+        let from = self.bound("from", "FROM is no number");
+        let to = self.bound("to", "TO is no number");
+        let step = self.step();
+        self.check(step > 0, "STEP is 0");
+        self.check(from <= to, "FROM is beyond TO");
+        Values {
+            key: self.given.get_str("key").unwrap_or(""),
+            from,
+            to,
+            step,
+            csv: self.given.get_flag("csv"),
+        }
+    }
+
+    /// What the words after a command of this name ask for.
+    fn task(&mut self, command: &str) -> Task<'a> {
+        match command {
+            "trace" => Task::Work(self.trace()),
+            "picture" => self.picture(),
+            "page" => Task::Work(Work::Page),
+            "check" if self.given.get_flag("script") => Task::Work(Work::CheckScript),
+            "check" => Task::Work(Work::CheckBench),
+            "explore" => Task::Explore(self.explore()),
+            "bench" => Task::Tell(Telling::Bench),
+            "peaks" => Task::Tell(Telling::Peaks),
+            "sweep" => Task::Tell(Telling::Sweep(self.sweep())),
+            _ => Task::Play,
+        }
     }
 }
 
 /// What a command line asks for that `clap` takes.
-fn asked_by<'a>(
-    alloc: Global,
-    command: &mut Command<'a>,
-    matches: &ArgMatches<'a>,
-) -> Result<Asked<'a>, Refused> {
-    let Some((word, given)) = matches.subcommand() else {
-        return Err(refused_as(command, "a command is missing"));
+fn asked_by<'a>(alloc: Global, matches: &ArgMatches<'a>) -> Result<Asked<'a>, Refused> {
+    let Some((command, given)) = matches.subcommand() else {
+        return Err(refused_words(alloc, "", "a command is missing"));
     };
-    let (name, found) = match word {
-        "trace" => (Name::Trace, trace_of(given)),
-        "picture" => (Name::Picture, picture_of(given)),
-        "page" => return Ok(to_work(Work::Page, given)),
-        "check" if given.get_flag("script") => return Ok(to_work(Work::CheckScript, given)),
-        "check" => return Ok(to_work(Work::CheckBench, given)),
-        "explore" => (Name::Explore, orders_of(given)),
-        "bench" => return Ok(to_do(Task::Tell(Telling::Bench), given, false)),
-        "peaks" => return Ok(to_do(Task::Tell(Telling::Peaks), given, false)),
-        "sweep" => (Name::Sweep, sweep_of(given)),
-        "play" => return Ok(to_do(Task::Play, given, false)),
-        _ => return Err(refused_as(command, "there is no such command")),
+    let mut words = Words {
+        given,
+        file: file_of(given.get_str("file")),
+        wrong: None,
     };
-    found.map_err(|reason| refused_words(alloc, name, reason))
+    let task = words.task(command);
+    match words.wrong {
+        Some(reason) => Err(refused_words(alloc, command, reason)),
+        None => Ok(Asked {
+            task,
+            file: words.file,
+            has_progress: given.get_flag("progress"),
+        }),
+    }
+}
+
+/// Words after this command that are wrong for a reason that `clap` doesn't know.
+fn refused_words(alloc: Global, command: &str, reason: &str) -> Refused {
+    match named_command(alloc, command) {
+        Ok(mut command) => refused_as(&mut command, reason),
+        Err(_no_memory) => Refused::NoMemory,
+    }
+}
+
+/// Words after `sweep` that don't suit its scenario.
+pub fn refused_sweep(alloc: Global, reason: &str) -> Refused {
+    refused_words(alloc, "sweep", reason)
 }
 
 /// Words that are wrong for a reason that `clap` doesn't know.
@@ -352,7 +350,7 @@ fn refused_by(error: Error) -> Refused {
 pub fn asked_for<'a>(alloc: Global, words: &'a [String]) -> Result<Asked<'a>, Refused> {
     let mut command = whole_command(alloc)?;
     match command.try_get_matches_from_mut(words) {
-        Ok(matches) => asked_by(alloc, &mut command, &matches),
+        Ok(matches) => asked_by(alloc, &matches),
         Err(error) => Err(refused_by(error)),
     }
 }
