@@ -1,13 +1,12 @@
 //! What is said of what was found in a bench.
-use crate::kind::{ACTIONS, JOBS, Kind, LEAVINGS, LISTINGS, Part, REQUESTS};
-use crate::line::{LineFault, Shown, fault_of};
+use crate::kind::{ACTIONS, JOBS, Kind, LEAVINGS, LISTINGS, NO_REQUEST, Part, REQUESTS};
+use crate::line::{LineFault, fault_of};
 use crate::names::{Named, called, meant_by};
+use crate::saying::{Piece, Said, put, said};
 use crate::script::MOST_TOLD;
 use agc_document::{Form, Key, KeyFault, Kind as Valued, Level, Place};
 use agc_findings::{Finding, Wrong};
 use std::alloc::{AllocError, Global};
-use std::fmt;
-use std::fmt::Write;
 
 impl Named for Key {
     fn name(self) -> &'static str {
@@ -15,168 +14,167 @@ impl Named for Key {
     }
 }
 
-/// Says what was expected in the place of a text that should be of one of these kinds: `other`
-/// where its first word is none of theirs.
-fn add_line(told: &mut String, kinds: &[Kind], text: &str, other: &str) -> Result<(), AllocError> {
-    match fault_of(kinds, text) {
-        LineFault::Unknown(None) => told.push_str(other),
-        fault => write!(told, "{fault}"),
-    }
-}
+/// What fills no gap.
+const NONE: Piece<'static> = Piece::Text("");
 
-/// Says what was expected in the place of a text of this form.
-fn add_form(told: &mut String, form: Form, text: &str) -> Result<(), AllocError> {
+const INTEGER: &str = "expected an integer, {} {} {}";
+
+const ONE_OR_MORE: &str = "expected a string, or an array of {} {} {} strings";
+
+const TEXTS: &str = "expected an array of {} strings";
+
+const INTEGER_OR_TABLES: &str = "expected an integer, {} {} {}, or an array of at most {} tables, \
+     each below its line [[{}]]";
+
+const TABLES: &str = "expected an array of tables, each below its line [[{}]]";
+
+const FEW_TABLES: &str = "expected at most {} tables, each below its line [[{}]]";
+
+const ABOVE_TABLES: &str = "unknown key \"{}\"; it belongs above all tables";
+
+const OF_SCENARIO: &str = "unknown key \"{}\"; a scenario has it, which has \"seconds\" too";
+
+const OF_BENCH: &str = "unknown key \"{}\"; a bench has it, but no scenario";
+
+const NO_ACTION: &str = "an action is nothing, or begins with novac, findvac, rouse or list";
+
+/// The kinds of lines that a text of this form may be, and what is said of one that begins like
+/// none of them.
+fn kinds_of(form: Form) -> (&'static [Kind], &'static str) {
     match form {
-        Form::Request => write!(told, "{}", fault_of(&REQUESTS, text)),
-        Form::Action => {
-            let other = "an action is nothing, or begins with novac, findvac, rouse or list";
-            add_line(told, &ACTIONS, text, other)
-        }
-        Form::Job => add_line(told, &JOBS, text, "a job begins with novac or findvac"),
-        Form::Listing => add_line(told, &LISTINGS, text, "a task begins with list"),
-        Form::Leaving => add_line(told, &LEAVINGS, text, "a job leaves by end or sleep"),
-        Form::Address => told.push_str(Part::Address.spelling()),
-        Form::Word => told.push_str(Part::Word.spelling()),
-        Form::Device => told.push_str("a line is timer, key or radar"),
-        Form::Name => told.push_str("a name is one line, without control characters"),
+        Form::Request => (&REQUESTS, NO_REQUEST),
+        Form::Action => (&ACTIONS, NO_ACTION),
+        Form::Job => (&JOBS, "a job begins with novac or findvac"),
+        Form::Listing => (&LISTINGS, "a task begins with list"),
+        Form::Leaving => (&LEAVINGS, "a job leaves by end or sleep"),
+        Form::Address => (&[], Part::Address.spelling()),
+        Form::Word => (&[], Part::Word.spelling()),
+        Form::Device => (&[], "a line is timer, key or radar"),
+        Form::Name => (&[], "a name is one line, without control characters"),
     }
 }
 
-/// Which numbers are meant, from one to another.
-#[derive(Drop)]
-struct Range(u64, u64);
-
-impl fmt::Display for Range {
-    fn fmt<W: fmt::Write>(&self, f: &mut fmt::Formatter<W>) -> fmt::Result {
-        let (low, high) = (self.0, self.1);
-        let between = if high.saturating_sub(low) == 1 {
-            "or"
-        } else {
-            "to"
-        };
-        write!(f, "{low} {between} {high}")
+/// What was expected in the place of a text that should be of this form.
+fn expected_form(form: Form, text: &str) -> Said<'static> {
+    let (kinds, other) = kinds_of(form);
+    let fault = if kinds.is_empty() {
+        LineFault::Unknown(None)
+    } else {
+        fault_of(kinds, text)
+    };
+    match fault {
+        LineFault::Unknown(None) => said(other, NONE, NONE),
+        fault => fault.said(),
     }
 }
 
-/// Says what the value of a key has to be.
-fn add_expected(told: &mut String, key: Key) -> Result<(), AllocError> {
-    let name = key.name();
-    told.push_str("expected ")?;
-    match key.row().kind {
-        Valued::Integer(low, high) => write!(told, "an integer, {}", Range(low, high)),
-        Valued::Text(_form) => told.push_str("a string"),
-        Valued::OneOrMore(_form, low, high) => {
-            write!(
-                told,
-                "a string, or an array of {} strings",
-                Range(low, high)
-            )
-        }
-        Valued::Texts(_form, 0, _most) => told.push_str("an array of strings"),
-        Valued::Texts(_form, count, _most) => write!(told, "an array of {count} strings"),
-        Valued::IntegerOrTables(_level, low, high) => {
-            let range = Range(low, high);
-            write!(told, "an integer, {range}, or an array of at most {high} ")
-        }
-        Valued::Tables(_level, _least, u64::MAX) => told.push_str("an array of "),
-        Valued::Tables(_level, _least, most) => write!(told, "at most {most} "),
-    }?;
-    match key.row().kind {
-        Valued::IntegerOrTables(..) | Valued::Tables(..) => {
-            write!(told, "tables, each below its line [[{name}]]")
-        }
-        _ => Ok(()),
+/// Which numbers are meant, from one to another, and then the other again, and the key's name.
+fn range(low: u64, high: u64, name: Piece<'static>) -> [Piece<'static>; 5] {
+    let between = if high.saturating_sub(low) == 1 {
+        "or"
+    } else {
+        "to"
+    };
+    let last = Piece::Number(high);
+    [Piece::Number(low), Piece::Text(between), last, last, name]
+}
+
+/// What the value of a key has to be.
+fn expected_value(key: Key) -> Said<'static> {
+    let row = key.row();
+    let name = Piece::Text(row.name);
+    match row.kind {
+        Valued::Integer(low, high) => (INTEGER, range(low, high, name)),
+        Valued::Text(_form) => said("expected a string", NONE, NONE),
+        Valued::OneOrMore(_form, low, high) => (ONE_OR_MORE, range(low, high, name)),
+        Valued::Texts(_form, 0, _most) => said("expected an array of strings", NONE, NONE),
+        Valued::Texts(_form, count, _most) => said(TEXTS, Piece::Number(count), NONE),
+        Valued::IntegerOrTables(_level, low, high) => (INTEGER_OR_TABLES, range(low, high, name)),
+        Valued::Tables(_level, _least, u64::MAX) => said(TABLES, name, NONE),
+        Valued::Tables(_level, _least, most) => said(FEW_TABLES, Piece::Number(most), name),
     }
 }
 
-/// Says how octal digits without quotes are to be written.
-fn add_quoted(told: &mut String, digits: &str) -> Result<(), AllocError> {
-    let is_octal = digits.bytes().all(|byte| matches!(byte, b'0'..=b'7'));
-    if digits.is_empty() || digits.len() > 5 || !is_octal {
+/// Appends how octal digits without quotes are to be written, where the text of what is wrong is
+/// such digits.
+fn add_quoted(told: &mut String, wrong: Wrong, text: &str) -> Result<(), AllocError> {
+    let is_text = !matches!(
+        wrong,
+        Wrong::NoQuotes | Wrong::Key(KeyFault::Value(_) | KeyFault::Item(_))
+    );
+    if is_text || text.bytes().any(|byte| !matches!(byte, b'0'..=b'7')) {
         return Ok(());
     }
-    write!(told, ": write \"{digits:0>5}\"")
+    let zeros = match text.len() {
+        1 => "0000",
+        2 => "000",
+        3 => "00",
+        4 => "0",
+        5 => "",
+        _ => return Ok(()),
+    };
+    let digits = [Piece::Text(zeros), Piece::Text(text)];
+    put(told, ": write \"{}{}\"", &digits)
 }
 
-/// Says what may be meant by a key that is unknown in a table of this level.
-fn add_meant(told: &mut String, level: Level, name: &str) -> Result<(), AllocError> {
+/// What is said of a key that is unknown in a table of this level.
+fn said_of_unknown<'a>(level: Level, name: &'a str) -> Said<'a> {
     let is_key_of = |level: Level| called(name, level.keys()).is_some();
-    if level != level.top() && is_key_of(level.top()) {
-        return told.push_str("; it belongs above all tables");
-    }
-    if level == Level::Bench && is_key_of(Level::Scenario) {
-        return told.push_str("; a scenario has it, which has \"seconds\" too");
-    }
-    if level == Level::Scenario && is_key_of(Level::Bench) {
-        return told.push_str("; a bench has it, but no scenario");
-    }
-    match meant_by(name, level.keys()) {
-        Some(key) => write!(told, "; did you mean \"{}\"?", key.name()),
-        None => Ok(()),
-    }
+    let (text, meant) = if level != level.top() && is_key_of(level.top()) {
+        (ABOVE_TABLES, "")
+    } else if level == Level::Bench && is_key_of(Level::Scenario) {
+        (OF_SCENARIO, "")
+    } else if level == Level::Scenario && is_key_of(Level::Bench) {
+        (OF_BENCH, "")
+    } else {
+        match meant_by(name, level.keys()) {
+            Some(key) => ("unknown key \"{}\"; did you mean \"{}\"?", key.name()),
+            None => ("unknown key \"{}\"", ""),
+        }
+    };
+    said(text, Piece::Front(name), Piece::Text(meant))
 }
 
-/// Says what is wrong with a key.
-fn add_key_fault(told: &mut String, fault: KeyFault, text: &str) -> Result<(), AllocError> {
-    match fault {
-        KeyFault::Unknown(level) => {
-            write!(told, "unknown key \"{}\"", Shown(text))?;
-            add_meant(told, level, text)
-        }
-        KeyFault::Missing(key) => write!(told, "the key \"{}\" is missing", key.name()),
-        KeyFault::Value(key) => {
-            add_expected(told, key)?;
-            add_quoted(told, text)
-        }
-        KeyFault::Item(key) => {
-            let item = match key.row().kind {
-                Valued::Tables(..) | Valued::IntegerOrTables(..) => "table",
-                _ => "string",
-            };
-            write!(told, "expected a {item}")?;
-            add_quoted(told, text)
-        }
-        KeyFault::Backward => told.push_str("\"from\" has to be below \"to\""),
-        KeyFault::Overlap => told.push_str("it overlaps an earlier row"),
-        KeyFault::JobTwice => told.push_str("an earlier job has the same address"),
-    }
+/// What is said of what is wrong with a key.
+fn said_of_key<'a>(fault: KeyFault, text: &'a str) -> Said<'a> {
+    let (text, name) = match fault {
+        KeyFault::Unknown(level) => return said_of_unknown(level, text),
+        KeyFault::Value(key) => return expected_value(key),
+        KeyFault::Missing(key) => ("the key \"{}\" is missing", key.name()),
+        KeyFault::Item(key) => match key.row().kind {
+            Valued::Tables(..) | Valued::IntegerOrTables(..) => ("expected a table", ""),
+            _ => ("expected a string", ""),
+        },
+        KeyFault::Backward => ("\"from\" has to be below \"to\"", ""),
+        KeyFault::Overlap => ("it overlaps an earlier row", ""),
+        KeyFault::JobTwice => ("an earlier job has the same address", ""),
+    };
+    said(text, Piece::Text(name), NONE)
 }
 
-/// Says what is wrong with a bench at one place, where it has this text.
+/// What is said of what is wrong with a bench at one place, where it has this text.
+fn said_of<'a>(wrong: Wrong, text: &'a str) -> Said<'a> {
+    let said_so = match wrong {
+        Wrong::Key(fault) => return said_of_key(fault, text),
+        Wrong::Text(form) => return expected_form(form, text),
+        Wrong::NotToml => "not TOML: {}",
+        Wrong::NoQuotes => "not TOML: five octal digits need quotes",
+        Wrong::NoKeys => "this looks like a script, not a bench: use check --script",
+        Wrong::TaskTwice => "an earlier task has the same at and bank",
+        Wrong::PhaseTwice => "an earlier phase has the same group and phase",
+        Wrong::TooManyAreas => "each of the six groups has a job that wants a VAC area",
+    };
+    said(said_so, Piece::Text(text), NONE)
+}
+
+/// Appends what is wrong with a bench at one place, where it has this text.
 fn add_wrong(told: &mut String, wrong: Wrong, text: &str) -> Result<(), AllocError> {
-    match wrong {
-        Wrong::NotToml => write!(told, "not TOML: {text}"),
-        Wrong::NoQuotes => {
-            told.push_str("not TOML: five octal digits need quotes")?;
-            add_quoted(told, text)
-        }
-        Wrong::NoKeys => {
-            told.push_str("this looks like a script, not a bench: use check --script")
-        }
-        Wrong::Key(fault) => add_key_fault(told, fault, text),
-        Wrong::Text(form) => {
-            write!(told, "\"{}\": ", Shown(text))?;
-            add_form(told, form, text)
-        }
-        Wrong::TaskTwice => told.push_str("an earlier task has the same at and bank"),
-        Wrong::PhaseTwice => told.push_str("an earlier phase has the same group and phase"),
-        Wrong::TooManyAreas => {
-            told.push_str("each of the six groups has a job that wants a VAC area")
-        }
+    if let Wrong::Text(_form) = wrong {
+        put(told, "\"{}\": ", &[Piece::Front(text)])?;
     }
-}
-
-/// Appends texts.
-pub fn add(told: &mut String, pieces: &[&str]) -> Result<(), AllocError> {
-    for piece in pieces {
-        told.push_str(piece)?;
-    }
-    Ok(())
-}
-
-/// Appends a number in decimal.
-pub fn add_decimal(told: &mut String, number: u64) -> Result<(), AllocError> {
-    write!(told, "{number}")
+    let (said_so, pieces) = said_of(wrong, text);
+    put(told, said_so, &pieces)?;
+    add_quoted(told, wrong, text)
 }
 
 /// What an item of a key's array is called.
@@ -189,25 +187,31 @@ fn item_name(key: Key) -> &'static str {
     }
 }
 
-/// Appends a place, and a colon where it isn't the whole document.
-fn add_place(told: &mut String, place: Place) -> Result<(), AllocError> {
-    match place {
-        Place::Whole => Ok(()),
-        Place::Value(key) => write!(told, "{}: ", key.name()),
-        Place::Item(key, number) => write!(told, "{}, {} {number}: ", key.name(), item_name(key)),
-        Place::Table(key, number) => write!(told, "{} {number}: ", key.name()),
-        Place::Field(key, number, field) => {
-            write!(told, "{} {number}, {}: ", key.name(), field.name())
+/// How a place is said, with a colon where it isn't the whole document.
+fn said_of_place(place: Place) -> Said<'static> {
+    let (text, key, pieces) = match place {
+        Place::Whole => return said("", NONE, NONE),
+        Place::Value(key) => ("{}: ", key, [NONE; 3]),
+        Place::Item(key, item) => {
+            let pieces = [Piece::Text(item_name(key)), Piece::Number(item), NONE];
+            ("{}, {} {}: ", key, pieces)
         }
-        Place::FieldItem(key, number, field, item) => {
-            write!(
-                told,
-                "{} {number}, {} {item}: ",
-                key.name(),
-                item_name(field)
+        Place::Table(key, table) => ("{} {}: ", key, [Piece::Number(table), NONE, NONE]),
+        Place::Field(key, table, field) => {
+            let pieces = [Piece::Number(table), Piece::Text(field.name()), NONE];
+            ("{} {}, {}: ", key, pieces)
+        }
+        Place::FieldItem(key, table, field, item) => {
+            let name = Piece::Text(item_name(field));
+            (
+                "{} {}, {} {}: ",
+                key,
+                [Piece::Number(table), name, Piece::Number(item)],
             )
         }
-    }
+    };
+    let [first, second, third] = pieces;
+    (text, [Piece::Text(key.name()), first, second, third, NONE])
 }
 
 /// Appends the number of a document's line, a mark, and a place. Source: profile.
@@ -216,8 +220,10 @@ fn add_place(told: &mut String, place: Place) -> Result<(), AllocError> {
 ///
 /// Where there is no memory.
 pub fn add_where(told: &mut String, line: u64, mark: &str, place: Place) -> Result<(), AllocError> {
-    write!(told, "line {line}: {mark}")?;
-    add_place(told, place)
+    let front = [Piece::Number(line), Piece::Text(mark)];
+    put(told, "line {}: {}", &front)?;
+    let (text, pieces) = said_of_place(place);
+    put(told, text, &pieces)
 }
 
 /// A line for each of the first twenty findings. Source: profile.

@@ -50,92 +50,124 @@ impl Part {
     }
 }
 
-/// What a line asks for, by its first word. Source: profile.
+/// A kind of line. Source: profile.
 #[derive(Clone, Copy)]
-pub enum Kind {
-    Nothing,
-    Novac,
-    Findvac,
-    EndOfJob,
-    Sleep,
-    Rouse,
-    Prio,
-    Change,
-    Store,
-    Listing,
-    Tick,
-    SetPhase,
-    Restart,
-    Fresh,
+pub struct Kind {
+    /// Its first word.
+    pub(crate) word: &'static str,
+    /// The letters that stand for what follows its word.
+    pub(crate) letters: &'static str,
+    /// What follows its word.
+    pub(crate) parts: &'static [Part],
 }
+
+const NOTHING: Kind = Kind {
+    word: "nothing",
+    letters: "",
+    parts: &[],
+};
+
+const NOVAC: Kind = Kind {
+    word: "novac",
+    letters: " P A W",
+    parts: &[Part::Priority, Part::Address, Part::Word],
+};
+
+const FINDVAC: Kind = Kind {
+    word: "findvac",
+    letters: " P A W",
+    parts: &[Part::Priority, Part::Address, Part::Word],
+};
+
+const END: Kind = Kind {
+    word: "end",
+    letters: "",
+    parts: &[],
+};
+
+const SLEEP: Kind = Kind {
+    word: "sleep",
+    letters: " A",
+    parts: &[Part::Address],
+};
+
+const ROUSE: Kind = Kind {
+    word: "rouse",
+    letters: " A",
+    parts: &[Part::Address],
+};
+
+const PRIO: Kind = Kind {
+    word: "prio",
+    letters: " P",
+    parts: &[Part::Priority],
+};
+
+const CHANGE: Kind = Kind {
+    word: "change",
+    letters: "",
+    parts: &[],
+};
+
+const STORE: Kind = Kind {
+    word: "store",
+    letters: " K W",
+    parts: &[Part::Place, Part::Word],
+};
+
+const LIST: Kind = Kind {
+    word: "list",
+    letters: " D A W",
+    parts: &[Part::Delay, Part::Address, Part::Word],
+};
+
+const TICK: Kind = Kind {
+    word: "tick",
+    letters: "",
+    parts: &[],
+};
+
+const PHASE: Kind = Kind {
+    word: "phase",
+    letters: " G N",
+    parts: &[Part::Group, Part::Phase],
+};
+
+const RESTART: Kind = Kind {
+    word: "restart",
+    letters: "",
+    parts: &[],
+};
+
+const FRESH: Kind = Kind {
+    word: "fresh",
+    letters: "",
+    parts: &[],
+};
 
 /// All requests.
 pub(crate) const REQUESTS: [Kind; 13] = [
-    Kind::Novac,
-    Kind::Findvac,
-    Kind::EndOfJob,
-    Kind::Sleep,
-    Kind::Rouse,
-    Kind::Prio,
-    Kind::Change,
-    Kind::Store,
-    Kind::Listing,
-    Kind::Tick,
-    Kind::SetPhase,
-    Kind::Restart,
-    Kind::Fresh,
+    NOVAC, FINDVAC, END, SLEEP, ROUSE, PRIO, CHANGE, STORE, LIST, TICK, PHASE, RESTART, FRESH,
 ];
+
+/// What is said of a text that begins like no request.
+pub(crate) const NO_REQUEST: &str = "its first word is unknown: a request begins with novac, \
+     findvac, end, sleep, rouse, prio, change, store, list, tick, phase, restart or fresh";
 
 /// What an action asks for.
-pub(crate) const ACTIONS: [Kind; 5] = [
-    Kind::Nothing,
-    Kind::Novac,
-    Kind::Findvac,
-    Kind::Rouse,
-    Kind::Listing,
-];
+pub(crate) const ACTIONS: [Kind; 5] = [NOTHING, NOVAC, FINDVAC, ROUSE, LIST];
 
 /// What establishes a job.
-pub(crate) const JOBS: [Kind; 2] = [Kind::Novac, Kind::Findvac];
+pub(crate) const JOBS: [Kind; 2] = [NOVAC, FINDVAC];
 
 /// By what a job leaves.
-pub(crate) const LEAVINGS: [Kind; 2] = [Kind::EndOfJob, Kind::Sleep];
+pub(crate) const LEAVINGS: [Kind; 2] = [END, SLEEP];
 
 /// What lists a task.
-pub(crate) const LISTINGS: [Kind; 1] = [Kind::Listing];
+pub(crate) const LISTINGS: [Kind; 1] = [LIST];
 
 impl Named for Kind {
     fn name(self) -> &'static str {
-        match self {
-            Kind::Nothing => "nothing",
-            Kind::Novac => "novac",
-            Kind::Findvac => "findvac",
-            Kind::EndOfJob => "end",
-            Kind::Sleep => "sleep",
-            Kind::Rouse => "rouse",
-            Kind::Prio => "prio",
-            Kind::Change => "change",
-            Kind::Store => "store",
-            Kind::Listing => "list",
-            Kind::Tick => "tick",
-            Kind::SetPhase => "phase",
-            Kind::Restart => "restart",
-            Kind::Fresh => "fresh",
-        }
-    }
-}
-
-impl Kind {
-    /// The letters that stand for what follows its word, and what that is.
-    pub(crate) fn form(self) -> (&'static str, &'static [Part]) {
-        match self {
-            Kind::Novac | Kind::Findvac => (" P A W", &[Part::Priority, Part::Address, Part::Word]),
-            Kind::Sleep | Kind::Rouse => (" A", &[Part::Address]),
-            Kind::Prio => (" P", &[Part::Priority]),
-            Kind::Store => (" K W", &[Part::Place, Part::Word]),
-            Kind::Listing => (" D A W", &[Part::Delay, Part::Address, Part::Word]),
-            Kind::SetPhase => (" G N", &[Part::Group, Part::Phase]),
-            _ => ("", &[]),
-        }
+        self.word
     }
 }

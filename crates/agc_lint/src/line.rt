@@ -1,7 +1,7 @@
 //! What is wrong with a line, and how that is worded.
-use crate::kind::{Kind, Part, REQUESTS};
-use crate::names::{Named, called, meant_by};
-use std::fmt;
+use crate::kind::{Kind, NO_REQUEST, Part, REQUESTS};
+use crate::names::{called, meant_by};
+use crate::saying::{Piece, Said, said};
 
 /// Why a line is no request. Source: profile.
 #[derive(Clone, Copy)]
@@ -21,12 +21,19 @@ pub enum LineFault {
     Wrong(Part),
 }
 
+const BYTE_ORDER_MARK: &str = "it begins with a byte order mark, which a script may not have";
+
+const OF_BENCH: &str = "this looks like a bench, not a script: use check without --script";
+
+const MEANT: &str = "its first word is unknown; did you mean \"{}\"?";
+
+const FORM: &str = "it has the form \"{}{}\", with single spaces";
+
 /// What is wrong with a line of this kind.
 fn wrong_words(text: &str, kind: Kind) -> LineFault {
-    let (_letters, parts) = kind.form();
     let words = text.split(' ').skip(1);
-    if text.split(' ').skip(1).count() == parts.len() {
-        for (part, word) in parts.iter().zip(words) {
+    if text.split(' ').skip(1).count() == kind.parts.len() {
+        for (part, word) in kind.parts.iter().zip(words) {
             if !part.is_spelled(word) {
                 return LineFault::Wrong(*part);
             }
@@ -59,60 +66,19 @@ pub(crate) fn script_fault(text: &str) -> LineFault {
     }
 }
 
-/// Writes which words a request may begin with.
-fn write_words<W: fmt::Write>(f: &mut fmt::Formatter<W>) -> fmt::Result {
-    for (k, kind) in REQUESTS.iter().enumerate() {
-        let before = match k {
-            0 => ": a request begins with ",
-            12 => " or ",
-            _ => ", ",
+impl LineFault {
+    /// What is said of it.
+    pub(crate) fn said(self) -> Said<'static> {
+        let (text, first, second) = match self {
+            LineFault::Empty => ("a line may not be empty", "", ""),
+            LineFault::CarriageReturn => ("a line ends with LF alone, not with CR LF", "", ""),
+            LineFault::ByteOrderMark => (BYTE_ORDER_MARK, "", ""),
+            LineFault::OfBench => (OF_BENCH, "", ""),
+            LineFault::Unknown(None) => (NO_REQUEST, "", ""),
+            LineFault::Unknown(Some(kind)) => (MEANT, kind.word, ""),
+            LineFault::Form(kind) => (FORM, kind.word, kind.letters),
+            LineFault::Wrong(part) => ("{}", part.spelling(), ""),
         };
-        write!(f, "{before}{}", kind.name())?;
-    }
-    Ok(())
-}
-
-impl fmt::Display for LineFault {
-    fn fmt<W: fmt::Write>(&self, f: &mut fmt::Formatter<W>) -> fmt::Result {
-        match *self {
-            LineFault::Empty => f.write_str("a line may not be empty"),
-            LineFault::CarriageReturn => f.write_str("a line ends with LF alone, not with CR LF"),
-            LineFault::ByteOrderMark => {
-                f.write_str("it begins with a byte order mark, which a script may not have")
-            }
-            LineFault::OfBench => {
-                f.write_str("this looks like a bench, not a script: use check without --script")
-            }
-            LineFault::Unknown(None) => {
-                f.write_str("its first word is unknown")?;
-                write_words(f)
-            }
-            LineFault::Unknown(Some(kind)) => {
-                let name = kind.name();
-                write!(f, "its first word is unknown; did you mean \"{name}\"?")
-            }
-            LineFault::Form(kind) => {
-                let (name, (letters, _parts)) = (kind.name(), kind.form());
-                write!(f, "it has the form \"{name}{letters}\", with single spaces")
-            }
-            LineFault::Wrong(part) => f.write_str(part.spelling()),
-        }
-    }
-}
-
-/// The front of a text: at most sixty letters, none of which moves the cursor, and two points where
-/// it has more.
-#[derive(Drop)]
-pub(crate) struct Shown<'a>(pub(crate) &'a str);
-
-impl<'a> fmt::Display for Shown<'a> {
-    fn fmt<W: fmt::Write>(&self, f: &mut fmt::Formatter<W>) -> fmt::Result {
-        for (k, letter) in self.0.chars().enumerate() {
-            if k >= 60 || letter.is_ascii_control() {
-                return f.write_str("..");
-            }
-            f.write_char(letter)?;
-        }
-        Ok(())
+        said(text, Piece::Text(first), Piece::Text(second))
     }
 }

@@ -3,10 +3,10 @@ ghost use Rattle.std.specs.Prelude.{◌≡◌, ℕ, List, IfOk};
 ghost use Rattle.agc_text.specs.Script.{IsFirstRefused, lines_of};
 ghost use Rattle.agc_lint.specs.Scripts.{IsTold};
 
-use crate::line::{LineFault, Shown, script_fault};
+use crate::line::{LineFault, script_fault};
+use crate::saying::{Piece, put};
 use agc_text::{ScriptFault, parse_line, read_script};
 use std::alloc::{AllocError, Global};
-use std::fmt::Write;
 use std::marker::Model;
 
 /// How many faults are told.
@@ -91,8 +91,11 @@ pub fn script_findings<'a>(alloc: Global, text: &'a str) -> Result<Vec<Finding<'
 
 /// Tells of a line of a script.
 fn add_finding(told: &mut String, finding: &Finding<'_>) -> Result<(), AllocError> {
-    let (line, text, fault) = (finding.line, Shown(finding.text), finding.fault);
-    write!(told, "line {line}: \"{text}\": {fault}\n")
+    let shown = [Piece::Number(finding.line), Piece::Front(finding.text)];
+    put(told, "line {}: \"{}\": ", &shown)?;
+    let (text, pieces) = finding.fault.said();
+    put(told, text, &pieces)?;
+    told.push('\n')
 }
 
 /// A line for each finding; one alone for a line of a bench, which is no script. Source: profile.
