@@ -16,82 +16,88 @@ pub(crate) enum Item {
     Device(Line),
 }
 
-/// Items with their places.
-pub(crate) type Items = Vec<(Place, Item)>;
-
-/// Adds what requests list and set, which are the items of the array at a place.
-fn add_requests(items: &mut Items, at: Place, requests: &[Request]) -> Result<(), AllocError> {
-    for (k, request) in requests.iter().enumerate() {
-        let place = at.of_item(k as u64 + 1);
-        match *request {
-            Request::List(_delay, task) => items.push((place, Item::Lists(task, None)))?,
-            Request::SetPhase(group, phase) => items.push((place, Item::Sets(group, phase)))?,
-            _ => {}
-        }
-    }
-    Ok(())
+/// Items with their places, and whether memory ran out for one.
+#[derive(Drop)]
+struct Items {
+    list: Vec<(Place, Item)>,
+    failed: bool,
 }
 
-/// Adds what the actions at a place list, perhaps those of a task's row. One stands there alone.
-fn add_actions(
-    items: &mut Items,
-    at: Place,
-    row: &Option<Task>,
-    actions: &[Action],
-) -> Result<(), AllocError> {
-    for (k, action) in actions.iter().enumerate() {
-        if let Action::List(_delay, task) = *action {
-            let place = match actions {
-                [_] => at,
-                _ => at.of_item(k as u64 + 1),
-            };
-            items.push((place, Item::Lists(task, *row)))?;
+impl Items {
+    /// Adds an item.
+    fn add(&mut self, place: Place, item: Item) {
+        if self.list.push((place, item)).is_err() {
+            self.failed = true;
         }
     }
-    Ok(())
-}
 
-/// Adds the rows of tasks and the phase entries.
-fn add_plan(items: &mut Items, bench: &Bench) -> Result<(), AllocError> {
-    for (k, (task, actions)) in bench.rows().iter().enumerate() {
-        let number = k as u64 + 1;
-        let at = Place::Field(Key::Tasks, number, Key::Action);
-        add_actions(items, at, &Some(*task), actions.as_slice())?;
-        items.push((Place::Table(Key::Tasks, number), Item::Row(*task)))?;
-    }
-    for (k, entry) in bench.entries().iter().enumerate() {
-        if let Some((_delay, task)) = entry.task() {
-            let place = Place::Field(Key::Phases, k as u64 + 1, Key::Listing);
-            items.push((place, Item::Lists(task, None)))?;
+    /// Adds what requests list and set, which are the items of the array at a place.
+    fn add_requests(&mut self, at: Place, requests: &[Request]) {
+        for (k, request) in requests.iter().enumerate() {
+            let place = at.of_item(k as u64 + 1);
+            match *request {
+                Request::List(_delay, task) => self.add(place, Item::Lists(task, None)),
+                Request::SetPhase(group, phase) => self.add(place, Item::Sets(group, phase)),
+                _ => {}
+            }
         }
     }
-    Ok(())
+
+    /// Adds what the actions at a place list, perhaps those of a task's row. One stands there
+    /// alone.
+    fn add_actions(&mut self, at: Place, row: Option<Task>, actions: &[Action]) {
+        for (k, action) in actions.iter().enumerate() {
+            if let Action::List(_delay, task) = *action {
+                let place = match actions {
+                    [_] => at,
+                    _ => at.of_item(k as u64 + 1),
+                };
+                self.add(place, Item::Lists(task, row));
+            }
+        }
+    }
+
+    /// Adds the rows of tasks and the phase entries.
+    fn add_plan(&mut self, bench: &Bench) {
+        for (k, (task, actions)) in bench.rows().iter().enumerate() {
+            let number = k as u64 + 1;
+            let at = Place::Field(Key::Tasks, number, Key::Action);
+            self.add_actions(at, Some(*task), actions.as_slice());
+            self.add(Place::Table(Key::Tasks, number), Item::Row(*task));
+        }
+        for (k, entry) in bench.entries().iter().enumerate() {
+            if let Some((_delay, task)) = entry.task() {
+                let number = k as u64 + 1;
+                let place = Place::Field(Key::Phases, number, Key::Listing);
+                self.add(place, Item::Lists(task, None));
+            }
+        }
+    }
 }
 
 /// The items of a bench, in the order of its keys.
-pub(crate) fn items_of(alloc: Global, bench: &Bench) -> Result<Items, AllocError> {
-    let mut items = Vec::new(alloc);
-    add_actions(
-        &mut items,
-        Place::Value(Key::Key),
-        &None,
-        bench.key().as_slice(),
-    )?;
-    add_actions(
-        &mut items,
-        Place::Value(Key::Radar),
-        &None,
-        bench.radar().as_slice(),
-    )?;
-    add_requests(&mut items, Place::Value(Key::Script), bench.script())?;
-    add_plan(&mut items, bench)?;
+pub(crate) fn items_of(alloc: Global, bench: &Bench) -> Result<Vec<(Place, Item)>, AllocError> {
+    let mut items = Items {
+        list: Vec::new(alloc),
+        failed: false,
+    };
+    items.add_actions(Place::Value(Key::Key), None, bench.key().as_slice());
+    items.add_actions(Place::Value(Key::Radar), None, bench.radar().as_slice());
+    items.add_requests(Place::Value(Key::Script), bench.script());
+    items.add_plan(bench);
     for (k, worker) in bench.workers().iter().enumerate() {
-        let at = Place::Field(Key::Workers, k as u64 + 1, Key::Requests);
-        add_requests(&mut items, at, worker.as_slice())?;
+        let number = k as u64 + 1;
+        let at = Place::Field(Key::Workers, number, Key::Requests);
+        items.add_requests(at, worker.as_slice());
     }
     for (k, (line, _pulses)) in bench.devices().iter().enumerate() {
-        let place = Place::Field(Key::Devices, k as u64 + 1, Key::Line);
-        items.push((place, Item::Device(*line)))?;
+        let number = k as u64 + 1;
+        let place = Place::Field(Key::Devices, number, Key::Line);
+        items.add(place, Item::Device(*line));
     }
-    Ok(items)
+    if items.failed {
+        Err(AllocError)
+    } else {
+        Ok(items.list)
+    }
 }

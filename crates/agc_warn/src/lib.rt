@@ -10,5 +10,5 @@ mod warnings;
 
 pub use ran::{Ran, run_bench};
 pub use telling::{add_script_summary, add_summary, warnings_told};
-pub use warning::{Warned, Warning};
+pub use warning::Warned;
 pub use warnings::{bench_warnings, run_warnings};

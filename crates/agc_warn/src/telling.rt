@@ -1,13 +1,11 @@
 //! The lines that tell of warnings, and what a run comes to, in one line.
 use crate::ran::{Ran, run_requests};
-use crate::warning::{REFUSED, Warned};
+use crate::warning::{LOG_FULL, Warned};
 use agc_document::Place;
 use agc_findings::{line_at, places_in};
-use agc_lint::add_where;
+use agc_lint::{Piece, add_where, put};
 use agc_plan::Request;
 use std::alloc::{AllocError, Global};
-use std::fmt;
-use std::fmt::Write;
 
 /// How many requests the log of a script holds.
 const SCRIPT_LIMIT: u64 = 1000;
@@ -31,23 +29,19 @@ pub fn warnings_told(
     let mut told = String::new(alloc);
     for (one, at) in warnings.iter().zip(found.iter()) {
         add_where(&mut told, line_at(document, *at), "warning: ", one.place)?;
-        write!(told, "{}\n", one.warning)?;
+        let (text, pieces) = one.warning;
+        put(&mut told, text, &pieces)?;
+        told.push('\n')?;
     }
     Ok(told)
 }
 
-/// So many things, which are named by the word for one of them.
-#[derive(Clone, Copy)]
-struct Amount(u64, &'static str);
-
-impl fmt::Display for Amount {
-    fn fmt<W: fmt::Write>(&self, f: &mut fmt::Formatter<W>) -> fmt::Result {
-        let Amount(number, thing) = *self;
-        match number {
-            0 => write!(f, "no {thing}"),
-            1 => write!(f, "1 {thing}"),
-            _ => write!(f, "{number} {thing}s"),
-        }
+/// A number of things as it is told, and what its word ends with.
+fn amount(number: u64) -> (Piece<'static>, Piece<'static>) {
+    match number {
+        0 => (Piece::Text("no"), Piece::Text("")),
+        1 => (Piece::Number(1), Piece::Text("")),
+        _ => (Piece::Number(number), Piece::Text("s")),
     }
 }
 
@@ -58,10 +52,24 @@ impl fmt::Display for Amount {
 ///
 /// Where there is no memory.
 pub fn add_summary(told: &mut String, ran: &Ran) -> Result<(), AllocError> {
-    let first = if ran.is_cut { "the first " } else { "" };
-    let requests = Amount(ran.requests, "request");
-    let (tasks, alarms) = (Amount(ran.fired, "task"), Amount(ran.alarms, "alarm"));
-    write!(told, "ok: {first}{requests}, {tasks} fired, {alarms}\n")
+    let first = Piece::Text(if ran.is_cut { "the first " } else { "" });
+    let (requests, of_requests) = amount(ran.requests);
+    let (tasks, of_tasks) = amount(ran.fired);
+    let (alarms, of_alarms) = amount(ran.alarms);
+    let pieces = [
+        first,
+        requests,
+        of_requests,
+        tasks,
+        of_tasks,
+        alarms,
+        of_alarms,
+    ];
+    put(
+        told,
+        "ok: {}{} request{}, {} task{} fired, {} alarm{}\n",
+        &pieces,
+    )
 }
 
 /// Appends what the requests of a script come to, and before that a warning where its log is too
@@ -77,10 +85,10 @@ pub fn add_script_summary(
 ) -> Result<(), AllocError> {
     let ran = run_requests(alloc, requests)?.1;
     if let Some(first) = ran.log_full {
-        write!(
-            told,
-            "line {first}: warning: request {first} {REFUSED}: log full (limit {SCRIPT_LIMIT})\n"
-        )?;
+        let first = Piece::Number(first);
+        put(told, "line {}: warning: ", &[first])?;
+        put(told, LOG_FULL, &[first, Piece::Number(SCRIPT_LIMIT)])?;
+        told.push('\n')?;
     }
     add_summary(told, &ran)
 }

@@ -1,9 +1,12 @@
 //! What is warned of in a bench.
 use crate::items::{Item, items_of};
 use crate::ran::Ran;
-use crate::warning::{Warned, Warning};
+use crate::warning::{
+    CUT, LOG_FULL, NEVER_LISTED, NO_ENTRY, NO_REQUEST, NO_ROW, NO_ROWS, OTHER_BANK, SPENT, Warned,
+};
 use agc_document::{Bench, Key, Place};
-use agc_plan::{PhaseEntry, Task};
+use agc_lint::{Piece, Said, said};
+use agc_plan::{Group, Line, Phase, PhaseEntry, Task};
 use agc_session::asks_nothing;
 use agc_word::Word;
 use std::alloc::{AllocError, Global};
@@ -17,102 +20,169 @@ fn numbers_of(task: &Task) -> (u16, u16) {
     (task.at.get(), task.bank.bits())
 }
 
-/// The tasks of a bench by their numbers: those that have a row, those that anything lists but
-/// their own actions, and the bank of the first row at each address.
+/// What is warned of, and the numbers of what it isn't said of twice.
+type Warning = (Said<'static>, Option<(u16, u16)>);
+
+/// What is said without a number.
+fn plain(text: &'static str) -> Said<'static> {
+    said(text, Piece::Text(""), Piece::Text(""))
+}
+
+/// The tasks of a bench by their numbers: whether they have a row, and whether anything lists them
+/// but their own actions; and the bank of the first row at each address.
 #[derive(Drop)]
 struct Tasks {
-    rows: BTreeSet<(u16, u16)>,
-    listed: BTreeSet<(u16, u16)>,
+    known: BTreeSet<(bool, (u16, u16))>,
     banks: BTreeMap<u16, Word>,
 }
 
 impl Tasks {
     /// The tasks of a bench that has these items.
     fn of(alloc: Global, items: &[(Place, Item)]) -> Result<Tasks, AllocError> {
-        let mut rows = BTreeSet::new(alloc);
-        let mut listed = BTreeSet::new(alloc);
+        let mut known = BTreeSet::new(alloc);
         let mut banks = BTreeMap::new(alloc);
         for (_place, item) in items {
-            match *item {
-                Item::Lists(task, row) if row != Some(task) => {
-                    listed.insert(numbers_of(&task))?;
-                }
-                Item::Row(task) => {
-                    rows.insert(numbers_of(&task))?;
-                    banks.entry(task.at.get())?.or_insert(task.bank);
-                }
-                _ => {}
+            let (is_row, task) = match *item {
+                Item::Lists(task, row) if row != Some(task) => (false, task),
+                Item::Row(task) => (true, task),
+                _ => continue,
+            };
+            known.insert((is_row, numbers_of(&task)))?;
+            if is_row {
+                banks.entry(task.at.get())?.or_insert(task.bank);
             }
         }
-        Ok(Tasks {
-            rows,
-            listed,
-            banks,
-        })
+        Ok(Tasks { known, banks })
     }
 
     /// What is warned of where a task is listed.
     fn warning_of(&self, task: &Task) -> Option<Warning> {
-        if self.rows.is_empty() {
-            return Some(Warning::NoRows);
+        if self.banks.is_empty() {
+            return Some((plain(NO_ROWS), Some((0, 0))));
         }
-        if self.rows.contains(&numbers_of(task)) {
+        let numbers = numbers_of(task);
+        if self.known.contains(&(true, numbers)) {
             return None;
         }
-        let at = task.at.get();
-        match self.banks.get(&at) {
-            None => Some(Warning::NoRow(*task)),
-            Some(bank) => Some(Warning::OtherBank(*task, *bank)),
-        }
+        let (at, listed) = (Piece::Octal(numbers.0), Piece::Octal(numbers.1));
+        let warning = match self.banks.get(&numbers.0) {
+            None => said(NO_ROW, at, listed),
+            Some(bank) => {
+                let bank = Piece::Octal(bank.bits());
+                (OTHER_BANK, [at, listed, bank, bank, bank])
+            }
+        };
+        Some((warning, Some(numbers)))
     }
 
-    /// Whether nothing lists a task but its own actions.
-    fn is_unlisted(&self, task: &Task) -> bool {
-        !self.listed.contains(&numbers_of(task))
+    /// What is warned of a row, where nothing lists its task but its own actions.
+    fn warning_of_row(&self, task: &Task) -> Option<Warning> {
+        if self.known.contains(&(false, numbers_of(task))) {
+            None
+        } else {
+            Some((plain(NEVER_LISTED), None))
+        }
     }
+}
+
+/// What is warned of where a phase is set.
+fn phase_warning(bench: &Bench, group: Group, phase: Phase) -> Option<Warning> {
+    let is_entry = |entry: &PhaseEntry| entry.group() == group && entry.phase() == phase;
+    if phase.get() == 0 || bench.entries().iter().any(is_entry) {
+        return None;
+    }
+    let (group, phase) = (u16::from(group.get()), u16::from(phase.get()));
+    let of = (
+        Piece::Number(u64::from(group)),
+        Piece::Number(u64::from(phase)),
+    );
+    Some((said(NO_ENTRY, of.0, of.1), Some((group, phase))))
+}
+
+/// What is warned of where a device is.
+fn device_warning(bench: &Bench, line: Line) -> Option<Warning> {
+    let name = match line {
+        Line::Timer => "timer",
+        Line::Key => "key",
+        Line::Radar => "radar",
+    };
+    let warning = said(NO_REQUEST, Piece::Text(name), Piece::Text(""));
+    asks_nothing(bench, line).then_some((warning, None))
 }
 
 /// What is warned of at an item of a bench.
 fn warning_of(bench: &Bench, tasks: &Tasks, item: Item) -> Option<Warning> {
     match item {
         Item::Lists(task, _row) => tasks.warning_of(&task),
-        Item::Sets(group, phase) => {
-            let is_entry = |entry: &PhaseEntry| entry.group() == group && entry.phase() == phase;
-            let begins = phase.get() == 0 || bench.entries().iter().any(is_entry);
-            (!begins).then_some(Warning::NoEntry(group, phase))
+        Item::Sets(group, phase) => phase_warning(bench, group, phase),
+        Item::Row(task) => tasks.warning_of_row(&task),
+        Item::Device(line) => device_warning(bench, line),
+    }
+}
+
+/// What is warned of, and whether memory ran out for a warning.
+#[derive(Drop)]
+struct Found {
+    list: Vec<Warned>,
+    failed: bool,
+}
+
+impl Found {
+    /// Nothing is found yet.
+    fn new(alloc: Global) -> Found {
+        Found {
+            list: Vec::new(alloc),
+            failed: false,
         }
-        Item::Row(task) => tasks.is_unlisted(&task).then_some(Warning::NeverListed),
-        Item::Device(line) => asks_nothing(bench, line).then_some(Warning::NoRequest(line)),
     }
-}
 
-/// Whether this was said before: of a listed task or of a phase, it isn't said twice.
-fn is_said(found: &[Warned], warning: &Warning) -> bool {
-    match *warning {
-        Warning::NeverListed | Warning::NoRequest(_) => false,
-        _ => found.iter().any(|one| one.warning == *warning),
+    /// Whether this was said before of the same numbers.
+    fn is_said(&self, warning: &Warning) -> bool {
+        let ((text, _pieces), once) = *warning;
+        once.is_some()
+            && self
+                .list
+                .iter()
+                .any(|one| one.once == once && one.warning.0 == text)
     }
-}
 
-/// Notes a warning, unless it was said before, or as many are noted as may be.
-fn note(found: &mut Vec<Warned>, place: Place, warning: Warning) -> Result<(), AllocError> {
-    if found.len() < MOST_TOLD && !is_said(found.as_slice(), &warning) {
-        found.push(Warned { place, warning })?;
+    /// Notes a warning, unless it was said before, or as many are noted as may be.
+    fn note(&mut self, place: Place, warning: Warning) {
+        if self.list.len() < MOST_TOLD && !self.is_said(&warning) {
+            let (warning, once) = warning;
+            let warned = Warned {
+                place,
+                warning,
+                once,
+            };
+            if self.list.push(warned).is_err() {
+                self.failed = true;
+            }
+        }
     }
-    Ok(())
-}
 
-/// Notes which requests of a run are the first that were refused.
-fn note_run(found: &mut Vec<Warned>, bench: &Bench, ran: &Ran) -> Result<(), AllocError> {
-    if let Some(first) = ran.log_full {
-        let warning = Warning::LogFull(first, bench.limit());
-        note(found, Place::Value(Key::Limit), warning)?;
+    /// Notes which requests of a run are the first that were refused.
+    fn note_run(&mut self, bench: &Bench, ran: &Ran) {
+        if let Some(first) = ran.log_full {
+            let limit = Piece::Number(u64::from(bench.limit().get()));
+            let warning = said(LOG_FULL, Piece::Number(first), limit);
+            self.note(Place::Value(Key::Limit), (warning, None));
+        }
+        if let Some(first) = ran.spent {
+            let allowance = Piece::Number(bench.allowance());
+            let warning = said(SPENT, Piece::Number(first), allowance);
+            self.note(Place::Value(Key::Allowance), (warning, None));
+        }
     }
-    if let Some(first) = ran.spent {
-        let warning = Warning::Spent(first, bench.allowance());
-        note(found, Place::Value(Key::Allowance), warning)?;
+
+    /// All that was found.
+    fn ended(self) -> Result<Vec<Warned>, AllocError> {
+        if self.failed {
+            Err(AllocError)
+        } else {
+            Ok(self.list)
+        }
     }
-    Ok(())
 }
 
 /// What is warned of a run of this bench, or of a scenario that has it: the first requests that
@@ -122,9 +192,9 @@ fn note_run(found: &mut Vec<Warned>, bench: &Bench, ran: &Ran) -> Result<(), All
 ///
 /// Where there is no memory.
 pub fn run_warnings(alloc: Global, bench: &Bench, ran: &Ran) -> Result<Vec<Warned>, AllocError> {
-    let mut found = Vec::new(alloc);
-    note_run(&mut found, bench, ran)?;
-    Ok(found)
+    let mut found = Found::new(alloc);
+    found.note_run(bench, ran);
+    found.ended()
 }
 
 /// What is warned of in a bench that comes to this run, at most twenty times: first what has no
@@ -134,17 +204,17 @@ pub fn run_warnings(alloc: Global, bench: &Bench, ran: &Ran) -> Result<Vec<Warne
 ///
 /// Where there is no memory.
 pub fn bench_warnings(alloc: Global, bench: &Bench, ran: &Ran) -> Result<Vec<Warned>, AllocError> {
-    let mut found = Vec::new(alloc);
     let items = items_of(alloc, bench)?;
     let tasks = Tasks::of(alloc, items.as_slice())?;
+    let mut found = Found::new(alloc);
     for (place, item) in items.iter() {
         if let Some(warning) = warning_of(bench, &tasks, *item) {
-            note(&mut found, *place, warning)?;
+            found.note(*place, warning);
         }
     }
-    note_run(&mut found, bench, ran)?;
+    found.note_run(bench, ran);
     if ran.is_cut {
-        note(&mut found, Place::Whole, Warning::Cut)?;
+        found.note(Place::Whole, (plain(CUT), None));
     }
-    Ok(found)
+    found.ended()
 }
