@@ -128,9 +128,9 @@ lawful_by_parts words twelve failreg a b c P twelve_is failreg_is pairs is = (
         failreg = f.order;
       },
   λ lawful. let f : IsThree a b c (failreg_words words) = record {
-        first_coded = lawful.spelled 0 (omega arith);
-        second_coded = lawful.spelled 1 (omega arith);
-        latest_coded = lawful.spelled 2 (omega arith);
-        order = lawful.failreg;
-      } in is.1 (subst (IsThree a b c) (sym failreg_is) f),
+    first_coded = lawful.spelled 0 (omega arith);
+    second_coded = lawful.spelled 1 (omega arith);
+    latest_coded = lawful.spelled 2 (omega arith);
+    order = lawful.failreg;
+  } in is.1 (subst (IsThree a b c) (sym failreg_is) f),
 )
