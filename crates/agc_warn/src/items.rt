@@ -45,14 +45,14 @@ impl Items {
 
     /// Adds what the actions at a place list, perhaps those of a task's row. One stands there
     /// alone.
-    fn add_actions(&mut self, at: Place, row: Option<Task>, actions: &[Action]) {
+    fn add_actions(&mut self, at: Place, row: &Option<Task>, actions: &[Action]) {
         for (k, action) in actions.iter().enumerate() {
             if let Action::List(_delay, task) = *action {
                 let place = match actions {
                     [_] => at,
                     _ => at.of_item(k as u64 + 1),
                 };
-                self.add(place, Item::Lists(task, row));
+                self.add(place, Item::Lists(task, *row));
             }
         }
     }
@@ -62,7 +62,7 @@ impl Items {
         for (k, (task, actions)) in bench.rows().iter().enumerate() {
             let number = k as u64 + 1;
             let at = Place::Field(Key::Tasks, number, Key::Action);
-            self.add_actions(at, Some(*task), actions.as_slice());
+            self.add_actions(at, &Some(*task), actions.as_slice());
             self.add(Place::Table(Key::Tasks, number), Item::Row(*task));
         }
         for (k, entry) in bench.entries().iter().enumerate() {
@@ -81,8 +81,8 @@ pub(crate) fn items_of(alloc: Global, bench: &Bench) -> Result<Vec<(Place, Item)
         list: Vec::new(alloc),
         failed: false,
     };
-    items.add_actions(Place::Value(Key::Key), None, bench.key().as_slice());
-    items.add_actions(Place::Value(Key::Radar), None, bench.radar().as_slice());
+    items.add_actions(Place::Value(Key::Key), &None, bench.key().as_slice());
+    items.add_actions(Place::Value(Key::Radar), &None, bench.radar().as_slice());
     items.add_requests(Place::Value(Key::Script), bench.script());
     items.add_plan(bench);
     for (k, worker) in bench.workers().iter().enumerate() {

@@ -3,7 +3,7 @@ use crate::ran::{Ran, run_requests};
 use crate::warning::{LOG_FULL, Warned};
 use agc_document::Place;
 use agc_findings::{line_at, places_in};
-use agc_lint::{Piece, add_where, put};
+use agc_lint::{Piece, Said, add_where, put};
 use agc_plan::Request;
 use std::alloc::{AllocError, Global};
 
@@ -29,11 +29,16 @@ pub fn warnings_told(
     let mut told = String::new(alloc);
     for (one, at) in warnings.iter().zip(found.iter()) {
         add_where(&mut told, line_at(document, *at), "warning: ", one.place)?;
-        let (text, pieces) = one.warning;
-        put(&mut told, text, &pieces)?;
-        told.push('\n')?;
+        add_warning(&mut told, &one.warning)?;
     }
     Ok(told)
+}
+
+/// Appends a warning, and ends its line.
+fn add_warning(told: &mut String, warning: &Said<'_>) -> Result<(), AllocError> {
+    let (text, pieces) = warning;
+    put(told, text, pieces)?;
+    told.push('\n')
 }
 
 /// A number of things as it is told, and what its word ends with.
