@@ -92,19 +92,25 @@ pub(crate) fn tell_line<W: Write>(
     Ok(pen.end()?)
 }
 
+/// What is said after a fault: a word that no request begins with may be meant as a command.
+fn help_after(fault: &LineFault) -> &'static str {
+    match fault {
+        LineFault::Unknown(_) => "help says what else a line may be\n",
+        _ => "",
+    }
+}
+
 /// Says of a line, which may have been meant as a request, what `check --script` says.
 fn tell_fault<W: Write>(
     alloc: Global,
     finding: Finding<'_>,
     writer: &mut W,
 ) -> Result<(), RunFault> {
-    let help = match finding.fault {
-        LineFault::Unknown(_) => "help says what else a line may be\n",
-        _ => "",
-    };
+    let help = help_after(&finding.fault);
     let told = script_told(alloc, &[finding])?;
     let mut pen = Pen::new(writer);
-    pen.put("{}{}", &[Text(told.as_str()), Text(help)]);
+    pen.text(told.as_str());
+    pen.text(help);
     Ok(pen.end()?)
 }
 
