@@ -14,6 +14,3 @@ pub use kind::{Kind, Part};
 pub use line::LineFault;
 pub use saying::{Piece, Said, add, add_decimal, put, said};
 pub use script::{Finding, script_findings, script_told};
-
-#[test]
-fn compiles() {}
