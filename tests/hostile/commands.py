@@ -330,19 +330,22 @@ def starter_reads_a_terminal(clone):
 
 
 def progress(hostile):
-    """Long work tells each second how many requests were asked, and only where that is asked for."""
+    """Long work tells each second how far it has come: a trace how many requests were asked, and only where that is
+    asked for, and a sweep how many runs are done."""
     with tempfile.TemporaryDirectory() as room:
         write(f"{room}/bench.toml", "script = []\n" + 32 * '[[device]]\nline = "timer"\npulses = 1000000\n')
-        ran = subprocess.Popen([WATCH, "trace", "--alarms", "--progress", f"{room}/bench.toml"],
-                               stdout=subprocess.DEVNULL, stderr=subprocess.PIPE)
-        said = [ran.stderr.readline().decode() for _ in range(2)]
-        ran.kill()
-        ran.wait()
-        ran.stderr.close()
-        hostile.runs += 1
-        found = [re.fullmatch(r"agc_watch: (\d+) of 32000000 requests\n", it) for it in said]
-        is_right = all(found) and 0 < int(found[0][1]) < int(found[1][1])
-        hostile.expect(f"agc_watch trace --progress: {said}", is_right)
+        for words, total in (
+                (["trace", "--alarms", "--progress", f"{room}/bench.toml"], "32000000 requests"),
+                (["sweep", "seconds", "1", "3600", f"{TOP}/examples/landing.toml"], "3600 runs")):
+            ran = subprocess.Popen([WATCH, *words], stdout=subprocess.DEVNULL, stderr=subprocess.PIPE)
+            said = [ran.stderr.readline().decode() for _ in range(2)]
+            ran.kill()
+            ran.wait()
+            ran.stderr.close()
+            hostile.runs += 1
+            found = [re.fullmatch(rf"agc_watch: (\d+) of {total}\n", it) for it in said]
+            is_right = all(found) and 0 < int(found[0][1]) < int(found[1][1])
+            hostile.expect(f"agc_watch {words[0]}: {said}", is_right)
 
 
 class Player:

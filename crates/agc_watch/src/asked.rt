@@ -239,6 +239,7 @@ fn work_asked<H: AllocGlobal + Clock + Files + Input + Eprint, W: Write>(
 ) -> Result<u8, Stop> {
     let has_progress = match asked.task {
         Task::Tell(Telling::Picture(times)) => times.has_progress,
+        Task::Tell(Telling::Sweep(_)) => true,
         _ => asked.has_progress,
     };
     let mut progress = Teller::new(rt, has_progress);
