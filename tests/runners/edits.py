@@ -7,8 +7,8 @@
     tests/run edits --check          only looks whether each edit can be applied, and proves nothing
     tests/run edits --compile        only looks whether each edit still compiles, and proves nothing
 
-    --share K/N     cuts the edits into N shares of neighbours, which have one or two crates, so that
-                    many can be made at once, and tries the K-th; K is any whole number from 0 on, and
+    --share K/N     cuts the edits into N shares of neighbours, most of which belong to the same crate
+                    and can be made at once, and tries the K-th; K is any whole number from 0 on, and
                     is taken modulo N
     --seconds S     ends after S seconds; edits that have no verdict by then are no failure
     --jobs N        works in N copies at a time (as many as there are processors to use)

@@ -36,7 +36,11 @@ fn add_front(told: &mut String, text: &str) -> Result<(), AllocError> {
     Ok(())
 }
 
-/// Appends texts.
+/// Appends texts, one after the other. Source: profile.
+///
+/// # Errors
+///
+/// Where there is no memory.
 pub fn add(told: &mut String, pieces: &[&str]) -> Result<(), AllocError> {
     for piece in pieces {
         told.push_str(piece)?;
@@ -44,7 +48,11 @@ pub fn add(told: &mut String, pieces: &[&str]) -> Result<(), AllocError> {
     Ok(())
 }
 
-/// Appends a number in decimal.
+/// Appends a number in decimal. Source: profile.
+///
+/// # Errors
+///
+/// Where there is no memory.
 pub fn add_decimal(told: &mut String, number: u64) -> Result<(), AllocError> {
     write!(told, "{number}")
 }
