@@ -289,6 +289,37 @@ static void lines(void) {
     check(agc_read_action("tick", 4, &it) == 13 && agc_read_action("end", 3, &it) == 13 && !memcmp(&it, &was, sizeof it), "no action", 7, 13);
 }
 
+/* The code of the line of a step with this reply and number, in which so many tasks fired: 14 if there is a line. */
+static uint32_t said(uint32_t reply, uint32_t number, uint32_t count, const AgcFired *fired) {
+    AgcStep step = {AGC_OK, reply, number, count, 0};
+    return agc_write_reply(&step, fired, NULL, 0).code;
+}
+
+static void numbers_of_replies(void) {
+    const uint32_t of_a_job[] = {AGC_ESTABLISHED, AGC_LEFT, AGC_ROUSED, AGC_RUNS}, of_an_alarm[] = {AGC_ALARMED, AGC_TICK_ALARMED};
+    const uint32_t no_job[] = {0, 9, 257}, no_alarm[] = {0, 01107, 01200, 01204, 65536 + 01201};
+    const AgcFired no_task[] = {{0, 0}, {16384, 0}, {1, 32768}};
+    AgcFired fired[AGC_FIRED] = {{1, 0}, {16383, 32767}};
+    for (size_t kind = 0; kind < sizeof of_a_job / sizeof *of_a_job; kind++) {
+        check(said(of_a_job[kind], 1, 0, fired) == 14 && said(of_a_job[kind], 8, 0, fired) == 14, "a job", 7, 14);
+        for (size_t k = 0; k < sizeof no_job / sizeof *no_job; k++)
+            check(said(of_a_job[kind], no_job[k], 0, fired) == 4, "no job", 7, 4);
+    }
+    for (size_t kind = 0; kind < sizeof of_an_alarm / sizeof *of_an_alarm; kind++) {
+        for (uint32_t code = 01201; code <= 01203; code++) check(said(of_an_alarm[kind], code, 0, fired) == 14, "an alarm", 7, 14);
+        for (size_t k = 0; k < sizeof no_alarm / sizeof *no_alarm; k++)
+            check(said(of_an_alarm[kind], no_alarm[k], 0, fired) == 4, "no alarm", 7, 4);
+    }
+    check(said(AGC_TICKED, 0, 2, fired) == 14, "two tasks", 7, 14);
+    for (size_t k = 0; k < sizeof no_task / sizeof *no_task; k++) {
+        fired[1] = no_task[k];
+        check(said(AGC_TICKED, 0, 1, fired) == 14 && said(AGC_TICKED, 0, 2, fired) == 4, "no task", 7, 4);
+    }
+    for (size_t k = 0; k < AGC_FIRED; k++) fired[k] = (AgcFired){1, 0};
+    check(said(AGC_TICKED, 0, AGC_FIRED, fired) == 14, "nine tasks", 7, 14);
+    check(said(AGC_TICKED, 0, AGC_FIRED + 1, fired) == 4 && said(AGC_TICKED, 0, UINT32_MAX, fired) == 4, "more than nine tasks", 7, 4);
+}
+
 static void replies(void) {
     AgcFired fired[AGC_FIRED] = {{0, 0}};
     AgcStep step = {AGC_OK, AGC_TICKED, 0, 10, 0};
@@ -359,6 +390,7 @@ int main(void) {
     clocks();
     power();
     lines();
+    numbers_of_replies();
     replies();
     reports();
     ticks();
