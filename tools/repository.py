@@ -3,7 +3,7 @@
 
     tools/repository.py below NAME    the crates on which a crate stands, low ones first
     tools/repository.py above NAME    the crates that stand on it
-    tools/repository.py always        the crates of the edits that the gate tries each time
+    tools/repository.py often         the crates of the edits that the gate tries every fourth time
     tools/repository.py uses          fails where a line of crates.txt names a crate that its sources don't
     tools/repository.py find NAME     the places of a function, an edit or a case, and what tries it
 
@@ -230,7 +230,7 @@ def made_in(crate):
 
 # Edits
 
-HEADING = re.compile(r"=== ([a-z0-9][\w-]*)( always)?")
+HEADING = re.compile(r"=== ([a-z0-9][\w-]*)( often)?")
 NONE = re.compile(r"none: ([\w:]+): (.+)")
 
 
@@ -251,8 +251,8 @@ def source_of(crate, path):
 class Edit:
     """A wrong body: what it changes in a crate, and the place that says so."""
 
-    def __init__(self, crate, name, is_always, place):
-        self.crate, self.name, self.is_always, self.place = crate, name, is_always, place
+    def __init__(self, crate, name, is_often, place):
+        self.crate, self.name, self.is_often, self.place = crate, name, is_often, place
         self.label = f"{crate}/{name}"
         self.file = ""
         self.made = []
@@ -329,7 +329,7 @@ class Edits:
                 names.add(edit.name)
                 self.all.append(edit)
             elif line.startswith("==="):
-                self.wrong.append(f"{place}: it is no heading '=== NAME' or '=== NAME always'")
+                self.wrong.append(f"{place}: it is no heading '=== NAME' or '=== NAME often'")
             elif none and not edit:
                 self.none[crate][none[1]] = none[2]
             elif line:
@@ -436,8 +436,8 @@ def main(words):
         found = below([name]) if kind == "below" else above(name)
         print(*found, sep="\n", end="\n" if found else "")
         return 0
-    if words == ["always"]:
-        print(*sorted({it.crate for it in edits().all if it.is_always}), sep="\n")
+    if words == ["often"]:
+        print(*sorted({it.crate for it in edits().all if it.is_often}), sep="\n")
         return 0
     if words == ["uses"]:
         found = [*unnamed_uses()]

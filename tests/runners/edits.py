@@ -3,7 +3,7 @@
     tests/run edits                  all edits: those of tests/edits/CRATE.edits
     tests/run edits CRATE ..         those of these crates
     tests/run edits --only NAME ..   those of these names
-    tests/run edits --always         those with the mark 'always' at their heading
+    tests/run edits --often          those with the mark 'often' at their heading
     tests/run edits --check          only looks whether each edit can be applied, and proves nothing
     tests/run edits --compile        only looks whether each edit still compiles, and proves nothing
 
@@ -16,7 +16,7 @@
     --after-ci      takes the libraries that `rt ci` left in crates/*/out, which a check would prove
                     once more; nothing may have changed since
 
-An edit begins with a line '=== NAME', or '=== NAME always'. Behind it stand a line `file: src/x.rt`
+An edit begins with a line '=== NAME', or '=== NAME often'. Behind it stand a line `file: src/x.rt`
 and pairs of lines `old: TEXT` and `new: TEXT`; each old TEXT stands once in that file, with the pairs
 before it applied. A line `and: TEXT` goes on with the text above it. More `file:` lines may follow.
 Before a crate's first edit stand lines `none: FUNCTION: REASON`: of a public function that no edit
@@ -457,7 +457,7 @@ def tried_in_copies(edits, given):
 def add_words(parser):
     parser.add_argument("crates", nargs="*", metavar="CRATE")
     parser.add_argument("--only", nargs="+", action="extend", default=[], metavar="NAME")
-    parser.add_argument("--always", action="store_true")
+    parser.add_argument("--often", action="store_true")
     parser.add_argument("--compile", action="store_true")
     parser.add_argument("--share", default="0/1", type=share, metavar="K/N")
     parser.add_argument("--seconds", default=float("inf"), type=float, metavar="S")
@@ -485,7 +485,7 @@ def chosen(edits, given):
     counting.chosen("edits", given.only, {it.name for it in edits})
     found = [it for it in edits if not given.crates or it.crate in given.crates]
     found = [it for it in found if not given.only or it.name in given.only]
-    found = [it for it in found if not given.always or it.is_always]
+    found = [it for it in found if not given.often or it.is_often]
     number, of = given.share
     return found[len(found) * number // of : len(found) * (number + 1) // of]
 
