@@ -48,26 +48,39 @@ fn with_first<N: Names>(first: Share<N>, shares: Vec<Share<N>>) -> Result<Vec<Sh
     Ok(all)
 }
 
-/// Gathers all shares of a desk.
-fn gather_all<N: Names>(desk: Desk<N>, shares: Vec<Share<N>>) -> (Machine, Totals)
-    requires { desk.given ≡ vec_len shares }
-    ensures history { IsHistory N.first shares.items desk.history result.0 }
-    ensures grown { add result.1 N.first.totals ≡ result.0.totals }
-    ensures pulses { ArePulses N.first.plan desk.history desk.lines.applied desk.lines.begun }
-    ensures kept { IsKept desk.lines }
+/// Gathers all shares of a desk, the caller's first.
+fn gather_all<N: Names>(
+    desk: Desk<N>,
+    first: Share<N>,
+    shares: Vec<Share<N>>,
+) -> Result<(Machine, Totals), RunFault>
+    requires { desk.given ≡ vec_len shares + 1 }
+    ensures history { IfOk result (λ r.
+        IsHistory N.first (first ∷ shares.items) desk.history r.0) }
+    ensures grown { IfOk result (λ r. add r.1 N.first.totals ≡ r.0.totals) }
+    ensures pulses { IfOk result (λ _. ArePulses N.first.plan desk.history
+        desk.lines.applied desk.lines.begun) }
+    ensures kept { IfOk result (λ _. IsKept desk.lines) }
+    ensures early { IfErr result (λ fault. fault ≡ RunFault.NoMemory) }
 {
-    match gather(desk, shares) {
-        Ok(gathered) => gathered,
-        Err(_left) => unreachable!(),
+    match with_first(first, shares) {
+        Ok(all) => match gather(desk, all) {
+            Ok(gathered) => Ok(gathered),
+            Err(_left) => unreachable!(),
+        },
+        Err(fault) => {
+            drop(desk);
+            Err(fault)
+        }
     }
 }
 
 /// Ends a run whose threads have ended: attends with the caller's share, settles the latch, and
 /// gathers the shares.
 pub(crate) fn finish<N: Names>(
-    desk: Desk<N>,
+    mut desk: Desk<N>,
     latch: Latch,
-    first: Share<N>,
+    mut first: Share<N>,
     shares: Vec<Share<N>>,
     devices: Vec<Device>,
 ) -> Result<(Machine, Totals, Settled), RunFault>
@@ -81,10 +94,10 @@ pub(crate) fn finish<N: Names>(
     ensures settled { IfOk result (λ r. HaveSettled devices.items r.2) }
     ensures early { IfErr result (λ fault. fault ≡ RunFault.NoMemory) }
 {
-    let (mut desk, mut first) = (desk, first);
     attend_last(&mut desk, &latch, &mut first);
     let (desk, settled) = settle_all(desk, latch, devices);
-    let shares = with_first(first, shares)?;
-    let (machine, totals) = gather_all(desk, shares);
-    Ok((machine, totals, settled))
+    match gather_all(desk, first, shares) {
+        Ok((machine, totals)) => Ok((machine, totals, settled)),
+        Err(fault) => Err(fault),
+    }
 }

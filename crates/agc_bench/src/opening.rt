@@ -29,26 +29,6 @@ pub(crate) struct RunParts<N: Sharing> {
     pub(crate) devices: Vec<Device>,
 }
 
-/// A desk of this machine with this taker, and its first share.
-pub(crate) fn desk_of<N: Names>(
-    machine: Machine,
-    blanks: Blanks,
-    taker: Taker,
-) -> (Desk<N>, Share<N>)
-    requires names { names_of blanks ≡ N.names }
-    requires first { machine ≡ N.first }
-    ensures desk { result.0 ≡ record (new_desk machine)
-        { given = 1; lines = with_taker taker no_accounts } }
-    ensures first { result.1 ≡ new_holder 0 }
-{
-    let mut desk = Desk::new(machine, blanks);
-    let _none = desk.attach(taker);
-    match desk.share() {
-        Some(first) => (desk, first),
-        None => unreachable!(),
-    }
-}
-
 /// So many new shares of a desk. `Lost` comes only where the desk has fewer left.
 fn shares_of<N: Names>(
     alloc: Global,
@@ -100,6 +80,48 @@ fn threads_and_devices<N: Names>(
 
 /// Gets all ready that takes part in a run: the desk gives out the shares and the devices, and is
 /// asked the script with the caller's share.
+fn with_threads<N: Sharing>(
+    alloc: Global,
+    mut desk: Desk<N>,
+    mut first: Share<N>,
+    latch: &Latch,
+    bench: &Bench,
+) -> Result<RunParts<N>, RunFault>
+    requires desk { desk ≡ record (new_desk N.first)
+        { given = 1; lines = with_taker latch.now no_accounts } }
+    requires first { first ≡ new_holder 0 }
+    requires shares { (given : ℕ) → N.may_share given ≡ nat_eq given
+        (length (askers_of bench.now)) }
+    requires begun { N.begun ≡ first_calls (answers_to N.first bench.now.script) }
+    requires latch { latch.now ≡ N.latch }
+    requires lent { N.lent ≡ Some record {
+      latch = Some latch.now;
+      given = length bench.now.devices;
+      settled = zeros;
+    } }
+    ensures ready { IfOk result (λ p. AreReady N.first bench.now latch.now p.first p.shares.items
+        p.devices.items) }
+    ensures early { IfErr result (λ fault. fault ≡ RunFault.NoMemory) }
+{
+    match threads_and_devices(alloc, &mut desk, latch, bench) {
+        Ok((shares, devices)) => {
+            ask_script(&mut desk, &mut first, bench.script());
+            Ok(RunParts {
+                held: Held { desk },
+                first,
+                shares,
+                devices,
+            })
+        }
+        Err(fault) => {
+            drop(first);
+            drop(desk);
+            Err(fault)
+        }
+    }
+}
+
+/// Gets all ready that takes part in a run of this machine, with a desk that has the taker.
 pub(crate) fn open<N: Sharing>(
     alloc: Global,
     machine: Machine,
@@ -124,13 +146,10 @@ pub(crate) fn open<N: Sharing>(
         p.devices.items) }
     ensures early { IfErr result (λ fault. fault ≡ RunFault.NoMemory) }
 {
-    let (mut desk, mut first) = desk_of::<N>(machine, blanks, taker);
-    let (shares, devices) = threads_and_devices(alloc, &mut desk, latch, bench)?;
-    ask_script(&mut desk, &mut first, bench.script());
-    Ok(RunParts {
-        held: Held { desk },
-        first,
-        shares,
-        devices,
-    })
+    let mut desk = Desk::new(machine, blanks);
+    let _none = desk.attach(taker);
+    match desk.share() {
+        Some(first) => with_threads(alloc, desk, first, latch, bench),
+        None => unreachable!(),
+    }
 }

@@ -231,13 +231,19 @@ fn run_locked<N: Sharing + Send + Sync, G: Gate + Sync, W: Threads + Wait + Sync
         devices,
     } = parts;
     let shared: Shared<N> = Mutex::new(held);
-    let (shares, devices) = run_at_once(rt, alloc, &shared, latch, shares, devices, bench, gate)?;
-    Ok(RunParts {
-        held: shared.into_inner(),
-        first,
-        shares,
-        devices,
-    })
+    match run_at_once(rt, alloc, &shared, latch, shares, devices, bench, gate) {
+        Ok((shares, devices)) => Ok(RunParts {
+            held: shared.into_inner(),
+            first,
+            shares,
+            devices,
+        }),
+        Err(fault) => {
+            drop(first);
+            drop(shared);
+            Err(fault)
+        }
+    }
 }
 
 /// Runs a bench's machine with threads: the script is asked, all threads do what is theirs, and
