@@ -220,30 +220,6 @@ impl Level {
     }
 }
 
-fn needed(name: &'static str, kind: Kind) -> Row
-    ensures name { result.name.now ≡ name.now }
-    ensures kind { result.kind ≡ kind }
-    ensures required { result.is_required ≡ true }
-{
-    Row {
-        name,
-        kind,
-        is_required: true,
-    }
-}
-
-fn optional(name: &'static str, kind: Kind) -> Row
-    ensures name { result.name.now ≡ name.now }
-    ensures kind { result.kind ≡ kind }
-    ensures required { result.is_required ≡ false }
-{
-    Row {
-        name,
-        kind,
-        is_required: false,
-    }
-}
-
 impl ScenarioKey {
     /// Its row of the table of keys.
     fn row(self) -> Row
@@ -251,24 +227,29 @@ impl ScenarioKey {
         ensures kind { result.kind ≡ (scenario_row_of self).kind }
         ensures required { result.is_required ≡ (scenario_row_of self).is_required }
     {
-        match self {
-            ScenarioKey::Seconds => needed("seconds", Kind::Integer(1, 3600)),
-            ScenarioKey::Title => optional("title", Kind::Text(Form::Name)),
-            ScenarioKey::Steal => optional("steal", Kind::IntegerOrTables(Level::Steal, 0, 100)),
-            ScenarioKey::NamedTasks => optional("task", Kind::Tables(Level::NamedTask, 0, ANY)),
-            ScenarioKey::NamedPhases => optional("phase", Kind::Tables(Level::NamedPhase, 0, ANY)),
-            ScenarioKey::Jobs => optional("job", Kind::Tables(Level::Job, 0, 100)),
-            ScenarioKey::Events => optional("event", Kind::Tables(Level::Event, 0, 1000)),
-            ScenarioKey::Name => optional("name", Kind::Text(Form::Name)),
-            ScenarioKey::From => needed("from", Kind::Integer(0, 360_000)),
-            ScenarioKey::To => needed("to", Kind::Integer(0, 360_000)),
-            ScenarioKey::Percent => needed("percent", Kind::Integer(0, 100)),
-            ScenarioKey::Cost => needed("cost", Kind::Integer(1, 1_000_000)),
-            ScenarioKey::Then => optional("then", Kind::Text(Form::Leaving)),
-            ScenarioKey::Moment => needed("at", Kind::Integer(0, 360_000)),
-            ScenarioKey::Do => needed("do", Kind::OneOrMore(Form::Request, 1, 16)),
-            ScenarioKey::Every => optional("every", Kind::Integer(1, 360_000)),
-            ScenarioKey::Until => optional("until", Kind::Integer(0, 360_000)),
+        let (name, kind, is_required) = match self {
+            ScenarioKey::Seconds => ("seconds", Kind::Integer(1, 3600), true),
+            ScenarioKey::Title => ("title", Kind::Text(Form::Name), false),
+            ScenarioKey::Steal => ("steal", Kind::IntegerOrTables(Level::Steal, 0, 100), false),
+            ScenarioKey::NamedTasks => ("task", Kind::Tables(Level::NamedTask, 0, ANY), false),
+            ScenarioKey::NamedPhases => ("phase", Kind::Tables(Level::NamedPhase, 0, ANY), false),
+            ScenarioKey::Jobs => ("job", Kind::Tables(Level::Job, 0, 100), false),
+            ScenarioKey::Events => ("event", Kind::Tables(Level::Event, 0, 1000), false),
+            ScenarioKey::Name => ("name", Kind::Text(Form::Name), false),
+            ScenarioKey::From => ("from", Kind::Integer(0, 360_000), true),
+            ScenarioKey::To => ("to", Kind::Integer(0, 360_000), true),
+            ScenarioKey::Percent => ("percent", Kind::Integer(0, 100), true),
+            ScenarioKey::Cost => ("cost", Kind::Integer(1, 1_000_000), true),
+            ScenarioKey::Then => ("then", Kind::Text(Form::Leaving), false),
+            ScenarioKey::Moment => ("at", Kind::Integer(0, 360_000), true),
+            ScenarioKey::Do => ("do", Kind::OneOrMore(Form::Request, 1, 16), true),
+            ScenarioKey::Every => ("every", Kind::Integer(1, 360_000), false),
+            ScenarioKey::Until => ("until", Kind::Integer(0, 360_000), false),
+        };
+        Row {
+            name,
+            kind,
+            is_required,
         }
     }
 }
@@ -280,30 +261,39 @@ impl Key {
         ensures kind { result.kind ≡ (row_of self).kind }
         ensures required { result.is_required ≡ (row_of self).is_required }
     {
-        match self {
-            Key::Sets => optional("sets", Kind::Integer(7, 8)),
-            Key::Limit => optional("limit", Kind::Integer(1, 1_000_000)),
-            Key::Allowance => optional("allowance", Kind::Integer(0, 9_223_372_036_854_775_807)),
-            Key::Attends => optional("attends", Kind::Integer(0, 1000)),
-            Key::Key => optional("key", Kind::OneOrMore(Form::Action, 1, 4)),
-            Key::Radar => optional("radar", Kind::OneOrMore(Form::Action, 1, 4)),
-            Key::Power => optional("power", Kind::Texts(Form::Word, 12, 12)),
-            Key::Script => optional("script", Kind::Texts(Form::Request, 0, ANY)),
-            Key::Tasks => optional("task", Kind::Tables(Level::Task, 0, ANY)),
-            Key::Phases => optional("phase", Kind::Tables(Level::Phase, 0, ANY)),
-            Key::Workers => optional("worker", Kind::Tables(Level::Worker, 0, 32)),
-            Key::Devices => optional("device", Kind::Tables(Level::Device, 0, 32)),
-            Key::At => needed("at", Kind::Text(Form::Address)),
-            Key::Bank => needed("bank", Kind::Text(Form::Word)),
-            Key::Action => needed("action", Kind::OneOrMore(Form::Action, 1, 4)),
-            Key::Group => needed("group", Kind::Integer(1, 6)),
-            Key::Phase => needed("phase", Kind::Integer(1, 127)),
-            Key::Job => optional("job", Kind::Text(Form::Job)),
-            Key::Listing => optional("task", Kind::Text(Form::Listing)),
-            Key::Requests => needed("script", Kind::Texts(Form::Request, 0, ANY)),
-            Key::Line => needed("line", Kind::Text(Form::Device)),
-            Key::Pulses => needed("pulses", Kind::Integer(0, 1_000_000)),
-            Key::Of(key) => key.row(),
+        let (name, kind, is_required) = match self {
+            Key::Of(key) => return key.row(),
+            Key::Sets => ("sets", Kind::Integer(7, 8), false),
+            Key::Limit => ("limit", Kind::Integer(1, 1_000_000), false),
+            Key::Allowance => (
+                "allowance",
+                Kind::Integer(0, 9_223_372_036_854_775_807),
+                false,
+            ),
+            Key::Attends => ("attends", Kind::Integer(0, 1000), false),
+            Key::Key => ("key", Kind::OneOrMore(Form::Action, 1, 4), false),
+            Key::Radar => ("radar", Kind::OneOrMore(Form::Action, 1, 4), false),
+            Key::Power => ("power", Kind::Texts(Form::Word, 12, 12), false),
+            Key::Script => ("script", Kind::Texts(Form::Request, 0, ANY), false),
+            Key::Tasks => ("task", Kind::Tables(Level::Task, 0, ANY), false),
+            Key::Phases => ("phase", Kind::Tables(Level::Phase, 0, ANY), false),
+            Key::Workers => ("worker", Kind::Tables(Level::Worker, 0, 32), false),
+            Key::Devices => ("device", Kind::Tables(Level::Device, 0, 32), false),
+            Key::At => ("at", Kind::Text(Form::Address), true),
+            Key::Bank => ("bank", Kind::Text(Form::Word), true),
+            Key::Action => ("action", Kind::OneOrMore(Form::Action, 1, 4), true),
+            Key::Group => ("group", Kind::Integer(1, 6), true),
+            Key::Phase => ("phase", Kind::Integer(1, 127), true),
+            Key::Job => ("job", Kind::Text(Form::Job), false),
+            Key::Listing => ("task", Kind::Text(Form::Listing), false),
+            Key::Requests => ("script", Kind::Texts(Form::Request, 0, ANY), true),
+            Key::Line => ("line", Kind::Text(Form::Device), true),
+            Key::Pulses => ("pulses", Kind::Integer(0, 1_000_000), true),
+        };
+        Row {
+            name,
+            kind,
+            is_required,
         }
     }
 

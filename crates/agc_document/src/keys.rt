@@ -190,10 +190,7 @@ fn pulse_at<'a>(
     ensures kept { AreNoted notes.old.keys.items → AreNoted notes.new.keys.items }
 {
     match value_of(table, key, Place::Whole, notes) {
-        None => {
-            let nothing = one_text(alloc, "nothing")?;
-            Ok(nothing)
-        }
+        None => one_text(alloc, "nothing"),
         Some(value) => some_texts(alloc, value, key, Place::Value(key), notes),
     }
 }

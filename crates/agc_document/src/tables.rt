@@ -1,6 +1,6 @@
 //! Tables, numbers and texts of a document, by the table of keys.
 ghost use Rattle.std.specs.Prelude.{◌≡◌, ◌≤◌, [], ◌∷◌, map, length, Option, Some, None};
-ghost use Rattle.std.specs.Prelude.{string_bytes, IfSome, IfOk, true};
+ghost use Rattle.std.specs.Prelude.{string_bytes, IfSome, IfOk, IfErr, true};
 ghost use Rattle.std.specs.Option.{option_map};
 ghost use Rattle.std.specs.List.{list_all};
 ghost use Rattle.std.specs.BTreeMap.{keys};
@@ -19,7 +19,7 @@ use crate::key_fault::KeyFault;
 use crate::notes::Notes;
 use crate::place::Place;
 use crate::texts::Text;
-use std::alloc::{AllocError, Global};
+use std::alloc::Global;
 use toml::{Table, Value};
 /// Whether a key's name is that of one of these.
 fn is_among(keys: &[Key], name: &str) -> bool
@@ -428,8 +428,9 @@ pub fn items_or_none<'a, T: FromData<'a>>(
 }
 
 /// This text alone.
-pub(crate) fn one_text<'a>(alloc: Global, text: &'a str) -> Result<Vec<Text<'a>>, AllocError>
-    ensures { IfOk result (λ v. v.items ≡ text.now ∷ []) }
+pub(crate) fn one_text<'a>(alloc: Global, text: &'a str) -> Result<Vec<Text<'a>>, BenchFault>
+    ensures alone { IfOk result (λ v. v.items ≡ text.now ∷ []) }
+    ensures refused { IfErr result (λ fault. fault ≡ BenchFault.NoMemory) }
 {
     let mut alone = Vec::new(alloc);
     alone.push(Text::new(text))?;
@@ -454,8 +455,7 @@ pub fn some_texts<'a>(
     match value.as_str() {
         Some(text) => {
             notes.look_at(place, text, key);
-            let alone = one_text(alloc, text)?;
-            Ok(alone)
+            one_text(alloc, text)
         }
         None => items_of(alloc, value, key, place, notes),
     }

@@ -5,34 +5,25 @@ use crate::place::Place;
 use agc_plan::{Actions, PhaseEntry, Task};
 use std::alloc::{AllocError, Global};
 
-/// A table's number among others, and what two of them may not have in common.
-#[derive(Clone, Copy, PartialEq, Eq, PartialOrd, Ord)]
-struct Twin {
-    first: u16,
-    second: u16,
-    number: u64,
-}
-
-/// The first table that has in common with an earlier one what they may not.
-fn first_twin(twins: &mut Vec<Twin>) -> Result<Option<u64>, AllocError> {
-    twins.sort()?;
+/// The first table that has in common with an earlier one what two of them may not: two numbers,
+/// behind which the table's own stands.
+fn first_twin(tables: &mut Vec<(u16, u16, u64)>) -> Result<Option<u64>, AllocError> {
+    tables.sort()?;
     let mut found: Option<u64> = None;
-    let mut last: Option<Twin> = None;
-    for one in twins.as_slice() {
-        if let Some(before) = last {
-            let is_same = before.first == one.first && before.second == one.second;
-            if is_same && one.number < found.unwrap_or(u64::MAX) {
-                found = Some(one.number);
-            }
+    let mut last: Option<(u16, u16)> = None;
+    for (first, second, number) in tables.as_slice() {
+        let is_same = last == Some((*first, *second));
+        if is_same && *number < found.unwrap_or(u64::MAX) {
+            found = Some(*number);
         }
-        last = Some(*one);
+        last = Some((*first, *second));
     }
     Ok(found)
 }
 
 /// The first table of a key's array that an earlier one is.
-fn place_of(key: Key, twins: &mut Vec<Twin>) -> Result<Place, AllocError> {
-    match first_twin(twins)? {
+fn place_of(key: Key, tables: &mut Vec<(u16, u16, u64)>) -> Result<Place, AllocError> {
+    match first_twin(tables)? {
         Some(number) => Ok(Place::Table(key, number)),
         None => Ok(Place::Value(key)),
     }
@@ -45,27 +36,21 @@ pub(crate) fn refused_at(
     rows: &[(Task, Actions)],
     entries: &[PhaseEntry],
 ) -> Result<Place, AllocError> {
-    let mut twins = Vec::new(alloc);
+    let mut tables: Vec<(u16, u16, u64)> = Vec::new(alloc);
     match fault {
         BenchFault::TaskTwice => {
             for (k, row) in rows.iter().enumerate() {
-                twins.push(Twin {
-                    first: row.0.at.get(),
-                    second: row.0.bank.bits(),
-                    number: k as u64 + 1,
-                })?;
+                tables.push((row.0.at.get(), row.0.bank.bits(), k as u64 + 1))?;
             }
-            place_of(Key::Tasks, &mut twins)
+            place_of(Key::Tasks, &mut tables)
         }
         BenchFault::PhaseTwice => {
             for (k, entry) in entries.iter().enumerate() {
-                twins.push(Twin {
-                    first: entry.group().get() as u16,
-                    second: entry.phase().get() as u16,
-                    number: k as u64 + 1,
-                })?;
+                let group = u16::from(entry.group().get());
+                let phase = u16::from(entry.phase().get());
+                tables.push((group, phase, k as u64 + 1))?;
             }
-            place_of(Key::Phases, &mut twins)
+            place_of(Key::Phases, &mut tables)
         }
         _ => Ok(Place::Value(Key::Phases)),
     }
