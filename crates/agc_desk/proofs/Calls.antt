@@ -134,3 +134,13 @@ whole_history first shares calls last given leads each apart below many all = re
   each = each;
   no_other = λ k d lt. all_numbers (numbers_of shares) given _ apart below (length-map shares (λ (s : Holder). s.number) ∙ many) (all k d lt);
 }
+
+-- with one growth more, the books still tell by how much the totals grew
+pub grown_on : (total since before told after new : Totals) → add total since ≡ before → add before told ≡ after → new ≡ add total told → add new since ≡ after
+grown_on total since before told after new e f n =
+    let served : new.served + since.served ≡ after.served = omega (arith, ap (λ (x : Totals). x.served) e, ap (λ (x : Totals). x.served) f, ap (λ (x : Totals). x.served) n) in
+    let a1201 : new.a1201 + since.a1201 ≡ after.a1201 = omega (arith, ap (λ (x : Totals). x.a1201) e, ap (λ (x : Totals). x.a1201) f, ap (λ (x : Totals). x.a1201) n) in
+    let a1202 : new.a1202 + since.a1202 ≡ after.a1202 = omega (arith, ap (λ (x : Totals). x.a1202) e, ap (λ (x : Totals). x.a1202) f, ap (λ (x : Totals). x.a1202) n) in
+    let a1203 : new.a1203 + since.a1203 ≡ after.a1203 = omega (arith, ap (λ (x : Totals). x.a1203) e, ap (λ (x : Totals). x.a1203) f, ap (λ (x : Totals). x.a1203) n) in
+    let restarts : new.restarts + since.restarts ≡ after.restarts = omega (arith, ap (λ (x : Totals). x.restarts) e, ap (λ (x : Totals). x.restarts) f, ap (λ (x : Totals). x.restarts) n) in
+    λ i. record { served = served i; a1201 = a1201 i; a1202 = a1202 i; a1203 = a1203 i; restarts = restarts i }

@@ -411,9 +411,12 @@ fn end_desk<N: Names>(desk: Desk<N>, shares: Vec<Share<N>>) -> (Machine, Totals)
         since,
         mut ledgers,
         mut history,
-        lines: _,
+        lines,
     } = desk;
+    drop(lines);
     take_all_back(&mut ledgers, &mut history, shares);
+    drop(history);
+    drop(ledgers);
     let totals = growth(since, machine.totals());
     (machine, totals)
 }

@@ -1,4 +1,4 @@
-use Rattle.std.proofs.Common.{rules, ◌≡◌, ap, sym, subst, ◌∙◌, ◌∷◌, [], ◌++◌, ◌<◌, ◌≤◌, length, IfSome, Option, None, Some}
+use Rattle.std.proofs.Common.{◌≡◌, ap, sym, subst, ◌∙◌, ◌∷◌, [], ◌++◌, ◌+◌, ◌<◌, ◌≤◌, length, IfSome, Option, None, Some}
 use Rattle.std.proofs.lemmas.Option.{slice_get_within}
 use Rattle.agc_plan.specs.declared.line.Line.{Line}
 use Rattle.agc_latch.specs.Accounts.{LineAccounts}
@@ -14,7 +14,7 @@ use Rattle.agc_desk.specs.Desks.{ArePulses, Desked}
 use Rattle.agc_desk.specs.History.{Leads}
 use Rattle.agc_plan.specs.Pulses.{pulse_requests}
 use Rattle.agc_desk.specs.Stages.{Marks, NextIs}
-use Rattle.agc_desk.proofs.Calls.{leads_on, same_growth, same_setting, told_after, told_push}
+use Rattle.agc_desk.proofs.Calls.{leads_on, grown_on, same_growth, same_setting, told_after, told_push}
 use Rattle.agc_desk.proofs.Emptying.{plan_after}
 use Rattle.agc_desk.proofs.Marking.{marked}
 use Rattle.agc_desk.proofs.desk.Desk.ask_for.Goals as goal
@@ -40,10 +40,10 @@ invariant_of-self g c =
       leads = subst (λ l. Leads g.N.Names.first l c.apply-answer.new.self) (sym (ap (λ k. k.calls) c.note.ensures.calls)) (subst (λ m. Leads g.N.Names.first (calls ++ call ∷ []) m) there led);
       none_gathered = ap (λ k. k.gathered) c.note.ensures.calls ∙ c.self.invariant.none_gathered;
       since_is = c.self.invariant.since_is;
-      grown = search rules;
-      parts = search rules;
-      one = search rules;
-      none_back = search rules;
+      grown = grown_on c.self.inside.ledgers.total c.self.inside.since c.totals-before.result c.growth-told.result c.apply-answer.new.self.totals c.add.new.self.total (c.self.invariant.grown ∙ sym c.totals-before.ensures.totals) (c.growth-told.ensures ∙ c.totals.ensures.totals) c.add.ensures.total;
+      parts = ap (λ n. n + c.note.new.self.given) c.add.ensures.left ∙ (ap (λ k. c.self.inside.ledgers.left + k.given) c.note.ensures.calls ∙ c.self.invariant.parts);
+      one = subst (λ n. 1 ≤ n) (sym c.add.ensures.left) c.self.invariant.one;
+      none_back = c.add.ensures.back ∙ c.self.invariant.none_back;
       pulses = subst (λ l. ArePulses g.N.Names.first.plan l c.mark_served.new.lines.applied c.mark_served.new.lines.begun) (sym (ap (λ k. k.calls) c.note.ensures.calls))
           (marked g.N.Names.first.plan calls c.share.inside.own.number c.apply-answer.result c.args.pulse c.self.inside.lines c.mark_served.new.lines
           c.self.invariant.pulses next marks);
