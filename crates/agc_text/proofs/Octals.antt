@@ -16,6 +16,18 @@ pub bind_some : {A B : Type 0} (m : Option A) (f : A → Option B) (y : B) → (
 bind_some None f y e = absurd cc
 bind_some (Some x) f y e = (x, refl, e)
 
+parts : (a b c d f : Option ℕ) → (a >>= λ x. b >>= λ y. c >>= λ z. d >>= λ u. f >>= λ v. Some (8 * (8 * (8 * (8 * (8 * 0 + x) + y) + z) + u) + v)) ≡ (a >>= λ x. (b >>= λ y. c >>= λ z. Some (8 * (8 * 0 + y) + z)) >>= λ m. (d >>= λ u. f >>= λ v. Some (8 * (8 * 0 + u) + v)) >>= λ n. Some (64 * (64 * x + m) + n))
+parts None b c d f = refl
+parts (Some x) None c d f = refl
+parts (Some x) (Some y) None d f = refl
+parts (Some x) (Some y) (Some z) None f = refl
+parts (Some x) (Some y) (Some z) (Some u) None = refl
+parts (Some x) (Some y) (Some z) (Some u) (Some v) = ap Some (omega arith)
+
+-- five digits are one and two pairs
+pub five_in_parts : (a b c d f : ℕ) → octal_five_of (a ∷ b ∷ c ∷ d ∷ f ∷ []) ≡ (digit_of a >>= λ x. octal_pair_of (b ∷ c ∷ []) >>= λ m. octal_pair_of (d ∷ f ∷ []) >>= λ n. Some (64 * (64 * x + m) + n))
+five_in_parts a b c d f = parts (digit_of a) (digit_of b) (digit_of c) (digit_of d) (digit_of f)
+
 rem_small : (n : ℕ) → n % 8 < 8
 rem_small n = omega arith
 

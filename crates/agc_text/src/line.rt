@@ -25,10 +25,14 @@ fn established(text: &str) -> Option<(Priority, Entry)>
 {
     let (priority_text, rest) = parted(text)?;
     let (address_text, bank_text) = parted(rest)?;
-    let priority = priority(priority_text)?;
-    let at = address(address_text)?;
-    let bank = word(bank_text)?;
-    Some((priority, Entry { at, bank }))
+    match (
+        priority(priority_text),
+        address(address_text),
+        word(bank_text),
+    ) {
+        (Some(priority), Some(at), Some(bank)) => Some((priority, Entry { at, bank })),
+        _ => None,
+    }
 }
 
 /// `D A W`
@@ -38,10 +42,10 @@ fn listed(text: &str) -> Option<(Delay, Task)>
 {
     let (delay_text, rest) = parted(text)?;
     let (address_text, bank_text) = parted(rest)?;
-    let delay = delay(delay_text)?;
-    let at = address(address_text)?;
-    let bank = word(bank_text)?;
-    Some((delay, Task { at, bank }))
+    match (delay(delay_text), address(address_text), word(bank_text)) {
+        (Some(delay), Some(at), Some(bank)) => Some((delay, Task { at, bank })),
+        _ => None,
+    }
 }
 
 /// `K W`
@@ -50,7 +54,10 @@ fn stored(text: &str) -> Option<Request>
     ensures { result ≡ stored_of text.now }
 {
     let (place_text, word_text) = parted(text)?;
-    Some(Request::Store(place(place_text)?, word(word_text)?))
+    match (place(place_text), word(word_text)) {
+        (Some(place), Some(word)) => Some(Request::Store(place, word)),
+        _ => None,
+    }
 }
 
 /// `G N`
@@ -59,7 +66,10 @@ fn phased(text: &str) -> Option<Request>
     ensures { result ≡ phased_of text.now }
 {
     let (group_text, phase_text) = parted(text)?;
-    Some(Request::SetPhase(group(group_text)?, phase(phase_text)?))
+    match (group(group_text), phase(phase_text)) {
+        (Some(group), Some(phase)) => Some(Request::SetPhase(group, phase)),
+        _ => None,
+    }
 }
 
 fn novac(text: &str) -> Option<Request>

@@ -1,4 +1,4 @@
-ghost use Rattle.std.specs.Prelude.{◌≡◌, ◌<◌, ◌↔◌, ℕ, true, IfSome, slice_index};
+ghost use Rattle.std.specs.Prelude.{◌≡◌, ◌<◌, ◌↔◌, ℕ, [], ◌∷◌, true, IfSome, slice_index};
 ghost use Rattle.agc_text.specs.Numbers.{octal, IsWord};
 ghost use Rattle.agc_plan.specs.Ranges.{IsAddress};
 ghost use Rattle.agc_text.specs.Reading.{digit_of, octal_one_of, octal_pair_of, octal_five_of};
@@ -28,27 +28,40 @@ fn octal_one(text: &str) -> Option<u8>
     }
 }
 
+/// The number of two octal digits.
+fn pair_of(front: u8, back: u8) -> Option<u8>
+    ensures exact { result ≡ octal_pair_of (front ∷ back ∷ []) }
+    ensures small { IfSome result (λ n. n < 64) }
+{
+    match (octal_digit(front), octal_digit(back)) {
+        (Some(front), Some(back)) => Some(8 * front + back),
+        _ => None,
+    }
+}
+
 /// Two octal digits.
 fn octal_pair(text: &str) -> Option<u8>
     ensures { result ≡ octal_pair_of text.now }
 {
     match text.as_bytes() {
-        [a, b] => Some(8 * octal_digit(*a)? + octal_digit(*b)?),
+        [a, b] => pair_of(*a, *b),
         _ => None,
     }
 }
 
 /// Five octal digits.
+#[tactic(auto, using(crate::proofs::Octals::five_in_parts))]
 fn octal_five(text: &str) -> Option<u16>
     ensures exact { result ≡ octal_five_of text.now }
     ensures small { IfSome result (λ n. n < 32768) }
 {
     match text.as_bytes() {
-        [a, b, c, d, e] => {
-            let front = 8 * (8 * octal_digit(*a)? as u16 + octal_digit(*b)? as u16)
-                + octal_digit(*c)? as u16;
-            Some(8 * (8 * front + octal_digit(*d)? as u16) + octal_digit(*e)? as u16)
-        }
+        [a, b, c, d, e] => match (octal_digit(*a), pair_of(*b, *c), pair_of(*d, *e)) {
+            (Some(one), Some(pair), Some(last)) => {
+                Some(64 * (64 * one as u16 + pair as u16) + last as u16)
+            }
+            _ => None,
+        },
         _ => None,
     }
 }
