@@ -1,7 +1,9 @@
 -- What the program makes of its input, in each mode.
 use Rattle.std.specs.Prelude.{◌≡◌, ◌⊎◌, ℕ, true, List, map, Option, Result, Ok, Err}
+use Rattle.std.specs.List.{AllByRecursion}
 use Rattle.toml.specs.Parse.{parse_document}
 use Rattle.agc_plan.specs.declared.request.Request.{Request}
+use Rattle.agc_plan.specs.Ranges.{IsRequest}
 use Rattle.agc_text.specs.Faults.{RefusesScript}
 use Rattle.agc_text.specs.Lines.{line_of}
 use Rattle.agc_text.specs.Script.{lines_of}
@@ -23,7 +25,8 @@ use Rattle.agc.specs.Modes.{AskFor}
 abbrev pub WritesOf : Mode → List ℕ → Option (List ℕ) → Option (List ℕ)
     → Result Unit RunFault → Type 0
 WritesOf mode.Script text old new outcome = (requests : List Request)
-    × (lines_of text ≡ map line_of requests) × WritesSession old new script_machine requests outcome
+    × AllByRecursion IsRequest requests × (lines_of text ≡ map line_of requests)
+    × WritesSession old new script_machine requests outcome
 WritesOf mode.Serial text old new outcome = (bench : Benched) × IsDocument text bench
     × WritesSession old new (bench_machine bench) (bench_requests bench) outcome
 WritesOf mode.Threads text old new outcome = (bench : Benched) × IsDocument text bench

@@ -2,6 +2,7 @@
 use Rattle.std.specs.Prelude.{◌≡◌, ℕ, List, [], ◌∷◌, Option, Result, Ok, Err, Bool, true, false}
 use Rattle.std.specs.Prelude.{map}
 use Rattle.agc_plan.specs.declared.request.Request.{Request}
+use Rattle.agc_plan.specs.Ranges.{IsRequest}
 use Rattle.std.specs.List.{AllByRecursion}
 use Rattle.toml.specs.Parse.{parse_document}
 use Rattle.agc_document.specs.Benches.{Benched}
@@ -38,8 +39,8 @@ abbrev pub IsShown : Bool → List ℕ → Type 0
 IsShown well text = (well ≡ true) × IsBenchIf true text
 
 abbrev pub IsShownScript : Bool → List ℕ → Type 0
-IsShownScript well text =
-    (well ≡ true) × ((requests : List Request) × (lines_of text ≡ map line_of requests))
+IsShownScript well text = (well ≡ true) × ((requests : List Request)
+    × AllByRecursion IsRequest requests × (lines_of text ≡ map line_of requests))
 
 -- what comes of a text: it was done, of an input of which this holds; or the text is refused, for
 -- its own fault, or there was no memory, and nothing was written; or a write failed
