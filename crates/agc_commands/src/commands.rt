@@ -9,10 +9,8 @@ enum Form {
     Flag,
     /// An option with a value, which the help calls so.
     Option(&'static str),
-    /// A word that the command must have, here, which the help calls so.
-    Word(&'static str),
-    /// A word that the command may have, here.
-    Optional(&'static str),
+    /// A word, here, which the help calls so, and whether the command must have it.
+    Word(&'static str, bool),
 }
 
 /// A word or an option of a command: its name, how it is written, and its help.
@@ -32,7 +30,7 @@ struct Row {
 
 const FILE: Argument = (
     "file",
-    Form::Optional("FILE"),
+    Form::Word("FILE", false),
     "The file to read; standard input if none is named, or -",
 );
 
@@ -164,19 +162,19 @@ Example: agc_watch sweep steal 0 20 5 scenario.toml",
     arguments: &[
         (
             "key",
-            Form::Word("KEY"),
+            Form::Word("KEY", true),
             "Which number: steal, sets, job.NAME.cost, ..",
         ),
-        ("from", Form::Word("FROM"), "The first value"),
-        ("to", Form::Word("TO"), "The last value"),
+        ("from", Form::Word("FROM", true), "The first value"),
+        ("to", Form::Word("TO", true), "The last value"),
         (
             "step",
-            Form::Optional("STEP"),
+            Form::Word("STEP", false),
             "The step from one value to the next, or 1 by default",
         ),
         (
             "file",
-            Form::Optional("FILE"),
+            Form::Word("FILE", false),
             "The scenario to read; standard input if none is named, or -",
         ),
         ("csv", Form::Flag, "Writes comma-separated values"),
@@ -190,7 +188,7 @@ const PLAY: Row = Row {
     example: "Example: agc_watch play examples/no-vac-area.toml",
     arguments: &[(
         "file",
-        Form::Optional("FILE"),
+        Form::Word("FILE", false),
         "The bench to begin from; an empty plan if none is named",
     )],
 };
@@ -207,62 +205,63 @@ fn arg_of<'a>(alloc: Global, argument: &Argument) -> Arg<'a> {
     match form {
         Form::Flag => arg.long(name).action(ArgAction::SetTrue),
         Form::Option(value) => arg.long(name).value_name(value),
-        Form::Word(value) => arg.value_name(value).required(true),
-        Form::Optional(value) => arg.value_name(value),
+        Form::Word(value, is_required) => arg.value_name(value).required(is_required),
     }
 }
 
-/// The command that takes this argument too, unless memory ran out already.
-fn with_arg<'a>(
-    command: Result<Command<'a>, AllocError>,
-    arg: Arg<'a>,
-) -> Result<Command<'a>, AllocError> {
-    command?.arg(arg)
+/// The words and options of a command.
+fn args_of<'a>(alloc: Global, row: &Row) -> Result<Vec<Arg<'a>>, AllocError> {
+    let mut args = Vec::new(alloc);
+    for argument in row.arguments {
+        args.push(arg_of(alloc, argument))?;
+    }
+    Ok(args)
 }
 
 /// A command, with its words and options.
 fn command_of<'a>(alloc: Global, row: &Row) -> Result<Command<'a>, AllocError> {
-    let mut command = Ok(
-        Command::new(alloc, row.name)
-            .about(row.about)
-            .after_help(row.example),
-    );
-    for argument in row.arguments {
-        command = with_arg(command, arg_of(alloc, argument));
-    }
-    command
+    let args = args_of(alloc, row)?;
+    Command::new(alloc, row.name)
+        .about(row.about)
+        .after_help(row.example)
+        .args(args)
 }
 
-/// The program that has this command too, unless memory ran out already.
-fn with_command<'a>(
-    program: Result<Command<'a>, AllocError>,
-    command: Result<Command<'a>, AllocError>,
-) -> Result<Command<'a>, AllocError> {
-    program?.subcommand(command?)
+/// All commands.
+fn commands_of<'a>(alloc: Global) -> Result<Vec<Command<'a>>, AllocError> {
+    let mut commands = Vec::new(alloc);
+    for row in &COMMANDS {
+        commands.push(command_of(alloc, row)?)?;
+    }
+    Ok(commands)
 }
 
 /// The program, with all of its commands. Without a word it prints its help.
 pub(crate) fn whole_command<'a>(alloc: Global) -> Result<Command<'a>, AllocError> {
-    let mut program = Ok(
-        Command::new(alloc, "agc_watch")
-            .version("1.0.0")
-            .about("Shows what the requests of a bench or scenario do to the tables")
-            .subcommand_required(true)
-            .arg_required_else_help(true),
-    );
+    let commands = commands_of(alloc)?;
+    Command::new(alloc, "agc_watch")
+        .version("1.0.0")
+        .about("Shows what the requests of a bench or scenario do to the tables")
+        .subcommand_required(true)
+        .arg_required_else_help(true)
+        .subcommands(commands)
+}
+
+/// The command of this name, as its row has it.
+fn row_of(name: &str) -> Option<Row> {
     for row in &COMMANDS {
-        program = with_command(program, command_of(alloc, row));
+        if row.name == name {
+            return Some(*row);
+        }
     }
-    program
+    None
 }
 
 /// The command of this name as its own error calls it, for words that are wrong for a reason that
 /// `clap` doesn't know. It is the program, where no command has the name.
 pub(crate) fn named_command<'a>(alloc: Global, name: &str) -> Result<Command<'a>, AllocError> {
-    for row in &COMMANDS {
-        if row.name == name {
-            return command_of(alloc, row)?.bin_name(row.called);
-        }
+    match row_of(name) {
+        Some(row) => command_of(alloc, &row)?.bin_name(row.called),
+        None => whole_command(alloc),
     }
-    whole_command(alloc)
 }

@@ -342,15 +342,26 @@ fn refused_by(error: Error) -> Refused {
     }
 }
 
+/// What this program takes these words for.
+fn read<'a>(
+    alloc: Global,
+    program: &mut Command<'a>,
+    words: &'a [String],
+) -> Result<Asked<'a>, Refused> {
+    match program.try_get_matches_from_mut(words) {
+        Ok(matches) => asked_by(alloc, &matches),
+        Err(error) => Err(refused_by(error)),
+    }
+}
+
 /// What the words of a command line ask for, of which the first is the program's own name.
 ///
 /// # Errors
 ///
 /// `Text` for those that ask for a text, and for wrong ones, and `NoMemory`.
 pub fn asked_for<'a>(alloc: Global, words: &'a [String]) -> Result<Asked<'a>, Refused> {
-    let mut command = whole_command(alloc)?;
-    match command.try_get_matches_from_mut(words) {
-        Ok(matches) => asked_by(alloc, &matches),
-        Err(error) => Err(refused_by(error)),
+    match whole_command(alloc) {
+        Ok(mut command) => read(alloc, &mut command, words),
+        Err(_no_memory) => Err(Refused::NoMemory),
     }
 }

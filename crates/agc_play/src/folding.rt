@@ -36,12 +36,16 @@ fn parted(line: &str) -> Option<(&str, &str)> {
 
 /// Writes the tables of a row, each after its name, in as few lines as have room for them.
 fn put_tables<W: Write>(pen: &mut Pen<'_, W>, tables: &str) {
-    let contents = tables
-        .split("  ")
-        .map(str::trim)
-        .filter(|table| !table.is_empty());
+    let mut names = NAMES.iter();
     let mut length: usize = 0;
-    for (name, table) in NAMES.iter().zip(contents) {
+    for part in tables.split("  ") {
+        let table = part.trim();
+        if table.is_empty() {
+            continue;
+        }
+        let Some(name) = names.next() else {
+            break;
+        };
         let added = name.len().saturating_add(table.len()).saturating_add(3);
         let (before, begun) = if length == 0 {
             ("    ", 2)

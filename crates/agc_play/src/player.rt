@@ -198,8 +198,10 @@ pub(crate) fn put_heading<W: Write>(
     bench: &Bench,
     writer: &mut W,
 ) -> Result<(), RunFault> {
-    let tracer = tracer_of(alloc, bench, 0)?;
-    Ok(tracer.begin(bench.power(), writer)?)
+    match tracer_of(alloc, bench, 0) {
+        Ok(tracer) => Ok(tracer.begin(bench.power(), writer)?),
+        Err(fault) => Err(fault),
+    }
 }
 
 impl Player {

@@ -298,26 +298,40 @@ impl<'a> Played<'a> {
         }
     }
 
+    /// How many requests the last line asked, or else one, that of the bench, if there is one.
+    fn last(&self) -> usize {
+        let count = self.requests.len();
+        match self.steps.as_slice() {
+            [.., step] => count.saturating_sub(*step),
+            [] => count.min(1),
+        }
+    }
+
+    /// Takes back so many requests.
+    fn go_back(&mut self, alloc: Global, taken: usize) -> Result<(), RunFault> {
+        let left = self.requests.len().saturating_sub(taken);
+        let requests = self.requests.as_slice();
+        match Player::after(alloc, self.bench, &requests[..left]) {
+            Ok(player) => {
+                self.player = player;
+                self.requests.truncate(left);
+                Ok(())
+            }
+            Err(fault) => Err(fault),
+        }
+    }
+
     /// Takes back what the last line asked, or the last request of the bench.
     fn undo<W: Write>(&mut self, alloc: Global, writer: &mut W) -> Result<(), RunFault> {
-        let count = self.requests.len();
-        let left = match self.steps.as_slice() {
-            [.., step] => *step,
-            [] => count.saturating_sub(1),
-        };
-        if count <= left {
-            self.steps.pop();
-            return tell(writer, "nothing was asked that could be taken back\n");
+        let taken = self.last();
+        if taken > 0 {
+            self.go_back(alloc, taken)?;
         }
-        let requests = self.requests.as_slice();
-        self.player = Player::after(alloc, self.bench, &requests[..left])?;
-        self.requests.truncate(left);
         self.steps.pop();
-        let taken = count - left;
-        let words = if taken == 1 {
-            "{} request is taken back\n"
-        } else {
-            "{} requests are taken back\n"
+        let words = match taken {
+            0 => return tell(writer, "nothing was asked that could be taken back\n"),
+            1 => "{} request is taken back\n",
+            _ => "{} requests are taken back\n",
         };
         self.tell_state(words, &[Number(taken as u64)], writer)
     }
@@ -466,7 +480,11 @@ pub fn play<H: AllocGlobal + Files + Eprint, R: BufRead, W: Write>(
     reader: &mut R,
     writer: &mut W,
 ) -> Result<(), PlayFault> {
-    let mut folded = Folded::new(writer, manner.folds);
-    let mut played = Played::new(rt.alloc(), bench)?;
-    answer_all(rt, &mut played, manner, reader, &mut folded)
+    match Played::new(rt.alloc(), bench) {
+        Ok(mut played) => {
+            let mut folded = Folded::new(writer, manner.folds);
+            answer_all(rt, &mut played, manner, reader, &mut folded)
+        }
+        Err(fault) => Err(PlayFault::from(fault)),
+    }
 }
