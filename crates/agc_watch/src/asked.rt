@@ -16,7 +16,7 @@ use agc_program::{Fault, buffered, flushed};
 use agc_scenario::{Scenario, is_scenario};
 use agc_session::Progress;
 use agc_text::{ReadFault, put};
-use agc_trace::trace_timetable;
+use agc_trace::{Choice, trace_timetable};
 use std::alloc::{AllocError, Global};
 use std::io::{Eprint, Input, Print, Write};
 use std::rt::Files;
@@ -50,14 +50,6 @@ fn play_fault(fault: PlayFault) -> Fault {
         PlayFault::Input => Fault::Read(ReadFault::Input),
         PlayFault::TooLong => Fault::Read(ReadFault::TooLong),
         PlayFault::Output => Fault::Output,
-    }
-}
-
-/// Why a page wasn't written, as the program's fault.
-fn page_fault(fault: PageFault) -> Fault {
-    match fault {
-        PageFault::NoMemory => Fault::NoMemory,
-        PageFault::Output => Fault::Output,
     }
 }
 
@@ -95,16 +87,24 @@ fn work_bench<H: AllocGlobal + Clock + Files + Input + Eprint, W: Write>(
     match task {
         Task::Explore(options) => {
             let reach = explore(alloc, bench, options, &mut Watch::new(rt), writer)?;
-            return Ok(status_of(reach));
+            Ok(status_of(reach))
         }
-        Task::Play => play(rt, bench, manner, &mut rt.reader(), writer).map_err(play_fault)?,
-        Task::Tell(Telling::Peaks) => bench_peaks(alloc, bench, writer)?,
+        Task::Play => match play(rt, bench, manner, &mut rt.reader(), writer) {
+            Ok(()) => Ok(0),
+            Err(fault) => Err(play_fault(fault)),
+        },
+        Task::Tell(Telling::Peaks) => {
+            bench_peaks(alloc, bench, writer)?;
+            Ok(0)
+        }
         Task::Tell(Telling::Picture(times)) => {
-            time_picture(alloc, bench, span_of(times), progress, writer)?;
+            match time_picture(alloc, bench, span_of(times), progress, writer) {
+                Ok(_watched) => Ok(0),
+                Err(fault) => Err(Fault::Run(fault)),
+            }
         }
-        _ => {}
+        _ => Ok(0),
     }
-    Ok(0)
 }
 
 /// Writes the bench that a scenario comes to, and returns the exit status.
@@ -145,6 +145,31 @@ fn write_sweep<H: Clock + Eprint, W: Write>(
     Ok(0)
 }
 
+/// Writes the trace of a scenario, and returns the exit status.
+fn trace_scenario<P: Progress, W: Write>(
+    alloc: Global,
+    scenario: &Scenario,
+    choice: Choice,
+    progress: &mut P,
+    writer: &mut W,
+) -> Result<u8, Fault> {
+    let columns = columns_of(alloc, scenario)?;
+    let (bench, timing) = (scenario.bench(), scenario.timing());
+    match trace_timetable(alloc, bench, timing, columns, choice, progress, writer) {
+        Ok(_watched) => Ok(0),
+        Err(fault) => Err(Fault::Run(fault)),
+    }
+}
+
+/// Writes the page of a text, and returns the exit status.
+fn write_page<W: Write>(alloc: Global, text: &str, writer: &mut W) -> Result<u8, Fault> {
+    match page(alloc, text, writer) {
+        Ok(()) => Ok(0),
+        Err(PageFault::NoMemory) => Err(Fault::NoMemory),
+        Err(PageFault::Output) => Err(Fault::Output),
+    }
+}
+
 /// Shows a text's scenario: writes its trace, its picture, its page or its peaks. Returns the exit
 /// status.
 fn show_scenario<P: Progress, W: Write>(
@@ -155,22 +180,42 @@ fn show_scenario<P: Progress, W: Write>(
     progress: &mut P,
     writer: &mut W,
 ) -> Result<u8, Fault> {
-    match task {
+    let drawn = match task {
         Task::Work(Work::Trace(choice)) => {
-            let columns = columns_of(alloc, scenario)?;
-            let (bench, timing) = (scenario.bench(), scenario.timing());
-            trace_timetable(alloc, bench, timing, columns, choice, progress, writer)?;
+            return trace_scenario(alloc, scenario, choice, progress, writer);
         }
-        Task::Work(Work::Page) => page(alloc, text, writer).map_err(page_fault)?,
-        Task::Tell(Telling::Peaks) => scenario_peaks(alloc, scenario, writer)?,
+        Task::Work(Work::Page) => return write_page(alloc, text, writer),
+        Task::Tell(Telling::Peaks) => {
+            scenario_peaks(alloc, scenario, writer)?;
+            return Ok(0);
+        }
         Task::Tell(Telling::Picture(times)) => {
-            scenario_time_picture(alloc, scenario, span_of(times), progress, writer)?;
+            scenario_time_picture(alloc, scenario, span_of(times), progress, writer)
         }
-        _ => {
-            scenario_picture(alloc, scenario, progress, writer)?;
-        }
+        _ => scenario_picture(alloc, scenario, progress, writer),
+    };
+    match drawn {
+        Ok(_watched) => Ok(0),
+        Err(fault) => Err(Fault::Run(fault)),
     }
-    Ok(0)
+}
+
+/// Does this with a text's scenario, which is this, and returns the exit status.
+fn tell_scenario<H: Clock + Eprint, W: Write>(
+    alloc: Global,
+    task: Task<'_>,
+    text: &str,
+    scenario: &mut Scenario,
+    progress: &mut Teller<'_, H>,
+    writer: &mut W,
+) -> Result<u8, Stop> {
+    match task {
+        Task::Tell(Telling::Bench) => write_bench(alloc, scenario, writer),
+        Task::Tell(Telling::Sweep(values)) => {
+            write_sweep(alloc, values, scenario, progress, writer)
+        }
+        _ => Ok(show_scenario(alloc, task, text, scenario, progress, writer)?),
+    }
 }
 
 /// Does this with a text's scenario, and returns the exit status.
@@ -181,14 +226,11 @@ fn work_scenario<H: AllocGlobal + Clock + Eprint, W: Write>(
     progress: &mut Teller<'_, H>,
     writer: &mut W,
 ) -> Result<u8, Stop> {
-    let alloc = rt.alloc();
-    let mut scenario = scenario_in(alloc, text)?;
-    match task {
-        Task::Tell(Telling::Bench) => write_bench(alloc, &scenario, writer),
-        Task::Tell(Telling::Sweep(values)) => {
-            write_sweep(alloc, values, &mut scenario, progress, writer)
+    match scenario_in(rt.alloc(), text) {
+        Ok(mut scenario) => {
+            tell_scenario(rt.alloc(), task, text, &mut scenario, progress, writer)
         }
-        _ => Ok(show_scenario(alloc, task, text, &scenario, progress, writer)?),
+        Err(stop) => Err(stop),
     }
 }
 

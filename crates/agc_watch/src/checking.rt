@@ -171,6 +171,20 @@ fn add_doubt(told: &mut String, doubt: Doubt) -> Result<(), AllocError> {
     }
 }
 
+/// Tells what is doubtful at these places, a line each.
+fn add_found(
+    told: &mut String,
+    text: &str,
+    doubts: &[Doubted],
+    found: &[usize],
+) -> Result<(), AllocError> {
+    for (one, at) in doubts.iter().zip(found.iter()) {
+        add_where(told, line_at(text, *at), "warning: ", one.place)?;
+        add_doubt(told, one.doubt)?;
+    }
+    Ok(())
+}
+
 /// Tells what is doubtful, a line each.
 fn add_doubts(
     alloc: Global,
@@ -182,12 +196,10 @@ fn add_doubts(
     for one in doubts.iter().take(MOST_TOLD) {
         places.push(one.place)?;
     }
-    let found = places_in(alloc, text, places.as_slice())?;
-    for (one, at) in doubts.iter().zip(found.iter()) {
-        add_where(told, line_at(text, *at), "warning: ", one.place)?;
-        add_doubt(told, one.doubt)?;
+    match places_in(alloc, text, places.as_slice()) {
+        Ok(found) => add_found(told, text, doubts, found.as_slice()),
+        Err(error) => Err(error),
     }
-    Ok(())
 }
 
 /// Tells what is warned of a scenario's run, a line each.
@@ -226,17 +238,26 @@ fn told_of_scenario(alloc: Global, text: &str, scenario: &Scenario) -> Result<St
     Ok(told)
 }
 
-/// The report on a document, in which this was found.
-fn report_on(alloc: Global, text: &str, checked: &CheckedScenario) -> Result<String, AllocError> {
-    match &checked.scenario {
+/// Whether a document is a scenario, and the report on it, in which this was found.
+fn report_on(
+    alloc: Global,
+    text: &str,
+    checked: &CheckedScenario,
+) -> Result<(bool, String), AllocError> {
+    let told = match &checked.scenario {
         Some(scenario) => told_of_scenario(alloc, text, scenario),
         None => bench_told(alloc, checked.findings.as_slice()),
+    };
+    match told {
+        Ok(told) => Ok((checked.scenario.is_some(), told)),
+        Err(error) => Err(error),
     }
 }
 
 /// Whether a document is a scenario, and the report on it.
 pub(crate) fn scenario_told(alloc: Global, text: &str) -> Result<(bool, String), AllocError> {
-    let checked = scenario_findings(alloc, text)?;
-    let told = report_on(alloc, text, &checked)?;
-    Ok((checked.scenario.is_some(), told))
+    match scenario_findings(alloc, text) {
+        Ok(checked) => report_on(alloc, text, &checked),
+        Err(error) => Err(error),
+    }
 }
