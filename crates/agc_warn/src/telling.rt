@@ -25,13 +25,29 @@ pub fn warnings_told(
     for one in warnings {
         places.push(one.place)?;
     }
-    let found = places_in(alloc, document, places.as_slice())?;
     let mut told = String::new(alloc);
-    for (one, at) in warnings.iter().zip(found.iter()) {
-        add_where(&mut told, line_at(document, *at), "warning: ", one.place)?;
-        add_warning(&mut told, &one.warning)?;
+    let added = match places_in(alloc, document, places.as_slice()) {
+        Ok(found) => add_warnings(&mut told, document, warnings, found.as_slice()),
+        Err(error) => Err(error),
+    };
+    match added {
+        Ok(()) => Ok(told),
+        Err(error) => Err(error),
     }
-    Ok(told)
+}
+
+/// Appends a line for each warning, which is at this place of the document.
+fn add_warnings(
+    told: &mut String,
+    document: &str,
+    warnings: &[Warned],
+    found: &[usize],
+) -> Result<(), AllocError> {
+    for (one, at) in warnings.iter().zip(found.iter()) {
+        add_where(told, line_at(document, *at), "warning: ", one.place)?;
+        add_warning(told, &one.warning)?;
+    }
+    Ok(())
 }
 
 /// Appends a warning, and ends its line.

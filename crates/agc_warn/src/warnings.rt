@@ -39,20 +39,30 @@ struct Tasks {
 impl Tasks {
     /// The tasks of a bench that has these items.
     fn of(alloc: Global, items: &[(Place, Item)]) -> Result<Tasks, AllocError> {
-        let mut known = BTreeSet::new(alloc);
-        let mut banks = BTreeMap::new(alloc);
+        let mut tasks = Tasks {
+            known: BTreeSet::new(alloc),
+            banks: BTreeMap::new(alloc),
+        };
+        match tasks.add(items) {
+            Ok(()) => Ok(tasks),
+            Err(error) => Err(error),
+        }
+    }
+
+    /// Adds the tasks of these items.
+    fn add(&mut self, items: &[(Place, Item)]) -> Result<(), AllocError> {
         for (_place, item) in items {
             let (is_row, task) = match *item {
                 Item::Lists(task, row) if row != Some(task) => (false, task),
                 Item::Row(task) => (true, task),
                 _ => continue,
             };
-            known.insert((is_row, numbers_of(&task)))?;
+            self.known.insert((is_row, numbers_of(&task)))?;
             if is_row {
-                banks.entry(task.at.get())?.or_insert(task.bank);
+                self.banks.entry(task.at.get())?.or_insert(task.bank);
             }
         }
-        Ok(Tasks { known, banks })
+        Ok(())
     }
 
     /// What is warned of where a task is listed.
