@@ -19,7 +19,7 @@ use std::alloc::{AllocError, Global};
 
 /// A number of a scenario: the percent that is stolen all the time, how many seconds it lasts, or a
 /// number of the job or event of this index. Source: profile.
-#[derive(Clone, Copy, PartialEq, Eq, Debug)]
+#[derive(Clone, Copy)]
 pub enum Number {
     Steal,
     Seconds,

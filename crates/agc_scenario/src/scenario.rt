@@ -10,10 +10,12 @@ ghost use Rattle.agc_scenario.specs.Scenarios.{IsScenario, IsTimed, Timed, can_b
 ghost use Rattle.agc_scenario.specs.Scenarios.{scenario_texts, timing_texts};
 
 use crate::keys::scenario_in;
-use crate::texts::{NameText, ScenarioTexts, TimingTexts};
+use crate::texts::{NameText, TimingTexts};
 use crate::timing::{Name, Timing};
 use crate::values::{all_copied, can_all_be_shown, timing_of};
-use agc_document::{Bench, BenchFault, Form, Key, Notes, Place, ScenarioKey, bench_from, value_of};
+use agc_document::{
+    Bench, BenchFault, Form, Key, Notes, Place, ScenarioKey, Texts, bench_from, value_of,
+};
 use std::alloc::{AllocError, Global};
 use std::marker::Model;
 use toml::Table;
@@ -88,18 +90,31 @@ fn names_of(alloc: Global, names: &[NameText<'_>]) -> Result<Vec<Name>, BenchFau
 #[tactic(auto, using(crate::proofs::Refusals::refused_bench))]
 fn spelled(
     alloc: Global,
-    texts: ScenarioTexts<'_>,
+    bench: &Texts<'_>,
+    row_names: &[NameText<'_>],
+    entry_names: &[NameText<'_>],
+    timing: TimingTexts<'_>,
     notes: &mut Notes<'_>,
 ) -> Result<Scenario, BenchFault>
-    ensures found { IfOk result (λ s. IsScenario s × (texts.entry ≡ scenario_texts s)) }
-    ensures refused { IfErr result (RefusesTexts texts.entry) }
+    ensures found { IfOk result (λ s. IsScenario s × (scenario_texts s ≡ record {
+      bench = bench.now;
+      row_names = row_names.now;
+      entry_names = entry_names.now;
+      timing = timing.entry;
+    })) }
+    ensures refused { IfErr result (RefusesTexts (record {
+      bench = bench.now;
+      row_names = row_names.now;
+      entry_names = entry_names.now;
+      timing = timing.entry;
+    })) }
 {
-    let row_names = names_of(alloc, texts.row_names.as_slice());
-    let entry_names = names_of(alloc, texts.entry_names.as_slice());
-    let timing = timing_of(alloc, texts.timing);
+    let row_names = names_of(alloc, row_names);
+    let entry_names = names_of(alloc, entry_names);
+    let timing = timing_of(alloc, timing);
     match (row_names, entry_names, timing) {
         (Ok(row_names), Ok(entry_names), Ok(timing)) => {
-            match bench_from(alloc, &texts.bench, notes) {
+            match bench_from(alloc, bench, notes) {
                 Ok(bench) => Ok(Scenario {
                     bench,
                     row_names,
@@ -129,7 +144,15 @@ pub fn scenario_of<'a>(
     ensures noted { IfErr result (IsNotedFor notes.new.keys.items notes.new.texts.items) }
 {
     let texts = scenario_in(alloc, table, notes)?;
-    match spelled(alloc, texts, notes) {
+    let timing = texts.timing;
+    match spelled(
+        alloc,
+        &texts.bench,
+        texts.row_names.as_slice(),
+        texts.entry_names.as_slice(),
+        timing,
+        notes,
+    ) {
         Ok(scenario) => Ok(scenario),
         Err(fault) => {
             // For the proof: each text was looked at when it was read.
