@@ -10,7 +10,6 @@
 The functions of a source are found by its lines, which `rt fmt` lays out: one begins in the first
 column, or in the fifth within an impl or a trait.
 """
-import ast
 import hashlib
 import functools
 import importlib.machinery
@@ -405,17 +404,10 @@ def plain(text):
     return text.replace("\\", "\\\\").replace("<", "\\l")
 
 
-def ends_of_page():
-    """What stands in a page before its data, and what stands behind them, as agc_page has it."""
-    text = text_of(f"{TOP}/crates/agc_page/src/text.rt")
-    rest, end = (ast.literal_eval(it) for it in re.findall(r'= (b".*");', text))
-    return (bytes.fromhex("".join(re.findall("^    0x(.*),$", text, re.MULTILINE))) + rest).decode(), end.decode()
-
-
 def page_of(document):
     """The page that agc_watch writes of a document, from the text that stands in agc_page."""
-    front, end = ends_of_page()
-    return front + plain(document) + end
+    parts = re.findall(r'r##"(.*?)"##;', text_of(f"{TOP}/crates/agc_page/src/text.rt"), re.DOTALL)
+    return "".join(parts[:-1]) + plain(document) + parts[-1]
 
 
 def checksum_of_workbench(example):

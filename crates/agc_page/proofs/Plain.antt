@@ -1,10 +1,10 @@
 -- Data are plain, and read again.
 use Rattle.std.proofs.Common.{◌≡◌, ℕ, ◌==◌, Bool, true, false, not, if◌then◌else◌, List, [], ◌∷◌, ◌++◌, refl, ap, ◌∙◌, sym, ◌&&◌}
-use Rattle.std.specs.List.{list_all}
+use Rattle.std.specs.List.{flat_map, list_all}
 use Rattle.std.proofs.lemmas.List.Concat.{flat_map-cons}
 use Rattle.std.proofs.lemmas.List.Folds.{list_all-append}
 use Rattle.std.proofs.lemmas.Bool.{eqb-true}
-use Rattle.agc_page.specs.Data.{spelled, data_of, is_plain, read_from, read_again}
+use Rattle.agc_page.specs.Data.{spelled, data_of, is_plain, behind, read_from, read_again}
 
 -- a byte that is neither
 plain_if : (b : ℕ) (less back : Bool) → (b == 60) ≡ less → (b == 92) ≡ back → list_all is_plain (if less then 92 ∷ 108 ∷ [] else (if back then 92 ∷ 92 ∷ [] else b ∷ [])) ≡ true

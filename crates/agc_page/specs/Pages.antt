@@ -5,6 +5,11 @@ use Rattle.agc_page.specs.declared.fault.PageFault.{PageFault}
 use Rattle.agc_page.specs.declared.fault.PageFault.TheVariants.{NoMemory, Output}
 use Rattle.agc_page.specs.Data.{data_of}
 
+-- some text was written and nothing else, or a write failed
+abbrev pub WritesSome : {T E : Type 0} → Option (List ℕ) → Option (List ℕ) → Result T E → Type 0
+WritesSome old new (Ok _) = (text : List ℕ) × Appends old new text
+WritesSome old new (Err _) = Unit {0}
+
 -- these data were written between two texts, and nothing else
 abbrev pub StandsBetween : Option (List ℕ) → Option (List ℕ) → List ℕ → Type 0
 StandsBetween old new inner =

@@ -1,29 +1,36 @@
 //! The page of a document: its front, the document as data, and its end.
 ghost use Rattle.std.specs.Prelude.{◌≡◌};
-ghost use Rattle.agc_page.specs.Pages.{WritesBetween, WritesPage};
+ghost use Rattle.agc_page.specs.Pages.{WritesBetween, WritesPage, WritesSome};
 
 use crate::data::data_of;
 use crate::fault::PageFault;
-use crate::text::{END, FRONT, REST};
+use crate::text::{END, PART_1, PART_2, PART_3, PART_4, PART_5, PART_6};
 use agc_text::{Output, put};
-use std::alloc::{AllocError, Global};
+use std::alloc::Global;
 use std::io::Write;
 
-/// What stands before the data, read from the numbers that its letters are in.
-fn front_of(alloc: Global) -> Result<Vec<u8>, AllocError> {
-    let mut front = Vec::with_capacity(alloc, 300_000)?;
-    for letters in FRONT {
-        front.extend_from_slice(&letters.to_be_bytes())?;
-    }
-    front.extend_from_slice(REST)?;
-    Ok(front)
+/// Writes two texts, one after the other.
+fn put_two<W: Write>(one: &[u8], two: &[u8], writer: &mut W) -> Result<(), Output>
+    ensures { WritesSome (W.contents writer.old) (W.contents writer.new) result }
+{
+    put(writer, one)?;
+    put(writer, two)
 }
 
-/// Writes this front, these data and the end.
-fn put_page<W: Write>(front: &[u8], inner: &[u8], writer: &mut W) -> Result<(), Output>
+/// Writes the part of the page ahead of the data.
+fn put_front<W: Write>(writer: &mut W) -> Result<(), Output>
+    ensures { WritesSome (W.contents writer.old) (W.contents writer.new) result }
+{
+    put_two(PART_1, PART_2, writer)?;
+    put_two(PART_3, PART_4, writer)?;
+    put_two(PART_5, PART_6, writer)
+}
+
+/// Writes the front, these data and the end.
+fn put_page<W: Write>(inner: &[u8], writer: &mut W) -> Result<(), Output>
     ensures { WritesBetween (W.contents writer.old) (W.contents writer.new) inner.now result }
 {
-    put(writer, front)?;
+    put_front(writer)?;
     put(writer, inner)?;
     put(writer, END)
 }
@@ -39,8 +46,7 @@ fn put_page<W: Write>(front: &[u8], inner: &[u8], writer: &mut W) -> Result<(), 
 pub fn page<W: Write>(alloc: Global, document: &str, writer: &mut W) -> Result<(), PageFault>
     ensures { WritesPage (W.contents writer.old) (W.contents writer.new) document.now result }
 {
-    let front = front_of(alloc)?;
     let inner = data_of(alloc, document)?;
-    put_page(front.as_slice(), inner.as_slice(), writer)?;
+    put_page(inner.as_slice(), writer)?;
     Ok(())
 }

@@ -3,14 +3,9 @@ use Rattle.std.proofs.lemmas.Result.{err_from_is_err_and}
 use Rattle.std.specs.Io.KnownBytes.{Appends}
 use Rattle.agc_page.proofs.pages.page.Goals as goal
 
-pub returns-in_err-front : goal.returns-in_err-front
-returns-in_err-front g c =
-    let p = err_from_is_err_and c.from_residual.result c.from_residual.ensures.1 in
-    rw (p.1, p.2) refl
-
 pub returns-in_err-inner : goal.returns-in_err-inner
 returns-in_err-inner g c =
-    let p = err_from_is_err_and c.from_residual-in_err-inner.result c.from_residual-in_err-inner.ensures.1 in
+    let p = err_from_is_err_and c.from_residual.result c.from_residual.ensures.1 in
     rw (p.1, p.2) refl
 
 pub returns-in_err-put_page : goal.returns-in_err-put_page
@@ -21,4 +16,4 @@ returns-in_err-put_page g c =
 pub returns : goal.returns
 returns g c =
     subst (λ (t : List ℕ). (front : List ℕ) × (end : List ℕ) × Appends (g.W.Write.contents c.args.writer.now) (g.W.Write.contents c.put_page.new.writer) (front ++ (t ++ end)))
-    (c.as_slice-2.ensures.value ∙ c.in_ok-inner.ensures) c.in_ok-put_page.ensures
+    (c.as_slice.ensures.value ∙ c.in_ok-inner.ensures) c.in_ok-put_page.ensures
