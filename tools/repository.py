@@ -3,7 +3,7 @@
 
     tools/repository.py below NAME    the crates on which a crate stands, low ones first
     tools/repository.py above NAME    the crates that stand on it
-    tools/repository.py often         the crates of the edits that the gate tries every fourth time
+    tools/repository.py often         the crates of the edits of which the gate tries a quarter
     tools/repository.py uses          fails where a line of crates.txt names a crate that its sources don't
     tools/repository.py find NAME     the places of a function, an edit or a case, and what tries it
 

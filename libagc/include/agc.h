@@ -322,7 +322,8 @@ uint32_t agc_read_action(const char *text, size_t length, AgcAction *action);
 
 /* The line that `agc` writes for a step's reply, with its end and no zero byte: AGC_OK, and the number
    is how many bytes were written; AGC_NO_ROOM, and then nothing was; AGC_OUT_OF_RANGE where it is of no
-   kind, or names no job or alarm though its kind does, or where a task that fired is none. */
+   kind, or names no job or alarm though its kind does, where more than nine tasks fired, or where one
+   that fired is none. */
 AgcNumber agc_write_reply(const AgcStep *step, const AgcFired fired[AGC_FIRED], char *text, size_t room);
 
 /* The report that `agc` writes of these words and counts, in the same way; codes also those of the

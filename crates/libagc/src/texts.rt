@@ -108,8 +108,8 @@ fn hand_out(line: &[u8], text: &mut [u8]) -> AgcNumber
 
 /// Writes the line that `agc` writes for a step's reply, with its end and no zero byte, at most 128
 /// bytes: code 0 and how many bytes; 14 and how many it wants where they don't fit, and then
-/// nothing is written; 4 where it is of no kind, or names no job or alarm though its kind does, or
-/// where a task that fired is none. Source: profile.
+/// nothing is written; 4 where it is of no kind, or names no job or alarm though its kind does,
+/// where more than nine tasks fired, or where one that fired is none. Source: profile.
 #[unsafe(no_mangle)]
 pub extern "C" fn agc_write_reply(
     step: &AgcStep,
