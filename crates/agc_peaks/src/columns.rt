@@ -3,14 +3,14 @@ use agc_spelling::{Filling, Pen};
 use std::io::Write;
 
 /// Writes spaces, up to a column, after so many letters.
-pub(crate) fn put_spaces<W: Write>(pen: &mut Pen<'_, W>, letters: usize, column: usize) {
+pub(crate) fn put_spaces<W: Write>(pen: &mut Pen<W>, letters: usize, column: usize) {
     for _letter in letters..column {
         pen.text(" ");
     }
 }
 
 /// Writes a number or seconds at the right end of a column of this width.
-pub(crate) fn put_cell<W: Write>(pen: &mut Pen<'_, W>, width: usize, cell: Filling<'_>) {
+pub(crate) fn put_cell<W: Write>(pen: &mut Pen<W>, width: usize, cell: Filling<'_>) {
     let (places, whole) = match cell {
         Filling::Number(number) => (width, number),
         Filling::Seconds(time) => (width.saturating_sub(3), time / 100),
@@ -28,7 +28,7 @@ pub(crate) fn put_cell<W: Write>(pen: &mut Pen<'_, W>, width: usize, cell: Filli
 
 /// Writes cells in columns of these widths, with this before each.
 pub(crate) fn put_cells<W: Write>(
-    pen: &mut Pen<'_, W>,
+    pen: &mut Pen<W>,
     before: &str,
     widths: &[usize],
     cells: &[Filling<'_>],

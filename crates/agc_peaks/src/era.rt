@@ -91,7 +91,7 @@ impl Era {
 
     /// Writes its row, with the percentage of its ticks at which no job was running, if that is
     /// wanted.
-    pub(crate) fn put<W: Write>(&self, has_idle: bool, pen: &mut Pen<'_, W>) {
+    pub(crate) fn put<W: Write>(&self, has_idle: bool, pen: &mut Pen<W>) {
         let lasts = self.ended.saturating_sub(self.began);
         put_cell(pen, 4, Number(self.number));
         pen.text(" ");
@@ -111,7 +111,7 @@ impl Era {
 }
 
 /// Writes the numbers of an era that lasted so long.
-fn put_numbers<W: Write>(era: &Era, lasts: u64, pen: &mut Pen<'_, W>) {
+fn put_numbers<W: Write>(era: &Era, lasts: u64, pen: &mut Pen<W>) {
     let cells = [
         Seconds(lasts),
         Number(era.requests),
@@ -128,7 +128,7 @@ fn put_numbers<W: Write>(era: &Era, lasts: u64, pen: &mut Pen<'_, W>) {
 }
 
 /// Writes the names of the columns.
-pub(crate) fn put_heading<W: Write>(has_idle: bool, pen: &mut Pen<'_, W>) {
+pub(crate) fn put_heading<W: Write>(has_idle: bool, pen: &mut Pen<W>) {
     pen.text(HEADING);
     pen.text(if has_idle {
         "  idle  ended by\n"

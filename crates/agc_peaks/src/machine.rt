@@ -42,7 +42,7 @@ impl Model for CountedMachine {
 
 impl Told {
     /// Writes what is to be written of a request, and of the era that ended with it.
-    fn put<W: Write>(self, request: &Request, ended: Option<Era>, pen: &mut Pen<'_, W>) {
+    fn put<W: Write>(self, request: &Request, ended: Option<Era>, pen: &mut Pen<W>) {
         match (self, ended) {
             (Told::Requests, _) => put_script_line(pen, request),
             (Told::Eras(has_idle), Some(era)) => era.put(has_idle, pen),

@@ -7,7 +7,7 @@ use agc_text::Output;
 use std::io::Write;
 
 /// Writes a name as a value of CSV: in quotes where it has a comma or a quote, each of these twice.
-fn put_quoted<W: Write>(pen: &mut Pen<'_, W>, name: &str) {
+fn put_quoted<W: Write>(pen: &mut Pen<W>, name: &str) {
     if !name.contains(',') && !name.contains('"') {
         pen.text(name);
         return;
@@ -33,7 +33,7 @@ pub(crate) fn put_names<W: Write>(name: &str, csv: bool, writer: &mut W) -> Resu
 }
 
 /// Writes a row of comma-separated values.
-fn put_csv<W: Write>(pen: &mut Pen<'_, W>, value: u64, found: &Found) {
+fn put_csv<W: Write>(pen: &mut Pen<W>, value: u64, found: &Found) {
     let at = match found.alarms {
         0 => Text(""),
         _ => Seconds(found.at),
@@ -51,7 +51,7 @@ fn put_csv<W: Write>(pen: &mut Pen<'_, W>, value: u64, found: &Found) {
 }
 
 /// Writes a row of columns, the first of which is so wide.
-fn put_row<W: Write>(pen: &mut Pen<'_, W>, width: usize, value: u64, found: &Found) {
+fn put_row<W: Write>(pen: &mut Pen<W>, width: usize, value: u64, found: &Found) {
     put_cell(pen, width, Number(value));
     if found.alarms == 0 {
         pen.text("  none           -");

@@ -22,13 +22,13 @@ use std::marker::Model;
 /// How the events of a run are drawn.
 pub(crate) trait Draws: Drop {
     /// Writes what comes before the first event, in this scene.
-    fn begin<W: Write>(&mut self, pen: &mut Pen<'_, W>, scene: Scene);
+    fn begin<W: Write>(&mut self, pen: &mut Pen<W>, scene: Scene);
 
     /// Draws an event.
-    fn draw<W: Write>(&mut self, pen: &mut Pen<'_, W>, event: Event);
+    fn draw<W: Write>(&mut self, pen: &mut Pen<W>, event: Event);
 
     /// Writes what comes after the last event.
-    fn finish<W: Write>(&mut self, pen: &mut Pen<'_, W>);
+    fn finish<W: Write>(&mut self, pen: &mut Pen<W>);
 }
 
 /// A run that is drawn: the machine that is watched, and how its events are drawn. Contracts see

@@ -82,7 +82,7 @@ fn right_of(labels: &Labels, count: u64) -> u64 {
 }
 
 /// Writes all names, and the legend.
-fn put_names<W: Write>(pen: &mut Pen<'_, W>, sets: u64, labels: &Labels) {
+fn put_names<W: Write>(pen: &mut Pen<W>, sets: u64, labels: &Labels) {
     pen.text(ABOVE);
     for k in 0..sets {
         let y = 69 + 27 * k.min(7);
@@ -107,7 +107,7 @@ fn put_names<W: Write>(pen: &mut Pen<'_, W>, sets: u64, labels: &Labels) {
 }
 
 /// Writes the picture's title, or else how many requests there are.
-fn put_title<W: Write>(pen: &mut Pen<'_, W>, labels: &Labels, count: u64) {
+fn put_title<W: Write>(pen: &mut Pen<W>, labels: &Labels, count: u64) {
     let ending = if count == 1 { "" } else { "s" };
     match labels.title() {
         Some(title) => pen.put("<title>{}</title>\n", &[Bytes(title)]),
@@ -119,7 +119,7 @@ fn put_title<W: Write>(pen: &mut Pen<'_, W>, labels: &Labels, count: u64) {
 }
 
 /// Begins an SVG, so many points wide and high.
-pub(crate) fn begin_svg<W: Write>(pen: &mut Pen<'_, W>, width: u64, height: u64) {
+pub(crate) fn begin_svg<W: Write>(pen: &mut Pen<W>, width: u64, height: u64) {
     let (width, height) = (Number(width), Number(height));
     pen.text("<svg xmlns=\"http://www.w3.org/2000/svg\"");
     pen.put(
@@ -129,7 +129,7 @@ pub(crate) fn begin_svg<W: Write>(pen: &mut Pen<'_, W>, width: u64, height: u64)
 }
 
 /// Writes the head of a picture of so many core sets and requests.
-pub(crate) fn put_head<W: Write>(pen: &mut Pen<'_, W>, sets: u64, labels: &Labels, count: u64) {
+pub(crate) fn put_head<W: Write>(pen: &mut Pen<W>, sets: u64, labels: &Labels, count: u64) {
     begin_svg(pen, right_of(labels, count), 246 + 27 * sets.min(8));
     put_title(pen, labels, count);
     pen.text(STYLE);

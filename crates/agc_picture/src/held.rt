@@ -122,7 +122,7 @@ pub(crate) fn held_in(scene: &Scene, place: Place) -> Held {
 }
 
 /// Writes a lane's name.
-pub(crate) fn put_name<W: Write>(pen: &mut Pen<'_, W>, place: Place) {
+pub(crate) fn put_name<W: Write>(pen: &mut Pen<W>, place: Place) {
     match place {
         Place::Runs => pen.text("runs"),
         Place::Set(k) => pen.put("set {}", &[Number(k)]),
@@ -132,7 +132,7 @@ pub(crate) fn put_name<W: Write>(pen: &mut Pen<'_, W>, place: Place) {
 }
 
 /// Writes which job it is, of a core set also its priority, and where it is.
-pub(crate) fn put_job<W: Write>(pen: &mut Pen<'_, W>, labels: &Labels, held: Held) {
+pub(crate) fn put_job<W: Write>(pen: &mut Pen<W>, labels: &Labels, held: Held) {
     pen.put("job {}", &[Number(held.number)]);
     if let Some(seat) = held.seat {
         pen.put(", priority {}, at ", &[Priority(seat.priority)]);

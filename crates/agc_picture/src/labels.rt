@@ -135,7 +135,7 @@ impl Labels {
     }
 
     /// Writes where a job is: behind its name, if it has one.
-    pub(crate) fn put_place<W: Write>(&self, pen: &mut Pen<'_, W>, at: u16) {
+    pub(crate) fn put_place<W: Write>(&self, pen: &mut Pen<W>, at: u16) {
         match self.job(at) {
             None => pen.add(Filling::Octal(at)),
             Some(label) => pen.put(

@@ -105,7 +105,7 @@ impl Strip {
     }
 
     /// Writes the rectangle of columns, of this class.
-    pub(crate) fn put_path<W: Write>(self, pen: &mut Pen<'_, W>, class: &str, from: u64, to: u64) {
+    pub(crate) fn put_path<W: Write>(self, pen: &mut Pen<W>, class: &str, from: u64, to: u64) {
         let width = Number(to.saturating_sub(from).saturating_mul(COLUMN));
         let (x, y) = (Number(Scale::x(from)), Number(self.y));
         pen.put(
@@ -116,7 +116,7 @@ impl Strip {
 
     /// Writes the number of a block, that of tasks above the bar; in its place the name of the job,
     /// if it has one, and these columns have room for it.
-    fn put_label<W: Write>(self, pen: &mut Pen<'_, W>, labels: &Labels, run: Run) {
+    fn put_label<W: Write>(self, pen: &mut Pen<W>, labels: &Labels, run: Run) {
         let Block { held, at, .. } = run.block;
         let x = Number(Scale::x(run.from).saturating_add(3));
         let name = match at {
@@ -143,7 +143,7 @@ impl Strip {
     }
 
     /// Writes what a block tells: a title, and a number or name where there is room for it.
-    fn put_told<W: Write>(self, pen: &mut Pen<'_, W>, labels: &Labels, run: Run) {
+    fn put_told<W: Write>(self, pen: &mut Pen<W>, labels: &Labels, run: Run) {
         pen.text("><title>");
         put_name(pen, self.place);
         match self.place {
@@ -160,7 +160,7 @@ impl Strip {
     }
 
     /// Writes a run of columns. Nothing is written where nothing is there, or no column.
-    fn put_run<W: Write>(self, pen: &mut Pen<'_, W>, labels: &Labels, run: Run) {
+    fn put_run<W: Write>(self, pen: &mut Pen<W>, labels: &Labels, run: Run) {
         let held = run.block.held;
         if run.from >= run.to || (held.number == 0 && !run.is_joined) {
             return;
@@ -213,7 +213,7 @@ impl Lane {
     /// else.
     fn add<W: Write>(
         &mut self,
-        pen: &mut Pen<'_, W>,
+        pen: &mut Pen<W>,
         labels: &Labels,
         is_joined: bool,
         from: u64,
@@ -247,7 +247,7 @@ impl Lane {
     }
 
     /// Time comes to a column.
-    pub(crate) fn pass<W: Write>(&mut self, pen: &mut Pen<'_, W>, labels: &Labels, column: u64) {
+    pub(crate) fn pass<W: Write>(&mut self, pen: &mut Pen<W>, labels: &Labels, column: u64) {
         if column <= self.column {
             return;
         }
@@ -279,7 +279,7 @@ impl Lane {
     }
 
     /// Writes the columns that are not written yet.
-    pub(crate) fn flush<W: Write>(&mut self, pen: &mut Pen<'_, W>, labels: &Labels) {
+    pub(crate) fn flush<W: Write>(&mut self, pen: &mut Pen<W>, labels: &Labels) {
         self.strip.put_run(pen, labels, self.run);
         self.run.from = self.run.to;
     }

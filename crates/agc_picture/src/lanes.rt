@@ -60,7 +60,7 @@ fn spot(place: Place, sets: u64) -> (u64, u64) {
 }
 
 /// Writes what is in a lane, as a title.
-fn put_title<W: Write>(pen: &mut Pen<'_, W>, labels: &Labels, place: Place, held: Held) {
+fn put_title<W: Write>(pen: &mut Pen<W>, labels: &Labels, place: Place, held: Held) {
     match place {
         Place::Runs if held.number == 0 => pen.text("no job is running"),
         Place::Runs => pen.put("job {} runs", &[Number(held.number)]),
@@ -80,7 +80,7 @@ fn put_title<W: Write>(pen: &mut Pen<'_, W>, labels: &Labels, place: Place, held
 
 /// Ends a title with the request's number, and writes the block's rectangle, from the column to the
 /// right edge.
-fn put_ground<W: Write>(pen: &mut Pen<'_, W>, column: Column, y: u64, height: u64) {
+fn put_ground<W: Write>(pen: &mut Pen<W>, column: Column, y: u64, height: u64) {
     let Column { number, x } = column;
     pen.put(
         ", from request {}</title><rect x=\"{}\" y=\"{}\" width=\"100%\" height=\"{}\"/>",
@@ -91,7 +91,7 @@ fn put_ground<W: Write>(pen: &mut Pen<'_, W>, column: Column, y: u64, height: u6
 /// Writes a block from its column to the right edge, so far down and so high, and its title, but
 /// not its end.
 fn put_block<W: Write>(
-    pen: &mut Pen<'_, W>,
+    pen: &mut Pen<W>,
     labels: &Labels,
     column: Column,
     class: &str,
@@ -104,7 +104,7 @@ fn put_block<W: Write>(
 }
 
 /// Writes the blocks of tasks, at most nine: their lane's ground, and a bar with their number.
-fn put_tasks<W: Write>(pen: &mut Pen<'_, W>, labels: &Labels, column: Column, y: u64, held: Held) {
+fn put_tasks<W: Write>(pen: &mut Pen<W>, labels: &Labels, column: Column, y: u64, held: Held) {
     let height = 4 * held.number.min(9);
     let top = y.saturating_add(36 - height);
     put_block(pen, labels, column, "f", (y, 36), (Place::Tasks, held));
@@ -130,7 +130,7 @@ fn put_tasks<W: Write>(pen: &mut Pen<'_, W>, labels: &Labels, column: Column, y:
 /// Writes the blocks of a lane: of another than that of tasks what is in it, and the name or number
 /// of the job in a core set.
 fn put_lane<W: Write>(
-    pen: &mut Pen<'_, W>,
+    pen: &mut Pen<W>,
     labels: &Labels,
     column: Column,
     sets: u64,
@@ -161,7 +161,7 @@ fn put_lane<W: Write>(
 
 /// Writes this part of a scene, after another.
 fn put_part<W: Write>(
-    pen: &mut Pen<'_, W>,
+    pen: &mut Pen<W>,
     labels: &Labels,
     column: Column,
     before: &Scene,
@@ -179,7 +179,7 @@ fn put_part<W: Write>(
 
 /// Writes the mark of an event's alarm, or of its restart, at the end of its column, down to this
 /// end.
-fn put_mark<W: Write>(pen: &mut Pen<'_, W>, event: &Event, x: u64, end: u64) {
+fn put_mark<W: Write>(pen: &mut Pen<W>, event: &Event, x: u64, end: u64) {
     let (class, title, name) = match event.alarm() {
         None => ("n", "restart", "restart"),
         Some(alarm) => ("m", full_table(alarm, &event.scene), alarm_code(alarm)),
@@ -201,7 +201,7 @@ fn put_mark<W: Write>(pen: &mut Pen<'_, W>, event: &Event, x: u64, end: u64) {
 }
 
 /// Writes the column's number and the time, above each fifth column.
-fn put_axis<W: Write>(pen: &mut Pen<'_, W>, column: Column, time: u64) {
+fn put_axis<W: Write>(pen: &mut Pen<W>, column: Column, time: u64) {
     let (number, x) = (Number(column.number), Number(column.x));
     if column.number % 5 == 0 {
         pen.put(
@@ -213,7 +213,7 @@ fn put_axis<W: Write>(pen: &mut Pen<'_, W>, column: Column, time: u64) {
 
 impl Draws for Columns {
     /// Writes the head, and column 0, of the scene with which the machine begins.
-    fn begin<W: Write>(&mut self, pen: &mut Pen<'_, W>, scene: Scene) {
+    fn begin<W: Write>(&mut self, pen: &mut Pen<W>, scene: Scene) {
         let first = column_at(width_of(self.count), 0);
         put_head(pen, scene.seats().len() as u64, &self.labels, self.count);
         put_axis(pen, first, 0);
@@ -223,7 +223,7 @@ impl Draws for Columns {
 
     /// Writes the column of an event: in it what has changed. Where an era begins, its mark stands
     /// at the end of the column, and in the next what began.
-    fn draw<W: Write>(&mut self, pen: &mut Pen<'_, W>, event: Event) {
+    fn draw<W: Write>(&mut self, pen: &mut Pen<W>, event: Event) {
         let width = width_of(self.count);
         let column = column_at(width, event.number);
         put_axis(pen, column, event.time);
@@ -248,7 +248,7 @@ impl Draws for Columns {
         });
     }
 
-    fn finish<W: Write>(&mut self, pen: &mut Pen<'_, W>) {
+    fn finish<W: Write>(&mut self, pen: &mut Pen<W>) {
         pen.text("</svg>\n");
     }
 }

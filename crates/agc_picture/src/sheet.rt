@@ -71,7 +71,7 @@ fn bottom(sets: u64) -> u64 {
 }
 
 /// Writes the title, or else the times.
-fn put_title<W: Write>(pen: &mut Pen<'_, W>, labels: &Labels, scale: Scale) {
+fn put_title<W: Write>(pen: &mut Pen<W>, labels: &Labels, scale: Scale) {
     match labels.title() {
         Some(title) => pen.add(Bytes(title)),
         None => pen.put(
@@ -82,7 +82,7 @@ fn put_title<W: Write>(pen: &mut Pen<'_, W>, labels: &Labels, scale: Scale) {
 }
 
 /// Writes the title above the lanes, in letters so high that it isn't cut.
-fn put_heading<W: Write>(pen: &mut Pen<'_, W>, labels: &Labels, scale: Scale) {
+fn put_heading<W: Write>(pen: &mut Pen<W>, labels: &Labels, scale: Scale) {
     let letters = labels.title_letters().saturating_mul(18).max(1);
     let size = scale.width.saturating_sub(16).saturating_mul(25) / letters;
     pen.text("<text class=\"h\" x=\"8\" y=\"42\"");
@@ -95,7 +95,7 @@ fn put_heading<W: Write>(pen: &mut Pen<'_, W>, labels: &Labels, scale: Scale) {
 }
 
 /// Writes the head of a picture of so many core sets, up to the names of its lanes.
-pub(crate) fn put_head<W: Write>(pen: &mut Pen<'_, W>, labels: &Labels, sets: u64, scale: Scale) {
+pub(crate) fn put_head<W: Write>(pen: &mut Pen<W>, labels: &Labels, sets: u64, scale: Scale) {
     begin_svg(pen, scale.width, bottom(sets).saturating_add(122));
     pen.text("<title>");
     put_title(pen, labels, scale);
@@ -105,7 +105,7 @@ pub(crate) fn put_head<W: Write>(pen: &mut Pen<'_, W>, labels: &Labels, sets: u6
 }
 
 /// Writes a lane's name and its ground.
-pub(crate) fn put_ground<W: Write>(pen: &mut Pen<'_, W>, strip: Strip, scale: Scale) {
+pub(crate) fn put_ground<W: Write>(pen: &mut Pen<W>, strip: Strip, scale: Scale) {
     let Strip { place, y, height } = strip;
     let base = y.saturating_add(height / 2).saturating_add(9);
     pen.put("<text x=\"8\" y=\"{}\">", &[Number(base)]);
@@ -127,7 +127,7 @@ fn number_at(scale: Scale, x: u64, time: u64) -> u64 {
 }
 
 /// Writes a number of the axis, and its line through the lanes.
-fn put_number<W: Write>(pen: &mut Pen<'_, W>, scale: Scale, time: u64, end: u64) {
+fn put_number<W: Write>(pen: &mut Pen<W>, scale: Scale, time: u64, end: u64) {
     let x = Scale::x(scale.column(time));
     pen.put(
         "<path class=\"g\" d=\"M{} 92V{}\"/><text class=\"a\" x=\"{}\" y=\"84\">{}</text>\n",
@@ -141,7 +141,7 @@ fn put_number<W: Write>(pen: &mut Pen<'_, W>, scale: Scale, time: u64, end: u64)
 }
 
 /// Writes the axis: whole steps of time.
-fn put_axis<W: Write>(pen: &mut Pen<'_, W>, sets: u64, scale: Scale) {
+fn put_axis<W: Write>(pen: &mut Pen<W>, sets: u64, scale: Scale) {
     let step = scale.step().max(1);
     let before = scale.from.saturating_add(step - 1) / step;
     let first = before.saturating_mul(step);
@@ -155,7 +155,7 @@ fn put_axis<W: Write>(pen: &mut Pen<'_, W>, sets: u64, scale: Scale) {
 }
 
 /// Writes what blocks and colours mean, and closes the picture.
-fn put_legend<W: Write>(pen: &mut Pen<'_, W>, labels: &Labels, y: u64, scale: Scale) {
+fn put_legend<W: Write>(pen: &mut Pen<W>, labels: &Labels, y: u64, scale: Scale) {
     let (one, two) = (Number(y.saturating_add(36)), Number(y.saturating_add(70)));
     let (three, low) = (Number(y.saturating_add(104)), Number(y.saturating_add(85)));
     let high = Number(y.saturating_add(51));
@@ -172,7 +172,7 @@ fn put_legend<W: Write>(pen: &mut Pen<'_, W>, labels: &Labels, y: u64, scale: Sc
 /// Writes what is to the right of the lanes and below them, for a run that ends in this column, and
 /// closes the picture.
 pub(crate) fn put_foot<W: Write>(
-    pen: &mut Pen<'_, W>,
+    pen: &mut Pen<W>,
     labels: &Labels,
     sets: u64,
     scale: Scale,

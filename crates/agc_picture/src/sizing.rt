@@ -20,14 +20,14 @@ struct Size {
 }
 
 impl Draws for Size {
-    fn begin<W: Write>(&mut self, _pen: &mut Pen<'_, W>, _scene: Scene) {}
+    fn begin<W: Write>(&mut self, _pen: &mut Pen<W>, _scene: Scene) {}
 
-    fn draw<W: Write>(&mut self, _pen: &mut Pen<'_, W>, event: Event) {
+    fn draw<W: Write>(&mut self, _pen: &mut Pen<W>, event: Event) {
         self.time = event.total;
         self.requests = event.number;
     }
 
-    fn finish<W: Write>(&mut self, _pen: &mut Pen<'_, W>) {}
+    fn finish<W: Write>(&mut self, _pen: &mut Pen<W>) {}
 }
 
 /// Of a run of which nothing was asked yet.

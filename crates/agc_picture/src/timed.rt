@@ -68,7 +68,7 @@ fn lanes_of(alloc: Global, sets: u64) -> Result<Vec<Lane>, AllocError> {
 }
 
 /// Writes the line of an alarm or restart, left of this place, and what it is as its title.
-fn put_line<W: Write>(pen: &mut Pen<'_, W>, event: &Event, x: u64, end: u64) {
+fn put_line<W: Write>(pen: &mut Pen<W>, event: &Event, x: u64, end: u64) {
     let (class, title) = match event.alarm() {
         None => ("n", "restart"),
         Some(alarm) => ("m", full_table(alarm, &event.scene)),
@@ -156,14 +156,14 @@ impl OverTime {
     }
 
     /// Time comes to this column: what was there is written.
-    fn pass<W: Write>(&mut self, pen: &mut Pen<'_, W>, column: u64) {
+    fn pass<W: Write>(&mut self, pen: &mut Pen<W>, column: u64) {
         for lane in self.lanes.iter_mut() {
             lane.pass(pen, &self.labels, column);
         }
     }
 
     /// Writes what is not written yet.
-    fn flush<W: Write>(&mut self, pen: &mut Pen<'_, W>) {
+    fn flush<W: Write>(&mut self, pen: &mut Pen<W>) {
         for lane in self.lanes.iter_mut() {
             lane.flush(pen, &self.labels);
         }
@@ -171,7 +171,7 @@ impl OverTime {
 
     /// Writes the mark of an event with which an era begins, over what was there, where there is
     /// room: one line of an alarm a column, and one of a restart.
-    fn mark<W: Write>(&mut self, pen: &mut Pen<'_, W>, event: &Event) {
+    fn mark<W: Write>(&mut self, pen: &mut Pen<W>, event: &Event) {
         let column = self.scale.column(event.total);
         let x = Scale::x(column);
         if !self.room.takes_line(event.alarm().is_some(), column) {
@@ -193,7 +193,7 @@ impl OverTime {
 
 impl Draws for OverTime {
     /// Writes the head, and the grounds of all lanes.
-    fn begin<W: Write>(&mut self, pen: &mut Pen<'_, W>, scene: Scene) {
+    fn begin<W: Write>(&mut self, pen: &mut Pen<W>, scene: Scene) {
         self.show(&scene, false);
         self.settle();
         put_head(pen, &self.labels, self.sets, self.scale);
@@ -203,7 +203,7 @@ impl Draws for OverTime {
     }
 
     /// Draws an event: time passes, then comes what it left, then the era that begins with it.
-    fn draw<W: Write>(&mut self, pen: &mut Pen<'_, W>, event: Event) {
+    fn draw<W: Write>(&mut self, pen: &mut Pen<W>, event: Event) {
         let (from, to) = (self.scale.from, self.scale.to);
         self.time = event.total;
         self.pass(pen, self.scale.column(event.total));
@@ -220,7 +220,7 @@ impl Draws for OverTime {
     }
 
     /// Writes what is not written yet, and what stands around the lanes.
-    fn finish<W: Write>(&mut self, pen: &mut Pen<'_, W>) {
+    fn finish<W: Write>(&mut self, pen: &mut Pen<W>) {
         let end = if self.time == 0 {
             self.scale.columns
         } else {

@@ -35,7 +35,7 @@ fn parted(line: &str) -> Option<(&str, &str)> {
 }
 
 /// Writes the tables of a row, each after its name, in as few lines as have room for them.
-fn put_tables<W: Write>(pen: &mut Pen<'_, W>, tables: &str) {
+fn put_tables<W: Write>(pen: &mut Pen<W>, tables: &str) {
     let mut names = NAMES.iter();
     let mut length: usize = 0;
     for part in tables.split("  ") {
@@ -61,7 +61,7 @@ fn put_tables<W: Write>(pen: &mut Pen<'_, W>, tables: &str) {
 }
 
 /// Writes a line of a trace.
-fn put_line<W: Write>(pen: &mut Pen<'_, W>, line: &str) {
+fn put_line<W: Write>(pen: &mut Pen<W>, line: &str) {
     let Some((front, tables)) = parted(line) else {
         return pen.put("{}\n", &[Text(line)]);
     };
@@ -85,7 +85,7 @@ impl<'a, W: Write> Folded<'a, W> {
 
     /// Writes what is kept of a line: as it is, or as a row, if it has ended.
     fn put_kept(&mut self, has_ended: bool) -> io::Result<()> {
-        let mut pen = Pen::new(self.writer);
+        let mut pen = Pen::new(&mut *self.writer);
         match str::from_utf8(self.line.as_slice()) {
             Ok(line) if has_ended => put_line(&mut pen, line),
             _ => {

@@ -86,7 +86,7 @@ fn ask(machine: &mut Watched, request: &Request) -> Last
 }
 
 /// Writes what a core set holds.
-fn put_seat<W: Write>(pen: &mut Pen<'_, W>, k: usize, seat: Seat) {
+fn put_seat<W: Write>(pen: &mut Pen<W>, k: usize, seat: Seat) {
     let fillings = [
         Number(k as u64),
         Number(u64::from(seat.number)),
@@ -102,7 +102,7 @@ fn put_seat<W: Write>(pen: &mut Pen<'_, W>, k: usize, seat: Seat) {
 }
 
 /// Writes which job is running, and what the core sets hold.
-fn put_jobs<W: Write>(pen: &mut Pen<'_, W>, scene: &Scene) {
+fn put_jobs<W: Write>(pen: &mut Pen<W>, scene: &Scene) {
     match scene.running() {
         None => pen.text("    no job is running\n"),
         Some(number) => pen.put(
@@ -124,7 +124,7 @@ fn put_jobs<W: Write>(pen: &mut Pen<'_, W>, scene: &Scene) {
 }
 
 /// Writes how many core sets and areas are free.
-fn put_free<W: Write>(pen: &mut Pen<'_, W>, scene: &Scene) {
+fn put_free<W: Write>(pen: &mut Pen<W>, scene: &Scene) {
     let seats = scene.seats();
     let free = seats.iter().filter(|seat| seat.is_none()).count();
     let areas = (1..6u16)
@@ -142,7 +142,7 @@ fn put_free<W: Write>(pen: &mut Pen<'_, W>, scene: &Scene) {
 }
 
 /// Writes the tasks that wait, the phases and the codes.
-fn put_rest<W: Write>(pen: &mut Pen<'_, W>, scene: &Scene) {
+fn put_rest<W: Write>(pen: &mut Pen<W>, scene: &Scene) {
     if scene.waits().is_empty() {
         pen.text("    no task waits\n");
     }
@@ -277,7 +277,7 @@ impl Player {
     }
 
     /// Writes all that is shown of the state: after which request, when, and the tables.
-    pub(crate) fn put_state<W: Write>(&self, pen: &mut Pen<'_, W>, bench: &Bench) {
+    pub(crate) fn put_state<W: Write>(&self, pen: &mut Pen<W>, bench: &Bench) {
         let Last {
             number,
             time,

@@ -184,8 +184,8 @@ fn put_script<W: Write>(writer: &mut W, bench: &Bench, requests: &[Request]) -> 
 }
 
 /// Writes a bench of so many requests to a file of this name, and says so.
-fn save<H: Files, W: Write>(
-    rt: &H,
+fn save<W: Write>(
+    rt: &HostRuntime,
     name: &str,
     text: &[u8],
     count: usize,
@@ -337,20 +337,15 @@ impl<'a> Played<'a> {
     }
 
     /// Writes all that was asked to a file, as a bench.
-    fn save<H: AllocGlobal + Files, W: Write>(
-        &self,
-        rt: &H,
-        name: &str,
-        writer: &mut W,
-    ) -> Result<(), RunFault> {
+    fn save<W: Write>(&self, rt: &HostRuntime, name: &str, writer: &mut W) -> Result<(), RunFault> {
         let text = bench_of(rt.alloc(), self.bench, self.requests.as_slice())?;
         save(rt, name, text.as_slice(), self.requests.len(), writer)
     }
 
     /// Does what a line asks for, of this number.
-    fn serve<H: AllocGlobal + Files, W: Write>(
+    fn serve<W: Write>(
         &mut self,
-        rt: &H,
+        rt: &HostRuntime,
         number: u64,
         line: &str,
         writer: &mut W,
@@ -393,8 +388,8 @@ fn text_of(line: &[u8]) -> Option<&str> {
 }
 
 /// Answers a line of this number, which is this text.
-fn answer<H: AllocGlobal + Files, W: Write>(
-    rt: &H,
+fn answer<W: Write>(
+    rt: &HostRuntime,
     played: &mut Played<'_>,
     number: u64,
     text: Option<&str>,
@@ -415,15 +410,15 @@ fn answer<H: AllocGlobal + Files, W: Write>(
 }
 
 /// Says on standard error that a line is waited for, if that is wanted.
-fn prompt<H: Eprint>(rt: &H, manner: Manner, text: &str) {
+fn prompt(rt: &HostRuntime, manner: Manner, text: &str) {
     if manner.prompts {
         let _ = eprint!(rt; "{text}");
     }
 }
 
 /// Reads the next line, of this number, and answers it. Returns whether further ones are read.
-fn answer_next<H: AllocGlobal + Files + Eprint, R: BufRead, W: Write>(
-    rt: &H,
+fn answer_next<R: BufRead, W: Write>(
+    rt: &HostRuntime,
     played: &mut Played<'_>,
     manner: Manner,
     number: u64,
@@ -447,8 +442,8 @@ fn answer_next<H: AllocGlobal + Files + Eprint, R: BufRead, W: Write>(
 }
 
 /// Begins, and answers each line before the next one is read.
-fn answer_all<H: AllocGlobal + Files + Eprint, R: BufRead, W: Write>(
-    rt: &H,
+fn answer_all<R: BufRead, W: Write>(
+    rt: &HostRuntime,
     played: &mut Played<'_>,
     manner: Manner,
     reader: &mut R,
@@ -473,8 +468,8 @@ fn answer_all<H: AllocGlobal + Files + Eprint, R: BufRead, W: Write>(
 ///
 /// `NoMemory` at the start, or for a line; a request that runs out of memory is reported, and play
 /// goes on. `Input`, `TooLong` and `Output`.
-pub fn play<H: AllocGlobal + Files + Eprint, R: BufRead, W: Write>(
-    rt: &H,
+pub fn play<R: BufRead, W: Write>(
+    rt: &HostRuntime,
     bench: &Bench,
     manner: Manner,
     reader: &mut R,

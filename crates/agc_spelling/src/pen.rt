@@ -22,8 +22,8 @@ pub enum Filling<'a> {
 
 /// A writer, and whether a write to it failed: nothing more is written then. Source: profile.
 #[derive(Drop)]
-pub struct Pen<'a, W> {
-    writer: &'a mut W,
+pub struct Pen<W> {
+    writer: W,
     failed: bool,
 }
 
@@ -50,9 +50,9 @@ fn put_filling<W: Write>(writer: &mut W, filling: Filling<'_>) -> io::Result<()>
     }
 }
 
-impl<'a, W: Write> Pen<'a, W> {
+impl<W: Write> Pen<W> {
     /// Nothing is written yet. Source: profile.
-    pub fn new(writer: &'a mut W) -> Pen<'a, W> {
+    pub fn new(writer: W) -> Pen<W> {
         Pen {
             writer,
             failed: false,
@@ -62,7 +62,7 @@ impl<'a, W: Write> Pen<'a, W> {
     /// Writes this, unless a write failed. Source: profile.
     pub fn add(&mut self, filling: Filling<'_>) {
         if !self.failed {
-            self.failed = put_filling(self.writer, filling).is_err();
+            self.failed = put_filling(&mut self.writer, filling).is_err();
         }
     }
 

@@ -23,7 +23,7 @@ fn full_table(alarm: Alarm, scene: &Scene) -> &'static str {
 /// Writes the task whose action raised the alarm, and that action, by its number where the task has
 /// several.
 fn put_raiser<W: Write>(
-    pen: &mut Pen<'_, W>,
+    pen: &mut Pen<W>,
     columns: &Columns,
     plan: &Plan,
     task: Task,
@@ -45,7 +45,7 @@ fn put_raiser<W: Write>(
 
 /// Ends a line by since when something is there, where that is known: with which request a job or a
 /// task came.
-fn end_known<W: Write>(pen: &mut Pen<'_, W>, since: Option<Since>) {
+fn end_known<W: Write>(pen: &mut Pen<W>, since: Option<Since>) {
     match since {
         None => {}
         Some(Since { request: 0, .. }) => pen.text(", since power-up"),
@@ -60,7 +60,7 @@ fn end_known<W: Write>(pen: &mut Pen<'_, W>, since: Option<Since>) {
 
 /// Writes the line of the job in core set k.
 fn put_job<W: Write>(
-    pen: &mut Pen<'_, W>,
+    pen: &mut Pen<W>,
     columns: &Columns,
     k: usize,
     seat: Seat,
@@ -88,7 +88,7 @@ fn put_job<W: Write>(
 }
 
 /// Writes the lines of all jobs in core sets.
-fn put_jobs<W: Write>(pen: &mut Pen<'_, W>, columns: &Columns, event: &Event) {
+fn put_jobs<W: Write>(pen: &mut Pen<W>, columns: &Columns, event: &Event) {
     for (k, seat) in event.scene.seats().iter().enumerate() {
         if let Some(seat) = *seat {
             put_job(pen, columns, k, seat, event.jobs.of_job(seat.number));
@@ -97,7 +97,7 @@ fn put_jobs<W: Write>(pen: &mut Pen<'_, W>, columns: &Columns, event: &Event) {
 }
 
 /// Writes the lines of all tasks that wait.
-fn put_tasks<W: Write>(pen: &mut Pen<'_, W>, columns: &Columns, event: &Event) {
+fn put_tasks<W: Write>(pen: &mut Pen<W>, columns: &Columns, event: &Event) {
     for (k, wait) in event.scene.waits().iter().enumerate() {
         pen.text("          task ");
         columns.put_task(pen, wait.task);
@@ -107,7 +107,7 @@ fn put_tasks<W: Write>(pen: &mut Pen<'_, W>, columns: &Columns, event: &Event) {
 }
 
 /// Writes phases.
-pub(crate) fn put_phases<W: Write>(pen: &mut Pen<'_, W>, columns: &Columns, phases: &[Phase]) {
+pub(crate) fn put_phases<W: Write>(pen: &mut Pen<W>, columns: &Columns, phases: &[Phase]) {
     pen.text("        restart by phases");
     for (k, phase) in phases.iter().enumerate() {
         columns.put_phase(pen, k.saturating_add(1), *phase);
@@ -115,7 +115,7 @@ pub(crate) fn put_phases<W: Write>(pen: &mut Pen<'_, W>, columns: &Columns, phas
 }
 
 /// Writes the phases with which the era begins, and its scene.
-fn put_again<W: Write>(pen: &mut Pen<'_, W>, columns: &Columns, event: &Event, era: &Scene) {
+fn put_again<W: Write>(pen: &mut Pen<W>, columns: &Columns, event: &Event, era: &Scene) {
     let mut line = Line::new(pen, &[]);
     put_phases(&mut Pen::new(&mut line), columns, &event.scene.phases());
     line.fill(columns.front_width());
@@ -124,7 +124,7 @@ fn put_again<W: Write>(pen: &mut Pen<'_, W>, columns: &Columns, event: &Event, e
 
 /// Writes the account of an event's alarm, if it has one.
 pub(crate) fn put_account<W: Write>(
-    pen: &mut Pen<'_, W>,
+    pen: &mut Pen<W>,
     plan: &Plan,
     columns: &Columns,
     event: &Event,

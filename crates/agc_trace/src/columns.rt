@@ -88,7 +88,7 @@ impl Columns {
     }
 
     /// Writes who asks: an event by its name, or else by its number from 1.
-    pub(crate) fn put_source<W: Write>(&self, pen: &mut Pen<'_, W>, by: By) {
+    pub(crate) fn put_source<W: Write>(&self, pen: &mut Pen<W>, by: By) {
         match by {
             By::Bench(source) => put_source(pen, source),
             By::Scenario(Asker::Clock) => pen.text("clock"),
@@ -109,7 +109,7 @@ impl Columns {
     }
 
     /// Writes the number of a job, followed by its name, if its address has one.
-    pub(crate) fn put_job<W: Write>(&self, pen: &mut Pen<'_, W>, number: u16, at: u16) {
+    pub(crate) fn put_job<W: Write>(&self, pen: &mut Pen<W>, number: u16, at: u16) {
         pen.add(Number(u64::from(number)));
         if let Some(name) = self.names.job(at) {
             pen.text(":");
@@ -118,7 +118,7 @@ impl Columns {
     }
 
     /// Writes the address of a task, followed by its name, if it has one.
-    pub(crate) fn put_waiting<W: Write>(&self, pen: &mut Pen<'_, W>, task: Task) {
+    pub(crate) fn put_waiting<W: Write>(&self, pen: &mut Pen<W>, task: Task) {
         pen.add(Octal(task.at.get()));
         if let Some(name) = self.names.task(&task) {
             pen.text(":");
@@ -127,7 +127,7 @@ impl Columns {
     }
 
     /// Writes where a job is: its name, if it has one, and its address.
-    pub(crate) fn put_place<W: Write>(&self, pen: &mut Pen<'_, W>, at: u16) {
+    pub(crate) fn put_place<W: Write>(&self, pen: &mut Pen<W>, at: u16) {
         match self.names.job(at) {
             None => pen.add(Octal(at)),
             Some(name) => pen.put("{} ({})", &[Text(name), Octal(at)]),
@@ -135,7 +135,7 @@ impl Columns {
     }
 
     /// Writes a task: its name, if it has one, its address and its bank.
-    pub(crate) fn put_task<W: Write>(&self, pen: &mut Pen<'_, W>, task: Task) {
+    pub(crate) fn put_task<W: Write>(&self, pen: &mut Pen<W>, task: Task) {
         match self.names.task(&task) {
             None => put_task(pen, task),
             Some(name) => {
@@ -147,7 +147,7 @@ impl Columns {
     }
 
     /// Writes the phase of a group, and its name, if it has one.
-    pub(crate) fn put_phase<W: Write>(&self, pen: &mut Pen<'_, W>, group: usize, phase: Phase) {
+    pub(crate) fn put_phase<W: Write>(&self, pen: &mut Pen<W>, group: usize, phase: Phase) {
         pen.fill(" ", Number(u64::from(phase.get())));
         if let Some(name) = self.names.phase(group, phase) {
             pen.put(" ({})", &[Text(name)]);
@@ -156,7 +156,7 @@ impl Columns {
 }
 
 /// Writes a name in a cell, at most so many letters of it, without blanks.
-fn put_joined<W: Write>(pen: &mut Pen<'_, W>, name: &str) {
+fn put_joined<W: Write>(pen: &mut Pen<W>, name: &str) {
     for letter in name.chars().take(MOST_LETTERS) {
         let letter = if letter == ' ' { '_' } else { letter };
         pen.text(letter.encode_utf8(&mut [0; 4]));

@@ -14,7 +14,7 @@ use agc_word::Word;
 use std::io::Write;
 
 /// Writes what is wrong with the two words of a group, if anything is.
-fn put_pair<W: Write>(pen: &mut Pen<'_, W>, group: u64, minus: Word, phase: Word) {
+fn put_pair<W: Write>(pen: &mut Pen<W>, group: u64, minus: Word, phase: Word) {
     let bits = phase.bits();
     if minus != phase.neg() {
         pen.put(
@@ -30,7 +30,7 @@ fn put_pair<W: Write>(pen: &mut Pen<'_, W>, group: u64, minus: Word, phase: Word
 }
 
 /// Writes why power-up was a fresh start.
-fn put_broken<W: Write>(pen: &mut Pen<'_, W>, words: &[Word; 12]) {
+fn put_broken<W: Write>(pen: &mut Pen<W>, words: &[Word; 12]) {
     pen.text("        alarm 1107: no phase can be trusted, and nothing begins again\n");
     for group in 0..6usize {
         let (minus, phase) = (words[2 * group], words[2 * group + 1]);
@@ -40,7 +40,7 @@ fn put_broken<W: Write>(pen: &mut Pen<'_, W>, words: &[Word; 12]) {
 
 /// Writes what came of power-up with these phase words: the scene with which the first era begins.
 pub(crate) fn put_power<W: Write>(
-    pen: &mut Pen<'_, W>,
+    pen: &mut Pen<W>,
     columns: &Columns,
     words: &[Word; 12],
     scene: &Scene,
@@ -69,7 +69,7 @@ fn ending(count: u64) -> &'static str {
 
 /// Writes how many requests a machine of this limit and allowance refused.
 pub(crate) fn put_refused<W: Write>(
-    pen: &mut Pen<'_, W>,
+    pen: &mut Pen<W>,
     refused: Refused,
     limit: u32,
     allowance: u64,
@@ -96,7 +96,7 @@ pub(crate) fn put_refused<W: Write>(
 }
 
 /// Writes a line for each device of a bench whose pulses ask for nothing, if it sends any.
-pub(crate) fn put_idle<W: Write>(pen: &mut Pen<'_, W>, bench: &Bench) {
+pub(crate) fn put_idle<W: Write>(pen: &mut Pen<W>, bench: &Bench) {
     for device in bench.devices() {
         let (line, pulses) = *device;
         let pulses = u64::from(pulses);

@@ -16,13 +16,13 @@ fn letters(text: &[u8]) -> usize {
 /// the columns from the present cell on; a column that isn't there has none, and what is in it
 /// isn't written. No write to a line fails: its pen remembers that.
 #[derive(Drop)]
-pub(crate) struct Line<'a, 'w, W> {
-    pen: &'a mut Pen<'w, W>,
+pub(crate) struct Line<'a, W> {
+    pen: &'a mut Pen<W>,
     widths: &'a [Option<usize>],
     length: usize,
 }
 
-impl<W: Write> Write for Line<'_, '_, W> {
+impl<W: Write> Write for Line<'_, W> {
     fn write(&mut self, bytes: &[u8]) -> io::Result<usize> {
         for (k, text) in bytes.split(|byte| *byte == b'\t').enumerate() {
             if k > 0 {
@@ -38,9 +38,9 @@ impl<W: Write> Write for Line<'_, '_, W> {
     }
 }
 
-impl<'a, 'w, W: Write> Line<'a, 'w, W> {
+impl<'a, W: Write> Line<'a, W> {
     /// Nothing of it is written yet; its columns are so wide.
-    pub(crate) fn new(pen: &'a mut Pen<'w, W>, widths: &'a [Option<usize>]) -> Line<'a, 'w, W> {
+    pub(crate) fn new(pen: &'a mut Pen<W>, widths: &'a [Option<usize>]) -> Line<'a, W> {
         Line {
             pen,
             widths,
@@ -91,7 +91,7 @@ impl<'a, 'w, W: Write> Line<'a, 'w, W> {
 }
 
 /// Writes who asks for a request of a bench.
-pub(crate) fn put_source<W: Write>(pen: &mut Pen<'_, W>, source: Source) {
+pub(crate) fn put_source<W: Write>(pen: &mut Pen<W>, source: Source) {
     let mut line = Line::new(pen, &[]);
     // A line's pen remembers whether a write failed.
     let _ = write!(line, "{source}");

@@ -12,7 +12,7 @@ const REPLY_WIDTH: usize = 28;
 
 /// Writes the cells of a row before those of a scene: its number, its times, who asks, the request
 /// and the answer.
-fn put_front<W: Write>(pen: &mut Pen<'_, W>, columns: &Columns, cells: &[Filling<'_>; 6]) {
+fn put_front<W: Write>(pen: &mut Pen<W>, columns: &Columns, cells: &[Filling<'_>; 6]) {
     let widths = columns.widths();
     let mut line = Line::new(pen, &widths);
     Pen::new(&mut line).put("{}\t{}\t{}\t{}\t{}\t{}", cells);
@@ -20,7 +20,7 @@ fn put_front<W: Write>(pen: &mut Pen<'_, W>, columns: &Columns, cells: &[Filling
 }
 
 /// Writes the title, if there is one, and the heading.
-pub(crate) fn put_heading<W: Write>(pen: &mut Pen<'_, W>, columns: &Columns) {
+pub(crate) fn put_heading<W: Write>(pen: &mut Pen<W>, columns: &Columns) {
     if let Some(title) = columns.title() {
         pen.text(title);
         pen.text("\n");
@@ -39,7 +39,7 @@ pub(crate) fn put_heading<W: Write>(pen: &mut Pen<'_, W>, columns: &Columns) {
 
 /// Writes the row of power-up, with the scene with which the first era begins.
 pub(crate) fn put_power_row<W: Write>(
-    pen: &mut Pen<'_, W>,
+    pen: &mut Pen<W>,
     columns: &Columns,
     reply: &str,
     scene: &Scene,
@@ -58,7 +58,7 @@ pub(crate) fn put_power_row<W: Write>(
 }
 
 /// Writes the cells of a request's row, up to its answer.
-fn put_cells<W: Write>(pen: &mut Pen<'_, W>, columns: &Columns, by: By, event: &Event) {
+fn put_cells<W: Write>(pen: &mut Pen<W>, columns: &Columns, by: By, event: &Event) {
     let mark = if event.answer.is_err() { "!" } else { "" };
     let fillings = [
         Number(event.number),
@@ -75,7 +75,7 @@ fn put_cells<W: Write>(pen: &mut Pen<'_, W>, columns: &Columns, by: By, event: &
 }
 
 /// Writes the row of a request; the number of a refused one is followed by `!`.
-pub(crate) fn put_row<W: Write>(pen: &mut Pen<'_, W>, columns: &Columns, by: By, event: &Event) {
+pub(crate) fn put_row<W: Write>(pen: &mut Pen<W>, columns: &Columns, by: By, event: &Event) {
     let widths = columns.widths();
     let mut line = Line::new(pen, &widths);
     put_cells(&mut Pen::new(&mut line), columns, by, event);

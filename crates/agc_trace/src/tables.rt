@@ -12,12 +12,7 @@ const WIDTHS: [Option<usize>; 3] = [Some(7), Some(56), Some(10)];
 
 /// Writes what a core set holds: a job and its priority, in brackets where it sleeps, and behind
 /// `>` where NEWJOB names it.
-fn put_seat<W: Write>(
-    pen: &mut Pen<'_, W>,
-    columns: &Columns,
-    named: Option<u16>,
-    seat: Option<Seat>,
-) {
+fn put_seat<W: Write>(pen: &mut Pen<W>, columns: &Columns, named: Option<u16>, seat: Option<Seat>) {
     let Some(seat) = seat else {
         pen.text(" .");
         return;
@@ -41,7 +36,7 @@ fn put_seat<W: Write>(
 }
 
 /// Writes all tasks in order, each with the centiseconds that it still has.
-fn put_waits<W: Write>(pen: &mut Pen<'_, W>, columns: &Columns, scene: &Scene) {
+fn put_waits<W: Write>(pen: &mut Pen<W>, columns: &Columns, scene: &Scene) {
     if scene.waits().is_empty() {
         pen.text(" -");
     }
@@ -53,7 +48,7 @@ fn put_waits<W: Write>(pen: &mut Pen<'_, W>, columns: &Columns, scene: &Scene) {
 }
 
 /// Writes the cells of a scene.
-fn put_cells<W: Write>(pen: &mut Pen<'_, W>, columns: &Columns, scene: &Scene) {
+fn put_cells<W: Write>(pen: &mut Pen<W>, columns: &Columns, scene: &Scene) {
     pen.add(match scene.running() {
         None => Text("-"),
         Some(number) => Number(u64::from(number.get())),
@@ -75,14 +70,14 @@ fn put_cells<W: Write>(pen: &mut Pen<'_, W>, columns: &Columns, scene: &Scene) {
 }
 
 /// Writes the columns of a scene, and ends the line.
-pub(crate) fn put_tables<W: Write>(pen: &mut Pen<'_, W>, columns: &Columns, scene: &Scene) {
+pub(crate) fn put_tables<W: Write>(pen: &mut Pen<W>, columns: &Columns, scene: &Scene) {
     let mut line = Line::new(pen, &WIDTHS);
     put_cells(&mut Pen::new(&mut line), columns, scene);
     pen.text("\n");
 }
 
 /// Writes the names of these columns, and ends the line.
-pub(crate) fn put_names<W: Write>(pen: &mut Pen<'_, W>) {
+pub(crate) fn put_names<W: Write>(pen: &mut Pen<W>) {
     let mut line = Line::new(pen, &WIDTHS);
     Pen::new(&mut line).text("running\t sets\t areas\t tasks\n");
 }

@@ -79,7 +79,7 @@ fn counted(left: Option<Left>, quiet: Quiet) -> u64 {
 
 impl Telling {
     /// Writes how many quiet requests were left out since the last row, if there are any.
-    fn put_left<W: Write>(&mut self, pen: &mut Pen<'_, W>) {
+    fn put_left<W: Write>(&mut self, pen: &mut Pen<W>) {
         if let Some(Left { quiet, count }) = self.left {
             pen.put("        {} x {}\n", &[Text(quiet.words()), Number(count)]);
         }
@@ -87,7 +87,7 @@ impl Telling {
     }
 
     /// Counts one more quiet request, or tells of those that were quiet in another way.
-    fn put_quiet<W: Write>(&mut self, pen: &mut Pen<'_, W>, quiet: Quiet) {
+    fn put_quiet<W: Write>(&mut self, pen: &mut Pen<W>, quiet: Quiet) {
         let count = counted(self.left, quiet);
         if count == 1 {
             self.put_left(pen);
@@ -109,7 +109,7 @@ impl Telling {
     /// looked for only in brief.
     fn put_event<W: Write>(
         &mut self,
-        pen: &mut Pen<'_, W>,
+        pen: &mut Pen<W>,
         plan: &Plan,
         before: Option<Scene>,
         by: By,

@@ -75,12 +75,12 @@ fn status_of(reach: Reach) -> u8 {
 }
 
 /// Does this with a bench, and returns the exit status.
-fn work_bench<H: AllocGlobal + Clock + Files + Input + Eprint, W: Write>(
-    rt: &H,
+fn work_bench<W: Write>(
+    rt: &HostRuntime,
     task: Task<'_>,
     manner: Manner,
     bench: &Bench,
-    progress: &mut Teller<'_, H>,
+    progress: &mut Teller<'_>,
     writer: &mut W,
 ) -> Result<u8, Fault> {
     let alloc = rt.alloc();
@@ -120,11 +120,11 @@ fn write_bench<W: Write>(alloc: Global, scenario: &Scenario, writer: &mut W) -> 
 }
 
 /// Writes what comes of each value of a number of a scenario, and returns the exit status.
-fn write_sweep<H: Clock + Eprint, W: Write>(
+fn write_sweep<W: Write>(
     alloc: Global,
     values: Values<'_>,
     scenario: &mut Scenario,
-    progress: &mut Teller<'_, H>,
+    progress: &mut Teller<'_>,
     writer: &mut W,
 ) -> Result<u8, Stop> {
     let column = column_of(alloc, scenario, values)?;
@@ -201,12 +201,12 @@ fn show_scenario<P: Progress, W: Write>(
 }
 
 /// Does this with a text's scenario, which is this, and returns the exit status.
-fn tell_scenario<H: Clock + Eprint, W: Write>(
+fn tell_scenario<W: Write>(
     alloc: Global,
     task: Task<'_>,
     text: &str,
     scenario: &mut Scenario,
-    progress: &mut Teller<'_, H>,
+    progress: &mut Teller<'_>,
     writer: &mut W,
 ) -> Result<u8, Stop> {
     match task {
@@ -219,11 +219,11 @@ fn tell_scenario<H: Clock + Eprint, W: Write>(
 }
 
 /// Does this with a text's scenario, and returns the exit status.
-fn work_scenario<H: AllocGlobal + Clock + Eprint, W: Write>(
-    rt: &H,
+fn work_scenario<W: Write>(
+    rt: &HostRuntime,
     task: Task<'_>,
     text: &str,
-    progress: &mut Teller<'_, H>,
+    progress: &mut Teller<'_>,
     writer: &mut W,
 ) -> Result<u8, Stop> {
     match scenario_in(rt.alloc(), text) {
@@ -257,12 +257,12 @@ fn bench_for(alloc: Global, task: Task<'_>, text: &str) -> Result<Bench, Stop> {
 }
 
 /// Does this with a text's bench, and returns the exit status.
-fn work_read<H: AllocGlobal + Clock + Files + Input + Eprint, W: Write>(
-    rt: &H,
+fn work_read<W: Write>(
+    rt: &HostRuntime,
     task: Task<'_>,
     manner: Manner,
     text: &str,
-    progress: &mut Teller<'_, H>,
+    progress: &mut Teller<'_>,
     writer: &mut W,
 ) -> Result<u8, Stop> {
     let bench = bench_for(rt.alloc(), task, text)?;
@@ -271,8 +271,8 @@ fn work_read<H: AllocGlobal + Clock + Files + Input + Eprint, W: Write>(
 
 /// Does what is asked for of a text, which is to be read as a scenario or isn't, and returns the
 /// exit status.
-fn work_asked<H: AllocGlobal + Clock + Files + Input + Eprint, W: Write>(
-    rt: &H,
+fn work_asked<W: Write>(
+    rt: &HostRuntime,
     asked: &Asked<'_>,
     manner: Manner,
     is_scenario: bool,
@@ -293,8 +293,8 @@ fn work_asked<H: AllocGlobal + Clock + Files + Input + Eprint, W: Write>(
 }
 
 /// Does the same through a buffer that is flushed at the end.
-pub(crate) fn work_buffered<H: AllocGlobal + Clock + Files + Input + Print + Eprint>(
-    rt: &H,
+pub(crate) fn work_buffered(
+    rt: &HostRuntime,
     asked: &Asked<'_>,
     manner: Manner,
     is_scenario: bool,

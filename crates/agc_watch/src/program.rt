@@ -42,7 +42,7 @@ const PROGRAM: Program = Program {
 };
 
 /// How the program ends: with status 2 where its input isn't what it should be.
-fn ended_by(rt: &impl Eprint, outcome: Result<bool, Fault>) -> ExitCode
+fn ended_by(rt: &HostRuntime, outcome: Result<bool, Fault>) -> ExitCode
     ensures { exit_status result ≡ status_by outcome }
 {
     match outcome {
@@ -203,8 +203,8 @@ fn work_input<P: Progress, R: Read, W: Write>(
 }
 
 /// Does what is asked of an input, and writes it through a buffer that is flushed at the end.
-fn run_work<H: AllocGlobal + Clock + Eprint + Print, R: Read>(
-    rt: &H,
+fn run_work<R: Read>(
+    rt: &HostRuntime,
     work: Work,
     has_progress: bool,
     reader: &mut R,
@@ -219,7 +219,7 @@ fn run_work<H: AllocGlobal + Clock + Eprint + Print, R: Read>(
 }
 
 /// The bytes of a file, as many as an input may have, and one more.
-fn read_file<H: AllocGlobal + Files>(rt: &H, name: &str) -> io::Result<Vec<u8>> {
+fn read_file(rt: &HostRuntime, name: &str) -> io::Result<Vec<u8>> {
     let mut bytes = Vec::new(rt.alloc());
     let mut file = fs::open(rt, name)?.take(MOST_BYTES + 1);
     file.read_to_end(&mut bytes)?;
@@ -227,7 +227,7 @@ fn read_file<H: AllocGlobal + Files>(rt: &H, name: &str) -> io::Result<Vec<u8>> 
 }
 
 /// Says why a file can't be read, and how the program ends by that.
-fn ended_unread(rt: &impl Eprint, name: &str, error: &io::Error) -> ExitCode {
+fn ended_unread(rt: &HostRuntime, name: &str, error: &io::Error) -> ExitCode {
     if error.kind() == ErrorKind::OutOfMemory {
         return ended_by(rt, Err(Fault::NoMemory));
     }
@@ -236,7 +236,7 @@ fn ended_unread(rt: &impl Eprint, name: &str, error: &io::Error) -> ExitCode {
 }
 
 /// Prints the help or the version, or what is wrong with the words.
-fn printed<H: Print + Eprint>(rt: &H, text: &Error) -> ExitCode {
+fn printed(rt: &HostRuntime, text: &Error) -> ExitCode {
     match text.print(rt) {
         Ok(()) if text.use_stderr() => ExitCode::from(2),
         Ok(()) => ExitCode::SUCCESS,
@@ -245,7 +245,7 @@ fn printed<H: Print + Eprint>(rt: &H, text: &Error) -> ExitCode {
 }
 
 /// Prints what words come to that ask for nothing to be done.
-fn ended_refused<H: Print + Eprint>(rt: &H, refused: &Refused) -> ExitCode {
+fn ended_refused(rt: &HostRuntime, refused: &Refused) -> ExitCode {
     match refused {
         Refused::Text(text) => printed(rt, text),
         Refused::NoMemory => ended_by(rt, Err(Fault::NoMemory)),
@@ -254,7 +254,7 @@ fn ended_refused<H: Print + Eprint>(rt: &H, refused: &Refused) -> ExitCode {
 
 /// Says why a command ended early, and how the program ends by that: with status 1 where its input
 /// is refused, or where `agc` doesn't take what was written.
-fn ended_early<H: Print + Eprint>(rt: &H, stop: &Stop) -> ExitCode {
+fn ended_early(rt: &HostRuntime, stop: &Stop) -> ExitCode {
     match stop {
         Stop::Fault(fault) => return ended_by(rt, Err(*fault)),
         Stop::Words(refused) => return ended_refused(rt, refused),
@@ -275,12 +275,7 @@ fn ended_early<H: Print + Eprint>(rt: &H, stop: &Stop) -> ExitCode {
 }
 
 /// Does what is asked for of a text.
-fn run_text<H: AllocGlobal + Clock + Files + Input + Print + Eprint>(
-    rt: &H,
-    asked: &Asked<'_>,
-    manner: Manner,
-    text: &str,
-) -> ExitCode {
+fn run_text(rt: &HostRuntime, asked: &Asked<'_>, manner: Manner, text: &str) -> ExitCode {
     match (is_of_scenario(rt.alloc(), asked.task, text), asked.task) {
         (Err(_no_memory), _) => ended_by(rt, Err(Fault::NoMemory)),
         (Ok(false), Task::Work(work)) => {
@@ -295,8 +290,8 @@ fn run_text<H: AllocGlobal + Clock + Files + Input + Print + Eprint>(
 }
 
 /// Reads an input whole, and does what is asked for of its text.
-fn run_input<H: AllocGlobal + Clock + Files + Input + Print + Eprint, R: Read>(
-    rt: &H,
+fn run_input<R: Read>(
+    rt: &HostRuntime,
     asked: &Asked<'_>,
     manner: Manner,
     reader: &mut R,
@@ -309,11 +304,7 @@ fn run_input<H: AllocGlobal + Clock + Files + Input + Print + Eprint, R: Read>(
 
 /// Does what is asked for, of the file that is named, or else of standard input; one plays from an
 /// empty plan then.
-fn run_asked<H: AllocGlobal + Clock + Files + Input + Print + Eprint>(
-    rt: &H,
-    asked: &Asked<'_>,
-    manner: Manner,
-) -> ExitCode {
+fn run_asked(rt: &HostRuntime, asked: &Asked<'_>, manner: Manner) -> ExitCode {
     match (asked.file, asked.task) {
         (None, Task::Play) => run_text(rt, asked, manner, EMPTY),
         (None, _) => run_input(rt, asked, manner, &mut rt.reader()),
@@ -325,11 +316,7 @@ fn run_asked<H: AllocGlobal + Clock + Files + Input + Print + Eprint>(
 }
 
 /// Does what these words ask for, of which the first is the program's own name.
-fn run_words<H: AllocGlobal + Clock + Files + Input + Print + Eprint>(
-    rt: &H,
-    words: &[String],
-    manner: Manner,
-) -> ExitCode {
+fn run_words(rt: &HostRuntime, words: &[String], manner: Manner) -> ExitCode {
     match asked_for(rt.alloc(), words) {
         Ok(asked) => run_asked(rt, &asked, manner),
         Err(refused) => ended_refused(rt, &refused),
@@ -337,10 +324,7 @@ fn run_words<H: AllocGlobal + Clock + Files + Input + Print + Eprint>(
 }
 
 /// Runs the program; in this manner one plays.
-pub fn run(
-    rt: &(impl Env + AllocGlobal + Clock + Files + Input + Print + Eprint),
-    manner: Manner,
-) -> ExitCode {
+pub fn run(rt: &HostRuntime, manner: Manner) -> ExitCode {
     match given_words(rt) {
         Ok(given) => run_words(rt, given.as_slice(), manner),
         Err(fault) => ended_by(rt, Err(fault)),

@@ -10,17 +10,17 @@ const STEP: u64 = 1024;
 /// One who says on standard error, each second, how many requests were asked, or how many runs of a
 /// sweep are done; who says nothing where no time is known at which the run began.
 #[derive(Drop)]
-pub(crate) struct Teller<'a, H> {
-    rt: &'a H,
+pub(crate) struct Teller<'a> {
+    rt: &'a HostRuntime,
     begun: Option<Instant>,
     seconds: u64,
     expected: u64,
     asked: u64,
 }
 
-impl<'a, H: Clock> Teller<'a, H> {
+impl<'a> Teller<'a> {
     /// A run begins now; its progress is reported if that is wanted.
-    pub(crate) fn new(rt: &'a H, is_wanted: bool) -> Teller<'a, H> {
+    pub(crate) fn new(rt: &'a HostRuntime, is_wanted: bool) -> Teller<'a> {
         let begun = if is_wanted {
             Instant::now(rt).ok()
         } else {
@@ -36,7 +36,7 @@ impl<'a, H: Clock> Teller<'a, H> {
     }
 }
 
-impl<H: Clock + Eprint> Teller<'_, H> {
+impl Teller<'_> {
     /// Says how many of these are done, where a second has passed.
     fn tell(&mut self, done: u64, of: u64, things: &str) {
         let Some(begun) = self.begun else {
@@ -53,7 +53,7 @@ impl<H: Clock + Eprint> Teller<'_, H> {
     }
 }
 
-impl<H: Clock + Eprint> Progress for Teller<'_, H> {
+impl Progress for Teller<'_> {
     fn expect(&mut self, count: u64) {
         self.expected = self.expected.saturating_add(count);
     }
@@ -66,7 +66,7 @@ impl<H: Clock + Eprint> Progress for Teller<'_, H> {
     }
 }
 
-impl<H: Clock + Eprint> Watches for Teller<'_, H> {
+impl Watches for Teller<'_> {
     fn ran(&mut self, done: u64, of: u64) {
         if done < of {
             self.tell(done, of, "runs");
