@@ -428,19 +428,22 @@ class Workbench {
     const isOpened = run.isOpened && source.document !== "" && !isMore;
     const kept = isOpened && !source.isChanged && this.kept.find((it) =>
       it.text === source.document || it.name === source.exercise);
-    const mark = kept ? `#${kept.name}`
-      : await files.markOf(isOpened ? source.document : whole).catch(() => "");
     const area = make("textarea", { readOnly: true, value: bench, "aria-label": "The bench" });
-    const link = make("input", { type: "text", readOnly: true, "aria-label": "The link",
-      value: mark.length > 8000 ? "" : `${location.href.split("#")[0]}${mark}` });
+    const link = make("input", { type: "text", readOnly: true, "aria-label": "The link" });
+    const told = make("p", {}, "A link to it: ", link);
     openDialog("Save", [
       make("p", {}, "This bench has all requests up to the last row: agc serial comes to the same "
         + "tables with it."), area,
       make("p", {}, button("Save the bench", () => files.download("bench.toml", bench)), " ",
         ...(whole === bench ? [] : [button("Save the scenario", () =>
           files.download("scenario.toml", whole))])),
-      make("p", {}, link.value === "" ? "It is too long for a link." : "A link to it: ", link),
+      told,
     ]);
+    // (the dialog doesn't wait for the link: what comes in between isn't covered by it later)
+    const mark = kept ? `#${kept.name}`
+      : await files.markOf(isOpened ? source.document : whole).catch(() => "");
+    if (mark.length > 8000) fill(told, ["It is too long for a link."]);
+    else link.value = `${location.href.split("#")[0]}${mark}`;
   }
 
   print() {

@@ -7,7 +7,7 @@ pub(crate) const PART_1: &[u8] = br##"<!DOCTYPE html>
 <meta charset="utf-8">
 <meta http-equiv="Content-Security-Policy" content="default-src 'none';
 base-uri 'none'; form-action 'none';
-script-src 'sha256-uTGN4Eu+V+5wwrvzjgTmaFM/sOfIEuDeg0u6WC/r6do=' 'wasm-unsafe-eval';
+script-src 'sha256-ua5wUast17PIlswspdjqZwaEUt2YzGzgL7kDce3s3h4=' 'wasm-unsafe-eval';
 style-src 'sha256-p+1O1wS4rkhOoFwXxMMSyRVJzmdwiirX5qKSmZrYZJE='">
 <meta name="viewport" content="width=device-width, initial-scale=1">
 <meta name="color-scheme" content="light dark">
@@ -6468,19 +6468,21 @@ class Workbench {
     const isOpened = run.isOpened && source.document !== "" && !isMore;
     const kept = isOpened && !source.isChanged && this.kept.find((it) =>
       it.text === source.document || it.name === source.exercise);
-    const mark = kept ? `#${kept.name}`
-      : await files.markOf(isOpened ? source.document : whole).catch(() => "");
     const area = make("textarea", { readOnly: true, value: bench, "aria-label": "The bench" });
-    const link = make("input", { type: "text", readOnly: true, "aria-label": "The link",
-      value: mark.length > 8000 ? "" : `${location.href.split("#")[0]}${mark}` });
+    const link = make("input", { type: "text", readOnly: true, "aria-label": "The link" });
+    const told = make("p", {}, "A link to it: ", link);
     openDialog("Save", [
       make("p", {}, "This bench has all requests up to the last row: agc serial comes to the same "
         + "tables with it."), area,
       make("p", {}, button("Save the bench", () => files.download("bench.toml", bench)), " ",
         ...(whole === bench ? [] : [button("Save the scenario", () =>
           files.download("scenario.toml", whole))])),
-      make("p", {}, link.value === "" ? "It is too long for a link." : "A link to it: ", link),
+      told,
     ]);
+    const mark = kept ? `#${kept.name}`
+      : await files.markOf(isOpened ? source.document : whole).catch(() => "");
+    if (mark.length > 8000) fill(told, ["It is too long for a link."]);
+    else link.value = `${location.href.split("#")[0]}${mark}`;
   }
 
   print() {
