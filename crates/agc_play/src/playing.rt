@@ -12,9 +12,8 @@ use agc_spelling::Filling::{Number, Text};
 use agc_spelling::{Filling, Pen, put_bench};
 use agc_text::Output;
 use std::alloc::Global;
-use std::io::{BufRead, Eprint, ErrorKind, Read, Write};
+use std::io::{BufRead, ErrorKind, Read, Write};
 use std::marker::Model;
-use std::rt::Files;
 use std::{fs, io};
 
 /// How many bytes a line may have.

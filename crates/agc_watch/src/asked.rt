@@ -18,9 +18,7 @@ use agc_session::Progress;
 use agc_text::{ReadFault, put};
 use agc_trace::{Choice, trace_timetable};
 use std::alloc::{AllocError, Global};
-use std::io::{Eprint, Input, Print, Write};
-use std::rt::Files;
-use std::time::Clock;
+use std::io::{Input, Write};
 
 /// How many bytes `agc` takes.
 const MOST_BYTES: u64 = 1_048_576;

@@ -23,10 +23,8 @@ use agc_trace::{Choice, trace, trace_script};
 use agc_warn::{add_script_summary, add_summary, bench_warnings, run_bench, warnings_told};
 use clap::Error;
 use std::alloc::{AllocError, Global};
-use std::io::{Eprint, ErrorKind, Input, Print, Read, Write};
+use std::io::{ErrorKind, Input, Read, Write};
 use std::process::ExitCode;
-use std::rt::{Env, Files};
-use std::time::Clock;
 use std::{fs, io};
 
 /// How many bytes an input may have.

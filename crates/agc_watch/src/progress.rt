@@ -1,8 +1,7 @@
 //! How far a run has come, in a line a second.
 use agc_peaks::Watches;
 use agc_session::Progress;
-use std::io::Eprint;
-use std::time::{Clock, Instant};
+use std::time::Instant;
 
 /// Of how many requests one looks at the clock.
 const STEP: u64 = 1024;
