@@ -298,7 +298,7 @@ impl<'a> Played<'a> {
     }
 
     /// How many requests the last line asked, or else one, that of the bench, if there is one.
-    fn last(&self) -> usize {
+    fn asked_last(&self) -> usize {
         let count = self.requests.len();
         match self.steps.as_slice() {
             [.., step] => count.saturating_sub(*step),
@@ -322,7 +322,7 @@ impl<'a> Played<'a> {
 
     /// Takes back what the last line asked, or the last request of the bench.
     fn undo<W: Write>(&mut self, alloc: Global, writer: &mut W) -> Result<(), RunFault> {
-        let taken = self.last();
+        let taken = self.asked_last();
         if taken > 0 {
             self.go_back(alloc, taken)?;
         }

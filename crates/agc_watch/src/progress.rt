@@ -33,9 +33,7 @@ impl<'a> Teller<'a> {
             asked: 0,
         }
     }
-}
 
-impl Teller<'_> {
     /// Says how many of these are done, where a second has passed.
     fn tell(&mut self, done: u64, of: u64, things: &str) {
         let Some(begun) = self.begun else {
