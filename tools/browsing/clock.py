@@ -1,0 +1,164 @@
+"""The clock, beside agc_watch: random scenarios, and the landing."""
+import json
+import random
+import re
+import sys
+import time
+import tomllib
+
+import repository
+from browsing.benches import compare_words, random_line
+from browsing.opened import TIGHT
+from browsing.pages import (
+    COUNTS, PROGRAM, TOP, Trial, open_text, press_try, save, saved, says, table, written)
+
+
+def random_scenario(dice):
+    """A scenario by lot: tasks that establish jobs, jobs with costs, events, stolen time."""
+    text = f"seconds = {dice.randint(1, 6)}\nsteal = {dice.choice([0, 5, 15, 50, 100])}\n"
+    text += dice.choice(["", "sets = 8\n"])
+    for at in dice.sample(range(6), dice.randint(1, 4)):
+        then = {} if dice.random() < 0.7 else {"then": f"sleep {0o2000 + dice.randint(0, 5):05o}"}
+        text += table("job", at=f"{0o2000 + at:05o}", cost=dice.choice([1, 7, 30, 170]), **then)
+    for at in dice.sample(range(6), dice.randint(0, 4)):
+        doing = [random_line(dice, ["novac", "findvac", "rouse"]), f"list {dice.randint(1, 60)} "
+                 f"{0o2000 + at:05o} 00005"]
+        text += table("task", at=f"{0o2000 + at:05o}", bank="00005", action=doing)
+    for _ in range(dice.randint(1, 4)):
+        more = {} if dice.random() < 0.5 else {"every": dice.randint(1, 90)}
+        text += table("event", at=dice.randint(0, 300), do=[random_line(dice) for _ in range(3)], **more)
+    for group in dice.sample(range(1, 7), dice.randint(0, 3)):
+        text += table("phase", group=group, phase=1, job=random_line(dice, ["novac", "findvac"]),
+                      task=random_line(dice, ["list"]))
+    return text
+
+
+def bench_of(scenario):
+    """The requests that a scenario comes to by a plain program, and a bench that asks for them."""
+    read = tomllib.loads(scenario)
+    sys.path.insert(0, f"{TOP}/tools/soaking")
+    import clock as plain
+    asked = [line for _, _, line in plain.Passing(read, plain.Plain(read)).run()]
+    bench = f"sets = {read.get('sets', 7)}\nlimit = 1000000\nscript = {json.dumps(asked)}\n"
+    for kind in "task", "phase":
+        bench += "".join(table(kind, **it) for it in read.get(kind, []))
+    return asked, bench
+
+
+def plain_scenario(seed):
+    """A scenario of the plain program's own dice."""
+    sys.path.insert(0, f"{TOP}/tools/soaking")
+    import clock as plain
+    return plain.text_of(plain.Dice(seed).scenario())
+
+
+def clock(browser, folder):
+    """Random scenarios are opened: they come to the requests that a plain program of tools/soaking lists,
+    and to the words that agc serial leaves of these. Then time is let run and pause, a slider forks,
+    and what is tried at an alarm prevents it."""
+    trial, dice = Trial("clock"), random.Random(5)
+    browser.show(save(folder, "clock", written(PROGRAM, "page", "")))
+    browser.value("document.getElementById('words-box').open = true")
+    for k in range(COUNTS["scenarios"]):
+        scenario = random_scenario(dice) if k % 2 == 0 else plain_scenario(k)
+        fault = open_text(browser, scenario)
+        if not trial.expect(f"{fault}: {scenario}", not fault):
+            continue
+        asked, bench = bench_of(scenario)
+        found = tomllib.loads(saved(browser)[0]).get("script", [])
+        if trial.expect(f"{len(found)} requests, not {len(asked)}: {scenario}", found == asked):
+            compare_words(browser, trial, bench)
+    try_time(browser, trial)
+    try_alarm(browser, trial)
+    try_landing(browser, trial)
+    trial.expect(f"{browser.shown()['broken']}", not browser.shown()["broken"])
+    return trial.faults
+
+
+def try_time(browser, trial):
+    open_text(browser, "seconds = 60\nsteal = 0\n" + table("job", at="04000", cost=10)
+              + table("event", at=0, do="novac 20 04000 00005", every=9, name="again"))
+    trial.expect(f"no alarm: {browser.text('summary')}", "1202" in browser.text("summary"))
+    browser.value("document.querySelector('#sliders input').value = '100'")
+    browser.value("document.querySelector('#sliders input').dispatchEvent(new Event('change'))")
+    trial.expect(f"a branch: {browser.text('branches')}", "stolen time" in browser.text("branches"))
+    trial.expect(f"sooner: {browser.text('summary')}", " at 0.63 s" in browser.text("summary"))
+    browser.value("document.getElementById('speed').value = '0.1'")
+    browser.value("document.activeElement.blur()")
+    begun = time.monotonic()
+    browser.press(" ")
+    at = 0.0
+    while at < 0.05 and time.monotonic() - begun < 10:
+        said = browser.text("sentence")
+        at = float(re.search(r"at ([0-9.]+) s", said)[1])
+    live = "document.getElementById('sentence').getAttribute('aria-live')"
+    while_running = browser.value(live)
+    browser.press(" ")
+    trial.expect("a running clock is read out", (while_running, browser.value(live)) == ("off", "polite"))
+    said = browser.text("sentence")
+    at = float(re.search(r"at ([0-9.]+) s", said)[1])
+    took = time.monotonic() - begun
+    trial.expect(f"{took} seconds: {said}", 0.05 <= at <= 0.1 * took + 0.01 and browser.text("run") == "Run")
+    browser.press(".")
+    says(browser, trial, "a centisecond", f"at {at + 0.01:.2f} s")
+
+
+def try_alarm(browser, trial):
+    """At an alarm: eight core sets stand beside, and without stolen time none comes."""
+    open_text(browser, TIGHT)
+    trial.expect("no way to the alarm", press_try(browser, "To the first alarm"))
+    says(browser, trial, "the first alarm", "alarm 1202")
+    trial.expect("no eight core sets", press_try(browser, "With eight core sets?"))
+    told = browser.text("beside-name")
+    trial.expect(f"beside: {told}", "with 8 core sets" in told and "of 8 core sets" in told)
+    trial.expect("no event to leave out", press_try(browser, "Without a word?"))
+    told = browser.text("outcome")
+    trial.expect(f"without an event: {told}", "Now: 1 alarm: 1202, " in told)
+    trial.expect("nothing to leave out", press_try(browser, "Without stolen time?"))
+    told = browser.text("outcome")
+    trial.expect(f"what came of it: {told}", re.match(
+        r"Before: 1 alarm: 1202, .*\. Now: no alarm; at most 1 of 7 core sets\.$", told))
+
+
+def try_landing(browser, trial):
+    """With nothing but the page one finds why alarm 1202 comes in a landing, and what would have prevented
+    it: the times are those of the table in docs/LANDING.md, the counts those of agc_watch peaks."""
+    open_text(browser, "")
+    trial.expect("no landing", press_try(browser, "A landing with alarm 1202"))
+    trial.expect("no way to its alarm", press_try(browser, "To the first alarm"))
+    says(browser, trial, "the landing", "at 30.50 s: tick. Reply: tick 02100/00005 alarm 1202.")
+    era = written(PROGRAM, "peaks", repository.tool("workbench").landing_with_sleepers()).splitlines()[1].split()
+    told = browser.text("account")
+    for line in (f"{era[5]} jobs began and {era[6]} ended, and the computer was idle {era[-2][:-1]} % of the time.",
+                 "by action 1 of the task MONITOR (02100): novac 30 05000 00007", "asleep at 06100, since request 5"):
+        trial.expect(f"the account lacks {line}: {told}", line in told)
+    press_try(browser, "With eight core sets?")
+    told = browser.text("beside-name")
+    trial.expect(f"with eight: {told}", "1 alarm: 1201, in request" in told and "at 38.01 s" in told)
+    for it in "Without stolen time?", "Without monitor?":
+        trial.expect(f"nothing to try: {it}", press_try(browser, it))
+        trial.expect(f"{it} {browser.text('outcome')}", "Now: no alarm; " in browser.text("outcome"))
+        browser.press("u")
+        says(browser, trial, f"undone: {it}", "at 30.50 s: tick. Reply: tick 02100/00005 alarm 1202.")
+    try_slider_by_keys(browser, trial)
+
+
+def try_slider_by_keys(browser, trial):
+    """Begins with what try_landing leaves: stolen time goes from 15 % down."""
+    count = "document.querySelectorAll('#branches li').length"
+    branches = browser.value(count)
+    browser.value("document.getElementById('whole').focus()")
+    browser.press(" ")
+    browser.value("document.querySelector('#sliders input').focus()")
+    for times, wanted in (7, "1 alarm: 1202, in request "), (3, "1 alarm: 1202, in request "), (3, "no alarm"):
+        for _ in range(times):
+            browser.press("ArrowLeft")
+        told = browser.text("outcome")
+        trial.expect(f"less stolen time: {told}", told.startswith("Before: 1 alarm: 1202, in request 3128 at 30.50 s;")
+                     and f"Now: {wanted}" in told)
+        at = {7: "at 38.50 s;", 3: "at 50.50 s;"}.get(times) if wanted != "no alarm" else "no alarm;"
+        trial.expect(f"less stolen time, {at}: {told}", at in told.split("Now: ")[1])
+    trial.expect("a branch for each step", browser.value(count) == branches + 1)
+    browser.value("document.activeElement.blur(); document.getElementById('whole').click()")
+    browser.press("u")
+    says(browser, trial, "the slider undone", "alarm 1202")

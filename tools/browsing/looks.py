@@ -1,0 +1,74 @@
+"""How it looks: styles, and what is seen first at each size."""
+import json
+
+from browsing.pages import open_text, says, texts
+
+# How some things look, and what they are called, beside what is said elsewhere.
+LOOKS = """(() => {
+  const style = (what, name, pseudo) => getComputedStyle(document.querySelector(what), pseudo)[name];
+  const by = (id) => document.getElementById(id);
+  return [style('.full', 'outlineStyle'), style('tr.change td', 'content', '::after'), style('tr.refused td', 'textDecorationLine'),
+    style('li.asleep', 'borderTopStyle'),
+    ...['sentence', 'outcome', 'hint'].map((it) => `${by(it).role} ${by(it).ariaLive}`),
+    ...Array.from(document.querySelectorAll('main ol, #account'), (it) => by(it.getAttribute('aria-labelledby')).textContent),
+    ...Array.from(document.querySelectorAll('.bar button'), (it) => it.ariaLabel ?? it.innerText.replace(/[^A-Za-z]/g, '')),
+    ...Array.from(document.querySelectorAll('#rows th'), (it) => it.textContent)].join(', ');
+})()"""
+LOOK = ('solid, " Δ", line-through, dashed, status polite, status polite, status polite, Core sets: 7 of 7 in use, , VAC areas: 0 of 5 in use, Waitlist: 0 of 9 in use, Phases, '
+        "FAILREG, NEWJOB, Alarm 1202: why, First, Back, Next, Last, Alarm before, Alarm after, Change before, Change after, Undo, Redo, "
+        "no, time, request, reply, running, sets, areas, tasks, asked by")
+
+
+def try_looks(browser, trial):
+    """How an alarm, a change, a refusal, a sleeper and what is new look; names of lists, buttons and columns; what is said where there
+    is no alarm."""
+    trial.expect(browser.text("title"), browser.text("title") == "AGC workbench")
+    asked = ["novac 20 04000 00005", "sleep 04100", *7 * ["novac 20 04000 00005"], "tick"]
+    open_text(browser, f"allowance = 9\nscript = {json.dumps(asked)}\n")
+    browser.click("alarm-next")
+    found = browser.value(LOOKS)
+    trial.expect(f"it looks {found}", found == LOOK)
+    for key, wanted in ("a", "There is no alarm after this row."), ("A", "There is no alarm before this row."):
+        browser.press(key)
+        says(browser, trial, f"no alarm by {key}", wanted)
+    browser.press("ArrowLeft")
+    found = browser.value("(() => { const it = getComputedStyle(document.querySelector('#sets li.new'), '::after');"
+                          " return `${it.content} ${it.borderTopWidth}`; })()")
+    trial.expect(f"what is new has {found}", found == '"" 8px')
+    value = browser.value("document.getElementById('slider').getAttribute('aria-valuetext')")
+    trial.expect(f"the slider tells {value}", value == "request 8 of 10")
+    browser.value("document.getElementById('slider').focus()")
+    browser.press("a")
+    says(browser, trial, "a key on the slider", "Request 9 of 10")
+    browser.value("document.activeElement.blur()")
+
+
+def try_tops(browser, trial):
+    """An account leads to the table that was full, and begins at its top, as a dialog does; areas have the colours of their owners."""
+    marks = browser.value("location.hash")
+    for text, part in ((8 * ["novac 20 04000 00005"], "sets"), (10 * ["list 5 02000 00005"], "tasks"), (6 * ["findvac 20 04000 00005"], "areas")):
+        open_text(browser, f"script = {json.dumps(text)}\n")
+        browser.click("alarm-next")
+        full = browser.value("document.querySelector('.full').id"), browser.value("document.querySelector('#account a').getAttribute('href')")
+        trial.expect(f"full: {full}", full == (part, f"#{part}-name"))
+        browser.value("document.querySelector('#account a').click()")
+        trial.expect("a link changes the address", browser.value("location.hash") == marks)
+        browser.value("document.getElementById('account').scrollTop = 999; document.getElementById('next').click()")
+        trial.expect("an account begins lower", browser.value("document.getElementById('account').scrollTop") == 0)
+        browser.press("ArrowLeft")
+    colours = browser.value("Array.from(document.querySelectorAll('#areas li'), (it) => it.classList[0]).join(' ')")
+    trial.expect(f"areas {colours}", colours == "j1 j2 j3 j4 j5")
+    open_text(browser, 'script = ["novac 20 04000 00005", "findvac 20 04000 00005", "findvac 20 04000 00005", "end"]\n')
+    browser.press("End")
+    found = texts(browser, "#areas li"), browser.value("Array.from(document.querySelectorAll('#areas li'), (it) => it.classList[0]).join(' ')"), \
+        browser.shown()["sets"][2]
+    trial.expect(f"areas and sets: {found}", found[0].startswith("area 1job 2|area 2job 3|area 3free") and found[1].startswith("j2 j3 free")
+                 and "job 3" in found[2] and "area 2" in found[2])
+    browser.click("help")
+    told = texts(browser, "#dialog-body p")
+    trial.expect(f"the help of alarms: {told}", "the table is full: 1201 areas, 1202 core sets, 1203 the Waitlist." in told)
+    browser.value("document.getElementById('dialog').scrollTop = 500")
+    browser.press("Escape")
+    browser.click("help")
+    trial.expect("a dialog begins lower", browser.value("document.getElementById('dialog').scrollTop") == 0)
+    browser.press("Escape")

@@ -1,0 +1,193 @@
+"""What the parts share: pages are written and opened, documents and lines typed, and what is shown is read."""
+import base64
+import json
+import subprocess
+import time
+import zlib
+
+import repository
+
+TOP = repository.TOP
+PROGRAM = f"{TOP}/crates/agc_watch/out/agc_watch"
+SERIAL = f"{TOP}/crates/agc/out/agc"
+
+# How many random benches and scenarios are opened, and for how many seconds keys and clicks are random; how many
+# by `--all`.
+COUNTS = {"benches": 40, "scenarios": 15, "seconds": 10, "seed": 1202}
+ALL_COUNTS = {"benches": 300, "scenarios": 100, "seconds": 300}
+
+
+class Trial:
+    """What is wrong with a part."""
+
+    def __init__(self, name):
+        self.name, self.faults = name, []
+
+    def expect(self, what, holds):
+        if not holds:
+            self.faults.append(f"{self.name}: {what}")
+        return holds
+
+
+def written(program, word, bench):
+    """What a program writes of a bench."""
+    return subprocess.run([program, word], input=bench, capture_output=True, text=True, timeout=120,
+                          check=True).stdout
+
+
+def save(folder, name, page):
+    path = f"{folder}/{name}.html"
+    with open(path, "w", encoding="utf-8") as file:
+        file.write(page)
+    return path
+
+
+def words_in(report):
+    """The words of a report by their places, as far as it has them."""
+    words = {}
+    for line in report.splitlines():
+        name, *rest = line.split()
+        at = {"VAC": 84, "NEWJOB": 89, "TIME3": 90, "LST1": 91, "LST2": 99, "PHASE": 117,
+              "FAILREG": 129}.get(name)
+        if name == "SET":
+            at, rest = 12 * int(rest[0]) if rest[0] != "7" else 132, rest[1:]
+            if rest == ["FREE"]:
+                words[at + 11] = "77777"
+                continue
+        if at is not None:
+            words |= {at + k: it for k, it in enumerate(rest)}
+    return words
+
+
+# Two frames were drawn, or a second went by: until then keys may be lost, since all behind a dialog that has just
+# been closed still takes none.
+DRAWN = """Promise.race([
+  new Promise((done) => { requestAnimationFrame(() => { requestAnimationFrame(done); }); }),
+  new Promise((done) => { setTimeout(done, 1000); }),
+])"""
+
+
+def open_text(browser, text):
+    """Opens a document by pasting it. What is said where it isn't one."""
+    for _ in range(50):
+        browser.click("open")
+        if browser.value("document.getElementById('pasted') !== null"):
+            break
+        time.sleep(0.1)
+    browser.value("document.getElementById('keep-question').checked = false")
+    browser.value(f"document.getElementById('pasted').value = {json.dumps(text)}")
+    browser.click("open-pasted")
+    fault = browser.value("document.getElementById('dialog').open && "
+                          "document.getElementById('open-fault').textContent")
+    if fault:
+        browser.click("close")
+    browser.value(DRAWN, True)
+    return fault
+
+
+def drop_text(browser, text, more, times):
+    """Opens a document, this text and more so many times, by dropping it on the page. What is said where it isn't
+    opened."""
+    browser.value("(() => { const data = new DataTransfer(); data.setData('text/plain', DROPPED);"
+                  " document.body.dispatchEvent(new DragEvent('drop', { dataTransfer: data })); })()"
+                  .replace("DROPPED", f"{json.dumps(text)} + {json.dumps(more)}.repeat({times})"))
+    fault = browser.value("document.getElementById('dialog').open && document.getElementById('fault').textContent")
+    if fault:
+        browser.click("close")
+    return fault
+
+
+def table(kind, **values):
+    """A table of a bench."""
+    return f"[[{kind}]]\n" + "".join(f"{key} = {json.dumps(it)}\n" for key, it in values.items())
+
+
+def type_line(browser, line):
+    """Types a request, and asks it."""
+    browser.value("document.getElementById('line').focus()")
+    browser.write(line)
+    browser.press("Escape")
+    browser.value("document.getElementById('line').focus()")
+    browser.press("Enter")
+
+
+def wait_for(browser, text):
+    """Waits up to ten seconds until the sentence has this text."""
+    begun = time.monotonic()
+    while text not in browser.text("sentence") and time.monotonic() - begun < 10:
+        time.sleep(0.05)
+
+
+def says(browser, trial, what, text):
+    said = browser.text("sentence")
+    trial.expect(f"{what}: {said}", text in said)
+
+
+# Texts of some elements, one after the other.
+TEXTS = "Array.from(document.querySelectorAll(WHAT), (it) => it.textContent.trim()).join('|')"
+
+
+def texts(browser, what):
+    return browser.value(TEXTS.replace("WHAT", json.dumps(what)))
+
+
+def exercise(browser, number):
+    """Opens an exercise by its link."""
+    for mark in "#", f"#exercise-{number}":
+        browser.value(f"location.hash = {json.dumps(mark)}")
+        time.sleep(0.1)
+
+
+def set_slider(browser, value):
+    """Moves the slider of stolen time."""
+    browser.value("(() => { const it = document.querySelector('#sliders input');"
+                  f" it.value = '{value}'; it.dispatchEvent(new Event('change')); }})()")
+
+
+def go_to(browser, text):
+    """Types where to go."""
+    browser.value(f"document.getElementById('go').value = {json.dumps(text)}")
+    browser.value("document.getElementById('go').focus()")
+    browser.press("Enter")
+    browser.value("document.activeElement.blur()")
+
+
+def saved(browser):
+    """The bench that can be saved, and its link."""
+    browser.click("save")
+    begun = time.monotonic()
+    while not browser.value("!!document.querySelector('#dialog[open] textarea[readonly]') && "
+                            "document.querySelector('#dialog-body input[type=text]')?.value !== ''"):
+        if time.monotonic() - begun > 10:
+            raise OSError("nothing is saved")
+    found = browser.value("['textarea', 'input[type=text]'].map((it) => "
+                          "document.querySelector(`#dialog-body ${it}`)?.value ?? '')")
+    browser.press("Escape")
+    return found
+
+
+def follow_link(browser):
+    """Opens what the link carries."""
+    link = saved(browser)[1]
+    browser.value("document.getElementById('sentence').textContent = ''")
+    browser.value(f"location.hash = {json.dumps(link[link.index('#'):])}")
+    wait_for(browser, "The beginning")
+
+
+def press_try(browser, text):
+    """Presses a button below the account. Whether it is there."""
+    return browser.value("(() => { const found = Array.from(document.querySelectorAll('#try button'))"
+                         f".find((it) => it.textContent === {json.dumps(text)}); found?.click();"
+                         " return !!found; })()")
+
+
+def mark_of(text):
+    """What stands behind `#` for a document."""
+    packer = zlib.compressobj(9, zlib.DEFLATED, -15)
+    return "#bench=" + base64.urlsafe_b64encode(packer.compress(text) + packer.flush()).decode().rstrip("=")
+
+
+def run_serial(text):
+    """What agc makes of a document."""
+    return subprocess.run([SERIAL, "serial"], input=text.encode("utf-8", "surrogatepass"),
+                          capture_output=True, check=False)

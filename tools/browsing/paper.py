@@ -1,0 +1,67 @@
+"""What is printed."""
+import base64
+import json
+import re
+
+from browsing.access import CONTRAST
+from browsing.opened import TIGHT
+from browsing.pages import PROGRAM, Trial, open_text, save, written
+
+
+def paper(browser, folder):
+    """On paper a run is a table: its title, what came of it, its plan, each row but those in which only time
+    goes by, which are one line, and the account of each alarm; and no control."""
+    trial = Trial("paper")
+    browser.show(save(folder, "paper", written(PROGRAM, "page", TIGHT)))
+    browser.scheme("dark", media="print")
+    browser.value("window.dispatchEvent(new Event('beforeprint'))")
+    rows = browser.value("Array.from(document.querySelectorAll('#printed tbody tr'), (it) =>"
+                         " Array.from(it.children, (one) => one.textContent))")
+    at, accounts = 0, 0
+    for cells in rows:
+        if len(cells) == 1:
+            accounts += 1
+            trial.expect(f"an account: {cells}", "A job is in each core set" in cells[0] and "\nThese hold them:\nset 0: job " in cells[0])
+            continue
+        first, last = cells[0].split(" to ") if " to " in cells[0] else (cells[0], cells[0])
+        trial.expect(f"row {first} behind {at - 1}", int(first) == at)
+        trial.expect(f"several rows: {cells}", first == last
+                     or cells[2] == f"tick, {int(last) - int(first) + 1} times")
+        at = int(last) + 1
+    trial.expect(f"{at} rows", at == int(browser.value("document.getElementById('slider').max")) + 1)
+    trial.expect(f"{accounts} accounts", accounts == sum("alarm" in it[3] for it in rows if len(it) > 3) > 0)
+    heads = browser.text("printed")
+    trial.expect(f"its head: {heads[:300]}", "Over 60.00 s: at most 7 of 7" in heads and "cost = 190" in heads)
+    shown = browser.value("Array.from(document.querySelectorAll('body *')).filter((it) =>"
+                          " it.getClientRects().length > 0 && !it.closest('#printed')).length")
+    trial.expect(f"{shown} other elements are printed", shown == 0)
+    for fault in browser.value(CONTRAST):
+        trial.expect(f"contrast on paper: {fault}", False)
+    data = base64.b64decode(browser.call("Page.printToPDF", preferCSSPageSize=True)["data"])
+    pages = len(re.findall(rb"/Type */Page\b", data))
+    trial.expect(f"{pages} pages", 1 <= pages <= 12)
+    quiet = [cells for cells in rows if "tick, " in cells[2:3]]
+    trial.expect("a line stands for one or two rows", all(int(it[2].split()[1]) > 2 for it in quiet))
+    for cells in rows:
+        if len(cells) > 1 and " to " in cells[0] and " to " in cells[1]:
+            (first, last), (begun, ended) = ([int(one) for one in it.split(" to ")] for it in cells[:2])
+            trial.expect(f"{cells}", last - first == ended - begun)
+    browser.scheme("light")
+    print_long(browser, trial)
+    return trial.faults
+
+
+def print_long(browser, trial):
+    """A title is printed; refused ticks are a line each; of very many rows the first 5,000 are printed, which is said."""
+    many = json.dumps(3000 * ["phase 1 1", "phase 1 2"])
+    refused = json.dumps(["tick"] * 6)
+    for text, count, wanted in ((f"# Phases, many times.\nscript = {many}\nlimit = 6000\n", 5000, "The first 4999 of 6000 requests."),
+                                (f"# Six ticks.\nscript = {refused}\nlimit = 2\n", 7, "Over 6 requests")):
+        open_text(browser, text)
+        browser.value("window.dispatchEvent(new Event('beforeprint'))")
+        told = browser.value("document.getElementById('printed').textContent.slice(0, 400)")
+        found = browser.value("document.querySelectorAll('#printed tbody tr').length")
+        trial.expect(f"{found} lines of {told}", found == count and wanted in told)
+        title = browser.value("document.querySelector('#printed h1').textContent")
+        trial.expect(f"the title {title}", title == text[2:text.index("\n")])
+        trial.expect("no rows are refused", ("refused log full" in browser.text("printed")) == (count == 7))

@@ -1,0 +1,177 @@
+"""The panel of the clock and its sliders, and what comes of a change."""
+import re
+import time
+
+from browsing.chart import STRIPED
+from browsing.exercises import CHANGED
+from browsing.pages import follow_link, go_to, open_text, says, set_slider, table, texts, type_line, wait_for
+
+
+def try_sliders(browser, trial):
+    """What a slider changes from a time on is in the link; time stops at an alarm."""
+    open_text(browser, "seconds = 9\nsteal = 50\n" + table("job", at="04000", cost=10)
+              + table("job", at="05000", cost=20)
+              + table("event", at=0, every=60, name="both",
+                      do=["novac 20 04000 00005", "novac 21 05000 00005"]))
+    follow_link(browser)
+    values = "Array.from(document.querySelectorAll('#sliders input'), (it) => it.value).join(' ')"
+    trial.expect(browser.value(values), browser.value(values) == "50 10 20")
+    for k, value, at in ((2, 30, 0), (0, 100, 1)):
+        go_to(browser, f"{at} s" if at else "0")
+        browser.value(f"document.querySelectorAll('#sliders input')[{k}].value = '{value}'")
+        browser.value(f"document.querySelectorAll('#sliders input')[{k}].dispatchEvent(new Event('change'))")
+    trial.expect(browser.value(values), browser.value(values) == "100 10 30")
+    summary = browser.text("summary")
+    trial.expect(summary, "7 of 7 core sets, 0 of 5 areas and 0 of 9 tasks" in summary)
+    trial.expect(summary, "1202, in request" in summary and 2 < float(summary.split(" at ")[-1][:4]) < 3)
+    for at in "1.02 s", "1 s":
+        go_to(browser, at)
+        for _ in range(2):
+            type_line(browser, "rouse 37777")
+            for key in "Escape", ".", "ArrowLeft":
+                browser.press(key)
+        browser.press("End")
+        for _ in range(5):
+            browser.press("n")
+            trial.expect("a job ends that gets no time", ": end. " not in browser.text("sentence"))
+    go_to(browser, "0.5 s")
+    type_line(browser, "rouse 37777")
+    trial.expect(f"before stolen time was changed: {browser.value(values)}", browser.value(values) == "50 10 30")
+    for _ in range(40):
+        if browser.text("summary") != summary:
+            browser.click("undo")
+    follow_link(browser)
+    trial.expect(f"{browser.text('summary')}, not {summary}", browser.text("summary") == summary)
+    go_to(browser, "2")
+    browser.value("document.querySelector('#events button').click()")
+    trial.expect(browser.text("account"), "Asked by you: both." in browser.text("account"))
+    says(browser, trial, "an event by hand", "Request 4 of 4")
+    open_text(browser, "script = [\"list 1 02000 00005\"]\n" + table(
+        "task", at="02000", bank="00005", action=["novac 20 04000 00005", "list 1 02000 00005"]))
+    browser.press("End")
+    browser.value("document.getElementById('speed').value = '100'")
+    browser.value("document.activeElement.blur()")
+    browser.press(" ")
+    wait_for(browser, "alarm 1202")
+    says(browser, trial, "time stops", "at 0.08 s: tick. Reply: tick 02000/00005 alarm 1202.")
+    trial.expect(browser.text("run"), browser.text("run") == "Run")
+
+
+# A scenario of two seconds: half of the time is stolen, a job takes 0.2 seconds, and another the rest.
+PANEL = "seconds = 2\nsteal = 50\n" + "".join((
+    table("job", at="04000", cost=10, name="WORK"), table("job", at="05000", cost=300),
+    table("event", at=0, do="novac 20 04000 00005", name="begin"), table("event", at=150, do=["novac 20 05000 00005", "list 20 02000 00005"])))
+
+# What each slider has: its name, bounds and value, and how that is told.
+SLIDERS = """Array.from(document.querySelectorAll('#sliders label'), (it) => {
+  const field = it.querySelector('input');
+  return [field.ariaLabel, field.min, field.max, field.value, field.getAttribute('aria-valuetext'),
+    it.querySelector('output').textContent].join(' ');
+}).join(', ')"""
+
+
+def try_panel(browser, trial):
+    """The clock's controls: sliders with their bounds, from when a change holds, single centiseconds, the next event, the end."""
+    open_text(browser, PANEL)
+    told = browser.value(SLIDERS)
+    trial.expect(told, told == "Stolen time 0 100 50 50 % 50 %, WORK 1 400 10 10 cs 10 cs, 05000 1 600 300 300 cs 300 cs")
+    browser.value("(() => { const it = document.querySelectorAll('#sliders input')[1]; it.value = '37';"
+                  " it.dispatchEvent(new Event('input')); })()")
+    told = browser.value(SLIDERS)
+    trial.expect(f"as a slider moves: {told}", "WORK 1 400 37 37 cs 37 cs" in told)
+    for typed, wanted in ("0", "the beginning"), ("0.5 s", "0.50 s"), ("1", "request 1"):
+        go_to(browser, typed)
+        trial.expect(browser.text("since"), browser.text("since") == f"A change here takes effect from {wanted} on.")
+    browser.click("whole")
+    trial.expect(browser.text("since"), browser.text("since") == "A change here takes effect from the beginning on.")
+    browser.click("whole")
+    go_to(browser, "0.29 s")
+    says(browser, trial, "gone to a time", "at 0.29 s: tick.")
+    for key, wanted in (".", "at 0.30 s: tick."), ("n", "at 1.50 s: novac 20 05000 00005. Reply: job 1."), ("n", "list 20 02000 00005. Reply: listed."):
+        browser.press(key)
+        says(browser, trial, f"from 0.29 s by {key}", wanted)
+    browser.press("End")
+    says(browser, trial, "the end", "at 2.00 s")
+    for key in ".", "n":
+        browser.press(key)
+        says(browser, trial, f"after the end by {key}", "The time of this run is over.")
+    browser.click("run")
+    says(browser, trial, "to run after the end", "The time of this run is over: go to an earlier row, or change the plan.")
+    trial.expect("a scenario has no choice of its beginning", not browser.value("document.getElementById('whole-box').hidden"))
+    open_text(browser, "")
+    trial.expect("a bench has a choice of its beginning", browser.value("document.getElementById('whole-box').hidden"))
+    trial.expect("a bench has no sliders for jobs", browser.value(SLIDERS) == "Stolen time 0 100 0 0 % 0 %")
+    type_line(browser, "list 5 02000 00005")
+    browser.press("Escape")
+    for key, wanted in ("n", "Request 6 of 6, at 0.05 s: tick. Reply: tick 02000/00005."), (".", "Request 7 of 7, at 0.06 s: tick."):
+        browser.press(key)
+        says(browser, trial, f"a bench by {key}", wanted)
+    told = browser.shown()["cells"][8]
+    trial.expect(f"asked by {told}", told == "the clock")
+    open_text(browser, PANEL)
+    for at, percent in ("0.5 s", 10), ("1 s", 20):
+        go_to(browser, at)
+        browser.value(f"(() => {{ const it = document.querySelector('#sliders input'); it.value = '{percent}';"
+                      " it.dispatchEvent(new Event('change')); })()")
+    browser.click("plan")
+    told = browser.value("document.querySelector('#plan-fields [name=steal]').value")
+    trial.expect(f"stolen time: {told}", told == "0 50 50\n50 100 10\n100 200 20")
+    browser.press("Escape")
+    open_text(browser, f"limit = 9999\n{STRIPED}")
+    go_to(browser, "51")
+    browser.value("document.getElementById('speed').value = '100'")
+    browser.click("run")
+    at, begun = 0.0, time.monotonic()
+    while at < 37 and time.monotonic() - begun < 10:
+        at = float((re.search(r"at ([0-9.]+) s", browser.text("sentence")) or [0, 0])[1])
+    trial.expect(f"on from an alarm, and beyond the bench: {browser.text('sentence')}", at >= 37)
+    browser.click("run")
+
+
+def try_asides(browser, trial):
+    """Nothing is undone of what a page opens with. A request in the middle of an exercise says at once what it sets aside, and that the
+    exercise is changed; undo takes both back. The tables' headings count what is in use."""
+    path = browser.value("location.pathname")
+    for mark in "", "#landing-1202", "#exercise-5":
+        browser.show(path, mark)
+        trial.expect(f"undo as {mark or 'the page'} opens", browser.value("document.getElementById('undo').disabled"))
+    go_to(browser, "9")
+    told = texts(browser, "#account li")
+    trial.expect(f"a listed task: {told}", told.startswith("Task 03000 is due in 35 cs; 9 of 9 places are in use.|"))
+    for row, note in (9, "The 1 request that followed is set aside; Undo brings it back."), \
+            (8, "The 2 requests that followed are set aside; Undo brings them back."):
+        go_to(browser, str(row))
+        trial.expect(f"before it at {row}: {texts(browser, '#note')}", texts(browser, "#note") == "" and CHANGED not in browser.text("question"))
+        type_line(browser, "tick")
+        browser.press("Escape")
+        trial.expect(f"set aside at {row}: {texts(browser, '#note')}", texts(browser, "#note") == note)
+        trial.expect(f"the question at {row}", CHANGED in browser.text("question") and "Back to the exercise as it was" in browser.text("question"))
+        told = texts(browser, "#sets-name, #areas-name, #tasks-name")
+        trial.expect(f"what is in use: {told}", told == f"Core sets: 0 of 7 in use|VAC areas: 0 of 5 in use|Waitlist: {row} of 9 in use")
+        browser.press("u")
+        says(browser, trial, "undone", f"Request {row} of 10")
+
+
+def try_percent(browser, trial):
+    """A number of the clock that is changed shows what happens, and what the document has; it says from when on it holds."""
+    path = browser.value("location.pathname")
+    browser.show(path, "#exercise-10")
+    box = "document.getElementById('whole-box').hidden"
+    trial.expect("a box at the first row", browser.value(box))
+    set_slider(browser, 23)
+    told = browser.text("outcome"), texts(browser, "#differs")
+    trial.expect(f"23 percent: {told}", told[0].startswith("Before: no alarm; ") and "Now: 1 alarm: 1201, " in told[0]
+                 and told[1] == "steal is 23 here, 15 in the document.")
+    trial.expect("what is changed is hidden", browser.value("document.getElementById('show-answer') === null") and CHANGED in browser.text("question"))
+    set_slider(browser, 15)
+    trial.expect(f"as it was: {texts(browser, '#differs')}", texts(browser, "#differs") == "" and CHANGED not in browser.text("question"))
+    go_to(browser, "32 s")
+    told = browser.value(box), browser.value("document.getElementById('since-box').className"), texts(browser, "#note")
+    trial.expect(f"at 32 s: {told}", told == (False, "since later", ""))
+    set_slider(browser, 50)
+    told = texts(browser, "#differs")
+    trial.expect(f"from 32 s on: {told}", told == "steal is 50 here from 32.00 s on, 15 in the document.")
+    browser.press("u")
+    go_to(browser, "32")
+    told = texts(browser, "#note")
+    trial.expect(f"a number without its unit: {told}", told == "32 is the number of a request. For a time, type 32 s.")
