@@ -97,8 +97,8 @@ enum {
     AGC_RUNS = 7,        /* who runs now */
     AGC_STORED = 8,      /* a work word was set */
     AGC_LISTED = 9,      /* a task was listed */
-    AGC_ALARMED = 10,    /* a table is full, and nothing changed: the alarm, as below. In a step an
-                            era began */
+    AGC_ALARMED = 10,    /* a table is full: the alarm, as below. A single call changed nothing, and
+                            with a step an era began */
     AGC_PHASED = 11,     /* a phase was set */
     AGC_TICKED = 12,     /* a tick passed */
     AGC_TICK_ALARMED = 13, /* an action raised this alarm in a tick, and an era began */
@@ -259,7 +259,7 @@ AGC_INLINE const char *agc_reply_text(uint32_t reply) {
     case AGC_RUNS: return "a job runs";
     case AGC_STORED: return "a work word was set";
     case AGC_LISTED: return "a task was listed";
-    case AGC_ALARMED: return "a table is full, and nothing changed";
+    case AGC_ALARMED: return "a table is full: an alarm";
     case AGC_PHASED: return "a phase was set";
     case AGC_TICKED: return "a tick passed";
     case AGC_TICK_ALARMED: return "an action raised an alarm in a tick, and an era began";

@@ -1,5 +1,8 @@
 /** The job tables of the Apollo Guidance Computer, Block II, over the proved library libagc. */
 
+/** The release of this module. */
+export declare const VERSION: string;
+
 export declare const WORDS: 144;
 export declare const PHASE_WORDS: 12;
 
@@ -59,6 +62,7 @@ export interface PlanTask {
   at: string | number;
   bank: string | number;
   action: string | readonly string[];
+  name?: string;
 }
 
 /** What begins again while a restart group, 1 to 6, is in a phase, 1 to 127. */
@@ -67,6 +71,7 @@ export interface PlanPhase {
   phase: number;
   job?: string;
   task?: string;
+  name?: string;
 }
 
 /** A plan, as a bench has it. */
@@ -138,6 +143,15 @@ export interface Totals {
   restarts: number;
 }
 
+/** All of a machine, of which JSON can be made. */
+export interface MachineState {
+  sets: number;
+  plan: Plan;
+  words: number[];
+  moment: number[];
+  totals: Totals;
+}
+
 /** A machine: its words, and the plan by which it goes on after an alarm. */
 export declare class Machine {
   constructor(given?: {
@@ -175,6 +189,10 @@ export declare class Machine {
   report(): string;
   /** A machine of its own with the same words, plan and totals. */
   copy(): Machine;
+  /** All of it, for `Machine.of`. */
+  readonly state: MachineState;
+  /** A machine of what `state` told. */
+  static of(state: MachineState): Machine;
 }
 
 /** From a centisecond on, and before another, something else takes so many percent of each. */
@@ -189,6 +207,7 @@ export interface JobCost {
   at: string | number;
   cost: number;
   then?: string;
+  name?: string;
 }
 
 /** What is asked at a centisecond, and with `every` again, at last at `until`. */
@@ -197,9 +216,10 @@ export interface TimedEvent {
   do: string | readonly string[];
   every?: number;
   until?: number;
+  name?: string;
 }
 
-/** What a scenario has of time. Other keys of it aren't looked at. */
+/** What a scenario has of time. Keys that no bench and no scenario has are refused. */
 export interface Timetable {
   /** How long it lasts: 3600 where it isn't named. */
   seconds?: number;
@@ -220,6 +240,12 @@ export declare class Asked {
   toString(): string;
 }
 
+/** All of a clock, of which JSON can be made. */
+export interface ClockState {
+  timetable: Timetable;
+  at: number[];
+}
+
 /** A clock, which lets time pass by a timetable for one machine. */
 export declare class Clock {
   constructor(timetable?: Timetable);
@@ -237,9 +263,13 @@ export declare class Clock {
   change(timetable: Timetable): void;
   /** A clock of its own with the same time, counts and timetable. */
   copy(): Clock;
+  /** All of it, for `Clock.of`. */
+  readonly state: ClockState;
+  /** A clock of what `state` told. */
+  static of(state: ClockState): Clock;
 }
 
-/** What words say that a machine has left, or had at a moment. */
+/** What words say that a machine has left, or had at a moment. Other words are refused. */
 export declare function sceneOf(words: ArrayLike<number>): Scene;
 
 /** Takes the module agc.wasm, as bytes or compiled. Importing `agc` has done it. */

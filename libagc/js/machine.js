@@ -9,13 +9,15 @@
  * was. What isn't of the right type is a `TypeError`. agc.h and docs/EMBEDDING.md say what each
  * call means.
  *
- * @typedef {{ at: string | number, bank: string | number, action: string | string[] }} PlanTask
- * @typedef {{ group: number, phase: number, job?: string, task?: string }} PlanPhase
+ * @typedef {{ at: string | number, bank: string | number, action: string | string[],
+ *   name?: string }} PlanTask
+ * @typedef {{ group: number, phase: number, job?: string, task?: string, name?: string }} PlanPhase
  * @typedef {{ task?: PlanTask[], phase?: PlanPhase[] }} Plan
  * @typedef {{ at: number, bank: number }} Task
  * @typedef {{ from: number, to: number, percent: number }} Stolen
- * @typedef {{ at: string | number, cost: number, then?: string }} JobCost
- * @typedef {{ at: number, do: string | string[], every?: number, until?: number }} TimedEvent
+ * @typedef {{ at: string | number, cost: number, then?: string, name?: string }} JobCost
+ * @typedef {{ at: number, do: string | string[], every?: number, until?: number,
+ *   name?: string }} TimedEvent
  * @typedef {{ seconds?: number, steal?: number | Stolen[], job?: JobCost[],
  *   event?: TimedEvent[] }} Timetable
  * @typedef {{ number: number, priority: number, at: number, bank: number, asleep: boolean,
@@ -24,7 +26,13 @@
  * @typedef {{ running: number, next: number, sets: (Job | null)[], areas: number[],
  *   tasks: Waiting[], phases: number[], codes: number[] }} Scene
  * @typedef {{ served: number, alarms: number[], restarts: number }} Totals
+ * @typedef {{ sets: number, plan: Plan, words: number[], moment: number[],
+ *   totals: Totals }} MachineState
+ * @typedef {{ timetable: Timetable, at: number[] }} ClockState
  */
+
+/** The release of this module. */
+export const VERSION = "1.0.0";
 
 /** How many numbers an array of words has, and how many phase words there are. */
 export const WORDS = 144;
@@ -101,7 +109,7 @@ const REPLY_TEXTS = {
   [Kind.RUNS]: "a job runs",
   [Kind.STORED]: "a work word was set",
   [Kind.LISTED]: "a task was listed",
-  [Kind.ALARMED]: "a table is full, and nothing changed",
+  [Kind.ALARMED]: "a table is full: an alarm",
   [Kind.PHASED]: "a phase was set",
   [Kind.TICKED]: "a tick passed",
   [Kind.TICK_ALARMED]: "an action raised an alarm in a tick, and an era began",
@@ -139,10 +147,10 @@ export class Lacking extends Error {
 
 // The module, and what lies where in its memory behind its own: the words of the machine that was
 // asked last, the words as they were at its last request, a call's numbers and answer, a clock, a text,
-// that machine's plan, and behind it that clock's timetable.
+// words from elsewhere, that machine's plan, and behind it that clock's timetable.
 const SIZE = {
   ...{ words: 288, moment: 288, answer: 24, fired: 72, request: 16, totals: 40, phases: 24 },
-  ...{ clock: 64, text: 2048 },
+  ...{ clock: 64, text: 2048, other: 288 },
 };
 const ROW = 72;
 const ENTRY = 36;
@@ -215,6 +223,62 @@ function whole(number) {
   }
   return number >= 0 && number <= 0xffffffff ? number : 0xffffffff;
 }
+
+/**
+ * Throws where what is given isn't an object with some of these keys and no others, and all that
+ * are wanted. What is undefined isn't given.
+ * @param {string} what
+ * @param {any} given
+ * @param {string[]} keys
+ * @param {string[]} [wanted]
+ */
+function known(what, given, keys, wanted = []) {
+  if (typeof given !== "object" || given === null || Array.isArray(given)) {
+    throw new TypeError(`${what} has to be an object, and this is ${JSON.stringify(given)}`);
+  }
+  const other = Object.keys(given).find((it) => given[it] !== undefined && !keys.includes(it));
+  if (other !== undefined) {
+    throw new TypeError(`${what} has no key ${JSON.stringify(other)}, only ${keys.join(", ")}`);
+  }
+  const missing = wanted.find((it) => given[it] === undefined);
+  if (missing !== undefined) throw new TypeError(`${what} has to have ${JSON.stringify(missing)}`);
+}
+
+/**
+ * The rows of a list.
+ * @template T
+ * @param {string} what
+ * @param {T[] | undefined} given
+ * @returns {T[]}
+ */
+function rowsOf(what, given) {
+  if (given === undefined) return [];
+  if (Array.isArray(given)) return given;
+  throw new TypeError(`${what} has to be an array, and this is ${JSON.stringify(given)}`);
+}
+
+/**
+ * The number, from 1, of the first row with which so many rows lack something: more rows never lack
+ * less.
+ * @param {(count: number) => boolean} lacks
+ * @param {number} count
+ */
+function firstBad(lacks, count) {
+  let [low, high] = [1, count];
+  while (low < high) {
+    const middle = Math.floor((low + high) / 2);
+    if (lacks(middle)) high = middle;
+    else low = middle + 1;
+  }
+  return low;
+}
+
+// What a bench or a scenario has besides a plan, for which it may stand, and what a timetable has.
+const TIMES = ["seconds", "steal", "job", "event"];
+const DOCUMENT = [
+  ...["title", "sets", "limit", "allowance", "script", "attends", "key", "radar", "power"],
+  ...["worker", "device", "task", "phase", ...TIMES],
+];
 
 /**
  * A word or an address: a number, or its five octal digits.
@@ -307,23 +371,29 @@ function action(line, names, kinds) {
 /**
  * The numbers of a plan's row.
  * @param {PlanTask} it
+ * @param {number} k
  */
-function rowOf(it) {
+function rowOf(it, k) {
+  const keys = ["at", "bank", "action"];
+  known(`task ${k + 1} of the plan`, it, [...keys, "name"], keys);
   const row = new Uint32Array(ROW / 4);
   const actions = Array.isArray(it.action) ? it.action : [it.action];
   if (actions.length < 1 || actions.length > 4) {
     throw new Lacking(Code.PLAN_RANGE, `a task has 1 to 4 actions, and this ${actions.length}`);
   }
   row.set([octal(it.at), octal(it.bank)]);
-  actions.forEach((line, k) => row.set(action(line, "action", ACTIONS), 2 + 4 * k));
+  actions.forEach((line, j) => row.set(action(line, "action", ACTIONS), 2 + 4 * j));
   return row;
 }
 
 /**
  * The numbers of a plan's entry.
  * @param {PlanPhase} it
+ * @param {number} k
  */
-function entryOf(it) {
+function entryOf(it, k) {
+  const keys = ["group", "phase", "job", "task", "name"];
+  known(`phase ${k + 1} of the plan`, it, keys, ["group", "phase"]);
   const entry = new Uint32Array(ENTRY / 4);
   entry.set([whole(it.group), whole(it.phase)]);
   if (it.job !== undefined) entry.set(action(it.job, "novac or findvac", STARTS), 2);
@@ -335,8 +405,11 @@ function entryOf(it) {
 class Lent {
   /** @param {Plan} plan */
   constructor(plan) {
-    const rows = (plan.task ?? []).map(rowOf);
-    const entries = (plan.phase ?? []).map(entryOf);
+    known("a plan", plan, DOCUMENT);
+    const rows = rowsOf("task", plan.task).map(rowOf);
+    const entries = rowsOf("phase", plan.phase).map(entryOf);
+    /** The plan as it was given. */
+    this.given = structuredClone({ task: plan.task ?? [], phase: plan.phase ?? [] });
     this.numbers = new Uint32Array((rows.length * ROW + entries.length * ENTRY) / 4);
     rows.forEach((it, k) => this.numbers.set(it, (k * ROW) / 4));
     entries.forEach((it, k) => this.numbers.set(it, (rows.length * ROW + k * ENTRY) / 4));
@@ -345,7 +418,21 @@ class Lent {
     this.entries = to.plan + BigInt(rows.length * ROW);
     this.entryCount = BigInt(entries.length);
     this.lend();
-    served(calls.agc_plan_check(this.rows, this.rowCount, this.entries, this.entryCount));
+    const code = this.#lacks(rows.length, entries.length);
+    if (code === Code.OK) return;
+    const inRows = this.#lacks(rows.length, 0) === code;
+    const number = inRows ? firstBad((count) => this.#lacks(count, 0) === code, rows.length)
+      : firstBad((count) => this.#lacks(0, count) === code, entries.length);
+    throw new Lacking(code, `${inRows ? "task" : "phase"} ${number}: ${codeText(code)}`);
+  }
+
+  /**
+   * The code of the first rows and entries alone.
+   * @param {number} rows
+   * @param {number} entries
+   */
+  #lacks(rows, entries) {
+    return calls.agc_plan_check(this.rows, BigInt(rows), this.entries, BigInt(entries));
   }
 
   /** Writes the plan to its place. */
@@ -434,6 +521,7 @@ export class Machine {
    *   words?: ArrayLike<number> }} given
    */
   constructor(given = {}) {
+    known("a machine", given, ["sets", "plan", "power", "words"]);
     const { sets, plan = {}, power, words } = given;
     if (calls === null) throw new TypeError("the module isn't there yet: await start(bytes)");
     leave();
@@ -576,6 +664,9 @@ export class Machine {
    * @param {(asked: Asked, step: Step, time: number) => unknown} [row]
    */
   run(clock, centiseconds, row) {
+    if (centiseconds < 0) {
+      throw new Lacking(Code.OUT_OF_RANGE, `time can't go back, by ${centiseconds} centiseconds`);
+    }
     const end = clock.time + whole(centiseconds);
     for (let count = 0; ; count++) {
       if (asked !== this) this.#enter();
@@ -623,7 +714,33 @@ export class Machine {
 
   /** What the words say, as `sceneOf` has it. */
   scene() {
-    return sceneOf(this.words);
+    return sceneIn(this.words);
+  }
+
+  /** All of it, of which JSON can be made, for `Machine.of`. */
+  get state() {
+    const plan = structuredClone(this.#plan.given);
+    const [words, moment] = [Array.from(this.words), Array.from(this.moment)];
+    return { sets: this.#sets, plan, words, moment, totals: this.totals };
+  }
+
+  /**
+   * A machine of what `state` told. Its words are looked at as those from elsewhere are.
+   * @param {MachineState} state
+   */
+  static of(state) {
+    const keys = ["sets", "plan", "words", "moment", "totals"];
+    known("a machine's state", state, keys, keys);
+    const made = new Machine({ sets: state.sets, plan: state.plan, words: state.words });
+    const { served: count, alarms, restarts } = state.totals;
+    if ([count, ...alarms, restarts].some((it) => !(Number.isSafeInteger(it) && it >= 0))) {
+      throw new Lacking(Code.OUT_OF_RANGE, "a count has to be an integer, 0 or more");
+    }
+    checked(state.moment, made.#size);
+    leave();
+    made.#moment.set(state.moment);
+    made.#totals = { served: count, alarms: [...alarms], restarts };
+    return made;
   }
 
   /** The report that `agc` writes. */
@@ -713,18 +830,42 @@ function thenOf(then) {
   return numbers[at.request / 4 + 1];
 }
 
+/**
+ * How many centiseconds so many seconds are.
+ * @param {number} seconds
+ */
+function centiseconds(seconds) {
+  const found = Math.round(100 * Number(seconds));
+  if (!(Math.abs(100 * seconds - found) < 1e-6)) {
+    throw new Lacking(Code.TIME_RANGE, `seconds has to be whole centiseconds, and is ${seconds}`);
+  }
+  if (found >= 0 && found <= LAST_TIME) return found;
+  const told = `a timetable lasts at most ${LAST_TIME / 100} seconds, and this ${seconds}`;
+  throw new Lacking(Code.TIME_RANGE, told);
+}
+
 /** What a timetable is in the module's memory, one part after the other. */
 class LentTimes {
   /** @param {Timetable} given */
-  constructor({ seconds = LAST_TIME / 100, steal = 0, job = [], event = [] }) {
+  constructor(given) {
+    known("a timetable", given, DOCUMENT);
+    const { seconds = LAST_TIME / 100, steal = 0 } = given;
+    const [job, event] = [rowsOf("job", given.job), rowsOf("event", given.event)];
     const always = steal === 0 ? [] : [{ from: 0, to: 0xffffffff, percent: Number(steal) }];
     const stolen = Array.isArray(steal) ? steal : always;
     /** @type {number[][]} */
     const requests = [];
-    this.lasts = whole(seconds * 100);
-    this.stolen = stolen.map((it) => [whole(it.from), whole(it.to), whole(it.percent)]);
-    this.costs = job.map((it) => [octal(it.at), whole(100 * it.cost), thenOf(it.then)]);
-    this.events = event.map((it) => {
+    this.lasts = centiseconds(seconds);
+    this.stolen = stolen.map((it, k) => {
+      known(`steal ${k + 1}`, it, ["from", "to", "percent"], ["from", "to", "percent"]);
+      return [whole(it.from), whole(it.to), whole(it.percent)];
+    });
+    this.costs = job.map((it, k) => {
+      known(`job ${k + 1}`, it, ["at", "cost", "then", "name"], ["at", "cost"]);
+      return [octal(it.at), whole(100 * whole(it.cost)), thenOf(it.then)];
+    });
+    this.events = event.map((it, k) => {
+      known(`event ${k + 1}`, it, ["at", "do", "every", "until", "name"], ["at", "do"]);
       const lines = Array.isArray(it.do) ? it.do : [it.do];
       const first = requests.length;
       lines.forEach((line) => {
@@ -732,7 +873,9 @@ class LentTimes {
         requests.push(Array.from(numbers.subarray(at.request / 4, at.request / 4 + 4)));
       });
       const every = whole(it.every ?? 0);
-      if (it.every !== undefined && every === 0) throw new Lacking(Code.TIME_RANGE);
+      if (it.every !== undefined && every === 0) {
+        throw new Lacking(Code.TIME_RANGE, `event ${k + 1}: every has to be 1 or more`);
+      }
       return [whole(it.at), every, whole(it.until ?? LAST_TIME), first, lines.length];
     });
     this.requests = requests;
@@ -743,16 +886,18 @@ class LentTimes {
   /** Looks whether it is a timetable, and says which row isn't. */
   #look() {
     leave();
-    const { stolen, costs, events, requests } = this;
-    const code = this.#checked(stolen, costs, events, requests);
+    const { requests } = this;
+    const code = this.#checked(this.stolen, this.costs, this.events, requests);
     if (code === Code.OK) return;
-    const rows = { steal: stolen, job: costs, event: events };
-    for (const [name, all] of Object.entries(rows)) {
-      const bad = all.findIndex((it) => this.#checked(
-        name === "steal" ? [it] : [], name === "job" ? [it] : [],
-        name === "event" ? [it] : [], requests,
-      ) !== Code.OK);
-      if (bad >= 0) throw new Lacking(code, `${name} ${bad + 1}: ${codeText(code)}`);
+    for (const [k, name] of ["steal", "job", "event"].entries()) {
+      const rows = [this.stolen, this.costs, this.events][k];
+      /** @param {number} count */
+      const lacks = (count) => {
+        const parts = [0, 1, 2].map((it) => (it === k ? rows.slice(0, count) : []));
+        return this.#checked(...parts, requests) === code;
+      };
+      if (!lacks(rows.length)) continue;
+      throw new Lacking(code, `${name} ${firstBad(lacks, rows.length)}: ${codeText(code)}`);
     }
     throw new Lacking(code);
   }
@@ -782,6 +927,17 @@ class LentTimes {
 }
 
 /**
+ * A timetable's own keys, of which what is given later changes nothing.
+ * @param {Timetable} given
+ * @returns {Timetable}
+ */
+function timesOf(given) {
+  known("a timetable", given, DOCUMENT);
+  const named = TIMES.filter((it) => Reflect.get(given, it) !== undefined);
+  return structuredClone(Object.fromEntries(named.map((it) => [it, Reflect.get(given, it)])));
+}
+
+/**
  * A clock: it lets time pass by a timetable, as docs/MODEL.md says, and gives what a machine is asked
  * next. `timetable` has `seconds`, `steal`, `job` and `event` as a scenario has them, and all may be
  * missing. A clock goes with one machine, and is told of all that this is asked.
@@ -807,8 +963,31 @@ export class Clock {
     if (calls === null) throw new TypeError("the module isn't there yet: await start(bytes)");
     // (a copy's is looked at already)
     const looked = timetable instanceof LentTimes;
-    this.#told = looked ? {} : { ...timetable };
     this.#times = looked ? timetable : new LentTimes(timetable);
+    this.#told = looked ? {} : timesOf(timetable);
+  }
+
+  /** All of it, of which JSON can be made, for `Clock.of`. */
+  get state() {
+    const [time, , event, , asks, , looks, left] = this.#numbers;
+    const at = [time, event, asks, looks & 1, left, ...this.given];
+    return { timetable: structuredClone(this.#told), at };
+  }
+
+  /**
+   * A clock of what `state` told.
+   * @param {ClockState} state
+   */
+  static of(state) {
+    known("a clock's state", state, ["timetable", "at"], ["timetable", "at"]);
+    const made = new Clock(state.timetable);
+    const [time, event, asks, looks, left, ...given] = rowsOf("at", state.at);
+    const all = [time, 0, event, 0, asks, 0, looks, left, ...given];
+    if (given.length !== 8 || looks > 1 || all.some((it) => !(it >>> 0 === it))) {
+      throw new Lacking(Code.OUT_OF_RANGE, "a clock's state has thirteen numbers of 32 bits");
+    }
+    made.#state.set(new Uint8Array(Uint32Array.from(all).buffer));
+    return made;
   }
 
   #leave() {
@@ -914,7 +1093,7 @@ export class Clock {
    * @param {Timetable} timetable
    */
   change(timetable) {
-    const told = { ...this.#told, ...timetable };
+    const told = { ...this.#told, ...timesOf(timetable) };
     const times = new LentTimes(told);
     this.#told = told;
     this.#times = times;
@@ -975,13 +1154,42 @@ function tasksOf(words) {
 }
 
 /**
+ * Throws where these aren't lawful words, as many as a machine has.
+ * @param {ArrayLike<number>} words
+ * @param {number} size
+ */
+function checked(words, size) {
+  if (calls === null) throw new TypeError("the module isn't there yet: await start(bytes)");
+  const found = Array.from(words, whole);
+  if (found.length !== size) {
+    const counts = `there have to be ${size} words, and these are ${found.length}`;
+    throw new Lacking(Code.NOT_WORDS, counts);
+  }
+  if (found.some((it) => it > 0xffff)) throw new Lacking(Code.NOT_WORDS);
+  halves.set(found, at.other / 2);
+  calls.agc_check(to.answer, to.other, size === WORDS ? 8 : 7);
+  served(numbers[at.answer / 4]);
+}
+
+/**
  * What words say that a machine has left, or had at a moment: who runs and whom a change of job
  * would bring (job numbers, 0 for nobody), the core sets with their jobs, who owns each VAC area,
- * the tasks that wait with the centiseconds left to each, the six phases, and the three codes.
+ * the tasks that wait with the centiseconds left to each, the six phases, and the three codes. Other
+ * words are refused.
  * @param {ArrayLike<number>} words
  * @returns {Scene}
  */
 export function sceneOf(words) {
+  checked(words, words.length === WORDS ? WORDS : WORDS - 12);
+  return sceneIn(words);
+}
+
+/**
+ * What lawful words say.
+ * @param {ArrayLike<number>} words
+ * @returns {Scene}
+ */
+function sceneIn(words) {
   const all = Array.from(words);
   const blocks = [0, 1, 2, 3, 4, 5, 6, ...(all.length === WORDS ? [11] : [])];
   const sets = blocks.map((it) => jobOf(all.slice(12 * it, 12 * it + 12)));

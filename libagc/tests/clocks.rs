@@ -119,9 +119,12 @@ fn main() -> Result<(), Lacking> {
     assert_eq!(Clock::new(twice).unwrap_err().code, COST_TWICE);
     assert_eq!(Timetable::new(1).job(0o4000, 1, "tick").unwrap_err().code, NOT_SPELLED);
     // 2^32 hundredths and four, and as many centiseconds, aren't cut to four.
-    let long = Timetable::new(42_949_673).job(0o4000, 42_949_673, "end")?;
+    let long = Timetable::new(3600).job(0o4000, 42_949_673, "end")?;
     assert_eq!(Clock::new(long).unwrap_err().code, TIME_RANGE);
-    assert_eq!((Clock::new(Timetable::new(42_949_673))?.lasts(), Clock::new(Timetable::new(60))?.lasts()), (u32::MAX, 6000));
+    assert_eq!(Clock::new(Timetable::new(3601)).unwrap_err().code, TIME_RANGE);
+    assert_eq!((Clock::new(Timetable::new(3600))?.lasts(), Clock::new(Timetable::new(60))?.lasts()), (360_000, 6000));
+    assert_eq!(scene_of(&[0; 132]).unwrap_err().code, UNLAWFUL);
+    assert_eq!(scene_of(&[0; 131]).unwrap_err().code, NOT_WORDS);
     spells()?;
     keeps()?;
     let (mut text, mut out) = (String::new(), BufWriter::new(io::stdout()));

@@ -258,7 +258,7 @@ def python_3_8_will_do():
 def each_function_is_hinted():
     for it in (one for one in ast.walk(module()) if isinstance(one, ast.FunctionDef)):
         arguments = [*it.args.args, *filter(None, [it.args.vararg])]
-        without = [one.arg for one in arguments if one.annotation is None and one.arg != "self"]
+        without = [one.arg for one in arguments if one.annotation is None and one.arg not in ("self", "cls")]
         assert it.returns is not None and not without, f"{it.name} lacks hints"
 
 

@@ -6,7 +6,6 @@ Other lines are those that eras.py writes: the plan, where the next bench begins
 """
 
 import json
-import pickle
 import sys
 
 from agc import Code, Kind, Lacking, Machine, scene_of
@@ -168,12 +167,11 @@ def keeps():
     step = nine.ask("tick")
     assert step.text == " ".join(["tick", *(f"{at}/00005" for at in ats), "alarm 1201"]) and step.action == 1
     assert step.begins_era and nine.ask("restart").begins_era and not nine.ask("tick").begins_era
-    for call in (lambda: pickle.dumps(nine), lambda: nine.ask(5)):
-        try:
-            call()
-        except TypeError:
-            continue
-        raise AssertionError("a machine pickles, or a number is a line")
+    try:
+        nine.ask(5)
+    except TypeError:
+        return
+    raise AssertionError("a number is a line")
 
 
 def main():

@@ -130,7 +130,7 @@ impl Run {
             ["entry", ..] => self.entry(&parts[1..]),
             ["power", ..] => self.power = Some(std::array::from_fn(|k| number(parts[k + 1], 8) as u16)),
             ["scene"] => writeln!(out, "scene {}", told(&self.machine().scene())).unwrap(),
-            ["moment"] => writeln!(out, "moment {}", told(&scene_of(self.machine().moment()))).unwrap(),
+            ["moment"] => writeln!(out, "moment {}", told(&scene_of(self.machine().moment()).unwrap())).unwrap(),
             _ => writeln!(out, "{}", self.ask(line)).unwrap(),
         }
     }

@@ -51,7 +51,7 @@ function addCall(name, takes, answer) {
 for (const [, name, body] of declared.matchAll(/^export (?:interface|declare class) (\w+)[^{]*\{\n([^]*?)^\}/gm)) {
   types.set(name, new Map());
   for (const it of parts(body.replace(/\/\*\*[^]*?\*\//g, " "), ";").map(plain)) {
-    const call = /^(\w+)\((.*)\)(?:: (.*))?$/.exec(it);
+    const call = /^(?:static )?(\w+)\((.*)\)(?:: (.*))?$/.exec(it);
     const member = /^(\w+)(\?)?: (.*)$/.exec(it);
     if (call) addCall(`${name}.${call[1]}`, call[2], call[3] ?? name);
     else types.get(name).set(member[1], { type: member[3], optional: member[2] === "?" });
@@ -165,6 +165,7 @@ function answers() {
   }
   machine.run(second, 1);
   found.push(["Clock.next", second.next(machine)], ["Clock.copy", clock.copy()], ["Clock.change", clock.change({ steal: 1 })]);
+  found.push(["Machine.of", agc.Machine.of(machine.state)], ["Clock.of", agc.Clock.of(clock.state)]);
   found.push(["Machine.copy", machine.copy()], ["Machine.report", machine.report()], ["codeText", agc.codeText(1)], ["replyText", agc.replyText(99)]);
   found.push(["Step.toString", `${step}`], ["Asked.toString", `${first}`], ["Lacking.constructor", new agc.Lacking(1)]);
   found.push(["Machine.constructor", machine], ["Clock.constructor", clock], ["start", agc.start(readFileSync(`${folder}/agc.wasm`))]);

@@ -7,7 +7,7 @@ pub(crate) const PART_1: &[u8] = br##"<!DOCTYPE html>
 <meta charset="utf-8">
 <meta http-equiv="Content-Security-Policy" content="default-src 'none';
 base-uri 'none'; form-action 'none';
-script-src 'sha256-ua5wUast17PIlswspdjqZwaEUt2YzGzgL7kDce3s3h4=' 'wasm-unsafe-eval';
+script-src 'sha256-40UqwDCK3S0opCGqN4rRrDaNyPi4uw/G6yaM+GK0BQk=' 'wasm-unsafe-eval';
 style-src 'sha256-p+1O1wS4rkhOoFwXxMMSyRVJzmdwiirX5qKSmZrYZJE='">
 <meta name="viewport" content="width=device-width, initial-scale=1">
 <meta name="color-scheme" content="light dark">
@@ -770,10 +770,7 @@ ACIEQf//AUsNBiABQgh8pygCACIIQf//A0sNBkEAIAhBAWtB//8DcUH+/wBL
 DQcaIARBEHQgCHIhBUEIIQNBASECIAcMBwtBASECQQkhAwwKCyABQgR8pygC
 ACIEQf8BSw0DIARBAWtB/wFxQQVLDQMgAUIIfKcoAgAiBUH/AEsNCSAJp0EA
 NgAJIAmnIAU6AAggCadBADoADUEBIQJBCiEDIAQhBgwJC0EBIQJBCyEDDAgL
-"##;
-
-/// Part 2 of what stands before the data.
-pub(crate) const PART_2: &[u8] = br##"QQEhAkEMIQMMBwsACwwFC0EACyEEIAmnIAU2AQogCacgBDsBCAwDC0EACyEG
+QQEhAkEMIQMMBwsACwwFC0EACyEEIAmnIAU2AQogCacgBDsBCAwDC0EACyEG
 IAmnIAI2AgggAyECDAELIAmnQQA2AggLIACnIAI7AAAgAEIDfKcgBjoAACAA
 QgJ8pyADOgAAIABCBHynIAmnKAIINgAAIABCCHynIAmnLwEMOwAAC50BAgF+
 A38jAEIgfSIBJAAgAUIQWQRAIAGnQQA7ARggAadCADcDEAJ/IACnKAIAIgNB
@@ -789,7 +786,10 @@ DgwCAwQFBgcICQAKEAsBCyAOQhh8IRcgASENIAIhA0IAIQwjAELgAH0iASQA
 AkACQAJAIAEiAkIQUw0AIANCyAF8IhGnLwAAIgVFDQEgA0K2AXwiHKdBACAc
 py8AACIGQQFqIAZB//8ARhs7AAAgA0LCAXwhCyADQuQBfCEPIANCAnwhECAD
 QroBfCEYIANCuAF8IRUgA0LMAXwhFiACQhh8IRkDQCAcpy8AAARAQgAhAQwE
-CyAFQf//A3FBgIABTw0BIANCygF8py8AACEGIANCtgF8pyADQswBfKcvAAAE
+"##;
+
+/// Part 2 of what stands before the data.
+pub(crate) const PART_2: &[u8] = br##"CyAFQf//A3FBgIABTw0BIANCygF8py8AACEGIANCtgF8pyADQswBfKcvAAAE
 f0GAgAFBAEGAgH4gFacvAAAiB2sgB0GAgAFJG0EBIAcbIgdrQQAgB0H//wNx
 GwVBAAs7AAAgGKcpAAAhASAYpygACCEHIBWnIBinLwAMOwAMIBWnIAc2AAgg
 FacgATcAACADQsYBfKdB/78BOwAAIBanKQAIIQEgFqcpABAhDCAWpykAGCES
@@ -1532,10 +1532,7 @@ AkACQAJAIAJBB2sOAgIBAAtBAQwFC0EBIQlCkAEhBgsgA6cgCToADiADQg58
 QgGEp0EAQaEC/AsAIAZCAYYhBwNAIAEgBXwiBEIGfKcvAQAiCSAEQgR8py8B
 ACIKIARCAnynLwEAIgsgBKcvAQAiDCAIQf//A3EiCCAIIAxJGyIIIAggC0kb
 IgggCCAKSRsiCCAIIAlJG8EhCCAHIAVCCHwiBVINAAsgCEEASA0CIAZCAYYi
-"##;
-
-/// Part 3 of what stands before the data.
-pub(crate) const PART_3: &[u8] = br##"BFBFBEAgA0IQfKcgAacgBKf8CgAACwJAIANCDnwQAUUNACADQg58EANFDQAg
+BFBFBEAgA0IQfKcgAacgBKf8CgAACwJAIANCDnwQAUUNACADQg58EANFDQAg
 A0IOfBAEDQILQQMMAwsACyADIAEgAhAQDAILQQILIQggA6dCADcCBCADpyAI
 NgIACyAApyADpygCCDYACCAApyADpykDADcAACADQrACfCQAQQAkAQvtAwED
 fhAABEAACyMAQrACfSIGJAACQAJ/AkAgBkIQWQRAAkACQAJAAkAgA0H/AUsN
@@ -1567,7 +1564,10 @@ BgwBC0EAIQgLIACnIAg2AAggAKcgBzYABCAApyAGNgAAIAtCsAJ8JABBACQB
 CxYAEAAEQAALIAAgASACIAMQEUEAJAEL9AICBX4FfxAABEAACyMAQrACfSIF
 JAACQAJ/AkACQCAFIgRCEFkEQCAEp0EANgIIIASnQgA3AwBChAEhBwJAAkAC
 QCACQQdrDgICAQALQQEMBQtBASEKQpABIQcLIASnIAo6AA4gBEIOfEIBhKdB
-AEGhAvwLACAHQgGGIQgDQCABIAZ8IgVCBnynLwEAIgogBUIEfKcvAQAiCyAF
+"##;
+
+/// Part 3 of what stands before the data.
+pub(crate) const PART_3: &[u8] = br##"AEGhAvwLACAHQgGGIQgDQCABIAZ8IgVCBnynLwEAIgogBUIEfKcvAQAiCyAF
 QgJ8py8BACIMIAWnLwEAIg0gCUH//wNxIgkgCSANSRsiCSAJIAxJGyIJIAkg
 C0kbIgkgCSAKSRvBIQkgCCAGQgh8IgZSDQALIAlBAEgNAiAHQgGGIgVQRQRA
 IARCEHynIAGnIAWn/AoAAAsCQCAEQg58EAFFDQAgBEIOfBADRQ0AIARCDnwQ
@@ -2462,6 +2462,8 @@ do = ["phase 5 1", "list 200 02000 00005", "list 100 02100 00005"]
 </script>
 <script type="module">
 const in_machine = (() => {
+const VERSION = "1.0.0";
+
 const WORDS = 144;
 const PHASE_WORDS = 12;
 
@@ -2532,7 +2534,7 @@ const REPLY_TEXTS = {
   [Kind.RUNS]: "a job runs",
   [Kind.STORED]: "a work word was set",
   [Kind.LISTED]: "a task was listed",
-  [Kind.ALARMED]: "a table is full, and nothing changed",
+  [Kind.ALARMED]: "a table is full: an alarm",
   [Kind.PHASED]: "a phase was set",
   [Kind.TICKED]: "a tick passed",
   [Kind.TICK_ALARMED]: "an action raised an alarm in a tick, and an era began",
@@ -2557,7 +2559,7 @@ class Lacking extends Error {
 
 const SIZE = {
   ...{ words: 288, moment: 288, answer: 24, fired: 72, request: 16, totals: 40, phases: 24 },
-  ...{ clock: 64, text: 2048 },
+  ...{ clock: 64, text: 2048, other: 288 },
 };
 const ROW = 72;
 const ENTRY = 36;
@@ -2611,6 +2613,40 @@ function whole(number) {
   return number >= 0 && number <= 0xffffffff ? number : 0xffffffff;
 }
 
+function known(what, given, keys, wanted = []) {
+  if (typeof given !== "object" || given === null || Array.isArray(given)) {
+    throw new TypeError(`${what} has to be an object, and this is ${JSON.stringify(given)}`);
+  }
+  const other = Object.keys(given).find((it) => given[it] !== undefined && !keys.includes(it));
+  if (other !== undefined) {
+    throw new TypeError(`${what} has no key ${JSON.stringify(other)}, only ${keys.join(", ")}`);
+  }
+  const missing = wanted.find((it) => given[it] === undefined);
+  if (missing !== undefined) throw new TypeError(`${what} has to have ${JSON.stringify(missing)}`);
+}
+
+function rowsOf(what, given) {
+  if (given === undefined) return [];
+  if (Array.isArray(given)) return given;
+  throw new TypeError(`${what} has to be an array, and this is ${JSON.stringify(given)}`);
+}
+
+function firstBad(lacks, count) {
+  let [low, high] = [1, count];
+  while (low < high) {
+    const middle = Math.floor((low + high) / 2);
+    if (lacks(middle)) high = middle;
+    else low = middle + 1;
+  }
+  return low;
+}
+
+const TIMES = ["seconds", "steal", "job", "event"];
+const DOCUMENT = [
+  ...["title", "sets", "limit", "allowance", "script", "attends", "key", "radar", "power"],
+  ...["worker", "device", "task", "phase", ...TIMES],
+];
+
 function octal(given) {
   if (typeof given === "number") return whole(given);
   if (typeof given !== "string") {
@@ -2663,18 +2699,22 @@ function action(line, names, kinds) {
   return found;
 }
 
-function rowOf(it) {
+function rowOf(it, k) {
+  const keys = ["at", "bank", "action"];
+  known(`task ${k + 1} of the plan`, it, [...keys, "name"], keys);
   const row = new Uint32Array(ROW / 4);
   const actions = Array.isArray(it.action) ? it.action : [it.action];
   if (actions.length < 1 || actions.length > 4) {
     throw new Lacking(Code.PLAN_RANGE, `a task has 1 to 4 actions, and this ${actions.length}`);
   }
   row.set([octal(it.at), octal(it.bank)]);
-  actions.forEach((line, k) => row.set(action(line, "action", ACTIONS), 2 + 4 * k));
+  actions.forEach((line, j) => row.set(action(line, "action", ACTIONS), 2 + 4 * j));
   return row;
 }
 
-function entryOf(it) {
+function entryOf(it, k) {
+  const keys = ["group", "phase", "job", "task", "name"];
+  known(`phase ${k + 1} of the plan`, it, keys, ["group", "phase"]);
   const entry = new Uint32Array(ENTRY / 4);
   entry.set([whole(it.group), whole(it.phase)]);
   if (it.job !== undefined) entry.set(action(it.job, "novac or findvac", STARTS), 2);
@@ -2684,8 +2724,10 @@ function entryOf(it) {
 
 class Lent {
   constructor(plan) {
-    const rows = (plan.task ?? []).map(rowOf);
-    const entries = (plan.phase ?? []).map(entryOf);
+    known("a plan", plan, DOCUMENT);
+    const rows = rowsOf("task", plan.task).map(rowOf);
+    const entries = rowsOf("phase", plan.phase).map(entryOf);
+    this.given = structuredClone({ task: plan.task ?? [], phase: plan.phase ?? [] });
     this.numbers = new Uint32Array((rows.length * ROW + entries.length * ENTRY) / 4);
     rows.forEach((it, k) => this.numbers.set(it, (k * ROW) / 4));
     entries.forEach((it, k) => this.numbers.set(it, (rows.length * ROW + k * ENTRY) / 4));
@@ -2694,7 +2736,16 @@ class Lent {
     this.entries = to.plan + BigInt(rows.length * ROW);
     this.entryCount = BigInt(entries.length);
     this.lend();
-    served(calls.agc_plan_check(this.rows, this.rowCount, this.entries, this.entryCount));
+    const code = this.#lacks(rows.length, entries.length);
+    if (code === Code.OK) return;
+    const inRows = this.#lacks(rows.length, 0) === code;
+    const number = inRows ? firstBad((count) => this.#lacks(count, 0) === code, rows.length)
+      : firstBad((count) => this.#lacks(0, count) === code, entries.length);
+    throw new Lacking(code, `${inRows ? "task" : "phase"} ${number}: ${codeText(code)}`);
+  }
+
+  #lacks(rows, entries) {
+    return calls.agc_plan_check(this.rows, BigInt(rows), this.entries, BigInt(entries));
   }
 
   lend() {
@@ -2752,14 +2803,12 @@ class Machine {
   }
 
   constructor(given = {}) {
+    known("a machine", given, ["sets", "plan", "power", "words"]);
     const { sets, plan = {}, power, words } = given;
     if (calls === null) throw new TypeError("the module isn't there yet: await start(bytes)");
     leave();
     this.#sets = whole(sets ?? (words?.length === WORDS ? 8 : 7));
-"##;
-
-/// Part 4 of what stands before the data.
-pub(crate) const PART_4: &[u8] = br##"    this.#plan = new Lent(plan);
+    this.#plan = new Lent(plan);
     if (words !== undefined) {
       this.#take(words);
     } else if (power === undefined) {
@@ -2784,7 +2833,10 @@ pub(crate) const PART_4: &[u8] = br##"    this.#plan = new Lent(plan);
   #powerUp(power) {
     const found = this.#numbers(Array.from(power, octal), PHASE_WORDS);
     halves.set(found.map((it) => Math.min(it, 0xffff)), at.phases / 2);
-    const plan = this.#plan;
+"##;
+
+/// Part 4 of what stands before the data.
+pub(crate) const PART_4: &[u8] = br##"    const plan = this.#plan;
     calls.agc_power_up(to.answer, to.words, this.#sets, plan.entries, plan.entryCount, to.phases);
     served(numbers[at.answer / 4]);
   }
@@ -2859,6 +2911,9 @@ pub(crate) const PART_4: &[u8] = br##"    this.#plan = new Lent(plan);
   }
 
   run(clock, centiseconds, row) {
+    if (centiseconds < 0) {
+      throw new Lacking(Code.OUT_OF_RANGE, `time can't go back, by ${centiseconds} centiseconds`);
+    }
     const end = clock.time + whole(centiseconds);
     for (let count = 0; ; count++) {
       if (asked !== this) this.#enter();
@@ -2897,7 +2952,28 @@ pub(crate) const PART_4: &[u8] = br##"    this.#plan = new Lent(plan);
   }
 
   scene() {
-    return sceneOf(this.words);
+    return sceneIn(this.words);
+  }
+
+  get state() {
+    const plan = structuredClone(this.#plan.given);
+    const [words, moment] = [Array.from(this.words), Array.from(this.moment)];
+    return { sets: this.#sets, plan, words, moment, totals: this.totals };
+  }
+
+  static of(state) {
+    const keys = ["sets", "plan", "words", "moment", "totals"];
+    known("a machine's state", state, keys, keys);
+    const made = new Machine({ sets: state.sets, plan: state.plan, words: state.words });
+    const { served: count, alarms, restarts } = state.totals;
+    if ([count, ...alarms, restarts].some((it) => !(Number.isSafeInteger(it) && it >= 0))) {
+      throw new Lacking(Code.OUT_OF_RANGE, "a count has to be an integer, 0 or more");
+    }
+    checked(state.moment, made.#size);
+    leave();
+    made.#moment.set(state.moment);
+    made.#totals = { served: count, alarms: [...alarms], restarts };
+    return made;
   }
 
   report() {
@@ -2970,15 +3046,35 @@ function thenOf(then) {
   return numbers[at.request / 4 + 1];
 }
 
+function centiseconds(seconds) {
+  const found = Math.round(100 * Number(seconds));
+  if (!(Math.abs(100 * seconds - found) < 1e-6)) {
+    throw new Lacking(Code.TIME_RANGE, `seconds has to be whole centiseconds, and is ${seconds}`);
+  }
+  if (found >= 0 && found <= LAST_TIME) return found;
+  const told = `a timetable lasts at most ${LAST_TIME / 100} seconds, and this ${seconds}`;
+  throw new Lacking(Code.TIME_RANGE, told);
+}
+
 class LentTimes {
-  constructor({ seconds = LAST_TIME / 100, steal = 0, job = [], event = [] }) {
+  constructor(given) {
+    known("a timetable", given, DOCUMENT);
+    const { seconds = LAST_TIME / 100, steal = 0 } = given;
+    const [job, event] = [rowsOf("job", given.job), rowsOf("event", given.event)];
     const always = steal === 0 ? [] : [{ from: 0, to: 0xffffffff, percent: Number(steal) }];
     const stolen = Array.isArray(steal) ? steal : always;
     const requests = [];
-    this.lasts = whole(seconds * 100);
-    this.stolen = stolen.map((it) => [whole(it.from), whole(it.to), whole(it.percent)]);
-    this.costs = job.map((it) => [octal(it.at), whole(100 * it.cost), thenOf(it.then)]);
-    this.events = event.map((it) => {
+    this.lasts = centiseconds(seconds);
+    this.stolen = stolen.map((it, k) => {
+      known(`steal ${k + 1}`, it, ["from", "to", "percent"], ["from", "to", "percent"]);
+      return [whole(it.from), whole(it.to), whole(it.percent)];
+    });
+    this.costs = job.map((it, k) => {
+      known(`job ${k + 1}`, it, ["at", "cost", "then", "name"], ["at", "cost"]);
+      return [octal(it.at), whole(100 * whole(it.cost)), thenOf(it.then)];
+    });
+    this.events = event.map((it, k) => {
+      known(`event ${k + 1}`, it, ["at", "do", "every", "until", "name"], ["at", "do"]);
       const lines = Array.isArray(it.do) ? it.do : [it.do];
       const first = requests.length;
       lines.forEach((line) => {
@@ -2986,7 +3082,9 @@ class LentTimes {
         requests.push(Array.from(numbers.subarray(at.request / 4, at.request / 4 + 4)));
       });
       const every = whole(it.every ?? 0);
-      if (it.every !== undefined && every === 0) throw new Lacking(Code.TIME_RANGE);
+      if (it.every !== undefined && every === 0) {
+        throw new Lacking(Code.TIME_RANGE, `event ${k + 1}: every has to be 1 or more`);
+      }
       return [whole(it.at), every, whole(it.until ?? LAST_TIME), first, lines.length];
     });
     this.requests = requests;
@@ -2996,16 +3094,17 @@ class LentTimes {
 
   #look() {
     leave();
-    const { stolen, costs, events, requests } = this;
-    const code = this.#checked(stolen, costs, events, requests);
+    const { requests } = this;
+    const code = this.#checked(this.stolen, this.costs, this.events, requests);
     if (code === Code.OK) return;
-    const rows = { steal: stolen, job: costs, event: events };
-    for (const [name, all] of Object.entries(rows)) {
-      const bad = all.findIndex((it) => this.#checked(
-        name === "steal" ? [it] : [], name === "job" ? [it] : [],
-        name === "event" ? [it] : [], requests,
-      ) !== Code.OK);
-      if (bad >= 0) throw new Lacking(code, `${name} ${bad + 1}: ${codeText(code)}`);
+    for (const [k, name] of ["steal", "job", "event"].entries()) {
+      const rows = [this.stolen, this.costs, this.events][k];
+      const lacks = (count) => {
+        const parts = [0, 1, 2].map((it) => (it === k ? rows.slice(0, count) : []));
+        return this.#checked(...parts, requests) === code;
+      };
+      if (!lacks(rows.length)) continue;
+      throw new Lacking(code, `${name} ${firstBad(lacks, rows.length)}: ${codeText(code)}`);
     }
     throw new Lacking(code);
   }
@@ -3027,6 +3126,12 @@ class LentTimes {
   }
 }
 
+function timesOf(given) {
+  known("a timetable", given, DOCUMENT);
+  const named = TIMES.filter((it) => Reflect.get(given, it) !== undefined);
+  return structuredClone(Object.fromEntries(named.map((it) => [it, Reflect.get(given, it)])));
+}
+
 class Clock {
   #told;
   #times;
@@ -3044,8 +3149,26 @@ class Clock {
   constructor(timetable = {}) {
     if (calls === null) throw new TypeError("the module isn't there yet: await start(bytes)");
     const looked = timetable instanceof LentTimes;
-    this.#told = looked ? {} : { ...timetable };
     this.#times = looked ? timetable : new LentTimes(timetable);
+    this.#told = looked ? {} : timesOf(timetable);
+  }
+
+  get state() {
+    const [time, , event, , asks, , looks, left] = this.#numbers;
+    const at = [time, event, asks, looks & 1, left, ...this.given];
+    return { timetable: structuredClone(this.#told), at };
+  }
+
+  static of(state) {
+    known("a clock's state", state, ["timetable", "at"], ["timetable", "at"]);
+    const made = new Clock(state.timetable);
+    const [time, event, asks, looks, left, ...given] = rowsOf("at", state.at);
+    const all = [time, 0, event, 0, asks, 0, looks, left, ...given];
+    if (given.length !== 8 || looks > 1 || all.some((it) => !(it >>> 0 === it))) {
+      throw new Lacking(Code.OUT_OF_RANGE, "a clock's state has thirteen numbers of 32 bits");
+    }
+    made.#state.set(new Uint8Array(Uint32Array.from(all).buffer));
+    return made;
   }
 
   #leave() {
@@ -3118,7 +3241,7 @@ class Clock {
   }
 
   change(timetable) {
-    const told = { ...this.#told, ...timetable };
+    const told = { ...this.#told, ...timesOf(timetable) };
     const times = new LentTimes(told);
     this.#told = told;
     this.#times = times;
@@ -3165,7 +3288,25 @@ function tasksOf(words) {
   return found;
 }
 
+function checked(words, size) {
+  if (calls === null) throw new TypeError("the module isn't there yet: await start(bytes)");
+  const found = Array.from(words, whole);
+  if (found.length !== size) {
+    const counts = `there have to be ${size} words, and these are ${found.length}`;
+    throw new Lacking(Code.NOT_WORDS, counts);
+  }
+  if (found.some((it) => it > 0xffff)) throw new Lacking(Code.NOT_WORDS);
+  halves.set(found, at.other / 2);
+  calls.agc_check(to.answer, to.other, size === WORDS ? 8 : 7);
+  served(numbers[at.answer / 4]);
+}
+
 function sceneOf(words) {
+  checked(words, words.length === WORDS ? WORDS : WORDS - 12);
+  return sceneIn(words);
+}
+
+function sceneIn(words) {
   const all = Array.from(words);
   const blocks = [0, 1, 2, 3, 4, 5, 6, ...(all.length === WORDS ? [11] : [])];
   const sets = blocks.map((it) => jobOf(all.slice(12 * it, 12 * it + 12)));
@@ -3181,6 +3322,7 @@ function sceneOf(words) {
   };
 }
 return {
+  VERSION,
   WORDS,
   PHASE_WORDS,
   Code,
@@ -4131,7 +4273,10 @@ function brokenPairs(power) {
     const [turned, plain] = power.slice(2 * k, 2 * k + 2).map((it) => parseInt(it, 8));
     if (turned !== 0o77777 - plain) {
       const pair = `${octal(turned, 5)} is not the complement of ${octal(plain, 5)}`;
-      lines.push([`group ${k + 1}: ${pair}`]);
+"##;
+
+/// Part 5 of what stands before the data.
+pub(crate) const PART_5: &[u8] = br##"      lines.push([`group ${k + 1}: ${pair}`]);
     } else if (plain > 127) {
       lines.push([`group ${k + 1}: phase ${plain} is above 127`]);
     }
@@ -4170,10 +4315,7 @@ function accountOfQuestion({ bench }) {
 }
 
 function accountOfAlarm(run, shown, names) {
-"##;
-
-/// Part 5 of what stands before the data.
-pub(crate) const PART_5: &[u8] = br##"  const number = /** @type {1} */ (shown.step?.number ?? 0);
+  const number = /** @type {1} */ (shown.step?.number ?? 0);
   const table = TABLES[/** @type {keyof typeof TABLES} */ (/** @type {unknown} */ (number))];
   const { running } = shown.scene;
   const lines = [
@@ -5450,7 +5592,10 @@ class History {
 }
 
 function parting(one, other) {
-  const most = Math.min(one.count, other.count);
+"##;
+
+/// Part 6 of what stands before the data.
+pub(crate) const PART_6: &[u8] = br##"  const most = Math.min(one.count, other.count);
   for (let row = 1; row <= most; row++) {
     const same = one.run.lines[row] === other.run.lines[row]
       && one.run.columns.uses.items[row] === other.run.columns.uses.items[row]
@@ -5479,10 +5624,7 @@ function setsCell(scene, names) {
     const told = `${names.jobCell(job)}/${octal(job.priority, 2)}`;
     if (job.asleep) return `(${told})`;
     return scene.next === job.number && scene.next !== scene.running ? `>${told}` : told;
-"##;
-
-/// Part 6 of what stands before the data.
-pub(crate) const PART_6: &[u8] = br##"  }).join(" ");
+  }).join(" ");
 }
 
 function cellsOf({ row, time, line, reply, scene, who }, names) {

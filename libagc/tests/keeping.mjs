@@ -1,0 +1,119 @@
+// What machines and clocks of machine.js refuse with a sentence, and how they are kept. Prints what doesn't hold, and fails
+// then.
+//
+//     node keeping.mjs AGC_JS
+import { pathToFileURL } from "node:url";
+
+const { Clock, Code, Kind, Lacking, Machine, VERSION, replyText, sceneOf } = await import(pathToFileURL(process.argv[2]).href);
+
+const SERVICER = {
+  steal: 15,
+  job: [{ at: "04000", cost: 170 }, { at: "04100", cost: 12, then: "sleep 04200" }],
+  event: [{ at: 0, every: 200, do: "findvac 20 04000 00005" }, { at: 50, do: ["novac 27 04100 00005", "prio 20"] }],
+};
+const PLAN = { task: [{ at: "02000", bank: 5, action: ["findvac 20 04000 00007", "list 2 02000 00005"] }] };
+const same = (one, other) => JSON.stringify(one) === JSON.stringify(other);
+
+function want(holds, what) {
+  if (!holds) throw new Error(`it doesn't hold: ${what}`);
+}
+
+function thrown(kind, call, told) {
+  try {
+    call();
+  } catch (fault) {
+    want(fault instanceof kind && (told === undefined || fault.message === told), `${call} throws ${fault}`);
+    return;
+  }
+  throw new Error(`nothing is thrown by ${call}`);
+}
+
+function timeGoesOn() {
+  const [machine, clock] = [new Machine(), new Clock()];
+  thrown(Lacking, () => machine.run(clock, -5), "time can't go back, by -5 centiseconds");
+  thrown(TypeError, () => machine.run(clock, 2.5));
+  want(machine.run(clock, 0) === 0 && clock.time === 0 && machine.run(clock, 3) === 3, "a run");
+  want(new Clock({ seconds: 3600 }).lasts === 360000 && new Clock({ seconds: 0.29 }).lasts === 29, "an hour");
+  thrown(Lacking, () => new Clock({ seconds: 3601 }), "a timetable lasts at most 3600 seconds, and this 3601");
+  thrown(Lacking, () => new Clock({ seconds: 0.125 }), "seconds has to be whole centiseconds, and is 0.125");
+  thrown(Lacking, () => new Clock({ seconds: Number.NaN }));
+}
+
+function keysAreKnown() {
+  const job = { at: "04000", cost: 1 };
+  const keys = "title, sets, limit, allowance, script, attends, key, radar, power, worker, device, task, phase, seconds, steal, job, event";
+  thrown(TypeError, () => new Clock({ stael: 15 }), `a timetable has no key "stael", only ${keys}`);
+  thrown(TypeError, () => new Clock().change({ stael: 15 }));
+  thrown(TypeError, () => new Clock({ job: [job, { ...job, costs: 1 }] }), 'job 2 has no key "costs", only at, cost, then, name');
+  thrown(TypeError, () => new Clock({ job: [{ at: "04000" }] }), 'job 1 has to have "cost"');
+  thrown(TypeError, () => new Clock({ job: [{ ...job, cost: 0.5 }] }), "a number has to be an integer, and this is 0.5");
+  thrown(TypeError, () => new Clock({ job }), 'job has to be an array, and this is {"at":"04000","cost":1}');
+  thrown(TypeError, () => new Clock({ event: [{ do: "tick" }] }), 'event 1 has to have "at"');
+  thrown(TypeError, () => new Clock({ steal: [{ from: 0, to: 9 }] }), 'steal 1 has to have "percent"');
+  thrown(TypeError, () => new Clock([]), "a timetable has to be an object, and this is []");
+  thrown(TypeError, () => new Machine({ set: 7 }), 'a machine has no key "set", only sets, plan, power, words');
+  thrown(TypeError, () => new Machine({ plan: { tasks: [] } }));
+  thrown(TypeError, () => new Machine({ plan: { task: [{ at: 1, bank: 5 }] } }), 'task 1 of the plan has to have "action"');
+  thrown(TypeError, () => new Machine({ plan: { phase: [5] } }), "phase 1 of the plan has to be an object, and this is 5");
+  // A whole scenario stands for its plan and for its timetable.
+  const scenario = { title: "a landing", sets: 7, seconds: 60, ...PLAN, ...SERVICER };
+  want(new Clock(scenario).lasts === 6000 && new Machine({ plan: scenario }).ask("tick").text === "tick", "a scenario");
+}
+
+function faultsNameTheirRow() {
+  const [row, entry] = [{ at: "02000", bank: "00005", action: "nothing" }, { group: 1, phase: 1 }];
+  const others = Array.from({ length: 39 }, (_, k) => ({ ...row, at: 0o2001 + k }));
+  const range = "a number of the plan is out of its range";
+  thrown(Lacking, () => new Machine({ plan: { task: [row, { ...row, at: "00000" }, row] } }), `task 2: ${range}`);
+  thrown(Lacking, () => new Machine({ plan: { task: [row, ...others, row, row] } }), "task 41: a task has two rows of the plan");
+  thrown(Lacking, () => new Machine({ plan: { task: others, phase: [entry, { ...entry, phase: 128 }] } }), `phase 2: ${range}`);
+  const costs = [1, 2, 3, 2, 1].map((at) => ({ at, cost: 1 }));
+  thrown(Lacking, () => new Clock({ job: costs }), "job 4: one address has two costs");
+  const steal = [{ from: 9, to: 12, percent: 1 }, { from: 0, to: 10, percent: 1 }];
+  thrown(Lacking, () => new Clock({ steal }), "steal 2: two rows of stolen time hold at one time");
+}
+
+function foreignWordsHaveNoScene() {
+  const machine = new Machine();
+  const words = Array.from(machine.words);
+  want(same(sceneOf(words), machine.scene()), "a scene");
+  for (const [place, bits] of [[11, 0o1001], [89, 0o14], [129, 5], [90, 1], [3, 32768]]) {
+    thrown(Lacking, () => sceneOf(words.map((it, k) => (k === place ? bits : it))));
+  }
+  thrown(Lacking, () => sceneOf(words.slice(1)), "there have to be 132 words, and these are 131");
+}
+
+/** What is kept goes on as what was kept does, and leaves it alone. */
+function areKept() {
+  const [machine, clock] = [new Machine({ sets: 8, plan: PLAN }), new Clock(SERVICER)];
+  machine.ask("list 500 02000 00005");
+  machine.run(clock, 3000);
+  const told = (its, own) => [its.words, its.moment, its.totals, own.time, own.given];
+  const goesOn = (its, own) => {
+    const texts = [];
+    its.run(own, 700, (asked, step) => texts.push(`${asked}: ${step}`));
+    return texts;
+  };
+  const was = told(machine, clock);
+  const wanted = goesOn(machine.copy(), clock.copy());
+  want(wanted.length > 700 && machine.totals.restarts > 0, "a busy machine");
+  for (const kept of [(it) => it, structuredClone, (it) => JSON.parse(JSON.stringify(it))]) {
+    const [other, own] = [Machine.of(kept(machine.state)), Clock.of(kept(clock.state))];
+    want(same(told(other, own), was) && other.sets === 8, `${kept}`);
+    want(same(goesOn(other, own), wanted) && same(told(machine, clock), was), `${kept} goes on`);
+  }
+  want(same(Clock.of(clock.state).state, clock.state), "a clock's state");
+  const { state } = machine;
+  thrown(Lacking, () => Machine.of({ ...state, words: state.words.map(() => 0) }));
+  thrown(Lacking, () => Machine.of({ ...state, moment: state.moment.map(() => 0) }));
+  thrown(Lacking, () => Machine.of({ ...state, totals: { ...state.totals, served: -1 } }));
+  thrown(TypeError, () => Machine.of({ sets: 8 }));
+  thrown(Lacking, () => Clock.of({ ...clock.state, at: [2 ** 32, ...new Array(12).fill(0)] }));
+}
+
+timeGoesOn();
+keysAreKnown();
+faultsNameTheirRow();
+foreignWordsHaveNoScene();
+areKept();
+want(/^\d+\.\d+\.\d+$/.test(VERSION) && replyText(Kind.ALARMED) === "a table is full: an alarm" && Code.OK === 0, "texts");

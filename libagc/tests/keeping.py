@@ -1,0 +1,192 @@
+"""What machines and clocks of agc.py refuse with a sentence, how they are kept, and how threads share one. Prints what
+doesn't hold."""
+
+import copy
+import json
+import pickle
+import sys
+import threading
+
+import agc
+from agc import Clock, Code, Lacking, Machine
+
+SERVICER = {
+    "steal": 15,
+    "job": [{"at": "04000", "cost": 170}, {"at": "04100", "cost": 12, "then": "sleep 04200"}],
+    "event": [{"at": 0, "every": 200, "do": "findvac 20 04000 00005"}, {"at": 50, "do": ["novac 27 04100 00005", "prio 20"]}],
+}
+PLAN = {"task": [{"at": "02000", "bank": 5, "action": ["findvac 20 04000 00007", "list 2 02000 00005"]}]}
+
+
+def raised(kind, call):
+    try:
+        call()
+    except kind as fault:
+        assert type(fault) is kind, repr(fault)
+        return str(fault)
+    raise AssertionError(f"nothing was raised, and not {kind.__name__}")
+
+
+def time_goes_on():
+    """A run of less than nothing is refused at once, and nothing passes; of nothing it is no run."""
+    machine, clock = Machine(), Clock()
+    assert raised(Lacking, lambda: machine.run(clock, -5)) == "time can't go back, by -5 centiseconds"
+    raised(TypeError, lambda: machine.run(clock, 2.5))
+    assert [*machine.run(clock, 0)] == [] and clock.time == 0 and machine.totals.served == 0
+    assert len([*machine.run(clock, 3)]) == 3 and clock.time == 3
+
+
+def an_hour_is_the_longest():
+    """Events come up to an hour, so that a timetable that lasts longer would lose them."""
+    assert Clock({"seconds": 3600}).lasts == 360000 and Clock({"seconds": 0.29}).lasts == 29
+    told = "a timetable lasts at most 3600 seconds, and this 3601"
+    assert raised(Lacking, lambda: Clock({"seconds": 3601})) == told
+    assert raised(Lacking, lambda: Clock({"seconds": 0.125})) == "seconds has to be whole centiseconds, and is 0.125"
+    late = {"event": [{"at": 0, "do": "tick"}, {"at": 360001, "do": "tick"}]}
+    assert raised(Lacking, lambda: Clock(late)) == "event 2: a number of the timetable is out of its range"
+
+
+def keys_are_known():
+    for call, told in [
+        (lambda: Clock({"stael": 15}), "a timetable has no key 'stael': is it 'steal'?"),
+        (lambda: Clock({"job": [{"at": "04000", "costs": 1}]}), "job 1 has no key 'costs': is it 'cost'?"),
+        (lambda: Clock({"job": [{"at": "04000"}]}), "job 1 has to have 'cost'"),
+        (lambda: Clock({"event": [{"at": 0, "do": "tick"}, {"do": "tick"}]}), "event 2 has to have 'at'"),
+        (lambda: Clock({"steal": [{"from": 0, "to": 9}]}), "steal 1 has to have 'percent'"),
+        (lambda: Clock({"steal": 1.5}), "a number has to be an int, and 1.5 is of type float"),
+        (lambda: Clock({"steal": "15"}), "steal has to be a list of dicts, and '15' is of type str"),
+        (lambda: Clock({"job": [{"at": "04000", "cost": 0.29}]}), "a number has to be an int, and 0.29 is of type float"),
+        (lambda: Clock({"job": {"at": "04000", "cost": 1}}), "job has to be a list of dicts, and {'at': '04000', 'cost': 1} is of type dict"),
+        (lambda: Clock([]), "a timetable has to be a dict, and [] is of type list"),
+        (lambda: Machine(plan={"tasks": []}), "a plan has no key 'tasks': is it 'task'?"),
+        (lambda: Machine(plan={"task": [{"at": 1, "bank": 5}]}), "task 1 of the plan has to have 'action'"),
+        (lambda: Machine(plan={"task": [{"at": 1, "bank": 5, "action": 7}]}), "task 1 of the plan: action has to be a line or a list of lines, and 7 is of type int"),
+        (lambda: Machine(plan={"phase": [{"group": 1, "phase": 1}, {"group": 1}]}), "phase 2 of the plan has to have 'phase'"),
+        (lambda: Machine(plan={"phase": [5]}), "phase 1 of the plan has to be a dict, and 5 is of type int"),
+    ]:
+        found = raised(TypeError, call)
+        assert found == told, found
+    # A whole scenario stands for its plan and for its timetable.
+    scenario = {"title": "a landing", "sets": 7, "seconds": 60, **PLAN, **SERVICER}
+    assert Clock(scenario).lasts == 6000 and Machine(plan=scenario).ask("tick").text == "tick"
+
+
+def a_fault_names_its_row():
+    row, entry = {"at": "02000", "bank": "00005", "action": "nothing"}, {"group": 1, "phase": 1}
+    others = [{**row, "at": 0o2000 + k} for k in range(1, 40)]
+    for call, told in [
+        (lambda: Machine(plan={"task": [row, {**row, "at": "00000"}, row]}), "task 2: a number of the plan is out of its range"),
+        (lambda: Machine(plan={"task": [row, *others, row, row]}), "task 41: a task has two rows of the plan"),
+        (lambda: Machine(plan={"task": others, "phase": [entry, {**entry, "phase": 128}]}), "phase 2: a number of the plan is out of its range"),
+        (lambda: Machine(plan={"phase": [entry, {**entry, "group": 2}, entry]}), "phase 3: a group's phase has two entries of the plan"),
+        (lambda: Clock({"job": [{"at": k, "cost": 1} for k in (1, 2, 3, 2, 1)]}), "job 4: one address has two costs"),
+        (lambda: Clock({"steal": [{"from": 9, "to": 12, "percent": 1}, {"from": 0, "to": 10, "percent": 1}]}), "steal 2: two rows of stolen time hold at one time"),
+    ]:
+        found = raised(Lacking, call)
+        assert found == told, found
+
+
+def foreign_words_have_no_scene():
+    words = [*Machine().words]
+    assert agc.scene_of(words).running == 0
+    for place, bits in [(11, 0o1001), (89, 0o14), (129, 5), (90, 1), (3, 32768)]:
+        assert "scene" not in raised(Lacking, lambda: agc.scene_of([*words[:place], bits, *words[place + 1:]]))
+    raised(Lacking, lambda: agc.scene_of(words[:131]))
+    raised(Lacking, lambda: agc.scene_of([]))
+
+
+def halfway():
+    """A machine and a clock, 30 seconds after they began."""
+    machine, clock = Machine(8, PLAN), Clock(SERVICER)
+    machine.ask("list 500 02000 00005")
+    for _ in machine.run(clock, 3000):
+        pass
+    return machine, clock
+
+
+KEPT = {
+    "copy": copy.copy,
+    "deepcopy": copy.deepcopy,
+    "pickle": lambda it: pickle.loads(pickle.dumps(it)),
+    "state": lambda it: type(it).of_state(it.state),
+    "json": lambda it: type(it).of_state(json.loads(json.dumps(it.state))),
+}
+
+
+def machines_and_clocks_are_kept():
+    """What is kept goes on as what was kept does, and leaves it alone."""
+    machine, clock = halfway()
+    was = machine.words, machine.moment, machine.totals, clock.time, clock.given
+    wanted = [(str(asked), str(step)) for asked, step in machine.copy().run(clock.copy(), 700)]
+    assert len(wanted) > 700 and machine.totals.alarms != (0, 0, 0)
+    for name, kept in KEPT.items():
+        other, its = kept(machine), kept(clock)
+        assert (other.words, other.moment, other.totals, its.time, its.given) == was and other.sets == 8, name
+        assert [(str(asked), str(step)) for asked, step in other.run(its, 700)] == wanted, name
+        assert (machine.words, machine.moment, machine.totals, clock.time, clock.given) == was, name
+    for change in ({"words": [0] * 144}, {"moment": [0] * 144}, {"totals": [-1, [0, 0, 0], 0]}):
+        raised(Lacking, lambda: Machine.of_state({**machine.state, **change}))
+    raised(TypeError, lambda: Machine.of_state({"sets": 8}))
+    raised(Lacking, lambda: Clock.of_state({**clock.state, "at": [2**32] + [0] * 12}))
+    assert type(pickle.loads(pickle.dumps(machine.totals))) is agc.Totals
+
+
+def threads_take_turns():
+    """Six threads ask one machine, two of them by many at once: each request is served, and counted once."""
+    machine, steps = Machine(), [[] for _ in range(6)]
+
+    def work(k):
+        for _ in range(500):
+            if k < 2:
+                steps[k] += machine.ask_all(["phase 1 1", "tick"])
+            else:
+                steps[k] += [machine.ask("findvac 20 02000 00005"), machine.ask("tick")]
+
+    switch = sys.getswitchinterval()
+    sys.setswitchinterval(1e-6)
+    threads = [threading.Thread(target=work, args=(k,)) for k in range(6)]
+    for it in threads:
+        it.start()
+    for it in threads:
+        it.join()
+    sys.setswitchinterval(switch)
+    told = sum(map(len, steps)), sum(it.alarm == 0o1201 for some in steps for it in some)
+    assert (machine.totals.served, machine.totals.alarms[0]) == told == (6000, 2000 // 6), machine.totals
+
+
+def many_at_once():
+    """The same replies as one by one; at the first that lacks something those before it have been served."""
+    lines = ["novac 20 02000 00005", "findvac 30 02100 00005", "change", "list 1 02000 00005", "tick"] * 30
+    one, all_ = Machine(plan=PLAN), Machine(plan=PLAN)
+    assert all_.ask_all(lines) == [one.ask(it) for it in lines] and all_.words == one.words and all_.totals == one.totals
+    raised(Lacking, lambda: all_.ask_all(["tick", "tock", "tick"]))
+    assert all_.totals.served == len(lines) + 1
+
+
+def versions():
+    assert agc.__version__.count(".") == 2 and agc.code_text(agc.Code.OK) == "the call was served"
+    assert agc.reply_text(agc.Kind.ALARMED) == "a table is full: an alarm"
+
+
+def main():
+    failed = 0
+    for test in [
+        time_goes_on,
+        an_hour_is_the_longest,
+        keys_are_known,
+        a_fault_names_its_row,
+        foreign_words_have_no_scene,
+        machines_and_clocks_are_kept,
+        threads_take_turns,
+        many_at_once,
+        versions,
+    ]:
+        try:
+            test()
+        except Exception as fault:
+            print(f"keeping.py: {test.__name__}: {type(fault).__name__}: {fault}")
+            failed = 1
+    return failed
+
+
+sys.exit(main())
