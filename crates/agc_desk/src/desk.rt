@@ -159,7 +159,9 @@ impl<N: Names> Desk<N> {
     /// Asks the machine, and books what its answer adds to the totals, in the share and in the
     /// desk's books. The request and its answer are appended to the history, not on behalf of any
     /// line's pulse, and to what the share's holder heard. A refusal is the answer's result, and
-    /// books nothing. Source: profile.
+    /// books nothing. Which answers have an alarm, the law
+    /// [`alarm_where_its_table_is_full`](agc_machine::laws::alarm_where_its_table_is_full) says.
+    /// Source: profile.
     pub fn serve(&mut self, share: &mut Share<N>, request: Request) -> Answer
         ensures answer { result ≡ said_of self.old.machine request }
         ensures lawful { IsLawful self.old.machine }

@@ -1,5 +1,5 @@
 -- Each kind of step keeps the latch's rule.
-use Rattle.std.proofs.Common.{◌≡◌, ℕ, zero, suc, ◌+◌, ◌*◌, ◌%◌, ◌^◌, ◌<◌, ◌≤◌, ◌≢◌, List, [], ◌∷◌, set, slice_index, sum, sym, refl, ap, ◌∙◌, subst, ⊎_elim, arith, length-set, get_or-set_same, get_or-set_other}
+use Rattle.std.proofs.Common.{◌≡◌, ℕ, zero, suc, ◌+◌, ◌*◌, ◌%◌, ◌^◌, ◌<◌, ◌≤◌, ◌≢◌, List, [], ◌∷◌, length, set, slice_index, sum, sym, refl, ap, ◌∙◌, subst, ⊎_elim, arith, length-set, get_or-set_same, get_or-set_other}
 use mathlib.Core.Logic.{dite}
 use native.Mathlib.Decide.{ℕ_discrete}
 use mathlib.Core.Option.{none, some, some-injective, some-ne-none}
@@ -9,12 +9,20 @@ use Rattle.atomic_table.proofs.Lists.{at_set, at_snoc, set_else}
 use Rattle.agc_latch.specs.declared.views.View.{View}
 use Rattle.agc_latch.specs.declared.views.Role.{Role}
 use Rattle.agc_latch.specs.declared.views.Role.TheVariants.{Takes, Posts, Spent}
-use Rattle.agc_latch.specs.Lines.{zeros}
-use Rattle.agc_latch.specs.Latches.{total, takers_as, takers, seats, given, posted_at, taken_at, HasTakenNothing, FitsRole, Fits, IsLatch}
+use Rattle.agc_plan.specs.declared.line.Line.{Line}
+use Rattle.agc_plan.specs.declared.line.Line.TheVariants.{Timer, Key, Radar}
+use Rattle.agc_plan.specs.Pulses.{word_of}
+use Rattle.agc_latch.specs.Lines.{raised, zeros}
+use Rattle.agc_latch.specs.Latches.{total, takers_as, takers, seats, given, posted_at, taken_at, IsInTurn, IsTurnOf, HasTakenNothing, FitsRole, Fits, IsLatch}
 use Rattle.agc_latch.specs.Steps.{Seated, after_post, after_take, after_split, after_join, device_view, spent_view}
 use Rattle.agc_latch.specs.Tellings.{IsLatchState, Posted, Taken}
-use Rattle.agc_latch.specs.Laws.{PostKeeps, TakeKeeps, SplitKeeps, JoinKeeps, TakesOnlyPosted, IsBounded}
+use Rattle.agc_latch.specs.Laws.{PostKeeps, TakeKeeps, SplitKeeps, JoinKeeps, TakesInTurn, TakesOnlyPosted, IsBounded}
 use Rattle.agc_latch.proofs.Totals.{total-append, total-set, terms_le, total_alone, total_below, sum_raised, raised_here, raised_else, one_le_sum, added_at, length_added, sum_added}
+
+pub word_inside : (line : Line) → word_of line < 3
+word_inside Timer = omega arith
+word_inside Key = omega arith
+word_inside Radar = omega arith
 
 each_set : (views : List View) (id : ℕ) (w : View) → Fits w
     → ((seat : ℕ) (v : View) → get_elem? views seat ≡ some v → Fits v)
@@ -96,6 +104,7 @@ post_keeps words views id i v k at is inside few =
     let w_fits : Fits w = record {
       posted_wide = length-set v.posted i _ ∙ wide;
       taken_wide = f.taken_wide;
+      takes_wide = f.takes_wide;
       bounded = omega arith;
       of_role = subst (λ (z : Role). FitsRole z w) (sym is) r;
     } in
@@ -161,8 +170,32 @@ module _ (words : List ℕ) (views : List View) (k : IsLatch words views) (id : 
       let t = all_taken i in
       let p = all_posted i inside back in omega arith
 
+-- the taker's view has taken in turn
+turn_of : (v : View) → v.role ≡ Takes → Fits v → IsInTurn v.takes
+turn_of v is f = subst (λ (r : Role). FitsRole r v) is f.of_role
+
+pub takes_in_turn : TakesInTurn
+takes_in_turn words views id v k at is = turn_of v is (k.each id v at)
+
+-- and goes on in turn
+turned : (line : Line) (takes : List ℕ) → length takes ≡ 3 → IsInTurn takes → IsTurnOf line takes → IsInTurn (raised (word_of line) 1 takes)
+turned Timer takes wide was turn =
+    let here = raised_here takes 0 1 (omega arith) in
+    let key = raised_else takes 0 1 1 (λ e. omega arith) in
+    let radar = raised_else takes 0 2 1 (λ e. omega arith) in (omega arith, omega arith, omega arith)
+turned Key takes wide was turn =
+    let timer = raised_else takes 1 0 1 (λ e. omega arith) in
+    let here = raised_here takes 1 1 (omega arith) in
+    let radar = raised_else takes 1 2 1 (λ e. omega arith) in (omega arith, omega arith, omega arith)
+turned Radar takes wide was turn =
+    let timer = raised_else takes 2 0 1 (λ e. omega arith) in
+    let key = raised_else takes 2 1 1 (λ e. omega arith) in
+    let here = raised_here takes 2 1 (omega arith) in (omega arith, omega arith, omega arith)
+
 pub take_keeps : TakeKeeps
-take_keeps words views id i v k at is inside =
+take_keeps words views id line v k at is turn =
+    let i : ℕ = word_of line in
+    let inside = word_inside line in
     let x : ℕ = slice_index words i in
     let w = after_take i x v in
     let f = k.each id v at in
@@ -171,23 +204,26 @@ take_keeps words views id i v k at is inside =
     let w_fits : Fits w = record {
       posted_wide = f.posted_wide;
       taken_wide = length-set v.taken i _ ∙ wide;
+      takes_wide = length-set v.takes i _ ∙ f.takes_wide;
       bounded = f.bounded;
-      of_role = subst (λ (z : Role). FitsRole z w) (sym is) tt;
+      of_role = subst (λ (z : Role). FitsRole z w) (sym is) (turned line v.takes f.takes_wide (turn_of v is f) turn);
     } in
     replaced words views id i 0 v w inside k at w_fits refl refl refl (omega arith)
     (λ j other. (raised_else v.taken i j x other, refl))
 
-pub takes : (slots id i : ℕ) (me : Seated) → i < 3 → me.0.role ≡ Takes
-    → Allows IsLatchState slots id me i (λ _. 0) (Taken (step slots i 0 0 none) me)
-takes slots id i me inside is s k homes at small =
+takes_line : (slots id : ℕ) (line : Line) (me : Seated) → me.0.role ≡ Takes → IsTurnOf line me.0.takes
+    → Allows IsLatchState slots id me (word_of line) (λ _. 0) (Taken (step slots (word_of line) 0 0 none) me)
+takes_line slots id line me is turn s k homes at small =
     let v = me.0 in
+    let i : ℕ = word_of line in
+    let inside = word_inside line in
     let x : ℕ = slice_index s.words i in
     let w = after_take i x v in
-    let line = k.lines i inside in
+    let before = k.lines i inside in
     let t = all_taken s.words s.views k id v at is i in
     let g = all_given s.words s.views k id v at is in
     let full = room s.words s.views i inside k in
-    let kept = take_keeps s.words s.views id i v k at is inside in (
+    let kept = take_keeps s.words s.views id line v k at is turn in (
       w,
       keeps,
       tt,
@@ -198,6 +234,11 @@ takes slots id i me inside is s k homes at small =
         (λ back. let l = line_at s.words s.views k id v at is i inside back in omega arith),
       ),
     )
+
+pub takes : (slots id i : ℕ) (line : Line) (me : Seated) → i ≡ word_of line → me.0.role ≡ Takes → IsTurnOf line me.0.takes
+    → Allows IsLatchState slots id me i (λ _. 0) (Taken (step slots i 0 0 none) me)
+takes slots id i line me same is turn =
+    subst (λ (j : ℕ). Allows IsLatchState slots id me j (λ _. 0) (Taken (step slots j 0 0 none) me)) (sym same) (takes_line slots id line me is turn)
 
 zeros_at : (i : ℕ) → slice_index zeros i ≡ 0
 zeros_at zero = refl
@@ -214,12 +255,14 @@ split_keeps words views id v k at is few =
     let w_fits : Fits w = record {
       posted_wide = f.posted_wide;
       taken_wide = f.taken_wide;
+      takes_wide = f.takes_wide;
       bounded = f.bounded;
-      of_role = subst (λ (z : Role). FitsRole z w) (sym is) tt;
+      of_role = subst (λ (z : Role). FitsRole z w) (sym is) (turn_of v is f);
     } in
     let u_fits : Fits u = record {
       posted_wide = refl;
       taken_wide = refl;
+      takes_wide = refl;
       bounded = omega arith;
       of_role = (refl, (refl, zeros_at));
     } in
@@ -269,12 +312,14 @@ join_keeps words views id other v w k at is apart was posts_role =
     let b_fits : Fits b = record {
       posted_wide = length_added v.posted w.posted (omega arith) ∙ wide;
       taken_wide = f.taken_wide;
+      takes_wide = f.takes_wide;
       bounded = omega (arith, sum_added v.posted w.posted);
-      of_role = subst (λ (z : Role). FitsRole z b) (sym is) tt;
+      of_role = subst (λ (z : Role). FitsRole z b) (sym is) (turn_of v is f);
     } in
     let spent_fits : Fits spent_view = record {
       posted_wide = refl;
       taken_wide = refl;
+      takes_wide = refl;
       bounded = omega arith;
       of_role = (refl, (refl, zeros_at));
     } in

@@ -2,9 +2,8 @@
 use Rattle.std.specs.Prelude.{◌≡◌, ℕ, ◌+◌, List, [], length}
 use Rattle.atomic_table.specs.Seated.{TableId}
 use Rattle.agc_latch.specs.declared.views.Role.TheVariants.{Takes}
-use Rattle.agc_plan.specs.declared.line.Line.{Line}
-use Rattle.agc_latch.specs.Lines.{raised}
-use Rattle.agc_plan.specs.Pulses.{word_of}
+use Rattle.agc_plan.specs.declared.line.Line.TheVariants.{Timer, Key, Radar}
+use Rattle.agc_latch.specs.Lines.{on}
 use Rattle.agc_latch.specs.Steps.{Seated}
 use Rattle.agc_latch.specs.Ends.{Taking}
 
@@ -24,12 +23,9 @@ pub record IsTaker (me : Seated) : Type 0 where
   pub wide : length me.0.taken ≡ 3
   pub takes_wide : length me.0.takes ≡ 3
 
--- the taker after it took a line once more, and found n pulses
-abbrev pub with_taken : Line → ℕ → Taking → Taking
-with_taken line n t = record t {
-  taken = raised (word_of line) n t.taken;
-  takes = raised (word_of line) 1 t.takes;
-}
+-- each line was taken as often
+abbrev pub IsRoundDone : List ℕ → Type 0
+IsRoundDone takes = (on Timer takes ≡ on Key takes) × (on Key takes ≡ on Radar takes)
 
 -- the taker after it gave out one more device
 abbrev pub with_one_given : Taking → Taking

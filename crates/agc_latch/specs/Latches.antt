@@ -6,6 +6,9 @@ use lib.ListN.{get_elem?}
 use Rattle.agc_latch.specs.declared.views.View.{View}
 use Rattle.agc_latch.specs.declared.views.Role.{Role}
 use Rattle.agc_latch.specs.declared.views.Role.TheVariants.{Takes, Posts, Spent}
+use Rattle.agc_plan.specs.declared.line.Line.{Line}
+use Rattle.agc_plan.specs.declared.line.Line.TheVariants.{Timer, Key, Radar}
+use Rattle.agc_latch.specs.Lines.{on}
 
 -- f of each, added up
 abbrev pub total : {A : Type 0} → (A → ℕ) → List A → ℕ
@@ -36,9 +39,21 @@ taken_at i v = slice_index v.taken i
 abbrev pub HasTakenNothing : View → Type 0
 HasTakenNothing v = (v.given ≡ 0) × ((i : ℕ) → slice_index v.taken i ≡ 0)
 
--- a device has one seat, and who has left none
+-- the timer's word is taken first, then the keyboard's, then the radar's, and so on in turn
+abbrev pub IsInTurn : List ℕ → Type 0
+IsInTurn takes =
+    (on Radar takes ≤ on Key takes) × (on Key takes ≤ on Timer takes)
+    × (on Timer takes ≤ on Radar takes + 1)
+
+-- it is this line's turn
+abbrev pub IsTurnOf : Line → List ℕ → Type 0
+IsTurnOf Timer takes = on Timer takes ≡ on Radar takes
+IsTurnOf Key takes = on Key takes < on Timer takes
+IsTurnOf Radar takes = on Radar takes < on Key takes
+
+-- the taker takes the lines in turn, a device has one seat, and who has left none
 abbrev pub FitsRole : Role → View → Type 0
-FitsRole Takes v = Unit {0}
+FitsRole Takes v = IsInTurn v.takes
 FitsRole Posts v = (v.seats ≡ 1) × HasTakenNothing v
 FitsRole Spent v = (v.seats ≡ 0) × HasTakenNothing v
 
@@ -47,6 +62,7 @@ FitsRole Spent v = (v.seats ≡ 0) × HasTakenNothing v
 pub record Fits (v : View) : Type 0 where
   pub posted_wide : length v.posted ≡ 3
   pub taken_wide : length v.taken ≡ 3
+  pub takes_wide : length v.takes ≡ 3
   pub bounded : sum v.posted ≤ 4294967295 * v.seats
   pub of_role : FitsRole v.role v
 

@@ -115,8 +115,9 @@ impl Accounts {
     }
 
     /// Takes what was posted, each line once, and answers how many pulses per line: the timer's,
-    /// the keyboard's, the radar's. They are owed from now on. Without a taker it takes nothing;
-    /// one that there is has to be the latch's. Source: profile.
+    /// the keyboard's, the radar's, which are taken in this order (the latch's rule,
+    /// [`steps_keep_the_rule`](crate::laws::steps_keep_the_rule)). They are owed from now on.
+    /// Without a taker it takes nothing; one that there is has to be the latch's. Source: profile.
     pub fn collect(&mut self, latch: &Latch) -> [u64; 3]
         requires { IsOf latch.now self.old.taker }
         ensures { Collects result self.old self.new }
@@ -124,10 +125,7 @@ impl Accounts {
         let Some(taker) = &mut self.taker else {
             return [0; 3];
         };
-        let timer = taker.take(latch, Line::Timer);
-        let key = taker.take(latch, Line::Key);
-        let radar = taker.take(latch, Line::Radar);
-        let found = [timer, key, radar];
+        let found = taker.take_each(latch);
         self.owed = sums(self.owed, found);
         found
     }

@@ -1,7 +1,8 @@
-ghost use Rattle.std.specs.Prelude.{◌≡◌, ◌+◌, ◌*◌, ◌<◌, ◌≤◌, ℕ, [], All, length, sum_by};
+ghost use Rattle.std.specs.Prelude.{◌≡◌, ◌+◌, ◌*◌, ◌<◌, ◌≤◌, [], All, length};
 ghost use Rattle.agc_latch.specs.Accounts.{posted_by};
 ghost use Rattle.agc_latch.specs.Ends.{new_device, new_taker};
-ghost use Rattle.agc_latch.specs.Holders.{with_one_given, with_taken};
+ghost use Rattle.agc_latch.specs.Holders.{IsRoundDone, with_one_given};
+ghost use Rattle.agc_latch.specs.Latches.{IsTurnOf};
 ghost use Rattle.agc_latch.specs.Lines.{added, on, raised};
 ghost use Rattle.agc_plan.specs.Pulses.{word_of};
 ghost use Rattle.agc_latch.specs.Tellings.{first_view};
@@ -39,9 +40,10 @@ impl Model for TakerSeat {
 }
 
 impl TakerSeat {
-    // Takes all pulses of a line, by one step, and answers how many.
+    // Takes all pulses of a line whose turn it is, by one step, and answers how many.
     fn take(&mut self, latch: &Latch, line: Line) -> u64
-        requires { self.old.latch ≡ latch.now }
+        requires latch { self.old.latch ≡ latch.now }
+        requires turn { IsTurnOf line self.old.takes }
         ensures taken { self.new ≡ record self.old {
           taken = raised (word_of line) result self.old.taken;
           takes = raised (word_of line) 1 self.old.takes;
@@ -53,6 +55,26 @@ impl TakerSeat {
     {
         let word = line.word();
         latch.table.shared.swap::<Take>(&mut self.seat, word, 0)
+    }
+
+    // Takes the timer's word, then the keyboard's, then the radar's, and answers how many pulses it
+    // found there.
+    fn take_each(&mut self, latch: &Latch) -> [u64; 3]
+        requires latch { self.old.latch ≡ latch.now }
+        requires round { IsRoundDone self.old.takes }
+        ensures once { (line : Line) → on line self.new.takes ≡ on line self.old.takes + 1 }
+        ensures taken { (line : Line)
+            → on line self.new.taken ≡ on line self.old.taken + on line result }
+        ensures bounded { (line : Line) → on line self.new.taken ≤ 4294967295 * self.old.given }
+        ensures whole { self.old.back ≡ self.old.given
+            → (line : Line) → on line self.new.taken ≡ on line self.old.posted }
+        ensures rest { self.new
+            ≡ record self.old { taken = self.new.taken; takes = self.new.takes } }
+    {
+        let timer = self.take(latch, Line::Timer);
+        let key = self.take(latch, Line::Key);
+        let radar = self.take(latch, Line::Radar);
+        [timer, key, radar]
     }
 
     // Gives out one more device, which may post so many pulses.
@@ -91,6 +113,7 @@ impl TakerSeat {
             → on line self.new.posted ≡ on line self.old.posted + posted_by line devices.items }
         ensures latch { self.new.latch ≡ self.old.latch }
         ensures taken { self.new.taken ≡ self.old.taken }
+        ensures takes { self.new.takes ≡ self.old.takes }
         ensures given { self.new.given ≡ self.old.given }
     {
         while let Some(device) = devices.pop() {
@@ -124,6 +147,7 @@ pub struct AttachedTaker {
 impl Model for AttachedTaker {
     ghost use Rattle.std.specs.Prelude.{◌≡◌};
     ghost use Rattle.agc_latch.specs.Ends.{Taking};
+    ghost use Rattle.agc_latch.specs.Holders.{IsRoundDone};
     ghost use Rattle.agc_latch.specs.Lines.{zeros};
 
     ghost Value = { Taking };
@@ -136,7 +160,8 @@ impl Model for AttachedTaker {
     } };
 
     ghost invariant = { λ t.
-        (t.seat.given ≡ t.given) × (t.seat.back ≡ 0) × (t.seat.posted ≡ zeros) };
+        (t.seat.given ≡ t.given) × (t.seat.back ≡ 0) × (t.seat.posted ≡ zeros)
+        × IsRoundDone t.seat.takes };
 }
 
 impl AttachedTaker {
@@ -147,14 +172,18 @@ impl AttachedTaker {
         self.given
     }
 
-    // Takes all pulses of a line, and answers how many.
-    pub fn take(&mut self, latch: &Latch, line: Line) -> u64
+    // Takes each line once, the timer's first and the radar's last, and answers how many pulses it
+    // found there.
+    pub fn take_each(&mut self, latch: &Latch) -> [u64; 3]
         requires { self.old.latch ≡ latch.now }
-        ensures taken { self.new ≡ with_taken line result self.old }
-        ensures bounded { on line self.old.taken + result ≤ 4294967295 * self.old.given }
-        ensures wide { (length self.old.taken ≡ 3) × (length self.old.takes ≡ 3) }
+        ensures once { (line : Line) → on line self.new.takes ≡ on line self.old.takes + 1 }
+        ensures taken { (line : Line)
+            → on line self.new.taken ≡ on line self.old.taken + on line result }
+        ensures bounded { (line : Line) → on line self.new.taken ≤ 4294967295 * self.old.given }
+        ensures rest { self.new
+            ≡ record self.old { taken = self.new.taken; takes = self.new.takes } }
     {
-        self.seat.take(latch, line)
+        self.seat.take_each(latch)
     }
 
     // Gives out one more device.
@@ -181,11 +210,7 @@ impl AttachedTaker {
     {
         let AttachedTaker { mut seat, given: _ } = self;
         seat.join_all(&latch, devices);
-        let last = [
-            seat.take(&latch, Line::Timer),
-            seat.take(&latch, Line::Key),
-            seat.take(&latch, Line::Radar),
-        ];
+        let last = seat.take_each(&latch);
         let left = seat.close(latch);
         prove!(left[0] == 0 && left[1] == 0 && left[2] == 0);
         last

@@ -7,3 +7,4 @@ pub mod Serving
 pub mod Alarms
 pub mod Roomier
 pub mod Migrating
+pub mod Tables

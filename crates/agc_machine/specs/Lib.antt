@@ -5,3 +5,4 @@ pub mod Machines
 pub mod Image
 pub mod Migration
 pub mod Moments
+pub mod Laws

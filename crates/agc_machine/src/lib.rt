@@ -3,6 +3,7 @@
 
 mod answer;
 mod era;
+pub mod laws;
 mod machine;
 mod migration;
 mod moment;

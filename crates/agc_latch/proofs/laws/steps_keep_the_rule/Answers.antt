@@ -1,4 +1,4 @@
-use Rattle.agc_latch.proofs.Keeps.{post_keeps, take_keeps, split_keeps, join_keeps, takes_only_posted, is_bounded}
+use Rattle.agc_latch.proofs.Keeps.{post_keeps, take_keeps, split_keeps, join_keeps, takes_in_turn, takes_only_posted, is_bounded}
 use Rattle.agc_latch.proofs.laws.steps_keep_the_rule.Goals as goal
 
 pub returns-clause-post : goal.returns-clause-post
@@ -12,6 +12,9 @@ returns-clause-split c = split_keeps
 
 pub returns-clause-join : goal.returns-clause-join
 returns-clause-join c = join_keeps
+
+pub returns-clause-turn : goal.returns-clause-turn
+returns-clause-turn c = takes_in_turn
 
 pub returns-clause-posted : goal.returns-clause-posted
 returns-clause-posted c = takes_only_posted

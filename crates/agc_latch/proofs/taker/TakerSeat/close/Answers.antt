@@ -1,8 +1,7 @@
 use Rattle.std.proofs.Common.{◌≡◌, ◌+◌, [], ◌∷◌, slice_index, subst, ◌∙◌, ap, sym}
 use Rattle.agc_plan.specs.Pulses.{word_of}
 use Rattle.agc_latch.specs.Holders.{Joining}
-use Rattle.agc_latch.proofs.Keeps.{closes, three_read}
-use Rattle.agc_latch.proofs.Joining.{word_inside}
+use Rattle.agc_latch.proofs.Keeps.{closes, three_read, word_inside}
 use Rattle.agc_latch.proofs.taker.TakerSeat.close.Goals as goal
 
 pub returns : goal.returns
