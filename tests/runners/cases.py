@@ -19,7 +19,7 @@ agc_watch, any other of agc.
 What cannot be written as it is stands behind '=== SECTION escaped': \\xNN is a byte, \\\\ a backslash,
 and a last \\ says that the text has no line end there. '=== SECTION by sh' has commands that write a
 long text. '=== stdin from PATH' names what is read, '=== stdout to PATH' what is written and not
-compared. A run that takes more than two minutes fails.
+compared. A run that takes more than twenty minutes hangs, and fails.
 """
 import concurrent.futures
 import os
@@ -38,7 +38,7 @@ NAME = re.compile(r"[a-z0-9]+(?:-[a-z0-9]+)*")
 FORMS = {"args": "|escaped", "stdin": "|escaped|by sh|from .+", "stdout": "|escaped|by sh|to .+",
          "stderr": "|escaped|by sh", "memory": r"\d+", "status": r"\d+"}
 ESCAPE = re.compile(rb"\\(?:x([0-9a-f]{2})|(\\)|(.?))", re.S)
-SECONDS = 120
+SECONDS = 1200
 
 
 class Unread(Exception):

@@ -26,7 +26,8 @@ import repository
 from repository import TOP, write
 
 TESTS = "tests/crates"
-SECONDS = 600
+# A test that takes longer hangs.
+SECONDS = 7200
 ENDINGS = signal.SIGHUP, signal.SIGINT, signal.SIGTERM
 NAME = "all_tests"
 

@@ -28,7 +28,8 @@ PROGRAMS = {name: f"{TOP}/crates/{name}/out/{name}" for name in ("agc", "agc_wat
 # By these words agc_watch is run, by all others agc.
 WATCHED = {"trace", "picture", "page", "check", "explore", "bench", "peaks", "sweep", "--help", "--version"}
 
-SECONDS = 120
+# A run that takes longer hangs.
+SECONDS = 1200
 
 NO_MEMORY = (3, b"agc: no memory\n")
 NO_THREAD = (3, b"agc: no thread\n")
