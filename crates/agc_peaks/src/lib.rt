@@ -3,18 +3,15 @@
 #![tactic(auto)]
 
 mod columns;
+mod counted;
 mod counting;
 mod era;
-mod machine;
 mod peaks;
 mod rows;
-mod running;
-mod summing;
 mod sweep;
 mod tally;
 mod writing;
 
 pub use peaks::{bench_peaks, scenario_peaks};
-pub use summing::scenario_sum;
 pub use sweep::{Column, Sweep, Watches, run_sweep};
 pub use writing::scenario_bench;

@@ -1,11 +1,11 @@
 //! How full the tables were, era by era.
+use crate::counted::{Told, counted_to_end};
 use crate::era::put_heading;
-use crate::machine::{CountedMachine, Told};
-use crate::running::run_scenario;
 use crate::tally::Tally;
 use agc_document::Bench;
+use agc_run::{Asks, Run};
 use agc_scenario::Scenario;
-use agc_session::{RunFault, Silent, follow_bench, machine_of};
+use agc_session::{RunFault, machine_of};
 use agc_spelling::Filling::Number;
 use agc_spelling::Pen;
 use agc_text::Output;
@@ -31,6 +31,13 @@ fn put_last<W: Write>(tally: &Tally, has_idle: bool, writer: &mut W) -> Result<(
     pen.end()
 }
 
+/// Runs to the end, and writes a row for each era, with the percentage of its ticks or without.
+fn put_eras<W: Write>(mut run: Run<'_>, has_idle: bool, writer: &mut W) -> Result<(), RunFault> {
+    put_first(has_idle, writer)?;
+    let tally = counted_to_end(&mut run, Told::Eras(has_idle), writer)?;
+    Ok(put_last(&tally, has_idle, writer)?)
+}
+
 /// Runs a scenario, and writes for each era when it began and why, how long it lasted, how many
 /// requests were served and jobs begun and ended in it, the most core sets, VAC areas and places of
 /// the Waitlist that were in use at once and since when, the percentage of its ticks at which no
@@ -44,10 +51,9 @@ pub fn scenario_peaks<W: Write>(
     scenario: &Scenario,
     writer: &mut W,
 ) -> Result<(), RunFault> {
-    let counted = CountedMachine::new(machine_of(alloc, scenario.bench())?, Told::Eras(true));
-    put_first(true, writer)?;
-    let counted = run_scenario(counted, scenario.timing(), writer)?;
-    Ok(put_last(&counted.tally, true, writer)?)
+    let machine = machine_of(alloc, scenario.bench())?;
+    let asks = Asks::of_scenario(scenario.timing());
+    put_eras(Run::new(machine, asks), true, writer)
 }
 
 /// Asks a bench's machine for all its requests, as `serial` does, and writes the same for each era,
@@ -58,8 +64,9 @@ pub fn scenario_peaks<W: Write>(
 ///
 /// `NoMemory`, and nothing was written. `Output`, where a write failed.
 pub fn bench_peaks<W: Write>(alloc: Global, bench: &Bench, writer: &mut W) -> Result<(), RunFault> {
-    let mut counted = CountedMachine::new(machine_of(alloc, bench)?, Told::Eras(false));
-    put_first(false, writer)?;
-    follow_bench(&mut counted, &mut Silent, bench, writer)?;
-    Ok(put_last(&counted.tally, false, writer)?)
+    put_eras(
+        Run::new(machine_of(alloc, bench)?, Asks::of_bench(bench)),
+        false,
+        writer,
+    )
 }

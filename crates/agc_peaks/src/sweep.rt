@@ -1,8 +1,8 @@
 //! A scenario's run for each value of one of its numbers.
-use crate::machine::{CountedMachine, Told};
+use crate::counted::{Told, counted_to_end};
 use crate::rows::{put_found, put_names};
-use crate::running::run_scenario;
 use crate::tally::Found;
+use agc_run::{Asks, Run};
 use agc_scenario::{Number, Scenario};
 use agc_session::{RunFault, machine_on};
 use agc_word::Sets;
@@ -54,9 +54,8 @@ pub trait Watches {
 /// What is counted of a scenario's run on so many core sets.
 fn found_in(alloc: Global, scenario: &Scenario, sets: Sets) -> Result<Found, RunFault> {
     let machine = machine_on(alloc, scenario.bench(), sets)?;
-    let counted = CountedMachine::new(machine, Told::Nothing);
-    let counted = run_scenario(counted, scenario.timing(), &mut io::sink())?;
-    Ok(counted.tally.found())
+    let mut run = Run::new(machine, Asks::of_scenario(scenario.timing()));
+    Ok(counted_to_end(&mut run, Told::Nothing, &mut io::sink())?.found())
 }
 
 /// Runs a scenario once for each value of one of its numbers, and writes a row for each: the value,

@@ -1,3 +1,4 @@
 pub mod Walks
 pub mod Sessions
 pub mod Pairs
+pub mod Pieces

@@ -4,6 +4,7 @@ ghost use Rattle.std.specs.List.{flat_map};
 ghost use Rattle.std.specs.Option.{option_to_list};
 ghost use Rattle.agc_plan.specs.Pulses.{action_request, asks_nothing, pulse_requests};
 ghost use Rattle.agc_plan.specs.Pulses.{requests_for};
+ghost use Rattle.agc_session.specs.Pieces.{pulse_asks};
 ghost use Rattle.agc_session.specs.Runs.{bench_plan, bench_requests, device_requests};
 ghost use Rattle.agc_session.specs.Walks.{AsksInOrder};
 
@@ -45,16 +46,26 @@ fn requests_for(actions: &[Action]) -> ([Request; 4], usize)
     (requests, count)
 }
 
-/// What a pulse of the line asks for: a tick for a timer's, else what the plan's actions do.
-fn pulse_of(bench: &Bench, line: Line) -> ([Request; 4], usize)
-    ensures requests { take result.1 result.0 ≡ pulse_requests (bench_plan bench.now) line }
+/// What a pulse of the line asks for: a tick for a timer's, else what these actions do.
+pub(crate) fn pulse_asks(key: &[Action], radar: &[Action], line: Line) -> ([Request; 4], usize)
+    requires key { length key.now ≤ 4 }
+    requires radar { length radar.now ≤ 4 }
+    ensures requests { take result.1 result.0 ≡ pulse_asks key.now radar.now line }
     ensures most { result.1 ≤ 4 }
 {
     match line {
         Line::Timer => ([Request::Tick; 4], 1),
-        Line::Key => requests_for(bench.key().as_slice()),
-        Line::Radar => requests_for(bench.radar().as_slice()),
+        Line::Key => requests_for(key),
+        Line::Radar => requests_for(radar),
     }
+}
+
+/// What a pulse of the line asks for, by the bench's plan.
+fn pulse_of(bench: &Bench, line: Line) -> ([Request; 4], usize)
+    ensures requests { take result.1 result.0 ≡ pulse_requests (bench_plan bench.now) line }
+    ensures most { result.1 ≤ 4 }
+{
+    pulse_asks(bench.key().as_slice(), bench.radar().as_slice(), line)
 }
 
 /// Whether pulses of the line ask for nothing: a timer's ask for ticks, the others' for what the

@@ -1,6 +1,7 @@
 //! Runs by one caller: of a script, or of a bench.
 #![tactic(auto)]
 
+mod asking;
 mod counting;
 mod following;
 mod follows;
@@ -8,6 +9,7 @@ mod progress;
 mod run;
 mod run_fault;
 mod source;
+mod walk;
 
 pub use counting::{Counts, count_requests};
 pub use following::{asks_nothing, follow_all, follow_bench};
@@ -16,3 +18,4 @@ pub use progress::{Progress, Silent};
 pub use run::{machine_of, machine_on, run_script, script_machine, serial};
 pub use run_fault::RunFault;
 pub use source::Source;
+pub use walk::Walk;

@@ -8,7 +8,7 @@ mod telling;
 mod warning;
 mod warnings;
 
-pub use ran::{Ran, run_bench};
+pub use ran::{Ran, run_bench, run_scenario};
 pub use telling::{add_script_summary, add_summary, warnings_told};
 pub use warning::Warned;
 pub use warnings::{bench_warnings, run_warnings};

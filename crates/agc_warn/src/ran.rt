@@ -2,17 +2,16 @@
 ghost use Rattle.std.specs.Prelude.{◌≡◌, false, IfOk};
 ghost use Rattle.std.specs.List.{fold};
 ghost use Rattle.agc_machine.specs.Machines.{after};
+ghost use Rattle.agc_run.specs.Runs.{to_ask};
 ghost use Rattle.agc_session.specs.Runs.{bench_machine, bench_requests, script_machine};
 
 use agc_document::Bench;
 use agc_machine::{Machine, Refusal};
 use agc_plan::{Fired, Reply, Request};
-use agc_session::{Follows, Silent, Source, follow_all, follow_bench, machine_of, script_machine};
-use agc_text::Output;
+use agc_run::{Asks, Run};
+use agc_scenario::Scenario;
+use agc_session::{machine_of, script_machine};
 use std::alloc::{AllocError, Global};
-use std::io;
-use std::io::Write;
-use std::marker::Model;
 
 /// How many requests are run: more than a document has room to write out.
 const MOST_RUN: u64 = 200_000;
@@ -49,62 +48,25 @@ impl Ran {
     }
 }
 
-/// A machine, and what the requests come to that it was asked for. Contracts see the machine.
-#[derive(Drop)]
-struct Runner {
-    machine: Machine,
-    ran: Ran,
-}
-
-impl Model for Runner {
-    ghost use Rattle.agc_machine.specs.Machines.{Machined};
-
-    ghost Value = { Machined };
-
-    ghost view = { λ r. r.machine };
-}
-
-impl Follows for Runner {
-    ghost use Rattle.agc_machine.specs.Machines.{after};
-
-    ghost next = { λ machine request. after machine request };
-
-    /// Asks for one request, and counts it. Where enough are counted, it ends the walk instead.
-    fn follow<W: Write>(
-        &mut self,
-        _source: Source,
-        request: &Request,
-        _writer: &mut W,
-    ) -> Result<(), Output> {
+/// Asks for what is still to be asked in a run, but for no more than so many requests. Returns what
+/// they come to.
+fn run_most(run: &mut Run<'_>, most: u64) -> Ran
+    ensures { result.is_cut ≡ false → run.new.machine
+        ≡ fold after run.old.machine (to_ask run.old.machine run.old.asks) }
+{
+    let mut ran = Ran::default();
+    while let Some(asked) = run.next() {
+        if ran.requests >= most {
+            return Ran {
+                is_cut: true,
+                ..ran
+            };
+        }
         let mut fired = Fired::new();
-        let answer = self.machine.ask(request, &mut fired);
-        if self.ran.requests >= MOST_RUN {
-            return Err(Output);
-        }
-        self.ran.count(&answer, fired.len());
-        Ok(())
+        let answer = run.ask(&asked, &mut fired);
+        ran.count(&answer, fired.len());
     }
-}
-
-impl Runner {
-    /// A run of this machine, of which nothing was asked.
-    fn new(machine: Machine) -> Runner
-        ensures { result ≡ machine }
-    {
-        Runner {
-            machine,
-            ran: Ran::default(),
-        }
-    }
-
-    /// The machine, and what the run came to, which was cut or wasn't.
-    fn ended(self, is_cut: bool) -> (Machine, Ran)
-        ensures machine { result.0 ≡ self }
-        ensures cut { result.1.is_cut ≡ is_cut }
-    {
-        let ran = Ran { is_cut, ..self.ran };
-        (self.machine, ran)
-    }
+    ran
 }
 
 /// Runs the requests of a bench by one caller, as `serial` does, but at most 200,000, and returns
@@ -122,11 +84,9 @@ pub fn run_bench(alloc: Global, bench: &Bench) -> Result<(Machine, Ran), AllocEr
         Ok(machine) => machine,
         Err(_fault) => return Err(AllocError),
     };
-    let mut runner = Runner::new(machine);
-    match follow_bench(&mut runner, &mut Silent, bench, &mut io::sink()) {
-        Ok(()) => Ok(runner.ended(false)),
-        Err(_ended) => Ok(runner.ended(true)),
-    }
+    let mut run = Run::new(machine, Asks::of_bench(bench));
+    let ran = run_most(&mut run, MOST_RUN);
+    Ok((run.into_machine(), ran))
 }
 
 /// Runs the requests of a script in the same way, as `run_script` does.
@@ -141,15 +101,23 @@ pub(crate) fn run_requests(
         Ok(machine) => machine,
         Err(_fault) => return Err(AllocError),
     };
-    let mut runner = Runner::new(machine);
-    match follow_all(
-        &mut runner,
-        &mut Silent,
-        Source::Script,
-        requests,
-        &mut io::sink(),
-    ) {
-        Ok(()) => Ok(runner.ended(false)),
-        Err(_ended) => Ok(runner.ended(true)),
+    let mut run = Run::new(machine, Asks::of_script(requests));
+    let ran = run_most(&mut run, MOST_RUN);
+    Ok((run.into_machine(), ran))
+}
+
+/// Runs a scenario, but at most so many of its requests, and returns what they came to. Source:
+/// profile.
+///
+/// # Errors
+///
+/// Where there is no memory.
+pub fn run_scenario(alloc: Global, scenario: &Scenario, most: u64) -> Result<Ran, AllocError> {
+    match machine_of(alloc, scenario.bench()) {
+        Ok(machine) => {
+            let mut run = Run::new(machine, Asks::of_scenario(scenario.timing()));
+            Ok(run_most(&mut run, most))
+        }
+        Err(_fault) => Err(AllocError),
     }
 }

@@ -3,10 +3,9 @@ use agc_clock::{Then, Timetables};
 use agc_document::{Key, Place, ScenarioKey};
 use agc_findings::{line_at, places_in};
 use agc_lint::{add_where, bench_told};
-use agc_peaks::scenario_sum;
 use agc_plan::{Action, Actions, Address, JobStart, PhaseEntry, Request, Task, action_request};
 use agc_scenario::{CheckedScenario, Scenario, TimedJob, scenario_findings};
-use agc_warn::{Warned, add_summary, run_warnings, warnings_told};
+use agc_warn::{Warned, add_summary, run_scenario, run_warnings, warnings_told};
 use std::alloc::{AllocError, Global};
 use std::fmt::Write;
 
@@ -223,9 +222,7 @@ fn add_report(
     let mut doubts = Vec::new(alloc);
     note_doubts(&mut doubts, scenario)?;
     add_doubts(alloc, told, text, doubts.as_slice())?;
-    let Ok(ran) = scenario_sum(alloc, scenario, MOST_RUN) else {
-        return Err(AllocError);
-    };
+    let ran = run_scenario(alloc, scenario, MOST_RUN)?;
     let warnings = run_warnings(alloc, scenario.bench(), &ran)?;
     add_warnings(alloc, told, text, warnings.as_slice())?;
     add_summary(told, &ran)

@@ -1,9 +1,10 @@
 use Rattle.std.proofs.Common.{◌∙◌, ap}
-use Rattle.std.specs.List.{fold}
-use Rattle.agc_machine.specs.Machines.{Machined, after}
+use Rattle.agc_run.specs.Runs.{to_ask}
+use Rattle.agc_run.proofs.Following.{asked_all}
+use Rattle.agc_session.specs.Runs.{script_machine}
 use Rattle.agc_warn.proofs.ran.run_requests.Goals as goal
 
-pub returns-in-Ok-follow_all : goal.returns-in-Ok-follow_all
-returns-in-Ok-follow_all c = λ _.
-    c.ended.ensures.machine ∙ c.in-Ok-follow_all.ensures.0
-    ∙ ap (λ (m : Machined). fold after m c.args.requests.now) (c.new-runner.ensures ∙ c.in-Ok.ensures.machine)
+pub returns : goal.returns
+returns c whole =
+    c.into_machine.ensures ∙ c.run_most-ran.ensures whole
+    ∙ asked_all _ _ script_machine (λ m. c.args.requests.now) (c.new-run.ensures.machine ∙ c.in-Ok.ensures.machine) (λ k. ap (to_ask k) c.new-run.ensures.asks ∙ c.of_script.ensures k)

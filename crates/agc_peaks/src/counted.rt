@@ -1,0 +1,70 @@
+//! Runs of which it is counted how full the tables are, and of whose requests is told.
+ghost use Rattle.std.specs.Prelude.{◌≡◌, IfOk};
+ghost use Rattle.std.specs.List.{fold};
+ghost use Rattle.agc_machine.specs.Machines.{after};
+ghost use Rattle.agc_run.specs.Runs.{to_ask};
+
+use crate::counting::{Counts, counts_of};
+use crate::era::Era;
+use crate::tally::Tally;
+use agc_machine::Machine;
+use agc_plan::{Fired, Request};
+use agc_run::Run;
+use agc_spelling::{Pen, put_script_line};
+use agc_text::Output;
+use std::io::Write;
+
+/// What is written of a request.
+#[derive(Clone, Copy)]
+pub(crate) enum Told {
+    Nothing,
+    /// The row of the era that ended with it, with the percentage of its ticks or without.
+    Eras(bool),
+    /// Itself, as a line of a script.
+    Requests,
+}
+
+impl Told {
+    /// Writes what is to be written of a request, and of the era that ended with it.
+    fn put<W: Write>(
+        self,
+        request: &Request,
+        ended: Option<Era>,
+        writer: &mut W,
+    ) -> Result<(), Output> {
+        let mut pen = Pen::new(writer);
+        match (self, ended) {
+            (Told::Requests, _) => put_script_line(&mut pen, request),
+            (Told::Eras(has_idle), Some(era)) => era.put(has_idle, &mut pen),
+            _ => {}
+        }
+        pen.end()
+    }
+}
+
+/// How full a machine's tables are when a request has been acted on, before an era begins with it.
+fn counts_then(machine: &Machine, request: &Request) -> Counts {
+    let moment = machine.moment(request);
+    counts_of(moment.words())
+}
+
+/// Asks for all requests of a run, in order, and for no others, takes note of what comes of each,
+/// and writes of it. Returns what was counted.
+pub(crate) fn counted_to_end<W: Write>(
+    run: &mut Run<'_>,
+    told: Told,
+    writer: &mut W,
+) -> Result<Tally, Output>
+    ensures { IfOk result (λ _. run.new.machine
+        ≡ fold after run.old.machine (to_ask run.old.machine run.old.asks)) }
+{
+    let mut tally = Tally::new(run.machine());
+    while let Some(asked) = run.next() {
+        let counts = counts_then(run.machine(), &asked.request);
+        let mut fired = Fired::new();
+        let answer = run.ask(&asked, &mut fired);
+        let ended = tally.come(run.machine(), &asked.request, counts, &answer);
+        told.put(&asked.request, ended, writer)?;
+    }
+    Ok(tally)
+}

@@ -1,0 +1,3 @@
+mod Resting
+mod Passing
+pub mod Following

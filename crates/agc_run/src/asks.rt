@@ -1,0 +1,141 @@
+// What is still to be asked in a run.
+ghost use Rattle.std.specs.Prelude.{◌≡◌, []};
+ghost use Rattle.agc_exec.specs.Image.{IsLawfulWords, jobs_in};
+ghost use Rattle.agc_machine.specs.Machines.{Machined, plain_of};
+ghost use Rattle.agc_run.specs.Runs.{Pulls, clock_after, clock_requests, rest, to_ask};
+ghost use Rattle.agc_scenario.specs.Scenarios.{schedule_of};
+ghost use Rattle.agc_session.specs.Runs.{bench_requests};
+
+use crate::requests::Requests;
+use agc_clock::Clock;
+use agc_document::Bench;
+use agc_plan::Request;
+use agc_scenario::Timing;
+use agc_word::Erasable;
+use std::marker::Model;
+
+/// Who asks for a request: the script, a worker or a pulse of a bench, or a scenario's clock or one
+/// of its events. Source: profile.
+#[derive(Clone, Copy, PartialEq, Eq)]
+pub enum Source {
+    Bench(agc_session::Source),
+    Time(agc_clock::Source),
+}
+
+/// A request that comes next, and who asks for it. Source: profile.
+#[derive(Clone, Copy)]
+pub struct Asked {
+    pub source: Source,
+    pub request: Request,
+}
+
+/// What is still to be asked in a run: the requests of a script or a bench, and then those of a
+/// clock, if time passes. Source: profile.
+#[derive(Drop)]
+pub struct Asks<'a> {
+    listed: Requests<'a>,
+    timing: Option<&'a Timing>,
+    clock: Clock,
+}
+
+impl<'a> Model for Asks<'a> {
+    ghost use Rattle.std.specs.Option.{option_map};
+    ghost use Rattle.agc_run.specs.Runs.{Asking};
+    ghost use Rattle.agc_scenario.specs.Scenarios.{schedule_of};
+
+    ghost Value = { Asking };
+
+    ghost view = { λ a. record {
+      listed = a.listed;
+      table = option_map (λ t. schedule_of t.now) a.timing;
+      clock = a.clock;
+    } };
+}
+
+impl<'a> Asks<'a> {
+    /// The requests of a script, in order. Source: profile.
+    pub fn of_script(script: &'a [Request]) -> Asks<'a>
+        ensures { (m : Machined) → to_ask m result ≡ script.now }
+    {
+        Asks {
+            listed: Requests::of_script(script),
+            timing: None,
+            clock: Clock::new(),
+        }
+    }
+
+    /// The requests of a bench, in the order of [`serial`](agc_session::serial). Source: profile.
+    pub fn of_bench(bench: &'a Bench) -> Asks<'a>
+        ensures { (m : Machined) → to_ask m result ≡ bench_requests bench.now }
+    {
+        Asks {
+            listed: Requests::of_bench(bench),
+            timing: None,
+            clock: Clock::new(),
+        }
+    }
+
+    /// The requests for which the clock of a scenario asks a machine, in order. Source: profile.
+    pub fn of_scenario(timing: &'a Timing) -> Asks<'a>
+        ensures { (m : Machined) → to_ask m result ≡ clock_requests (schedule_of timing.now) m }
+    {
+        Asks {
+            listed: Requests::of_script(&[]),
+            timing: Some(timing),
+            clock: Clock::new(),
+        }
+    }
+
+    /// What comes next, and who asks for it, with these words of the machine, which is then to be
+    /// asked for it. None, where all was asked.
+    pub(crate) fn next(&mut self, words: &Erasable) -> Option<Asked>
+        requires { IsLawfulWords words.now }
+        ensures { (m : Machined) → jobs_in words.now ≡ (plain_of m).work.jobs
+            → Pulls m self.old result self.new }
+    {
+        match self.listed.next() {
+            Some((source, request)) => {
+                return Some(Asked {
+                    source: Source::Bench(source),
+                    request,
+                });
+            }
+            None => return self.next_in_time(words),
+        }
+    }
+
+    /// What comes next in time.
+    fn next_in_time(&mut self, words: &Erasable) -> Option<Asked>
+        requires over { rest self.old.listed ≡ [] }
+        requires lawful { IsLawfulWords words.now }
+        ensures { (m : Machined) → jobs_in words.now ≡ (plain_of m).work.jobs
+            → Pulls m self.old result self.new }
+    {
+        let timing = match self.timing {
+            None => return None,
+            Some(timing) => timing,
+        };
+        match self.clock.next(words, timing) {
+            None => return None,
+            Some(asked) => {
+                return Some(Asked {
+                    source: Source::Time(asked.source),
+                    request: asked.request,
+                });
+            }
+        }
+    }
+
+    /// Takes the outcome of what came last: the machine's words after it, and whether an era began
+    /// with it.
+    pub(crate) fn served(&mut self, asked: &Asked, words: &Erasable, began: bool)
+        requires { IsLawfulWords words.now }
+        ensures { self.new ≡ record self.old {
+          clock = clock_after asked.now.source began (jobs_in words.now) self.old.clock;
+        } }
+    {
+        if let Source::Time(_source) = asked.source {
+            self.clock.served(words, began);
+        }
+    }
+}

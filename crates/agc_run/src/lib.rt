@@ -1,0 +1,12 @@
+//! Runs that are pulled, request by request: of a script, of a bench, or of a scenario. Source:
+//! profile.
+#![tactic(auto)]
+
+mod asks;
+mod requests;
+mod run;
+mod watching;
+
+pub use asks::{Asked, Asks, Source};
+pub use run::Run;
+pub use watching::WatchedRun;
