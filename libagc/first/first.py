@@ -5,7 +5,8 @@ machine = Machine(sets=7, plan={"phase": [entry]})
 step = machine.ask("phase 4 5")
 while not step.alarm:
     step = machine.ask("findvac 30 02100 00005")
-print(f"{step}, then job {machine.scene().running} runs at {machine.words[8]:05o}")
+job = machine.scene().sets[0]
+print(f"{step}, then job {job.number} runs at {job.at:05o}")
 while not step.fired:
     step = machine.ask("tick")
 print(step)

@@ -9,7 +9,8 @@ fn main() -> Result<(), Lacking> {
     while step.alarm().is_none() {
         step = machine.ask("findvac 30 02100 00005")?;
     }
-    println!("{step}, then job {} runs at {:05o}", machine.scene().running, machine.words()[8]);
+    let job = machine.scene().sets[0].expect("it runs");
+    println!("{step}, then job {} runs at {:05o}", job.number, job.at);
     while step.fired().is_empty() {
         step = machine.ask("tick")?;
     }

@@ -27,6 +27,14 @@
  * order of the codes, and then the array is as it was and the rest of the answer is 0.
  * agc_code_text says a code in words, agc_reply_text a kind of reply.
  *
+ * ANSWERS. Compilers of GNU's and LLVM's kind warn where an answer isn't used, since its code says
+ * whether anything was done. AGC_IGNORE_ANSWERS, defined before this header, turns that off.
+ *
+ * VERSIONS. AGC_VERSION is the header's, agc_version() the library's. The first number grows where
+ * programs have to be compiled anew, and libagc.so.1 is named by it; the second where calls come in;
+ * the third where neither changes. No call, code or number of this header changes its meaning while
+ * the first number stays, and no struct its size.
+ *
  * TRUSTED. agc_NAME looks at the whole image before it does anything, which takes longer than the
  * call itself. agc_NAME_trusted doesn't. Its condition: the array is as an earlier call with this
  * number of sets left it. That is one of: agc_clear, agc_restart or any other call on a `words` that
@@ -52,6 +60,26 @@ extern "C" {
 #define AGC_VERSION_MAJOR 1
 #define AGC_VERSION_MINOR 0
 #define AGC_VERSION_PATCH 0
+
+/* Where the words are. A core set has twelve, from agc_set_place on: MPAC, which holds the job's number,
+   six work words, MODE, LOC, BANKSET, PUSHLOC and PRIORITY. LST2 has nine pairs, an address and a bank's
+   word; the phase words are six pairs, -PHASE1 and PHASE1 to -PHASE6 and PHASE6. */
+enum {
+    AGC_MPAC = 0,
+    AGC_MODE = 7,
+    AGC_LOC = 8,
+    AGC_BANKSET = 9,
+    AGC_PUSHLOC = 10,
+    AGC_PRIORITY = 11,
+    AGC_SET_SIZE = 12,
+    AGC_USE_WORDS = 84,
+    AGC_NEWJOB = 89,
+    AGC_TIME3 = 90,
+    AGC_LST1 = 91,
+    AGC_LST2 = 99,
+    AGC_FAILREG = 129,
+    AGC_LAST_SET = 132
+};
 
 /* How many numbers an array has, how many agc_recover wants, and the place of -PHASE1, their first. */
 enum { AGC_WORDS = 144, AGC_PHASE_WORDS = 12, AGC_PHASE_PLACE = 117 };
@@ -133,6 +161,29 @@ enum {
     AGC_ALARM_1203 = 01203  /* nine tasks wait */
 };
 
+/* The rules that lawful words keep. agc_explain tells the first that is broken. */
+enum {
+    AGC_RULE_WORD = 1,          /* a word has at most fifteen bits */
+    AGC_RULE_NUMBER = 2,        /* a job's number is 1 to the number of core sets */
+    AGC_RULE_NUMBER_TWICE = 3,  /* no two jobs have one number */
+    AGC_RULE_LOC = 4,           /* LOC of a job is an address, 1 to 037777 */
+    AGC_RULE_PRIORITY = 5,      /* PRIORITY of a job has a priority, 1 to 31 */
+    AGC_RULE_AREA = 6,          /* its lower nine bits are a VAC area's address, or 0 */
+    AGC_RULE_AREA_TWICE = 7,    /* no two jobs own one VAC area */
+    AGC_RULE_FRONT = 8,         /* where a job is awake, the job in core set 0 is */
+    AGC_RULE_USE = 9,           /* a use word is 0 where a job owns the area, else its address */
+    AGC_RULE_NEWJOB = 10,       /* NEWJOB names the best job's core set */
+    AGC_RULE_TIME3 = 11,        /* TIME3 isn't negative, and is 0 where no task waits */
+    AGC_RULE_FAR = 12,          /* no task is more than 16250 centiseconds away */
+    AGC_RULE_TASK = 13,         /* a task's address is 1 to 037777 */
+    AGC_RULE_GAP = 14,          /* LST1 between two tasks is 1 or 0, or negative */
+    AGC_RULE_NO_GAP = 15,       /* LST1 behind the last task is 057777 */
+    AGC_RULE_NO_TASK = 16,      /* LST2 behind the last task is 0 */
+    AGC_RULE_PHASE = 17,        /* a phase is at most 127 */
+    AGC_RULE_PAIR = 18,         /* -PHASE is the complement of PHASE */
+    AGC_RULE_CODE = 19          /* FAILREG has codes of alarms, the first, the second and the latest */
+};
+
 /* A function of this header itself, and a type that has a bool. C90 has neither `inline` nor
    `bool`, and GNU's compilers have words by which they take both there. */
 #if defined __cplusplus || (defined __STDC_VERSION__ && __STDC_VERSION__ >= 199901L)
@@ -153,6 +204,13 @@ enum {
 #define AGC_PLACE(pointer) ((uintptr_t)(pointer))
 #endif
 
+/* An answer that has to be used. */
+#if defined __GNUC__ && !defined AGC_IGNORE_ANSWERS
+#define AGC_USED __attribute__((warn_unused_result))
+#else
+#define AGC_USED
+#endif
+
 /* What a request is answered: the kind of the reply, and its number, or 0. */
 typedef struct { uint32_t code, reply, number; } AgcReply;
 
@@ -164,6 +222,19 @@ AGC_TYPE struct { uint32_t code; bool truth; } AgcTruth;
 
 /* A task of the Waitlist: its address, and the word for its bank. */
 typedef struct { uint32_t code, at, bank; } AgcTask;
+
+/* A job in a core set: its number, 0 where the set is free; its priority; where it begins, or at which
+   address it sleeps; the word for its bank; its VAC area, 1 to 5, or 0; whether it sleeps; and its six
+   work words. */
+AGC_TYPE struct { uint32_t code, number, priority, at, bank, area; bool asleep; uint16_t work[6]; } AgcJob;
+
+/* A task that waits, and the centiseconds that are left to it. Its address is 0 where there is none. */
+typedef struct { uint32_t code, at, bank, left; } AgcWaiting;
+
+/* Why words aren't lawful: the rule that is broken first, at which place of the array, what stands
+   there, and what would have to, or AGC_ANY where the other words leave more than one choice. */
+typedef struct { uint32_t code, rule, place, found, wanted; } AgcFinding;
+enum { AGC_ANY = 65535 };
 
 /* The phases of groups 1 to 6. */
 typedef struct { uint32_t code; uint8_t phases[6]; } AgcPhases;
@@ -205,6 +276,14 @@ typedef struct {
     uint32_t delay, task_at, task_bank;
 } AgcPhaseEntry;
 
+/* A plan, for agc_ask: its rows and its entries, which may be null where there are none. */
+typedef struct {
+    const AgcRow *rows;
+    size_t row_count;
+    const AgcPhaseEntry *entries;
+    size_t entry_count;
+} AgcPlan;
+
 /* Stolen time: from centisecond `from` on, before `to`, something else takes `percent`, 0 to 100, of
    each centisecond. */
 typedef struct { uint32_t from, to, percent; } AgcStolen;
@@ -217,6 +296,19 @@ typedef struct { uint32_t at, hundredths, then; } AgcCost;
    centiseconds, at last at `until`. Each time it asks for `count` requests, 1 to 16, of those that are
    handed to the call, from number `first` on, which counts from 0. */
 typedef struct { uint32_t at, every, until, first, count; } AgcEvent;
+
+/* A timetable, for agc_clock_ask: how many centiseconds it lasts, and its rows and requests. */
+typedef struct {
+    uint32_t lasts;
+    const AgcStolen *stolen;
+    size_t stolen_count;
+    const AgcCost *costs;
+    size_t cost_count;
+    const AgcEvent *events;
+    size_t event_count;
+    const AgcRequest *requests;
+    size_t request_count;
+} AgcTimetable;
 
 /* A clock: its centisecond, what of that is done, and the hundredths that jobs 1 to 8 were given since
    they were established or roused. All zeros is a clock at its start; any other is as a call left it. */
@@ -268,6 +360,64 @@ AGC_INLINE const char *agc_reply_text(uint32_t reply) {
     }
 }
 
+/* What a rule of agc_explain says: the same. */
+AGC_INLINE const char *agc_rule_text(uint32_t rule) {
+    switch (rule) {
+    case AGC_RULE_WORD: return "a word has at most fifteen bits";
+    case AGC_RULE_NUMBER: return "a job's number is 1 to the number of core sets";
+    case AGC_RULE_NUMBER_TWICE: return "no two jobs have one number";
+    case AGC_RULE_LOC: return "LOC of a job is an address, 1 to 037777";
+    case AGC_RULE_PRIORITY: return "PRIORITY of a job has a priority, 1 to 31";
+    case AGC_RULE_AREA: return "PRIORITY of a job ends with a VAC area's address, or 0";
+    case AGC_RULE_AREA_TWICE: return "no two jobs own one VAC area";
+    case AGC_RULE_FRONT: return "where a job is awake, the job in core set 0 is";
+    case AGC_RULE_USE: return "a use word is 0 where a job owns the area, else its address";
+    case AGC_RULE_NEWJOB: return "NEWJOB names the best job's core set";
+    case AGC_RULE_TIME3: return "TIME3 isn't negative, and is 0 where no task waits";
+    case AGC_RULE_FAR: return "no task is more than 16250 centiseconds away";
+    case AGC_RULE_TASK: return "a task's address is 1 to 037777";
+    case AGC_RULE_GAP: return "LST1 between two tasks is 1 or 0, or negative";
+    case AGC_RULE_NO_GAP: return "LST1 behind the last task is 057777";
+    case AGC_RULE_NO_TASK: return "LST2 behind the last task is 0";
+    case AGC_RULE_PHASE: return "a phase is at most 127";
+    case AGC_RULE_PAIR: return "-PHASE is the complement of PHASE";
+    case AGC_RULE_CODE: return "FAILREG has codes of alarms: the first, the second and the latest";
+    default: return "no rule is broken";
+    }
+}
+
+/* The first place of a core set, 0 to 7. */
+AGC_INLINE uint32_t agc_set_place(uint32_t set) {
+    if (set >= 7) return AGC_LAST_SET;
+    return AGC_SET_SIZE * set;
+}
+
+/* What a place of the array is called, as "LOC", and which of these it is: of a core set its number,
+   of the use words and the phases 1 and on, of others 0 and on. */
+AGC_INLINE const char *agc_place_name(uint32_t place) {
+    static const char *const of_a_set[] = {"MPAC", "MPAC+1", "MPAC+2", "MPAC+3", "MPAC+4", "MPAC+5",
+                                           "MPAC+6", "MODE", "LOC", "BANKSET", "PUSHLOC", "PRIORITY"};
+    if (place >= AGC_WORDS) return "no place";
+    if (place < AGC_USE_WORDS || place >= AGC_LAST_SET) return of_a_set[place % AGC_SET_SIZE];
+    if (place < AGC_NEWJOB) return "VAC";
+    if (place == AGC_NEWJOB) return "NEWJOB";
+    if (place == AGC_TIME3) return "TIME3";
+    if (place < AGC_LST2) return "LST1";
+    if (place < AGC_PHASE_PLACE) return (place - AGC_LST2) % 2 ? "LST2 bank" : "LST2";
+    if (place < AGC_FAILREG) return (place - AGC_PHASE_PLACE) % 2 ? "PHASE" : "-PHASE";
+    return "FAILREG";
+}
+AGC_INLINE uint32_t agc_place_number(uint32_t place) {
+    if (place >= AGC_LAST_SET) return 7;
+    if (place < AGC_USE_WORDS) return place / AGC_SET_SIZE;
+    if (place < AGC_NEWJOB) return place - AGC_USE_WORDS + 1;
+    if (place < AGC_LST1) return 0;
+    if (place < AGC_LST2) return place - AGC_LST1;
+    if (place < AGC_PHASE_PLACE) return (place - AGC_LST2) / 2;
+    if (place < AGC_FAILREG) return (place - AGC_PHASE_PLACE) / 2 + 1;
+    return place - AGC_FAILREG;
+}
+
 /* Whether a pointer may be passed: AGC_OK, or AGC_NULL where it is null or not aligned. */
 AGC_INLINE uint32_t agc_pointer(const uint16_t *words) {
     if (words && AGC_PLACE(words) % sizeof *words == 0) return AGC_OK;
@@ -276,7 +426,7 @@ AGC_INLINE uint32_t agc_pointer(const uint16_t *words) {
 
 /* Whether rows and entries make a plan: AGC_OK, and then no era of it begins with an alarm; or the
    first of AGC_PLAN_RANGE, AGC_TASK_TWICE, AGC_PHASE_TWICE and AGC_TOO_MANY_AREAS. */
-uint32_t agc_plan_check(const AgcRow *rows, size_t row_count, const AgcPhaseEntry *entries, size_t entry_count);
+AGC_USED uint32_t agc_plan_check(const AgcRow *rows, size_t row_count, const AgcPhaseEntry *entries, size_t entry_count);
 
 /* One request, with all that follows from it: in a tick each task that is due fires, and the actions
    of its row are done; after an alarm, and at a restart or fresh start, an era begins by the plan's
@@ -287,21 +437,28 @@ uint32_t agc_plan_check(const AgcRow *rows, size_t row_count, const AgcPhaseEntr
    a task is due; AGC_UNTIDY; those of agc_plan_check. The trusted form looks at the request alone; a
    number of the plan that is out of range then does nothing, and of two rows or entries the first
    counts. */
-AgcStep agc_step(uint16_t words[AGC_WORDS], uint32_t sets, const AgcRow *rows, size_t row_count,
+AGC_USED AgcStep agc_step(uint16_t words[AGC_WORDS], uint32_t sets, const AgcRow *rows, size_t row_count,
                  const AgcPhaseEntry *entries, size_t entry_count, const AgcRequest *request,
                  AgcFired fired[AGC_FIRED], uint16_t moment[AGC_WORDS]);
-AgcStep agc_step_trusted(uint16_t words[AGC_WORDS], uint32_t sets, const AgcRow *rows, size_t row_count,
+AGC_USED AgcStep agc_step_trusted(uint16_t words[AGC_WORDS], uint32_t sets, const AgcRow *rows, size_t row_count,
                          const AgcPhaseEntry *entries, size_t entry_count, const AgcRequest *request,
                          AgcFired fired[AGC_FIRED], uint16_t moment[AGC_WORDS]);
+
+/* agc_step by a plan in one struct. */
+AGC_INLINE AGC_USED AgcStep agc_ask(uint16_t words[AGC_WORDS], uint32_t sets, const AgcPlan *plan,
+                                    const AgcRequest *request, AgcFired fired[AGC_FIRED],
+                                    uint16_t moment[AGC_WORDS]) {
+    return agc_step(words, sets, plan->rows, plan->row_count, plan->entries, plan->entry_count, request, fired, moment);
+}
 
 /* An era begins, as after an alarm: its code is recorded, all jobs and tasks are gone, and then for
    groups 1 to 6 in order the plan's entry for the group's phase begins, its job and then its task.
    `alarm` is one of the four, or 0 where none is recorded, as at a restart by request. A group of
    phase 0, or of one that has no entry, begins nothing. AGC_OUT_OF_RANGE is that of the alarm; the
    codes of agc_plan_check are those of the entries, at which the trusted form doesn't look. */
-uint32_t agc_begin(uint16_t words[AGC_WORDS], uint32_t sets, uint32_t alarm, const AgcPhaseEntry *entries,
+AGC_USED uint32_t agc_begin(uint16_t words[AGC_WORDS], uint32_t sets, uint32_t alarm, const AgcPhaseEntry *entries,
                    size_t entry_count);
-uint32_t agc_begin_trusted(uint16_t words[AGC_WORDS], uint32_t sets, uint32_t alarm, const AgcPhaseEntry *entries,
+AGC_USED uint32_t agc_begin_trusted(uint16_t words[AGC_WORDS], uint32_t sets, uint32_t alarm, const AgcPhaseEntry *entries,
                            size_t entry_count);
 
 /* Power comes back with these phase words, -PHASE1 first, whatever stood in the array: an era begins
@@ -309,31 +466,31 @@ uint32_t agc_begin_trusted(uint16_t words[AGC_WORDS], uint32_t sets, uint32_t al
    fresh start with code 01107, and the number is AGC_ALARM_1107. AGC_NO_SUCH_SETS; AGC_NOT_WORDS where
    a phase word is above 077777; the codes of agc_plan_check for the entries, at which the trusted form
    doesn't look. */
-AgcNumber agc_power_up(uint16_t words[AGC_WORDS], uint32_t sets, const AgcPhaseEntry *entries, size_t entry_count,
+AGC_USED AgcNumber agc_power_up(uint16_t words[AGC_WORDS], uint32_t sets, const AgcPhaseEntry *entries, size_t entry_count,
                        const uint16_t phase_words[AGC_PHASE_WORDS]);
-AgcNumber agc_power_up_trusted(uint16_t words[AGC_WORDS], uint32_t sets, const AgcPhaseEntry *entries,
+AGC_USED AgcNumber agc_power_up_trusted(uint16_t words[AGC_WORDS], uint32_t sets, const AgcPhaseEntry *entries,
                                size_t entry_count, const uint16_t phase_words[AGC_PHASE_WORDS]);
 
 /* The request that a line of a script spells, of so many bytes, without the line's end: AGC_OK, or
    AGC_NOT_SPELLED, and then *request stays. Numbers that the kind doesn't have become 0.
    agc_read_action: `nothing`, or the line of a novac, findvac, rouse or list. */
-uint32_t agc_read_request(const char *text, size_t length, AgcRequest *request);
-uint32_t agc_read_action(const char *text, size_t length, AgcAction *action);
+AGC_USED uint32_t agc_read_request(const char *text, size_t length, AgcRequest *request);
+AGC_USED uint32_t agc_read_action(const char *text, size_t length, AgcAction *action);
 
 /* The line that `agc` writes for a step's reply, with its end and no zero byte: AGC_OK, and the number
    is how many bytes were written; AGC_NO_ROOM, and then nothing was; AGC_OUT_OF_RANGE where it is of no
    kind, or names no job or alarm though its kind does, where more than nine tasks fired, or where one
    that fired is none. */
-AgcNumber agc_write_reply(const AgcStep *step, const AgcFired fired[AGC_FIRED], char *text, size_t room);
+AGC_USED AgcNumber agc_write_reply(const AgcStep *step, const AgcFired fired[AGC_FIRED], char *text, size_t room);
 
 /* The report that `agc` writes of these words and counts, in the same way; codes also those of the
    image. */
-AgcNumber agc_write_report(const uint16_t words[AGC_WORDS], uint32_t sets, const AgcTotals *totals, char *text,
+AGC_USED AgcNumber agc_write_report(const uint16_t words[AGC_WORDS], uint32_t sets, const AgcTotals *totals, char *text,
                            size_t room);
 
 /* Whether rows make a timetable: AGC_OK, or the first of AGC_TIME_RANGE, AGC_STEAL_TWICE and
    AGC_COST_TWICE. Of all rows and requests there may be none, and they may then be null. */
-uint32_t agc_clock_check(const AgcStolen *stolen, size_t stolen_count, const AgcCost *costs, size_t cost_count,
+AGC_USED uint32_t agc_clock_check(const AgcStolen *stolen, size_t stolen_count, const AgcCost *costs, size_t cost_count,
                          const AgcEvent *events, size_t event_count, const AgcRequest *requests, size_t request_count);
 
 /* The next request of a clock for a machine with these words, which goes on for `lasts` centiseconds.
@@ -343,107 +500,151 @@ uint32_t agc_clock_check(const AgcStolen *stolen, size_t stolen_count, const Agc
    trusted form looks at neither, and has the condition of other calls: an address that is out of its
    range then counts as 037777, numbers that are no request as AGC_CHANGE, and of two rows for one time
    or address the first counts. */
-AgcNumber agc_clock_next(const uint16_t words[AGC_WORDS], uint32_t sets, uint32_t lasts, const AgcStolen *stolen,
+AGC_USED AgcNumber agc_clock_next(const uint16_t words[AGC_WORDS], uint32_t sets, uint32_t lasts, const AgcStolen *stolen,
                          size_t stolen_count, const AgcCost *costs, size_t cost_count, const AgcEvent *events,
                          size_t event_count, const AgcRequest *requests, size_t request_count, AgcClock *clock,
                          AgcRequest *request);
-AgcNumber agc_clock_next_trusted(const uint16_t words[AGC_WORDS], uint32_t sets, uint32_t lasts, const AgcStolen *stolen,
+AGC_USED AgcNumber agc_clock_next_trusted(const uint16_t words[AGC_WORDS], uint32_t sets, uint32_t lasts, const AgcStolen *stolen,
                                  size_t stolen_count, const AgcCost *costs, size_t cost_count, const AgcEvent *events,
                                  size_t event_count, const AgcRequest *requests, size_t request_count, AgcClock *clock,
                                  AgcRequest *request);
 
+/* agc_clock_next by a timetable in one struct. */
+AGC_INLINE AGC_USED AgcNumber agc_clock_ask(const uint16_t words[AGC_WORDS], uint32_t sets, const AgcTimetable *it,
+                                            AgcClock *clock, AgcRequest *request) {
+    return agc_clock_next(words, sets, it->lasts, it->stolen, it->stolen_count, it->costs, it->cost_count, it->events,
+                          it->event_count, it->requests, it->request_count, clock, request);
+}
+
 /* A clock takes what came of a request, also of one that it didn't ask for: the words as the step left
    them, and what agc_step answered. Codes of the image. */
-uint32_t agc_clock_served(const uint16_t words[AGC_WORDS], uint32_t sets, const AgcStep *step, AgcClock *clock);
-uint32_t agc_clock_served_trusted(const uint16_t words[AGC_WORDS], uint32_t sets, const AgcStep *step, AgcClock *clock);
+AGC_USED uint32_t agc_clock_served(const uint16_t words[AGC_WORDS], uint32_t sets, const AgcStep *step, AgcClock *clock);
+AGC_USED uint32_t agc_clock_served_trusted(const uint16_t words[AGC_WORDS], uint32_t sets, const AgcStep *step, AgcClock *clock);
 
 /* The image of a fresh start, whatever stood there: no jobs, no tasks, six phases 0, no codes. */
-uint32_t agc_clear(uint16_t words[AGC_WORDS], uint32_t sets);
+AGC_USED uint32_t agc_clear(uint16_t words[AGC_WORDS], uint32_t sets);
 
 /* Whether the array has a lawful image: AGC_OK, or the first of AGC_NO_SUCH_SETS, AGC_NOT_WORDS and
    AGC_UNLAWFUL. True between requests, false inside a tick, where a task is due. */
-AgcTruth agc_check(const uint16_t words[AGC_WORDS], uint32_t sets);
+AGC_USED AgcTruth agc_check(const uint16_t words[AGC_WORDS], uint32_t sets);
+
+/* Why the array has no image of so many core sets: agc_check's code, and where that is AGC_NOT_WORDS or
+   AGC_UNLAWFUL, the first rule that is broken, where, what stands there and what would have to. */
+AGC_USED AgcFinding agc_explain(const uint16_t words[AGC_WORDS], uint32_t sets);
+
+/* The job in a core set, 0 to 6, or 7 of eight. */
+AGC_USED AgcJob agc_job_at(const uint16_t words[AGC_WORDS], uint32_t sets, uint32_t set);
+
+/* The number of the job that NEWJOB names, which a change of job would let run; 0 for none. */
+AGC_USED AgcNumber agc_next(const uint16_t words[AGC_WORDS], uint32_t sets);
+
+/* The task that comes due first (place 0), second, .. of those that wait, up to place 8. */
+AGC_USED AgcWaiting agc_task_at(const uint16_t words[AGC_WORDS], uint32_t sets, uint32_t place);
+
+/* The phase, 0 to 127, of a restart group, 1 to 6. */
+AGC_USED AgcNumber agc_phase_at(const uint16_t words[AGC_WORDS], uint32_t sets, uint32_t group);
+
+/* FAILREG: the first (place 0), the second (1) or the latest code (2); 0 where there is none. */
+AGC_USED AgcNumber agc_failreg(const uint16_t words[AGC_WORDS], uint32_t sets, uint32_t place);
+
+/* The number of the job that owns a VAC area, 1 to 5; 0 where no job does. */
+AGC_INLINE AGC_USED AgcNumber agc_area_at(const uint16_t words[AGC_WORDS], uint32_t sets, uint32_t area) {
+    AgcNumber found = {AGC_OK, 0};
+    uint32_t set;
+    for (set = 0; set == 0 || set < sets; set++) {
+        AgcJob job = agc_job_at(words, sets, set);
+        found.code = job.code;
+        if (found.code == AGC_OK && (area < 1 || area > 5)) found.code = AGC_OUT_OF_RANGE;
+        if (found.code != AGC_OK) break;
+        if (job.area == area) found.number = job.number;
+    }
+    return found;
+}
+
+/* The library's release: 10000 times its first number, 100 times its second, and its third. */
+AGC_USED uint32_t agc_version(void);
 
 /* A software restart, without what the phases begin again: no jobs, no tasks; phases and codes stay. */
-uint32_t agc_restart(uint16_t words[AGC_WORDS], uint32_t sets);
+AGC_USED uint32_t agc_restart(uint16_t words[AGC_WORDS], uint32_t sets);
 
 /* An image of seven core sets becomes one of eight. AGC_NOT_NOW where a task is due. The words don't
    tell whether they are of eight already: then the job in core set 7 is lost. */
-uint32_t agc_migrate(uint16_t words[AGC_WORDS]);
+AGC_USED uint32_t agc_migrate(uint16_t words[AGC_WORDS]);
 
 /* NOVAC, FINDVAC: a job of this priority, 1 to 31, at this address, 1 to 16383, in this bank, a word.
    AGC_ESTABLISHED, or AGC_ALARMED with AGC_ALARM_1202, FINDVAC also with AGC_ALARM_1201. */
-AgcReply agc_novac(uint16_t words[AGC_WORDS], uint32_t sets, uint32_t priority, uint32_t at, uint32_t bank);
-AgcReply agc_novac_trusted(uint16_t words[AGC_WORDS], uint32_t sets, uint32_t priority, uint32_t at, uint32_t bank);
-AgcReply agc_findvac(uint16_t words[AGC_WORDS], uint32_t sets, uint32_t priority, uint32_t at, uint32_t bank);
-AgcReply agc_findvac_trusted(uint16_t words[AGC_WORDS], uint32_t sets, uint32_t priority, uint32_t at, uint32_t bank);
+AGC_USED AgcReply agc_novac(uint16_t words[AGC_WORDS], uint32_t sets, uint32_t priority, uint32_t at, uint32_t bank);
+AGC_USED AgcReply agc_novac_trusted(uint16_t words[AGC_WORDS], uint32_t sets, uint32_t priority, uint32_t at, uint32_t bank);
+AGC_USED AgcReply agc_findvac(uint16_t words[AGC_WORDS], uint32_t sets, uint32_t priority, uint32_t at, uint32_t bank);
+AGC_USED AgcReply agc_findvac_trusted(uint16_t words[AGC_WORDS], uint32_t sets, uint32_t priority, uint32_t at, uint32_t bank);
 
 /* End of job. AGC_LEFT, AGC_IDLE or AGC_NO_JOB. */
-AgcReply agc_end_of_job(uint16_t words[AGC_WORDS], uint32_t sets);
-AgcReply agc_end_of_job_trusted(uint16_t words[AGC_WORDS], uint32_t sets);
+AGC_USED AgcReply agc_end_of_job(uint16_t words[AGC_WORDS], uint32_t sets);
+AGC_USED AgcReply agc_end_of_job_trusted(uint16_t words[AGC_WORDS], uint32_t sets);
 
 /* JOBSLEEP: until this address, 1 to 16383, is called. AGC_LEFT, AGC_IDLE or AGC_NO_JOB. */
-AgcReply agc_job_sleep(uint16_t words[AGC_WORDS], uint32_t sets, uint32_t at);
-AgcReply agc_job_sleep_trusted(uint16_t words[AGC_WORDS], uint32_t sets, uint32_t at);
+AGC_USED AgcReply agc_job_sleep(uint16_t words[AGC_WORDS], uint32_t sets, uint32_t at);
+AGC_USED AgcReply agc_job_sleep_trusted(uint16_t words[AGC_WORDS], uint32_t sets, uint32_t at);
 
 /* JOBWAKE: the least-numbered sleeper of this address, 1 to 16383. AGC_ROUSED or AGC_NO_SLEEPER. */
-AgcReply agc_job_wake(uint16_t words[AGC_WORDS], uint32_t sets, uint32_t at);
-AgcReply agc_job_wake_trusted(uint16_t words[AGC_WORDS], uint32_t sets, uint32_t at);
+AGC_USED AgcReply agc_job_wake(uint16_t words[AGC_WORDS], uint32_t sets, uint32_t at);
+AGC_USED AgcReply agc_job_wake_trusted(uint16_t words[AGC_WORDS], uint32_t sets, uint32_t at);
 
 /* PRIOCHNG: the running job's priority, 1 to 31. AGC_RUNS or AGC_NO_JOB. */
-AgcReply agc_prio_change(uint16_t words[AGC_WORDS], uint32_t sets, uint32_t priority);
-AgcReply agc_prio_change_trusted(uint16_t words[AGC_WORDS], uint32_t sets, uint32_t priority);
+AGC_USED AgcReply agc_prio_change(uint16_t words[AGC_WORDS], uint32_t sets, uint32_t priority);
+AGC_USED AgcReply agc_prio_change_trusted(uint16_t words[AGC_WORDS], uint32_t sets, uint32_t priority);
 
 /* Change of job, to what NEWJOB names. AGC_RUNS or AGC_NO_JOB. */
-AgcReply agc_change_job(uint16_t words[AGC_WORDS], uint32_t sets);
-AgcReply agc_change_job_trusted(uint16_t words[AGC_WORDS], uint32_t sets);
+AGC_USED AgcReply agc_change_job(uint16_t words[AGC_WORDS], uint32_t sets);
+AGC_USED AgcReply agc_change_job_trusted(uint16_t words[AGC_WORDS], uint32_t sets);
 
 /* Work word 1 to 6 of the running job, MPAC+1 to MPAC+6. AGC_STORED or AGC_NO_JOB. */
-AgcReply agc_store(uint16_t words[AGC_WORDS], uint32_t sets, uint32_t place, uint32_t word);
-AgcReply agc_store_trusted(uint16_t words[AGC_WORDS], uint32_t sets, uint32_t place, uint32_t word);
+AGC_USED AgcReply agc_store(uint16_t words[AGC_WORDS], uint32_t sets, uint32_t place, uint32_t word);
+AGC_USED AgcReply agc_store_trusted(uint16_t words[AGC_WORDS], uint32_t sets, uint32_t place, uint32_t word);
 
 /* The number of the running job, 0 where no job is running. */
-AgcNumber agc_running(const uint16_t words[AGC_WORDS], uint32_t sets);
-AgcNumber agc_running_trusted(const uint16_t words[AGC_WORDS], uint32_t sets);
+AGC_USED AgcNumber agc_running(const uint16_t words[AGC_WORDS], uint32_t sets);
+AGC_USED AgcNumber agc_running_trusted(const uint16_t words[AGC_WORDS], uint32_t sets);
 
 /* WAITLIST: a task due in so many centiseconds, 1 to 16250, at this address, 1 to 16383, in this bank,
    a word. AGC_LISTED, or AGC_ALARMED with AGC_ALARM_1203. */
-AgcReply agc_list(uint16_t words[AGC_WORDS], uint32_t sets, uint32_t delay, uint32_t at, uint32_t bank);
-AgcReply agc_list_trusted(uint16_t words[AGC_WORDS], uint32_t sets, uint32_t delay, uint32_t at, uint32_t bank);
+AGC_USED AgcReply agc_list(uint16_t words[AGC_WORDS], uint32_t sets, uint32_t delay, uint32_t at, uint32_t bank);
+AGC_USED AgcReply agc_list_trusted(uint16_t words[AGC_WORDS], uint32_t sets, uint32_t delay, uint32_t at, uint32_t bank);
 
 /* A centisecond passes; true where a task is due then. AGC_NOT_NOW where one is due before it. A tick
    is this call, and then agc_dispatch as long as agc_due answers true. */
-AgcTruth agc_count_time3(uint16_t words[AGC_WORDS], uint32_t sets);
-AgcTruth agc_count_time3_trusted(uint16_t words[AGC_WORDS], uint32_t sets);
+AGC_USED AgcTruth agc_count_time3(uint16_t words[AGC_WORDS], uint32_t sets);
+AGC_USED AgcTruth agc_count_time3_trusted(uint16_t words[AGC_WORDS], uint32_t sets);
 
 /* Whether a task is due now. */
-AgcTruth agc_due(const uint16_t words[AGC_WORDS], uint32_t sets);
-AgcTruth agc_due_trusted(const uint16_t words[AGC_WORDS], uint32_t sets);
+AGC_USED AgcTruth agc_due(const uint16_t words[AGC_WORDS], uint32_t sets);
+AGC_USED AgcTruth agc_due_trusted(const uint16_t words[AGC_WORDS], uint32_t sets);
 
 /* Takes out a task that is due: of these the earliest arrival. AGC_NOT_NOW where none is due. */
-AgcTask agc_dispatch(uint16_t words[AGC_WORDS], uint32_t sets);
-AgcTask agc_dispatch_trusted(uint16_t words[AGC_WORDS], uint32_t sets);
+AGC_USED AgcTask agc_dispatch(uint16_t words[AGC_WORDS], uint32_t sets);
+AGC_USED AgcTask agc_dispatch_trusted(uint16_t words[AGC_WORDS], uint32_t sets);
 
 /* The phase, 0 to 127, of a restart group, 1 to 6. */
-uint32_t agc_set_phase(uint16_t words[AGC_WORDS], uint32_t sets, uint32_t group, uint32_t phase);
-uint32_t agc_set_phase_trusted(uint16_t words[AGC_WORDS], uint32_t sets, uint32_t group, uint32_t phase);
+AGC_USED uint32_t agc_set_phase(uint16_t words[AGC_WORDS], uint32_t sets, uint32_t group, uint32_t phase);
+AGC_USED uint32_t agc_set_phase_trusted(uint16_t words[AGC_WORDS], uint32_t sets, uint32_t group, uint32_t phase);
 
 /* Adds one of the four alarms to FAILREG. */
-uint32_t agc_record_alarm(uint16_t words[AGC_WORDS], uint32_t sets, uint32_t alarm);
-uint32_t agc_record_alarm_trusted(uint16_t words[AGC_WORDS], uint32_t sets, uint32_t alarm);
+AGC_USED uint32_t agc_record_alarm(uint16_t words[AGC_WORDS], uint32_t sets, uint32_t alarm);
+AGC_USED uint32_t agc_record_alarm_trusted(uint16_t words[AGC_WORDS], uint32_t sets, uint32_t alarm);
 
 /* The phases that twelve phase words tell, as found when power comes back, -PHASE1 first. AGC_NOT_WORDS,
    or AGC_UNLAWFUL where a pair's words aren't complements of each other, or a phase is above 127. */
-AgcPhases agc_recover(const uint16_t words[AGC_PHASE_WORDS]);
+AGC_USED AgcPhases agc_recover(const uint16_t words[AGC_PHASE_WORDS]);
 
 /* Arithmetic on words in ones' complement: the sum, the negative, the value. AGC_OK or AGC_NOT_A_WORD. */
-AgcSum agc_add(uint32_t a, uint32_t b);
-AgcNumber agc_negative(uint32_t word);
-AgcValue agc_value(uint32_t word);
+AGC_USED AgcSum agc_add(uint32_t a, uint32_t b);
+AGC_USED AgcNumber agc_negative(uint32_t word);
+AGC_USED AgcValue agc_value(uint32_t word);
 
 #undef AGC_INLINE
 #undef AGC_TYPE
 #undef AGC_PLACE
+#undef AGC_USED
 
 #ifdef __cplusplus
 }

@@ -269,6 +269,23 @@ export declare class Clock {
   static of(state: ClockState): Clock;
 }
 
+/** Why words aren't lawful: the rule that is broken first, and where. */
+export interface Finding {
+  rule: number;
+  /** The word's place, from 0. */
+  place: number;
+  found: number;
+  /** What would have to stand there; null where the other words leave more than one choice. */
+  wanted: number | null;
+  text: string;
+}
+
+/** Why these words, 132 or 144, aren't lawful; null where they are. */
+export declare function findingOf(words: ArrayLike<number>): Finding | null;
+
+/** What a place of the words is called, as `"LOC of core set 2"`. */
+export declare function placeName(place: number): string;
+
 /** What words say that a machine has left, or had at a moment. Other words are refused. */
 export declare function sceneOf(words: ArrayLike<number>): Scene;
 
@@ -332,6 +349,13 @@ export interface Library {
   agc_clock_served_trusted(words: bigint, sets: number, step: bigint, clock: bigint): number;
   agc_clear(words: bigint, sets: number): number;
   agc_check(answer: bigint, words: bigint, sets: number): void;
+  agc_explain(answer: bigint, words: bigint, sets: number): void;
+  agc_job_at(answer: bigint, words: bigint, sets: number, set: number): void;
+  agc_next(answer: bigint, words: bigint, sets: number): void;
+  agc_task_at(answer: bigint, words: bigint, sets: number, place: number): void;
+  agc_phase_at(answer: bigint, words: bigint, sets: number, group: number): void;
+  agc_failreg(answer: bigint, words: bigint, sets: number, place: number): void;
+  agc_version(): number;
   agc_restart(words: bigint, sets: number): number;
   agc_migrate(words: bigint): number;
   agc_novac(

@@ -28,6 +28,8 @@
  * @typedef {{ served: number, alarms: number[], restarts: number }} Totals
  * @typedef {{ sets: number, plan: Plan, words: number[], moment: number[],
  *   totals: Totals }} MachineState
+ * @typedef {{ rule: number, place: number, found: number, wanted: number | null,
+ *   text: string }} Finding
  * @typedef {{ timetable: Timetable, at: number[] }} ClockState
  */
 
@@ -115,6 +117,30 @@ const REPLY_TEXTS = {
   [Kind.TICK_ALARMED]: "an action raised an alarm in a tick, and an era began",
   [Kind.RESTARTED]: "an era began by a restart or a fresh start",
 };
+
+/** What each rule of lawful words says, by its number. */
+const RULE_TEXTS = [
+  "no rule is broken",
+  "a word has at most fifteen bits",
+  "a job's number is 1 to the number of core sets",
+  "no two jobs have one number",
+  "LOC of a job is an address, 1 to 037777",
+  "PRIORITY of a job has a priority, 1 to 31",
+  "PRIORITY of a job ends with a VAC area's address, or 0",
+  "no two jobs own one VAC area",
+  "where a job is awake, the job in core set 0 is",
+  "a use word is 0 where a job owns the area, else its address",
+  "NEWJOB names the best job's core set",
+  "TIME3 isn't negative, and is 0 where no task waits",
+  "no task is more than 16250 centiseconds away",
+  "a task's address is 1 to 037777",
+  "LST1 between two tasks is 1 or 0, or negative",
+  "LST1 behind the last task is 057777",
+  "LST2 behind the last task is 0",
+  "a phase is at most 127",
+  "-PHASE is the complement of PHASE",
+  "FAILREG has codes of alarms: the first, the second and the latest",
+];
 
 /**
  * What a code says, whatever the number.
@@ -543,12 +569,12 @@ export class Machine {
    * @param {ArrayLike<number>} words
    */
   #take(words) {
-    const found = this.#numbers(Array.from(words, whole), this.#size);
-    if (found.some((it) => it > 0xffff)) throw new Lacking(Code.NOT_WORDS);
+    const found = counted(words, this.#size);
     halves.set(found, at.words / 2);
     this.#spell("change", []);
     this.#step(calls.agc_step);
-    served(numbers[at.answer / 4]);
+    // (a step that isn't served leaves the words)
+    lawful(numbers[at.answer / 4], to.words, this.#sets);
     halves.set(found, at.words / 2);
   }
 
@@ -1154,11 +1180,11 @@ function tasksOf(words) {
 }
 
 /**
- * Throws where these aren't lawful words, as many as a machine has.
+ * So many numbers of sixteen bits.
  * @param {ArrayLike<number>} words
  * @param {number} size
  */
-function checked(words, size) {
+function counted(words, size) {
   if (calls === null) throw new TypeError("the module isn't there yet: await start(bytes)");
   const found = Array.from(words, whole);
   if (found.length !== size) {
@@ -1166,9 +1192,84 @@ function checked(words, size) {
     throw new Lacking(Code.NOT_WORDS, counts);
   }
   if (found.some((it) => it > 0xffff)) throw new Lacking(Code.NOT_WORDS);
-  halves.set(found, at.other / 2);
-  calls.agc_check(to.answer, to.other, size === WORDS ? 8 : 7);
-  served(numbers[at.answer / 4]);
+  return found;
+}
+
+/**
+ * Throws where these aren't lawful words, as many as a machine has.
+ * @param {ArrayLike<number>} words
+ * @param {number} size
+ */
+function checked(words, size) {
+  halves.set(counted(words, size), at.other / 2);
+  const sets = size === WORDS ? 8 : 7;
+  calls.agc_check(to.answer, to.other, sets);
+  lawful(numbers[at.answer / 4], to.other, sets);
+}
+
+const SET_WORDS = [
+  ...["MPAC", "MPAC+1", "MPAC+2", "MPAC+3", "MPAC+4", "MPAC+5", "MPAC+6"],
+  ...["MODE", "LOC", "BANKSET", "PUSHLOC", "PRIORITY"],
+];
+
+/**
+ * What a place of the words is called: "LOC of core set 2", "VAC 1", "NEWJOB", "LST1 0",
+ * "PHASE of group 3".
+ * @param {number} place
+ */
+export function placeName(place) {
+  if (!(Number.isInteger(place) && place >= 0 && place < WORDS)) {
+    throw new Lacking(Code.OUT_OF_RANGE, `there is no word ${place}`);
+  }
+  if (place < 84 || place >= 132) {
+    return `${SET_WORDS[place % 12]} of core set ${Math.min(Math.floor(place / 12), 7)}`;
+  }
+  if (place >= 129) return `FAILREG ${place - 129}`;
+  const [k, second] = [Math.floor((place - 99) / 2), (place - 99) % 2 === 1];
+  if (place >= 117) return `${second ? "PHASE" : "-PHASE"} of group ${k - 8}`;
+  if (place >= 99) return `LST2 ${k}, the ${second ? "bank" : "address"}`;
+  if (place >= 91) return `LST1 ${place - 91}`;
+  return place >= 89 ? ["NEWJOB", "TIME3"][place - 89] : `VAC ${place - 83}`;
+}
+
+/**
+ * Why words in the module's memory aren't lawful, or null.
+ * @param {bigint} words
+ * @param {number} sets
+ * @returns {Finding | null}
+ */
+function findingAt(words, sets) {
+  calls.agc_explain(to.answer, words, sets);
+  const [code, rule, place, found, right] = numbers.slice(at.answer / 4, at.answer / 4 + 5);
+  if (code !== Code.NOT_WORDS && code !== Code.UNLAWFUL) return null;
+  const wanted = right === 0xffff ? null : right;
+  const [is, would] = [found, right].map((it) => it.toString(8).padStart(5, "0"));
+  const other = wanted === null ? "" : `, and would have to be ${would}`;
+  const text = `${placeName(place)} (word ${place}) is ${is}${other}: ${RULE_TEXTS[rule]}`;
+  return { rule, place, found, wanted, text };
+}
+
+/**
+ * Why these words, 132 or 144, aren't lawful; null where they are.
+ * @param {ArrayLike<number>} words
+ * @returns {Finding | null}
+ */
+export function findingOf(words) {
+  const sets = words.length === WORDS ? 8 : 7;
+  halves.set(counted(words, 48 + 12 * sets), at.other / 2);
+  return findingAt(to.other, sets);
+}
+
+/**
+ * Throws what a call lacked that looked at words, and which word it is.
+ * @param {number} code
+ * @param {bigint} words
+ * @param {number} sets
+ */
+function lawful(code, words, sets) {
+  if (code === Code.OK) return;
+  const finding = findingAt(words, sets);
+  throw new Lacking(code, finding === null ? codeText(code) : `${codeText(code)}: ${finding.text}`);
 }
 
 /**

@@ -1,6 +1,7 @@
 /* Times calls of libagc beside the same operations written plainly in C, in one run: medians of 199 turns, in nanoseconds
    a call. A turn is so short that other work seldom interrupts it. The plain ones look at the call's numbers, as the
    library's do, and at no image; both are checked to leave the same words. */
+#define AGC_IGNORE_ANSWERS
 #include "agc.h"
 
 #include <stdio.h>

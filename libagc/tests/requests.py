@@ -36,4 +36,5 @@ def main():
         print(line(chance))
 
 
-main()
+if __name__ == "__main__":
+    main()

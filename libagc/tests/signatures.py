@@ -89,12 +89,14 @@ def of_c_parameter(text):
 
 
 def of_c(text):
-    text = re.sub(r"\s+", " ", re.sub(r"/\*.*?\*/", "", text, flags=re.S))
+    text = re.sub(r"\s+", " ", re.sub(r"/\*.*?\*/", "", text, flags=re.S)).replace("AGC_USED ", "").replace("(void)", "()")
     calls = {}
     for answers, name, takes in re.findall(r"(?<=[;}] )(\w+) (agc_\w+)\(([^)]*)\);", text):
-        calls[name] = (as_slices([of_c_parameter(it) for it in takes.split(", ")]), NUMBERS.get(answers, answers))
+        calls[name] = (as_slices([of_c_parameter(it) for it in takes.split(", ") if it]), NUMBERS.get(answers, answers))
     structs = {}
     for body, name in re.findall(r"(?:typedef|AGC_TYPE) struct \{ ([^}]*?) \} (Agc\w+);", text):
+        if "*" in body:
+            continue  # of pointers: the header's own, for its inline calls
         structs[name] = []
         for part in body.strip(" ;").split("; "):
             kind, names = part.split(" ", 1)
@@ -106,7 +108,7 @@ def of_c(text):
 
 
 PYTHON = {ctypes.c_uint32: "u32", ctypes.c_int32: "i32", ctypes.c_bool: "bool", ctypes.c_uint8 * 6: "[u8; 6]"}
-PYTHON |= {ctypes.c_uint32 * 8: "[u32; 8]", ctypes.c_uint64: "u64", ctypes.c_size_t: "u64", agc.AgcRequest * 4: "[AgcRequest; 4]", ctypes.c_char_p: "u8"}
+PYTHON |= {ctypes.c_uint16 * 6: "[u16; 6]", ctypes.c_uint32 * 8: "[u32; 8]", ctypes.c_uint64: "u64", ctypes.c_size_t: "u64", agc.AgcRequest * 4: "[AgcRequest; 4]", ctypes.c_char_p: "u8"}
 
 
 def of_python():
@@ -217,6 +219,12 @@ def compared_texts(header, module):
     yield from compared("machine.js", wanted, shown)
     yield from compared("agc.rs", wanted, texts_of(module, r'(\w+) => "(.*)",'))
     yield from compared("agc.py", wanted, python)
+    rules = re.findall(r'case AGC_RULE_\w+: return "(.*)";', header)
+    held = [script[script.index("RULE_TEXTS = [") :].split("];")[0], module[module.index("fn agc_rule_text") :].split("\n}")[0]]
+    others = [agc.RULE_TEXTS[1:], *(re.findall(r'"([^"]+)",', it) for it in held)]
+    for name, texts in zip(("agc.py", "machine.js", "agc.rs"), [others[0], others[1][1:], others[2][:-1]]):
+        if texts != rules or len(rules) != 19:
+            yield f"signatures: rules of {name} aren't those of agc.h"
     if len(wanted) != 33:
         yield f"signatures: agc.h has {len(wanted)} texts"
 

@@ -165,6 +165,10 @@ function answers() {
   }
   machine.run(second, 1);
   found.push(["Clock.next", second.next(machine)], ["Clock.copy", clock.copy()], ["Clock.change", clock.change({ steal: 1 })]);
+  const untidy = Array.from(machine.words, (it, place) => (place === 89 ? 5 : it));
+  const wide = Array.from(machine.words, (it, place) => (place === 5 ? 65535 : it));
+  found.push(["findingOf", agc.findingOf(machine.words)], ["findingOf", agc.findingOf(untidy)], ["findingOf", agc.findingOf(wide)]);
+  found.push(["placeName", agc.placeName(89)]);
   found.push(["Machine.of", agc.Machine.of(machine.state)], ["Clock.of", agc.Clock.of(clock.state)]);
   found.push(["Machine.copy", machine.copy()], ["Machine.report", machine.report()], ["codeText", agc.codeText(1)], ["replyText", agc.replyText(99)]);
   found.push(["Step.toString", `${step}`], ["Asked.toString", `${first}`], ["Lacking.constructor", new agc.Lacking(1)]);

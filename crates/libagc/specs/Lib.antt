@@ -9,3 +9,5 @@ pub mod Spelled
 pub mod LentTimes
 pub mod LateTimes
 pub mod Clocks
+pub mod Tables
+pub mod Explaining

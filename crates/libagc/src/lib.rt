@@ -5,6 +5,7 @@
 mod clearing;
 mod clock;
 mod eras;
+mod explaining;
 mod images;
 mod jobs;
 mod lines;
@@ -13,15 +14,19 @@ mod plans;
 mod ready;
 mod reply;
 mod steps;
+mod tables;
 mod tasks;
 mod texts;
 mod times;
 mod timetable;
+mod version;
 mod words;
 
+pub use explaining::AgcFinding;
 pub use phases::AgcPhases;
 pub use reply::{AgcNumber, AgcReply, AgcTask, AgcTruth};
 pub use steps::{AgcFired, AgcStep};
+pub use tables::{AgcJob, AgcWaiting};
 pub use texts::AgcTotals;
 pub use timetable::{AgcCost, AgcEvent};
 pub use words::{AgcSum, AgcValue};

@@ -1,0 +1,280 @@
+// What the tables hold: jobs, tasks, areas, phases and codes, one place a call.
+ghost use Rattle.std.specs.Prelude.{◌≡◌, ◌-◌, ◌<◌, ◌≤◌, Some, None, Option, slice_get};
+ghost use Rattle.std.specs.Prelude.{slice_index};
+ghost use Rattle.agc_plan.specs.Ranges.{IsSix};
+ghost use Rattle.agc_exec.specs.Image.{jobs_in};
+ghost use Rattle.agc_exec.specs.Seats.{named_of, seats_in};
+ghost use Rattle.agc_exec.specs.declared.seats.Seat as exec;
+ghost use Rattle.agc_phase.specs.Image.{base_of, failreg_word};
+ghost use Rattle.agc_wait.specs.Table.{waits_of};
+ghost use Rattle.agc_image.specs.Codes.{Coded, code_of};
+ghost use Rattle.agc_image.specs.Images.{IsImage, IsOpened, image_of};
+ghost use Rattle.libagc.specs.Replies.{number_told};
+ghost use Rattle.libagc.specs.Tables.{job_told, no_job, no_task, task_told, work_at};
+
+use crate::reply::AgcNumber;
+use agc_exec::{Seat, job_at, named_job};
+use agc_image::{Fault, blank, image_fault, open};
+use agc_phase::{failreg, phases};
+use agc_wait::{Waiting, tasks_waiting};
+use agc_word::layout::set_place;
+
+/// The job in a core set: a code, and the job; all 0 where the set is free, or the code isn't 0.
+/// Source: the listings' EXECUTIVE section; numbers: profile.
+#[repr(C)]
+#[derive(Clone, Copy)]
+pub struct AgcJob {
+    /// 0 where the call was served, else the code of what it lacked.
+    pub code: u32,
+    /// The job's number, 1 to 8; 0 where the set is free.
+    pub number: u32,
+    /// Its priority, 1 to 31.
+    pub priority: u32,
+    /// The address where it begins, or at which it sleeps, 1 to 16383.
+    pub at: u32,
+    /// The word for its bank, 0 to 32767.
+    pub bank: u32,
+    /// Its VAC area, 1 to 5; 0 for none.
+    pub area: u32,
+    /// Whether it sleeps.
+    pub asleep: bool,
+    /// Its work words, MPAC+1 to MPAC+6.
+    pub work: [u16; 6],
+}
+
+/// A task that waits: a code, and the task; all 0 where no task has this place, or the code isn't
+/// 0. Source: the listings' WAITLIST section.
+#[repr(C)]
+#[derive(Clone, Copy)]
+pub struct AgcWaiting {
+    /// 0 where the call was served, else the code of what it lacked.
+    pub code: u32,
+    /// The address where the task begins, 1 to 16383; 0 for no task.
+    pub at: u32,
+    /// The word for its bank, 0 to 32767.
+    pub bank: u32,
+    /// The centiseconds that are left to it, 0 to 16250.
+    pub left: u32,
+}
+
+impl AgcJob {
+    /// The call was not served.
+    fn refused(fault: Fault) -> AgcJob
+        ensures { result ≡ no_job (code_of fault) }
+    {
+        AgcJob {
+            code: fault.code(),
+            number: 0,
+            priority: 0,
+            at: 0,
+            bank: 0,
+            area: 0,
+            asleep: false,
+            work: [0; 6],
+        }
+    }
+}
+
+impl AgcWaiting {
+    /// The call was not served.
+    fn refused(fault: Fault) -> AgcWaiting
+        ensures { result ≡ no_task (code_of fault) }
+    {
+        AgcWaiting {
+            code: fault.code(),
+            at: 0,
+            bank: 0,
+            left: 0,
+        }
+    }
+}
+
+/// The six work words of the set that begins at a place.
+fn work_at(words: &[u16; 144], place: usize) -> [u16; 6]
+    requires { place ≤ 132 }
+    ensures { result ≡ work_at place words.now }
+{
+    [
+        words[place + 1],
+        words[place + 2],
+        words[place + 3],
+        words[place + 4],
+        words[place + 5],
+        words[place + 6],
+    ]
+}
+
+/// What a core set holds, in numbers.
+fn job_told(words: &[u16; 144], set: usize, seat: Option<Seat>) -> AgcJob
+    requires { set ≤ 7 }
+    ensures told { result ≡ job_told set words.now seat }
+    ensures served { result.code ≡ 0 }
+{
+    match seat {
+        None => AgcJob {
+            code: 0,
+            number: 0,
+            priority: 0,
+            at: 0,
+            bank: 0,
+            area: 0,
+            asleep: false,
+            work: [0; 6],
+        },
+        Some(seat) => AgcJob {
+            code: 0,
+            number: u32::from(seat.number),
+            priority: u32::from(seat.priority),
+            at: u32::from(seat.at),
+            bank: u32::from(words[set_place(set) + 9]),
+            area: u32::from(seat.area),
+            asleep: seat.asleep,
+            work: work_at(words, set_place(set)),
+        },
+    }
+}
+
+/// The job in a core set, counted from 0. Code 4 where there is no such set. Source: the listings'
+/// EXECUTIVE section; numbers: profile.
+#[unsafe(no_mangle)]
+pub extern "C" fn agc_job_at(words: &[u16; 144], sets: u32, set: u32) -> AgcJob
+    ensures code { Coded result.code sets words.now (set < sets) (Unit {0}) (Unit {0}) }
+    ensures served { (seat : Option exec.Seat) → result.code ≡ 0
+        → slice_get (seats_in (image_of sets words.now)) set ≡ Some seat
+        → result ≡ job_told set words.now seat }
+    ensures refused { ¬ (result.code ≡ 0) → result ≡ no_job result.code }
+{
+    match image_fault(words, sets) {
+        Some(fault) => AgcJob::refused(fault),
+        None => {
+            if set >= sets {
+                return AgcJob::refused(Fault::OutOfRange);
+            }
+            let mut image = blank(sets);
+            open(words, sets, &mut image);
+            job_told(words, set as usize, job_at(&image, set as usize))
+        }
+    }
+}
+
+/// The number of the job that NEWJOB names, which a change of job lets run: the best, where it is
+/// strictly more urgent than the one that runs; 0 for none. Source: the listings' EXECUTIVE
+/// section; numbers: profile.
+#[unsafe(no_mangle)]
+pub extern "C" fn agc_next(words: &[u16; 144], sets: u32) -> AgcNumber
+    ensures code { Coded result.code sets words.now (Unit {0}) (Unit {0}) (Unit {0}) }
+    ensures served { result.code ≡ 0
+        → result.number ≡ number_told (named_of (jobs_in (image_of sets words.now))) }
+    ensures refused { ¬ (result.code ≡ 0) → result.number ≡ 0 }
+{
+    match image_fault(words, sets) {
+        Some(fault) => AgcNumber::refused(fault),
+        None => {
+            let mut image = blank(sets);
+            open(words, sets, &mut image);
+            told(named_job(&image))
+        }
+    }
+}
+
+/// A job's number, 0 for none.
+fn told(job: Option<u16>) -> AgcNumber
+    ensures number { result.number ≡ number_told job }
+    ensures served { result.code ≡ 0 }
+{
+    match job {
+        Some(number) => AgcNumber {
+            code: 0,
+            number: u32::from(number),
+        },
+        None => AgcNumber { code: 0, number: 0 },
+    }
+}
+
+/// The task that comes due as number `place` of those that wait, counted from 0, and the
+/// centiseconds that are left to it. Code 4 where there is no such place, from 9 on. Source: the
+/// listings' WAITLIST section.
+#[unsafe(no_mangle)]
+pub extern "C" fn agc_task_at(words: &[u16; 144], sets: u32, place: u32) -> AgcWaiting
+    ensures code { Coded result.code sets words.now (place < 9) (Unit {0}) (Unit {0}) }
+    ensures served { result.code ≡ 0
+        → result ≡ task_told (slice_get (waits_of (image_of sets words.now)) place) }
+    ensures refused { ¬ (result.code ≡ 0) → result ≡ no_task result.code }
+{
+    match image_fault(words, sets) {
+        Some(fault) => AgcWaiting::refused(fault),
+        None => {
+            if place >= 9 {
+                return AgcWaiting::refused(Fault::OutOfRange);
+            }
+            let mut image = blank(sets);
+            open(words, sets, &mut image);
+            let waits = tasks_waiting(&image);
+            match waits.as_slice().get(place as usize) {
+                None => AgcWaiting {
+                    code: 0,
+                    at: 0,
+                    bank: 0,
+                    left: 0,
+                },
+                Some(waiting) => AgcWaiting {
+                    code: 0,
+                    at: u32::from(waiting.task.at.get()),
+                    bank: u32::from(waiting.task.bank.bits()),
+                    left: waiting.distance,
+                },
+            }
+        }
+    }
+}
+
+/// The phase, 0 to 127, of a restart group, 1 to 6. Code 4 where there is no such group. Source:
+/// the listings' PHASE TABLE MAINTENANCE section.
+#[unsafe(no_mangle)]
+pub extern "C" fn agc_phase_at(words: &[u16; 144], sets: u32, group: u32) -> AgcNumber
+    ensures code { Coded result.code sets words.now (IsSix group) (Unit {0}) (Unit {0}) }
+    ensures served { result.code ≡ 0
+        → result.number
+        ≡ slice_index (base_of (image_of sets words.now)).phases (group - 1) }
+    ensures refused { ¬ (result.code ≡ 0) → result.number ≡ 0 }
+{
+    match image_fault(words, sets) {
+        Some(fault) => AgcNumber::refused(fault),
+        None => {
+            let Some(group) = agc_image::group(group) else {
+                return AgcNumber::refused(Fault::OutOfRange);
+            };
+            let mut image = blank(sets);
+            open(words, sets, &mut image);
+            AgcNumber {
+                code: 0,
+                number: u32::from(phases(&image)[group.get() as usize - 1].get()),
+            }
+        }
+    }
+}
+
+/// A word of FAILREG: 0 the first code, 1 the second, 2 the latest; 0 where there is none. Code 4
+/// where there is no such word. Source: profile.
+#[unsafe(no_mangle)]
+pub extern "C" fn agc_failreg(words: &[u16; 144], sets: u32, place: u32) -> AgcNumber
+    ensures code { Coded result.code sets words.now (place < 3) (Unit {0}) (Unit {0}) }
+    ensures served { result.code ≡ 0
+        → result.number ≡ failreg_word (image_of sets words.now) place }
+    ensures refused { ¬ (result.code ≡ 0) → result.number ≡ 0 }
+{
+    match image_fault(words, sets) {
+        Some(fault) => AgcNumber::refused(fault),
+        None => {
+            if place >= 3 {
+                return AgcNumber::refused(Fault::OutOfRange);
+            }
+            let mut image = blank(sets);
+            open(words, sets, &mut image);
+            AgcNumber {
+                code: 0,
+                number: u32::from(failreg(&image)[place as usize].bits()),
+            }
+        }
+    }
+}
