@@ -1,11 +1,14 @@
-ghost use Rattle.std.specs.Prelude.{◌≡◌, ◌≤◌, length, IfOk, IfErr, string_bytes, MatchResult};
+ghost use Rattle.std.specs.Prelude.{◌≡◌, ◌+◌, ◌<◌, ◌≤◌, length, IfOk, IfErr, string_bytes};
+ghost use Rattle.std.specs.Prelude.{MatchResult};
 ghost use Rattle.std.specs.Str.{IsUtf8};
-ghost use Rattle.std.specs.Io.KnownBytes.{Consumes, IsAtEnd};
+ghost use Rattle.std.specs.Io.{ReadsAtMost};
+ghost use Rattle.std.specs.Io.KnownBytes.{Consumes, IsAtEnd, ReadConsumes};
 ghost use Rattle.agc_text.specs.Input.{ReadsAll, most_bytes};
 ghost use Rattle.agc_text.specs.Faults.{RefusesInput};
 
 use crate::fault::ReadFault;
 use std::alloc::Global;
+use std::io;
 use std::io::Read;
 
 const MOST_BYTES: usize = 1_048_576;
@@ -21,10 +24,36 @@ fn text_of(bytes: Vec<u8>) -> Result<String, ReadFault>
     }
 }
 
+/// How many reads of the input were made: `one` makes each of them.
+#[derive(Drop)]
+struct Reads {
+    made: u32,
+}
+
+impl Reads {
+    /// One read.
+    fn one<R: Read>(&mut self, reader: &mut R, piece: &mut [u8]) -> io::Result<usize>
+        requires { self.old.made < 4294967295 }
+        ensures made { self.new.made ≡ self.old.made + 1 }
+        ensures bound { ReadsAtMost result piece.new }
+        ensures bytes { ReadConsumes (R.remaining reader.old) (R.remaining reader.new) result
+            piece.new }
+    {
+        self.made += 1;
+        reader.read(piece)
+    }
+}
+
 /// All bytes up to the end of the input. Each read but the last brings a byte at least, so that
 /// there is at most one read more than there may be bytes.
 #[tactic(auto, using(crate::proofs::Pieces::consumes_none, crate::proofs::Pieces::consumes_both))]
-fn read_bytes<R: Read>(alloc: Global, reader: &mut R) -> Result<Vec<u8>, ReadFault>
+fn read_bytes<R: Read>(
+    alloc: Global,
+    reader: &mut R,
+    reads: &mut Reads,
+) -> Result<Vec<u8>, ReadFault>
+    requires { reads.old.made ≡ 0 }
+    ensures few { reads.new.made ≤ most_bytes + 1 }
     ensures whole { IfOk result (λ v.
         ReadsAll (R.remaining reader.old) (R.remaining reader.new) v.items) }
     ensures refused { IfErr result (RefusesInput (R.remaining reader.old)
@@ -33,7 +62,7 @@ fn read_bytes<R: Read>(alloc: Global, reader: &mut R) -> Result<Vec<u8>, ReadFau
     let mut bytes = Vec::new(alloc);
     let mut piece = [0u8; 4096];
     for _ in 0..=MOST_BYTES {
-        match reader.read(&mut piece) {
+        match reads.one(reader, &mut piece) {
             Ok(0) => return Ok(bytes),
             Ok(count) => {
                 if count > MOST_BYTES - bytes.len() {
@@ -61,5 +90,6 @@ pub fn read_all<R: Read>(alloc: Global, reader: &mut R) -> Result<String, ReadFa
     ensures refused { IfErr result (RefusesInput (R.remaining reader.old)
         (R.remaining reader.new)) }
 {
-    text_of(read_bytes(alloc, reader)?)
+    let mut reads = Reads { made: 0 };
+    text_of(read_bytes(alloc, reader, &mut reads)?)
 }

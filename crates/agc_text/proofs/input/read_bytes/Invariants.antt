@@ -8,5 +8,6 @@ invariant-loop g l = record {
   read : Consumes (g.R.Read.remaining l.initial.reader) (g.R.Read.remaining l.reader) l.bytes.items;
   fits : length l.bytes.items ≤ most_bytes;
   counted : l.counter ≤ length l.bytes.items;
+  made : l.reads.made ≡ l.counter;
   room : length l.piece ≡ most_at_once;
 }
