@@ -97,6 +97,21 @@ impl Clock {
         self.time
     }
 
+    /// How many hundredths of this centisecond's computing time are left. Source: profile.
+    pub fn left(&self) -> u32
+        ensures { result ≡ self.now.left }
+    {
+        self.left
+    }
+
+    /// How many hundredths of a centisecond of computing time each job was given since it was
+    /// established or roused, by its number from 1. Source: profile.
+    pub fn given(&self) -> &[u32; 8]
+        ensures { result.now ≡ self.now.given }
+    {
+        &self.given
+    }
+
     /// What the events of this time still ask for, first.
     fn next_event<T: Timetables>(&mut self, table: &T) -> Option<Asked>
         ensures stage { (jobs : Jobs)
