@@ -1,5 +1,5 @@
 //! Where in its text a document has keys and values.
-use agc_document::{Key, KeyFault, KeyNote, Place, ScenarioKey, TextNote};
+use agc_document::{Key, KeyFault, KeyNote, Place, TextNote};
 use std::alloc::{AllocError, Global};
 use toml_parser::text::{first, skip, skip_blank, skip_ws};
 use toml_parser::{ParseError, dotted_key, quoted, starts_string, unquoted};
@@ -72,6 +72,8 @@ struct Trail<'a> {
     /// How many of the way's steps lead to where the walk is, and to the last header.
     gone: usize,
     header_gone: usize,
+    /// How many headers of two brackets had the way's first name.
+    headers: u64,
     /// Where the most steps of the way have led, and how many these were.
     spot: Spot,
     best: usize,
@@ -83,6 +85,7 @@ impl<'a> Trail<'a> {
             way,
             gone: 0,
             header_gone: 0,
+            headers: 0,
             spot: Spot { at: 0, value: 0 },
             best: 0,
         }
@@ -108,6 +111,16 @@ impl<'a> Trail<'a> {
                 self.best = self.gone;
                 self.spot = Spot { at, value: at };
             }
+        }
+    }
+
+    /// Goes to the table of the last header of two brackets, or of this one, if the header's first
+    /// name was the way's.
+    fn go_to_table(&mut self, begins: bool, at: usize) {
+        if self.gone == 1 {
+            self.headers = self.headers.saturating_add(u64::from(begins));
+            let number = Step::Number(self.headers);
+            self.go(number, 1, at);
         }
     }
 
@@ -143,17 +156,6 @@ struct Frame {
     items: u64,
 }
 
-/// The keys of arrays of tables.
-const TABLES: [Key; 7] = [
-    Key::Tasks,
-    Key::Phases,
-    Key::Workers,
-    Key::Devices,
-    Key::Of(ScenarioKey::Steal),
-    Key::Of(ScenarioKey::Jobs),
-    Key::Of(ScenarioKey::Events),
-];
-
 /// A walk through a document, by several ways at once.
 #[derive(Drop)]
 struct Walk<'a> {
@@ -165,18 +167,6 @@ struct Walk<'a> {
     /// How many steps lead here, and to the last header.
     length: usize,
     header_length: usize,
-    /// How many headers of two brackets each of those keys had.
-    headers: [u64; 7],
-}
-
-/// Which of those keys a name is.
-fn table_named(name: &str) -> Option<usize> {
-    for (k, key) in TABLES.iter().enumerate() {
-        if key.row().name == name {
-            return Some(k);
-        }
-    }
-    None
 }
 
 impl<'a> Walk<'a> {
@@ -189,7 +179,6 @@ impl<'a> Walk<'a> {
             next: Next::Line,
             length: 0,
             header_length: 0,
-            headers: [0; 7],
         }
     }
 
@@ -217,20 +206,11 @@ impl<'a> Walk<'a> {
 
     /// Goes to the table of an array that the last header of two brackets began, or that this one
     /// begins.
-    fn go_to_table(&mut self, name: &str, begins: bool, at: usize) {
-        let Some(k) = table_named(name) else {
-            return;
-        };
-        let Some(count) = self.headers.get_mut(k) else {
-            return;
-        };
-        if begins {
-            *count = count.saturating_add(1);
+    fn go_to_table(&mut self, begins: bool, at: usize) {
+        for trail in self.trails.iter_mut() {
+            trail.go_to_table(begins, at);
         }
-        let number = *count;
-        if number > 0 {
-            self.go(Step::Number(number), at);
-        }
+        self.length = self.length.saturating_add(1);
     }
 
     /// A key that begins here, which may have dots, and what follows it.
@@ -254,12 +234,12 @@ impl<'a> Walk<'a> {
         for (k, part) in key.path.iter().enumerate() {
             self.go(Step::Name(part.as_str()), at);
             if k == 0 {
-                self.go_to_table(part.as_str(), false, at);
+                self.go_to_table(false, at);
             }
         }
         self.go(Step::Name(key.last.as_str()), at);
         if key.path.is_empty() && is_double {
-            self.go_to_table(key.last.as_str(), true, at);
+            self.go_to_table(true, at);
         }
         self.header_length = self.length;
         for trail in self.trails.iter_mut() {
@@ -342,7 +322,7 @@ impl<'a> Walk<'a> {
             self.go_back(frame.length);
         }
         self.end_value();
-        after(after(text, b']'), b'}')
+        after(text, first(text))
     }
 
     /// What follows an item or a member.
