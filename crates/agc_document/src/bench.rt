@@ -16,9 +16,7 @@ use crate::notes::Notes;
 use crate::place::Place;
 use crate::texts::Texts;
 use crate::twice::refused_at;
-use crate::values::{
-    actions_of, devices_of, entries_of, power_of, requests_of, rows_of, workers_of,
-};
+use crate::values::{actions_of, all_spelled, power_of, workers_of};
 use agc_plan::{Actions, Limit, Line, PhaseEntry, Plan, Request, Task};
 use agc_word::{Sets, Word};
 use std::alloc::Global;
@@ -209,11 +207,11 @@ fn parts_of(alloc: Global, texts: &Texts<'_>) -> Result<Parts, BenchFault>
     let key = or_line(actions_of(texts.settings.key.as_slice()))?;
     let radar = or_line(actions_of(texts.settings.radar.as_slice()))?;
     let power = or_line(power_of(&texts.settings.power))?;
-    let script = requests_of(alloc, texts.lists.script.as_slice())?;
-    let rows = rows_of(alloc, texts.lists.rows.as_slice())?;
-    let entries = entries_of(alloc, texts.lists.entries.as_slice())?;
+    let script = all_spelled(alloc, texts.lists.script.as_slice())?;
+    let rows = all_spelled(alloc, texts.lists.rows.as_slice())?;
+    let entries = all_spelled(alloc, texts.lists.entries.as_slice())?;
     let workers = workers_of(alloc, texts.lists.workers.as_slice())?;
-    let devices = devices_of(alloc, texts.lists.devices.as_slice())?;
+    let devices = all_spelled(alloc, texts.lists.devices.as_slice())?;
     Ok(Parts {
         sets: texts.settings.sets,
         names_sets: texts.settings.names_sets,

@@ -27,4 +27,4 @@ pub use tables::{
     optional_text, some_texts_at, table_at, text_at, value_of,
 };
 pub use texts::{EntryTexts, Lists, RowTexts, Settings, Text, Texts};
-pub use values::{is_name, requests_of};
+pub use values::{Spelled, all_spelled, is_name};

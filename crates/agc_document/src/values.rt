@@ -9,9 +9,8 @@ ghost use Rattle.agc_plan.specs.declared.request.Action.{Action};
 ghost use Rattle.agc_plan.specs.declared.request.JobStart.{JobStart};
 ghost use Rattle.agc_plan.specs.Begins.{Begins};
 ghost use Rattle.agc_plan.specs.Ranges.{IsRequest, IsAction};
-ghost use Rattle.agc_plan.specs.Plans.{Rows};
 ghost use Rattle.agc_plan.specs.declared.line.Line.{Line};
-ghost use Rattle.agc_text.specs.Numbers.{octal, IsWord};
+ghost use Rattle.agc_text.specs.Numbers.{octal};
 ghost use Rattle.agc_text.specs.Lines.{line_of, action_line_of};
 ghost use Rattle.agc_document.specs.Benches.{job_request, timed_request, kind_text, row_texts};
 ghost use Rattle.agc_document.specs.Benches.{entry_texts, device_texts, IsRow, IsEntry};
@@ -19,6 +18,7 @@ ghost use Rattle.agc_document.specs.Benches.{IsDevice, IsPower};
 ghost use Rattle.agc_document.specs.Kinds.{job_of, timed_of, leaving_of, is_name};
 ghost use Rattle.agc_document.specs.Gives.{RefusedLine};
 
+use crate::bench::or_line;
 use crate::fault::BenchFault;
 use crate::texts::{DeviceTexts, EntryTexts, RowTexts, Text, WorkerTexts};
 use agc_plan::{Actions, Delay, Group, JobStart, Line, Phase, PhaseEntry, Request, Task};
@@ -26,25 +26,48 @@ use agc_text::{parse_action, parse_address, parse_line, parse_word};
 use agc_word::Word;
 use std::alloc::Global;
 
-/// The requests that texts spell, in order. Source: profile.
+/// What texts may spell. Source: profile.
+pub trait Spelled<T>: Sized + Drop {
+    /// The texts that spell it.
+    ghost spelling: { Self → T };
+
+    /// Its numbers are in their ranges.
+    ghost IsLawful: { Self → Type 0 };
+
+    /// What these texts spell. A fault `Line` where they spell no such thing.
+    fn spelled_by(alloc: Global, texts: &T) -> Result<Self, BenchFault>
+        ensures found { IfOk result (λ x. IsLawful x × (texts.now ≡ spelling x)) }
+        ensures refused { IfErr result (RefusedLine
+            ((x : Self) → IsLawful x → texts.now ≢ spelling x)) };
+}
+
+/// What each of these spells, in order. Source: profile.
 ///
 /// # Errors
 ///
-/// `Line`, where one spells none; or `NoMemory`.
-pub fn requests_of(alloc: Global, texts: &[Text<'_>]) -> Result<Vec<Request>, BenchFault>
-    ensures found { IfOk result (λ v. AllByRecursion IsRequest v.items
-        × (texts.now ≡ map line_of v.items)) }
+/// `Line`, where one spells no such thing; or `NoMemory`.
+pub fn all_spelled<T, X: Spelled<T>>(alloc: Global, texts: &[T]) -> Result<Vec<X>, BenchFault>
+    ensures found { IfOk result (λ v. AllByRecursion X.IsLawful v.items
+        × (texts.now ≡ map X.spelling v.items)) }
     ensures refused { IfErr result (RefusedLine
-        ((rs : List Request) → AllByRecursion IsRequest rs → texts.now ≢ map line_of rs)) }
+        ((xs : List X) → AllByRecursion X.IsLawful xs → texts.now ≢ map X.spelling xs)) }
 {
-    let mut requests = Vec::new(alloc);
+    let mut all: Vec<X> = Vec::new(alloc);
     for text in texts {
-        match parse_line(text.as_str()) {
-            Some(request) => requests.push(request)?,
-            None => return Err(BenchFault::Line),
-        }
+        let one = X::spelled_by(alloc, text)?;
+        all.push(one)?;
     }
-    Ok(requests)
+    Ok(all)
+}
+
+impl<'a> Spelled<Text<'a>> for Request {
+    ghost spelling = { line_of };
+
+    ghost IsLawful = { IsRequest };
+
+    fn spelled_by(_alloc: Global, text: &Text<'a>) -> Result<Request, BenchFault> {
+        or_line(parse_line(text.as_str()))
+    }
 }
 
 /// The actions that texts spell, in order.
@@ -76,24 +99,14 @@ fn row_of(texts: &RowTexts<'_>) -> Option<(Task, Actions)>
     Some((Task { at, bank }, actions))
 }
 
-/// The rows that their texts spell, in order.
-pub(crate) fn rows_of(
-    alloc: Global,
-    texts: &[RowTexts<'_>],
-) -> Result<Vec<(Task, Actions)>, BenchFault>
-    ensures found { IfOk result (λ v. AllByRecursion IsRow v.items
-        × (texts.now ≡ map row_texts v.items)) }
-    ensures refused { IfErr result (RefusedLine
-        ((rs : Rows) → AllByRecursion IsRow rs → texts.now ≢ map row_texts rs)) }
-{
-    let mut rows: Vec<(Task, Actions)> = Vec::new(alloc);
-    for text in texts {
-        match row_of(text) {
-            Some(row) => rows.push(row)?,
-            None => return Err(BenchFault::Line),
-        }
+impl<'a> Spelled<RowTexts<'a>> for (Task, Actions) {
+    ghost spelling = { row_texts };
+
+    ghost IsLawful = { IsRow };
+
+    fn spelled_by(_alloc: Global, texts: &RowTexts<'a>) -> Result<(Task, Actions), BenchFault> {
+        or_line(row_of(texts))
     }
-    Ok(rows)
 }
 
 /// The job that a request establishes. None where it establishes none.
@@ -186,24 +199,14 @@ fn entry_of(texts: &EntryTexts<'_>) -> Option<PhaseEntry>
     PhaseEntry::new(group, phase, job, task)
 }
 
-/// The phase entries that their numbers and texts spell, in order.
-pub(crate) fn entries_of(
-    alloc: Global,
-    texts: &[EntryTexts<'_>],
-) -> Result<Vec<PhaseEntry>, BenchFault>
-    ensures found { IfOk result (λ v. AllByRecursion IsEntry v.items
-        × (texts.now ≡ map entry_texts v.items)) }
-    ensures refused { IfErr result (RefusedLine
-        ((bs : List Begins) → AllByRecursion IsEntry bs → texts.now ≢ map entry_texts bs)) }
-{
-    let mut entries: Vec<PhaseEntry> = Vec::new(alloc);
-    for text in texts {
-        match entry_of(text) {
-            Some(entry) => entries.push(entry)?,
-            None => return Err(BenchFault::Line),
-        }
+impl<'a> Spelled<EntryTexts<'a>> for PhaseEntry {
+    ghost spelling = { entry_texts };
+
+    ghost IsLawful = { IsEntry };
+
+    fn spelled_by(_alloc: Global, texts: &EntryTexts<'a>) -> Result<PhaseEntry, BenchFault> {
+        or_line(entry_of(texts))
     }
-    Ok(entries)
 }
 
 /// The workers' scripts that their texts spell, in order.
@@ -220,7 +223,7 @@ pub(crate) fn workers_of(
 {
     let mut workers: Vec<Vec<Request>> = Vec::new(alloc);
     for text in texts {
-        let worker = requests_of(alloc, text.script.as_slice())?;
+        let worker: Vec<Request> = all_spelled(alloc, text.script.as_slice())?;
         workers.push(worker)?;
     }
     Ok(workers)
@@ -248,24 +251,14 @@ fn device_of(texts: &DeviceTexts<'_>) -> Option<(Line, u32)>
     Some((line, texts.pulses))
 }
 
-/// The devices that their texts and numbers spell, in order.
-pub(crate) fn devices_of(
-    alloc: Global,
-    texts: &[DeviceTexts<'_>],
-) -> Result<Vec<(Line, u32)>, BenchFault>
-    ensures found { IfOk result (λ v. AllByRecursion IsDevice v.items
-        × (texts.now ≡ map device_texts v.items)) }
-    ensures refused { IfErr result (RefusedLine
-        ((ds : List (Line × ℕ)) → AllByRecursion IsDevice ds → texts.now ≢ map device_texts ds)) }
-{
-    let mut devices: Vec<(Line, u32)> = Vec::new(alloc);
-    for text in texts {
-        match device_of(text) {
-            Some(device) => devices.push(device)?,
-            None => return Err(BenchFault::Line),
-        }
+impl<'a> Spelled<DeviceTexts<'a>> for (Line, u32) {
+    ghost spelling = { device_texts };
+
+    ghost IsLawful = { IsDevice };
+
+    fn spelled_by(_alloc: Global, texts: &DeviceTexts<'a>) -> Result<(Line, u32), BenchFault> {
+        or_line(device_of(texts))
     }
-    Ok(devices)
 }
 
 /// The twelve words that as many texts spell.

@@ -1,21 +1,19 @@
 //! What the texts of a scenario spell.
-ghost use Rattle.std.specs.Prelude.{◌≡◌, ◌≢◌, List, Option, true, map, Some, IfSome, IfNone, IfOk};
-ghost use Rattle.std.specs.Prelude.{IfErr};
-ghost use Rattle.std.specs.List.{AllByRecursion, list_all};
+ghost use Rattle.std.specs.Prelude.{◌≡◌, ◌≢◌, Option, true, Some, IfSome, IfNone, IfOk, IfErr};
+ghost use Rattle.std.specs.List.{list_all};
 ghost use Rattle.agc_plan.specs.Ranges.{IsRequest};
 ghost use Rattle.agc_text.specs.Lines.{line_of};
 ghost use Rattle.agc_document.specs.Gives.{RefusedLine};
 ghost use Rattle.agc_clock.specs.Timetables.{asked_then};
 ghost use Rattle.agc_clock.specs.declared.timetable.Then.{Then as Leaves};
-ghost use Rattle.agc_scenario.specs.Scenarios.{Timed, TimedEvent as Event, TimedJob as Job};
-ghost use Rattle.agc_scenario.specs.Scenarios.{then_of};
-ghost use Rattle.agc_scenario.specs.Scenarios.{can_be_shown, event_texts, job_texts};
+ghost use Rattle.agc_scenario.specs.Scenarios.{Timed, can_be_shown, then_of};
+ghost use Rattle.agc_scenario.specs.Scenarios.{event_texts, job_texts};
 ghost use Rattle.agc_scenario.specs.Scenarios.{timing_texts, IsTimed, IsTimedEvent, IsTimedJob};
 
 use crate::texts::{EventTexts, JobTexts, NameText, TimingTexts};
 use crate::timing::{Name, TimedEvent, TimedJob, Timing};
 use agc_clock::Then;
-use agc_document::{BenchFault, is_name, or_line, requests_of};
+use agc_document::{BenchFault, Spelled, all_spelled, is_name, or_line};
 use agc_plan::Request;
 use agc_text::{parse_address, parse_line};
 use std::alloc::{AllocError, Global};
@@ -93,71 +91,46 @@ fn name_of(alloc: Global, name: &NameText<'_>) -> Result<Name, BenchFault>
     Ok(copied)
 }
 
-/// What a job costs, as its texts spell it.
-fn job_of(alloc: Global, texts: &JobTexts<'_>) -> Result<TimedJob, BenchFault>
-    ensures found { IfOk result (λ j. IsTimedJob j × (texts.now ≡ job_texts j)) }
-    ensures refused { IfErr result (RefusedLine
-        ((j : Job) → IsTimedJob j → texts.now ≢ job_texts j)) }
-{
-    let at = or_line(parse_address(texts.at))?;
-    let leaves = or_line(parse_then(texts.leaving))?;
-    let name = name_of(alloc, &texts.name)?;
-    Ok(TimedJob {
-        at,
-        cost: texts.cost,
-        leaves,
-        name,
-    })
-}
+impl<'a> Spelled<JobTexts<'a>> for TimedJob {
+    ghost spelling = { job_texts };
 
-/// What jobs cost, as their texts spell it, in order.
-fn jobs_of(alloc: Global, texts: &[JobTexts<'_>]) -> Result<Vec<TimedJob>, BenchFault>
-    ensures found { IfOk result (λ v. AllByRecursion IsTimedJob v.items
-        × (texts.now ≡ map job_texts v.items)) }
-    ensures refused { IfErr result (RefusedLine
-        ((js : List Job) → AllByRecursion IsTimedJob js → texts.now ≢ map job_texts js)) }
-{
-    let mut jobs: Vec<TimedJob> = Vec::new(alloc);
-    for text in texts {
-        let job = job_of(alloc, text)?;
-        jobs.push(job)?;
-    }
-    Ok(jobs)
-}
+    ghost IsLawful = { IsTimedJob };
 
-/// An event, as its texts spell it.
-fn event_of(alloc: Global, texts: &EventTexts<'_>) -> Result<TimedEvent, BenchFault>
-    ensures found { IfOk result (λ e. IsTimedEvent e × (texts.now ≡ event_texts e)) }
-    ensures refused { IfErr result (RefusedLine
-        ((e : Event) → IsTimedEvent e → texts.now ≢ event_texts e)) }
-{
-    let requests = requests_of(alloc, texts.requests.as_slice());
-    let name = name_of(alloc, &texts.name);
-    match (requests, name) {
-        (Ok(requests), Ok(name)) => Ok(TimedEvent {
-            at: texts.at,
-            requests,
-            every: texts.every,
-            until: texts.until,
+    fn spelled_by(alloc: Global, texts: &JobTexts<'a>) -> Result<TimedJob, BenchFault> {
+        let at = or_line(parse_address(texts.at))?;
+        let leaves = or_line(parse_then(texts.leaving))?;
+        let name = name_of(alloc, &texts.name)?;
+        Ok(TimedJob {
+            at,
+            cost: texts.cost,
+            leaves,
             name,
-        }),
-        (Err(fault), _) | (_, Err(fault)) => Err(fault),
+        })
     }
 }
 
-/// Events, as their texts spell them, in order.
-fn events_of(alloc: Global, texts: &[EventTexts<'_>]) -> Result<Vec<TimedEvent>, BenchFault>
-    ensures found { IfOk result (λ v. AllByRecursion IsTimedEvent v.items
-        × (texts.now ≡ map event_texts v.items)) }
-    ensures refused { IfErr result (RefusedLine
-        ((es : List Event) → AllByRecursion IsTimedEvent es → texts.now ≢ map event_texts es)) }
-{
-    let mut events: Vec<TimedEvent> = Vec::new(alloc);
-    for text in texts {
-        let event = event_of(alloc, text)?;
-        events.push(event)?;
+impl<'a> Spelled<EventTexts<'a>> for TimedEvent {
+    ghost spelling = { event_texts };
+
+    ghost IsLawful = { IsTimedEvent };
+
+    fn spelled_by(alloc: Global, texts: &EventTexts<'a>) -> Result<TimedEvent, BenchFault> {
+        let requests: Result<Vec<Request>, BenchFault> = all_spelled(
+            alloc,
+            texts.requests.as_slice(),
+        );
+        let name = name_of(alloc, &texts.name);
+        match (requests, name) {
+            (Ok(requests), Ok(name)) => Ok(TimedEvent {
+                at: texts.at,
+                requests,
+                every: texts.every,
+                until: texts.until,
+                name,
+            }),
+            (Err(fault), _) | (_, Err(fault)) => Err(fault),
+        }
     }
-    Ok(events)
 }
 
 /// How time passes, as its texts spell it.
@@ -167,8 +140,8 @@ pub(crate) fn timing_of(alloc: Global, texts: TimingTexts<'_>) -> Result<Timing,
         ((t : Timed) → IsTimed t → texts.entry ≢ timing_texts t)) }
 {
     let title = name_of(alloc, &texts.title);
-    let jobs = jobs_of(alloc, texts.jobs.as_slice());
-    let events = events_of(alloc, texts.events.as_slice());
+    let jobs = all_spelled(alloc, texts.jobs.as_slice());
+    let events = all_spelled(alloc, texts.events.as_slice());
     match (title, jobs, events) {
         (Ok(title), Ok(jobs), Ok(events)) => Ok(Timing {
             seconds: texts.seconds,
