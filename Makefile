@@ -23,15 +23,19 @@ endif
 BASH = $(datarootdir)/bash-completion/completions
 ZSH = $(datarootdir)/zsh/site-functions
 
+# The workbench, into which agc_watch writes pages: a release has it beside the programs.
+WORKBENCH = $(call files,workbench.html share/workbench.html)
+
 # The files that are copied, from this folder, and for each its folder: FILE=FOLDER
-files = $(patsubst $(HERE)%,%,$(wildcard $(HERE)$(1)))
+files = $(patsubst $(HERE)%,%,$(wildcard $(addprefix $(HERE),$(1))))
 PLACED = $(foreach it,README.md CHANGELOG.md $(call files,PROVED-BY.txt),$(it)=$(docdir)) \
     $(foreach it,$(call files,docs/*.*),$(it)=$(docdir)/docs) \
     $(foreach it,$(call files,examples/*.*),$(it)=$(docdir)/examples) \
     $(foreach it,$(call files,teaching/*.*),$(it)=$(docdir)/teaching) \
     $(foreach it,$(call files,teaching/benches/*.*),$(it)=$(docdir)/teaching/benches) \
     $(foreach it,$(call files,share/man/*.[1-8]),$(it)=$(mandir)/man$(patsubst .%,%,$(suffix $(it)))) \
-    share/completions/agc_watch.bash=$(BASH) share/completions/_agc_watch=$(ZSH)
+    share/completions/agc_watch.bash=$(BASH) share/completions/_agc_watch=$(ZSH) \
+    $(foreach it,$(docdir) $(datarootdir)/agc,$(WORKBENCH)=$(it))
 
 .PHONY: all install uninstall
 all: $(PROGRAMS)
@@ -48,13 +52,12 @@ install: $(PROGRAMS)
 	@set -e; for it in $(PLACED); do to='$(DESTDIR)'$${it#*=}; \
 	    install -d "$$to"; install -m 644 $(HERE)$${it%%=*} "$$to"; done
 	mv '$(DESTDIR)$(BASH)/agc_watch.bash' '$(DESTDIR)$(BASH)/agc_watch'
-	$(filter %agc_watch,$(PROGRAMS)) page < /dev/null > '$(DESTDIR)$(docdir)/workbench.html'
 
 uninstall:
 	@$(MAKE) --no-print-directory -C $(HERE)libagc uninstall
 	@for it in $(NAMES); do rm -f '$(DESTDIR)$(bindir)/'$$it; done
 	@for it in $(PLACED); do rm -f '$(DESTDIR)'$${it#*=}/$$(basename $${it%%=*}); done
-	rm -f '$(DESTDIR)$(BASH)/agc_watch' '$(DESTDIR)$(docdir)/workbench.html'
+	rm -f '$(DESTDIR)$(BASH)/agc_watch'
 	@for it in '$(docdir)/docs' '$(docdir)/examples' '$(docdir)/teaching/benches' \
-	    '$(docdir)/teaching' '$(docdir)'; do to='$(DESTDIR)'$$it; \
+	    '$(docdir)/teaching' '$(docdir)' '$(datarootdir)/agc'; do to='$(DESTDIR)'$$it; \
 	    if [ -d "$$to" ]; then rmdir --ignore-fail-on-non-empty "$$to"; fi; done

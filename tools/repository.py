@@ -21,6 +21,10 @@ import sys
 
 TOP = os.path.realpath(os.path.join(os.path.dirname(os.path.realpath(__file__)), ".."))
 EDITS = "tests/edits"
+WORKBENCH = f"{TOP}/share/workbench.html"
+
+# Into which agc_watch writes the pages of whatever a tool runs.
+os.environ.setdefault("AGC_WORKBENCH", WORKBENCH)
 
 
 def text_of(path):
@@ -405,9 +409,9 @@ def plain(text):
 
 
 def page_of(document):
-    """The page that agc_watch writes of a document, from the text that stands in agc_page."""
-    parts = re.findall(r'r##"(.*?)"##;', text_of(f"{TOP}/crates/agc_page/src/text.rt"), re.DOTALL)
-    return "".join(parts[:-1]) + plain(document) + parts[-1]
+    """The page that agc_watch writes of a document: the workbench with the document in it."""
+    front, end = text_of(WORKBENCH).rsplit("</script>", 1)
+    return f"{front}{plain(document)}</script>{end}"
 
 
 def checksum_of_workbench(example):

@@ -12,7 +12,7 @@ _agc_watch() {
         *:sweep) mapfile -t COMPREPLY < <(compgen -W '--csv --help' -- "$2") ;;
         2:bench | 2:peaks | 2:play) mapfile -t COMPREPLY < <(compgen -W '--help' -- "$2") ;;
         *:picture) mapfile -t COMPREPLY < <(compgen -W '--time --width --from --to --progress --help' -- "$2") ;;
-        2:page) mapfile -t COMPREPLY < <(compgen -W '--progress --help' -- "$2") ;;
+        *:page) mapfile -t COMPREPLY < <(compgen -W '--workbench --progress --help' -- "$2") ;;
     esac
 }
 complete -o default -F _agc_watch agc_watch

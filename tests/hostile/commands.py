@@ -39,6 +39,7 @@ esac
 PROGRAM = "#!/bin/sh\necho ran $*\necho own line >&2\nexit 7\n"
 PROGRAMS = ("agc", "agc_watch")
 AGC, WATCH = (f"{TOP}/crates/{it}/out/{it}" for it in PROGRAMS)
+WORKBENCH = f"{TOP}/share/workbench.html"
 NEEDED = "sh dirname find sort xargs cksum cp mkdir mktemp head cat tr awk sed rm grep".split()
 
 # Cases of agc_watch that need no program: their words, and what comes on standard output.
@@ -454,3 +455,34 @@ def helps_at_once(clone):
         found = clone.run([f"{clone.room}/agc_watch"], *words, kit=False)
         clone.hostile.expect(f"./agc_watch {words}, unbuilt: {found}", found == wanted)
     shutil.rmtree(f"{clone.room}/tests")
+
+
+def workbench(hostile):
+    """agc_watch page finds the workbench beside the program, then in ../share/agc, or where the variable says; else it
+    says where it looked, and writes nothing."""
+    with tempfile.TemporaryDirectory() as room:
+        room = os.path.realpath(room)
+        program, beside, installed = f"{room}/bin/agc_watch", f"{room}/bin/workbench.html", f"{room}/share/agc/workbench.html"
+        os.makedirs(f"{room}/share/agc")
+        os.mkdir(f"{room}/bin")
+        shutil.copy(WATCH, program)
+        whole = read(WORKBENCH)
+
+        def expect(what, wanted, **variables):
+            hostile.runs += 1
+            found = ended([program, "page"], env=variables)
+            hostile.expect(f"page, {what}: {found[0]}, {len(found[1])} letters, {found[2]}", found == wanted)
+        name = "name one by --workbench or AGC_WORKBENCH\n"
+        expect("without a workbench", (4, "", f"agc_watch: no workbench at {beside} or {installed}: {name}"))
+        expect("by a variable", (0, whole, ""), AGC_WORKBENCH=WORKBENCH)
+        expect("by a wrong variable", (4, "", "agc_watch: /no: No such file or directory (os error 2)\n"), AGC_WORKBENCH="/no")
+        shutil.copy(WORKBENCH, installed)
+        expect("installed", (0, whole, ""))
+        write(beside, "")
+        expect("beside it another file", (1, "", f"agc_watch: {beside} is not an empty AGC workbench\n"))
+        shutil.copy(WORKBENCH, beside)
+        os.remove(installed)
+        expect("beside it", (0, whole, ""))
+        os.symlink(program, f"{room}/agc_watch")
+        program = f"{room}/agc_watch"
+        expect("by a link to the program", (0, whole, ""))

@@ -12,7 +12,7 @@ from repository import is_scenario
 
 TOP = os.path.realpath(os.path.join(os.path.dirname(os.path.realpath(__file__)), "../.."))
 LEFT_OUT = [f":!{it}" for it in ("crates/*/src", "crates/*/specs", "crates/*/proofs", "tests")]
-COMMANDS = "crates/agc_commands/src/commands.rt"
+COMMANDS = "crates/agc_watch/src/commands.rt"
 WATCHED = {"trace": "trace", "picture": "svg"}
 BUILT = ["crates/agc/out/agc", "crates/agc_watch/out/agc_watch", "crates/libagc/out/liblibagc.a"]
 MODULE = "libagc/js/agc.wasm"
@@ -141,7 +141,8 @@ def unpacked(hostile, room, place):
     hostile.expect(f"a release has the documents {documents}", "docs/FORMATS.md" in documents)
     pictures = set(re.findall(r"\]\((\S+[.]png)\)", read(f"{top}/docs/LANDING.md")))
     hostile.expect(f"a release has the pictures {pictures}", {f"docs/{it}" for it in pictures} <= set(documents))
-    placed = ["bin/agc", "bin/agc_watch", "lib/libagc.so.1", "share/man/man3/agc.3"]
+    placed = ["bin/agc", "bin/agc_watch", "lib/libagc.so.1", "share/man/man3/agc.3",
+              "share/agc/workbench.html", "share/doc/agc/workbench.html"]
     placed += [f"share/doc/agc/{it}" for it in documents]
     missing = [it for it in placed if not os.path.isfile(f"{place}/usr/{it}")]
     hostile.expect(f"make install from a release leaves out {missing}", not missing)
@@ -157,7 +158,7 @@ def unpacked(hostile, room, place):
     said = read(f"{top}/PROVED-BY.txt")
     wanted = (f"no kit logic {LOGIC}", git(room, "rev-parse", "HEAD"), "Gate:      not known", f"agc.wasm:  {VERDICT}\n")
     hostile.expect("a release has the module", read(f"{top}/{MODULE}") == "no module\n")
-    hostile.expect("a release has the workbench", read(f"{top}/workbench.html") == "page\n")
+    hostile.expect("a release has the workbench", read(f"{top}/workbench.html") == read(f"{room}/share/workbench.html"))
     hostile.expect(f"PROVED-BY.txt: {said}", all(it in said for it in wanted))
 
 

@@ -58,7 +58,7 @@ class Section:
         if self.how == "escaped":
             text = ESCAPE.sub(byte_of, text[:-2] if text.endswith(b"\\\n") and ends_open(text) else text)
         elif self.how == "by sh":
-            ran = subprocess.run(["sh", "-c", text], stdin=subprocess.DEVNULL, stdout=subprocess.PIPE, check=False)
+            ran = subprocess.run(["sh", "-c", text], cwd=repository.TOP, stdin=subprocess.DEVNULL, stdout=subprocess.PIPE, check=False)
             if ran.returncode:
                 raise Unread(f"its commands end with status {ran.returncode}")
             text = ran.stdout

@@ -2,7 +2,7 @@
 
     tests/run hostile           all of it
     tests/run hostile PART ..   the parts named: growths, reads, writes, ends, texts, benches, scenarios, many,
-                                starter, progress and play of commands.py, orders of orders.py, and release of
+                                starter, progress, play and workbench of commands.py, orders of orders.py, and release of
                                 releases.py
 
 `failing.c` is put under the program: each growth of memory, each read of standard input and each write
@@ -17,7 +17,7 @@ import subprocess
 import tempfile
 
 import counting
-from commands import many, play, progress, starter
+from commands import many, play, progress, starter, workbench
 from orders import orders
 from releases import release
 from repository import TOP, is_scenario
@@ -319,7 +319,7 @@ def read(path):
         return file.read()
 
 
-RUNS = (growths, reads, writes, ends, texts, benches, scenarios, orders, many, starter, progress, play, release)
+RUNS = (growths, reads, writes, ends, texts, benches, scenarios, orders, many, starter, progress, play, workbench, release)
 PARTS = {it.__name__: it for it in RUNS}
 
 

@@ -5,13 +5,19 @@
 //! reads the next.
 #![tactic(auto)]
 
-mod asked;
 mod checking;
+mod commands;
+mod documents;
+mod files;
 mod naming;
+mod page;
 mod program;
 mod progress;
 mod stops;
 mod sweeping;
+mod words;
+mod work;
+mod workbench;
 
 use agc_play::Manner;
 use std::io::IsTerminal;

@@ -1,16 +1,20 @@
-//! Why a command ends early.
+//! Why a command ends early, and how the program ends by that.
 ghost use Rattle.std.specs.Prelude.{◌≡◌};
 ghost use Rattle.agc_watch.specs.declared.stops.Stop.TheVariants as stop;
 ghost use Rattle.agc_program.specs.declared.fault.Fault.TheVariants as fault;
 
-use agc_commands::Refused;
-use agc_document::{Bench, BenchFault, read_bench};
-use agc_findings::{Finding, findings};
-use agc_lint::bench_told;
-use agc_program::Fault;
-use agc_scenario::{Scenario, read_scenario, scenario_findings};
+use agc_document::BenchFault;
+use agc_program::{Fault, Program, ended};
 use agc_session::RunFault;
-use std::alloc::{AllocError, Global};
+use clap::Error;
+use std::alloc::AllocError;
+use std::process::ExitCode;
+
+/// What the program is called, and which words it takes.
+const PROGRAM: Program = Program {
+    name: "agc_watch",
+    usage: "use trace, picture, page, check, explore, bench, peaks, sweep or play",
+};
 
 /// Why a command ends early.
 #[derive(Drop)]
@@ -18,12 +22,17 @@ pub(crate) enum Stop {
     Fault(Fault),
     /// The document is refused for this fault, of which these lines tell.
     Wrong(BenchFault, String),
-    /// The document is a bench.
+    /// The document is a bench, and a scenario is wanted.
     IsBench,
+    /// The document is a scenario, and a bench is wanted.
+    IsScenario,
     /// The bench that was written has so many bytes, more than `agc` takes.
     TooLong(u64),
-    /// The words don't suit the document.
-    Words(Refused),
+    /// The words ask for a text, the help or the version; or they are wrong, or don't suit the
+    /// document, which this text explains.
+    Words(Error),
+    /// This sentence says why, and this is the exit status.
+    Said(u8, String),
 }
 
 impl From<Fault> for Stop {
@@ -50,43 +59,49 @@ impl From<RunFault> for Stop {
     }
 }
 
-/// A document that is refused for this fault, in which this was found.
-fn wrong(alloc: Global, fault: BenchFault, found: &[Finding]) -> Stop {
-    match bench_told(alloc, found) {
-        Ok(told) => Stop::Wrong(fault, told),
-        Err(_no_memory) => Stop::Fault(Fault::NoMemory),
+/// Prints the help or the version, or what is wrong with the words.
+fn ended_printed(rt: &HostRuntime, text: &Error) -> ExitCode {
+    match text.print(rt) {
+        Ok(()) if text.use_stderr() => ExitCode::from(2),
+        Ok(()) => ExitCode::SUCCESS,
+        Err(_failed) => ended(rt, PROGRAM, Err(Fault::Output)),
     }
 }
 
-/// The bench that a text is.
-pub(crate) fn bench_in(alloc: Global, text: &str) -> Result<Bench, Stop> {
-    match read_bench(alloc, text) {
-        Ok(bench) => Ok(bench),
-        Err(BenchFault::NoMemory) => Err(Stop::Fault(Fault::NoMemory)),
-        Err(fault) => {
-            let checked = findings(alloc, text)?;
-            Err(wrong(alloc, fault, checked.findings.as_slice()))
-        }
-    }
+/// Says this on standard error, in a line of its own, and ends with this status.
+fn ended_said(rt: &HostRuntime, status: u8, told: &str) -> ExitCode {
+    let _ = eprintln!(rt; "agc_watch: {told}");
+    ExitCode::from(status)
 }
 
-/// What is wrong with a text that is no scenario for this fault. Of a document without the key
-/// `seconds` it is told whether it is a bench.
-fn no_scenario(alloc: Global, text: &str, fault: BenchFault) -> Result<Stop, AllocError> {
-    match (fault, read_bench(alloc, text)) {
-        (BenchFault::NoMemory, _) | (_, Err(BenchFault::NoMemory)) => Err(AllocError),
-        (_, Ok(_bench)) => Ok(Stop::IsBench),
-        _ => {
-            let checked = scenario_findings(alloc, text)?;
-            Ok(wrong(alloc, fault, checked.findings.as_slice()))
-        }
+/// Says what is wrong with a document, and then for which fault it is refused.
+fn ended_wrong(rt: &HostRuntime, fault: BenchFault, told: &str) -> ExitCode {
+    for line in told.lines() {
+        let _ = eprintln!(rt; "agc_watch: {line}");
     }
+    ended(rt, PROGRAM, Err(Fault::Bench(fault)))
 }
 
-/// The scenario that a text is.
-pub(crate) fn scenario_in(alloc: Global, text: &str) -> Result<Scenario, Stop> {
-    match read_scenario(alloc, text) {
-        Ok(scenario) => Ok(scenario),
-        Err(fault) => Err(no_scenario(alloc, text, fault)?),
+/// Says that a bench is too long for `agc`.
+fn ended_too_long(rt: &HostRuntime, bytes: u64) -> ExitCode {
+    let _ = eprintln!(rt; "agc_watch: the bench has {bytes} bytes, and agc takes 1048576");
+    ExitCode::from(1)
+}
+
+/// Says why a command ended early, and how the program ends by that: with status 1 where its input
+/// is refused, or where `agc` doesn't take what was written.
+pub(crate) fn ended_early(rt: &HostRuntime, stop: &Stop) -> ExitCode {
+    match stop {
+        Stop::Fault(fault) => ended(rt, PROGRAM, Err(*fault)),
+        Stop::Wrong(fault, told) => ended_wrong(rt, *fault, told.as_str()),
+        Stop::IsBench => ended_said(rt, 1, "this is a bench; a scenario has the key \"seconds\""),
+        Stop::IsScenario => ended_said(
+            rt,
+            1,
+            "this is a scenario, and a bench is wanted: agc_watch bench writes one",
+        ),
+        Stop::TooLong(bytes) => ended_too_long(rt, *bytes),
+        Stop::Words(text) => ended_printed(rt, text),
+        Stop::Said(status, told) => ended_said(rt, *status, told.as_str()),
     }
 }

@@ -1,6 +1,6 @@
 //! Which number of a scenario a sweep exchanges.
 use crate::stops::Stop;
-use agc_commands::{Values, refused_sweep};
+use crate::words::{Values, refused_words};
 use agc_lint::add;
 use agc_peaks::Column;
 use agc_scenario::Scenario;
@@ -67,7 +67,7 @@ pub(crate) fn column_of(
         }
     };
     match added {
-        Ok(()) => Err(Stop::Words(refused_sweep(alloc, told.as_str()))),
+        Ok(()) => Err(refused_words(alloc, "sweep", told.as_str())),
         Err(error) => Err(Stop::from(error)),
     }
 }

@@ -1,7 +1,0 @@
-use Rattle.std.proofs.Common.{◌≡◌, ◌++◌, length, take}
-use Rattle.std.specs.List.{flat_map}
-use Rattle.agc_page.specs.Data.{spelled}
-use Rattle.agc_page.proofs.data.data_of.Given as goal
-
-abbrev pub invariant-loop-byte : goal.invariant-loop-byte
-invariant-loop-byte l = l.spelled.items ≡ flat_map spelled (take l.byte-index l.byte-items)

@@ -1,0 +1,28 @@
+-- The page of a document.
+use Rattle.std.specs.Prelude.{◌≡◌, ℕ, List, ◌++◌, Option, Result, Ok, Err, true, false, Bool}
+use Rattle.std.specs.Io.KnownBytes.{Appends}
+use Rattle.agc_text.specs.Writing.{AppendsFront}
+use Rattle.agc_program.specs.declared.fault.Fault.{Fault}
+use Rattle.agc_program.specs.declared.fault.Fault.TheVariants as fault
+use Rattle.agc_watch.specs.Data.{IsData}
+
+-- the page is the workbench, with data of the document at one place in it
+pub record IsPage (workbench document page : List ℕ) : Type 0 where
+  pub front : List ℕ
+  pub inner : List ℕ
+  pub end : List ℕ
+  pub parted : workbench ≡ front ++ end
+  pub holds : IsData document inner
+  pub whole : page ≡ front ++ (inner ++ end)
+
+-- a page was written and nothing else; where a write failed, a front of one; and nothing where
+-- there was no memory, or no workbench
+abbrev pub WritesPage : Option (List ℕ) → Option (List ℕ) → List ℕ → List ℕ
+    → Result Bool Fault → Type 0
+WritesPage old new workbench document (Ok true) =
+    (page : List ℕ) × IsPage workbench document page × Appends old new page
+WritesPage old new workbench document (Ok false) = new ≡ old
+WritesPage old new workbench document (Err fault.NoMemory) = new ≡ old
+WritesPage old new workbench document (Err fault.Output) =
+    (page : List ℕ) × IsPage workbench document page × AppendsFront old new page
+WritesPage old new workbench document (Err why) = ⊥

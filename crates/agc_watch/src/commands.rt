@@ -1,0 +1,282 @@
+//! The commands of `agc_watch`, as `clap` reads them.
+use clap::{Arg, ArgAction, Command};
+use std::alloc::{AllocError, Global};
+
+/// The version of the program, and of the workbench that it writes into.
+pub(crate) const VERSION: &str = "1.0.0";
+
+/// What the program is called, whatever its file is.
+const NAME: &str = "agc_watch";
+
+/// How a word or an option of a command is written.
+#[derive(Clone, Copy)]
+enum Form {
+    /// An option that takes no value.
+    Flag,
+    /// An option with a value, which the help calls so.
+    Option(&'static str),
+    /// A word, here, which the help calls so, and whether the command must have it.
+    Word(&'static str, bool),
+}
+
+/// A word or an option of a command: its name, how it is written, and its help.
+type Argument = (&'static str, Form, &'static str);
+
+/// A command.
+#[derive(Clone, Copy)]
+struct Row {
+    name: &'static str,
+    /// What it is called in its own errors.
+    called: &'static str,
+    about: &'static str,
+    /// The text below its help.
+    example: &'static str,
+    arguments: &'static [Argument],
+}
+
+const FILE: Argument = (
+    "file",
+    Form::Word("FILE", false),
+    "The file to read; standard input if none is named, or -",
+);
+
+const PROGRESS: Argument = (
+    "progress",
+    Form::Flag,
+    "Says on standard error, once a second, how far it has come",
+);
+
+const TRACE: Row = Row {
+    name: "trace",
+    called: "agc_watch trace",
+    about: "Writes a line for each request, with the tables",
+    example: "Example: agc_watch trace --alarms examples/no-vac-area.toml",
+    arguments: &[
+        FILE,
+        ("script", Form::Flag, "Reads a script"),
+        (
+            "alarms",
+            Form::Flag,
+            "Shows only the requests that raised an alarm",
+        ),
+        (
+            "brief",
+            Form::Flag,
+            "Counts requests after which nothing changed but the time",
+        ),
+        (
+            "from",
+            Form::Option("N"),
+            "Shows only the requests from number N on",
+        ),
+        (
+            "to",
+            Form::Option("N"),
+            "Shows only the requests up to number N",
+        ),
+        PROGRESS,
+    ],
+};
+
+const PICTURE: Row = Row {
+    name: "picture",
+    called: "agc_watch picture",
+    about: "Draws the tables, request by request or over time, as an SVG",
+    example: "Example: agc_watch picture examples/no-vac-area.toml > run.svg",
+    arguments: &[
+        FILE,
+        ("time", Form::Flag, "Draws seconds along the top"),
+        (
+            "width",
+            Form::Option("N"),
+            "With --time: draws N points wide, or 1600 by default",
+        ),
+        ("from", Form::Option("S"), "With --time: begins at second S"),
+        ("to", Form::Option("S"), "With --time: ends at second S"),
+        PROGRESS,
+    ],
+};
+
+const PAGE: Row = Row {
+    name: "page",
+    called: "agc_watch page",
+    about: "Writes a page that steps through the requests in a browser",
+    example: "Example: agc_watch page examples/no-vac-area.toml > run.html",
+    arguments: &[
+        FILE,
+        (
+            "workbench",
+            Form::Option("FILE"),
+            "Writes into this workbench, whatever AGC_WORKBENCH names",
+        ),
+        PROGRESS,
+    ],
+};
+
+const CHECK: Row = Row {
+    name: "check",
+    called: "agc_watch check",
+    about: "Says what is wrong with an input, and in which line",
+    example: "Example: agc_watch check examples/no-vac-area.toml",
+    arguments: &[FILE, ("script", Form::Flag, "Reads a script"), PROGRESS],
+};
+
+const EXPLORE: Row = Row {
+    name: "explore",
+    called: "agc_watch explore",
+    about: "Says whether any order of the workers and devices raises an alarm",
+    example: "Example: agc_watch explore --alarm 1201 examples/race.toml",
+    arguments: &[
+        FILE,
+        (
+            "states",
+            Form::Option("N"),
+            "Gives up after N states, or 200000 by default",
+        ),
+        (
+            "alarm",
+            Form::Option("ALARM"),
+            "Reports only this alarm: 1201, 1202 or 1203",
+        ),
+        ("through", Form::Flag, "Goes on after an alarm"),
+        (
+            "bench",
+            Form::Option("ALARM"),
+            "Writes a shortest order that raises this alarm, as a bench",
+        ),
+    ],
+};
+
+const BENCH: Row = Row {
+    name: "bench",
+    called: "agc_watch bench",
+    about: "Writes the bench that a scenario comes to",
+    example: "Example: agc_watch bench scenario.toml | agc serial",
+    arguments: &[FILE],
+};
+
+const PEAKS: Row = Row {
+    name: "peaks",
+    called: "agc_watch peaks",
+    about: "Says for each era how full the tables were, and what ended it",
+    example: "Example: agc_watch peaks examples/no-vac-area.toml",
+    arguments: &[FILE],
+};
+
+const SWEEP: Row = Row {
+    name: "sweep",
+    called: "agc_watch sweep",
+    about: "Runs a scenario once for each value of one of its numbers",
+    example: "\
+KEY is sets, steal, seconds, job.NAME.cost, event.NAME.at, event.NAME.every or
+event.NAME.until. A job without a name is named by its address. If the word after
+TO isn't a number, it is the file.
+
+Example: agc_watch sweep steal 0 20 5 scenario.toml",
+    arguments: &[
+        (
+            "key",
+            Form::Word("KEY", true),
+            "Which number: steal, sets, job.NAME.cost, ..",
+        ),
+        ("from", Form::Word("FROM", true), "The first value"),
+        ("to", Form::Word("TO", true), "The last value"),
+        (
+            "step",
+            Form::Word("STEP", false),
+            "The step from one value to the next, or 1 by default",
+        ),
+        (
+            "file",
+            Form::Word("FILE", false),
+            "The scenario to read; standard input if none is named, or -",
+        ),
+        ("csv", Form::Flag, "Writes comma-separated values"),
+    ],
+};
+
+const PLAY: Row = Row {
+    name: "play",
+    called: "agc_watch play",
+    about: "Answers each request as it is typed, a line at a time",
+    example: "Example: agc_watch play examples/no-vac-area.toml",
+    arguments: &[(
+        "file",
+        Form::Word("FILE", false),
+        "The bench to begin from; an empty plan if none is named",
+    )],
+};
+
+/// The commands, in the order of the help.
+const COMMANDS: [Row; 9] = [
+    TRACE, PICTURE, PAGE, CHECK, EXPLORE, BENCH, PEAKS, SWEEP, PLAY,
+];
+
+/// A word or an option of a command, as `clap` reads it.
+fn arg_of<'a>(alloc: Global, argument: &Argument) -> Arg<'a> {
+    let (name, form, help) = *argument;
+    let arg = Arg::new(alloc, name).help(help);
+    match form {
+        Form::Flag => arg.long(name).action(ArgAction::SetTrue),
+        Form::Option(value) => arg.long(name).value_name(value),
+        Form::Word(value, is_required) => arg.value_name(value).required(is_required),
+    }
+}
+
+/// The words and options of a command.
+fn args_of<'a>(alloc: Global, row: &Row) -> Result<Vec<Arg<'a>>, AllocError> {
+    let mut args = Vec::new(alloc);
+    for argument in row.arguments {
+        args.push(arg_of(alloc, argument))?;
+    }
+    Ok(args)
+}
+
+/// A command, with its words and options.
+fn command_of<'a>(alloc: Global, row: &Row) -> Result<Command<'a>, AllocError> {
+    let args = args_of(alloc, row)?;
+    Command::new(alloc, row.name)
+        .about(row.about)
+        .after_help(row.example)
+        .args(args)
+}
+
+/// All commands.
+fn commands_of<'a>(alloc: Global) -> Result<Vec<Command<'a>>, AllocError> {
+    let mut commands = Vec::new(alloc);
+    for row in &COMMANDS {
+        commands.push(command_of(alloc, row)?)?;
+    }
+    Ok(commands)
+}
+
+/// The program, with all of its commands. Without a word it prints its help.
+pub(crate) fn whole_command<'a>(alloc: Global) -> Result<Command<'a>, AllocError> {
+    let commands = commands_of(alloc)?;
+    Command::new(alloc, NAME)
+        .bin_name(NAME)?
+        .version(VERSION)
+        .about("Shows what the requests of a bench or scenario do to the tables")
+        .subcommand_required(true)
+        .arg_required_else_help(true)
+        .subcommands(commands)
+}
+
+/// The command of this name, as its row has it.
+fn row_of(name: &str) -> Option<Row> {
+    for row in &COMMANDS {
+        if row.name == name {
+            return Some(*row);
+        }
+    }
+    None
+}
+
+/// The command of this name as its own error calls it, for words that are wrong for a reason that
+/// `clap` doesn't know. It is the program, where no command has the name.
+pub(crate) fn named_command<'a>(alloc: Global, name: &str) -> Result<Command<'a>, AllocError> {
+    match row_of(name) {
+        Some(row) => command_of(alloc, &row)?.bin_name(row.called),
+        None => whole_command(alloc),
+    }
+}

@@ -1,0 +1,87 @@
+//! A page: the workbench, with a document as data in it.
+ghost use Rattle.std.specs.Prelude.{◌≡◌, ◌++◌, IfOk, IfSome};
+ghost use Rattle.agc_text.specs.Writing.{Writes};
+ghost use Rattle.agc_watch.specs.Data.{spelled, data_of};
+ghost use Rattle.agc_watch.specs.Pages.{WritesPage};
+
+use agc_program::Fault;
+use agc_text::{Output, put};
+use std::alloc::{AllocError, Global};
+use std::io::Write;
+
+/// What the workbench has ahead of its document's data, and what behind them.
+const OPENING: &[u8] = b"<script type=\"text/plain\" id=\"document\">\n";
+
+const CLOSING: &[u8] = b"</script>\n</body>\n</html>\n";
+
+/// A byte of a document as data.
+fn add_spelled(told: &mut Vec<u8>, byte: u8) -> Result<(), AllocError>
+    ensures { IfOk result (λ _. told.new.items ≡ told.old.items ++ spelled byte) }
+{
+    match byte {
+        b'<' => told.extend_from_slice(b"\\l"),
+        b'\\' => told.extend_from_slice(b"\\\\"),
+        other => told.extend_from_slice(&[other]),
+    }
+}
+
+/// The data of a document, in which nothing begins markup.
+fn data_of(alloc: Global, text: &str) -> Result<Vec<u8>, AllocError>
+    ensures { IfOk result (λ v. v.items ≡ data_of text.now) }
+{
+    let mut spelled: Vec<u8> = Vec::new(alloc);
+    for byte in text.as_bytes() {
+        add_spelled(&mut spelled, *byte)?;
+    }
+    Ok(spelled)
+}
+
+/// The parts of a workbench ahead of its document's data and behind them; none of a text that is no
+/// workbench, or that has a document already.
+fn parts_of(workbench: &[u8]) -> Option<(&[u8], &[u8])>
+    ensures { IfSome result (λ parts. workbench.now ≡ parts.0.now ++ parts.1.now) }
+{
+    let front = workbench.strip_suffix(CLOSING)?;
+    if front.ends_with(OPENING) {
+        Some((front, CLOSING))
+    } else {
+        None
+    }
+}
+
+/// Writes three texts, one after the other.
+fn put_three<W: Write>(front: &[u8], inner: &[u8], end: &[u8], writer: &mut W) -> Result<(), Output>
+    ensures { Writes (W.contents writer.old) (W.contents writer.new)
+        (front.now ++ (inner.now ++ end.now)) result }
+{
+    put(writer, front)?;
+    put(writer, inner)?;
+    put(writer, end)
+}
+
+/// Writes the page of a document, a bench or a scenario: a workbench with the document in it. A
+/// browser asks there for the document's requests and steps through them. The document is taken as
+/// it is. The writer is not flushed. False, and nothing is written, where the workbench is none.
+///
+/// # Errors
+///
+/// `NoMemory`, and nothing was written. `Output`, where a write failed, or took nothing of what was
+/// left.
+pub(crate) fn put_page<W: Write>(
+    alloc: Global,
+    workbench: &[u8],
+    document: &str,
+    writer: &mut W,
+) -> Result<bool, Fault>
+    ensures { WritesPage (W.contents writer.old) (W.contents writer.new) workbench.now document.now
+        result }
+{
+    let inner = data_of(alloc, document)?;
+    match parts_of(workbench) {
+        Some((front, end)) => match put_three(front, inner.as_slice(), end, writer) {
+            Ok(()) => Ok(true),
+            Err(_failed) => Err(Fault::Output),
+        },
+        None => Ok(false),
+    }
+}

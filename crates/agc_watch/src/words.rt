@@ -1,0 +1,345 @@
+//! What the words of the command line ask for.
+use crate::commands::{named_command, whole_command};
+use crate::stops::Stop;
+use agc_orders::Options;
+use agc_picture::Span;
+use agc_plan::Alarm;
+use agc_program::Fault;
+use agc_trace::Choice;
+use clap::error::ErrorKind;
+use clap::{ArgMatches, Command, Error};
+use std::alloc::Global;
+
+/// How many states a search may see, if nothing is said of it.
+const STATES: u64 = 200_000;
+
+/// The values to try of the number that the key names, and whether they are written as CSV.
+#[derive(Clone, Copy)]
+pub(crate) struct Values<'a> {
+    pub key: &'a str,
+    pub from: u64,
+    pub to: u64,
+    pub step: u64,
+    pub csv: bool,
+}
+
+/// What is to be shown of a bench or a scenario.
+#[derive(Clone, Copy)]
+pub(crate) enum Show<'a> {
+    /// Its trace, of the requests that are chosen.
+    Trace(Choice),
+    Picture,
+    /// Its picture over time.
+    TimePicture(Span),
+    /// Its page, made of the workbench that is named, if one is.
+    Page(Option<&'a str>),
+    /// How full the tables were, era by era.
+    Peaks,
+}
+
+/// What the program is to do, and of which kind its input is.
+#[derive(Clone, Copy)]
+pub(crate) enum Task<'a> {
+    /// To show a bench or a scenario.
+    Show(Show<'a>),
+    /// To say what is wrong with a bench or a scenario.
+    Check,
+    /// To write the trace of a script.
+    TraceScript(Choice),
+    /// To say what is wrong with a script.
+    CheckScript,
+    /// To say what all orders of a bench come to.
+    Explore(Options),
+    /// To answer lines from a bench on.
+    Play,
+    /// To write the bench that a scenario comes to.
+    Bench,
+    /// To say what comes of a scenario for each of these values of a number.
+    Sweep(Values<'a>),
+}
+
+/// Where the input is.
+#[derive(Clone, Copy)]
+pub(crate) enum Input<'a> {
+    Standard,
+    /// A file of this name.
+    File(&'a str),
+    /// Nowhere: it is the bench without requests.
+    Empty,
+}
+
+/// What the program is asked for.
+#[derive(Clone, Copy)]
+pub(crate) struct Asked<'a> {
+    pub task: Task<'a>,
+    pub input: Input<'a>,
+    /// Progress is reported on standard error.
+    pub has_progress: bool,
+}
+
+/// The number that a part of seconds is; nothing, if it has another letter than a digit, or is too
+/// long.
+fn number_of(digits: &str) -> Option<u64> {
+    let is_decimal = digits.as_bytes().iter().all(u8::is_ascii_digit);
+    if is_decimal && digits.len() <= 12 {
+        digits.parse::<u64>().ok()
+    } else {
+        None
+    }
+}
+
+/// The centiseconds that a text of seconds says, with at most two decimals.
+fn centiseconds_of(text: &str) -> Option<u64> {
+    let (whole, rest) = text.split_once('.').unwrap_or((text, "00"));
+    let times = match rest.len() {
+        1 => 10,
+        2 => 1,
+        _ => return None,
+    };
+    match (number_of(whole), number_of(rest)) {
+        (Some(whole), Some(rest)) => {
+            Some(
+                whole
+                    .saturating_mul(100)
+                    .saturating_add(rest.saturating_mul(times)),
+            )
+        }
+        _ => None,
+    }
+}
+
+/// The file that a word names.
+fn file_of(word: Option<&str>) -> Option<&str> {
+    match word {
+        Some("-") => None,
+        named => named,
+    }
+}
+
+/// The words after a command, the file that they name, and the first reason why they are wrong, if
+/// they are.
+#[derive(Drop)]
+struct Words<'a, 'b> {
+    given: &'b ArgMatches<'a>,
+    file: Option<&'a str>,
+    wrong: Option<&'static str>,
+}
+
+impl<'a, 'b> Words<'a, 'b> {
+    /// Notes this reason, unless all is right, or another reason came before.
+    fn check(&mut self, is_right: bool, reason: &'static str) {
+        if !is_right && self.wrong.is_none() {
+            self.wrong = Some(reason);
+        }
+    }
+
+    /// The number of an option, if it is given; else nothing is noted, but of what is no number.
+    fn number(&mut self, name: &str, reason: &'static str) -> Option<u64> {
+        let number = self.given.get_one::<u64>(name);
+        let is_given = self.given.get_str(name).is_some();
+        self.check(number.is_some() || !is_given, reason);
+        number
+    }
+
+    /// The number that has to be given.
+    fn bound(&mut self, name: &str, reason: &'static str) -> u64 {
+        let number = self.given.get_one::<u64>(name);
+        self.check(number.is_some(), reason);
+        number.unwrap_or(0)
+    }
+
+    /// The centiseconds of an option, if it is given.
+    fn seconds(&mut self, name: &str, reason: &'static str) -> Option<u64> {
+        let text = self.given.get_str(name);
+        let time = text.and_then(centiseconds_of);
+        self.check(time.is_some() || text.is_none(), reason);
+        time
+    }
+
+    /// The alarm that an option names, if it is given.
+    fn alarm(&mut self, option: &str) -> Option<Alarm> {
+        let text = self.given.get_str(option);
+        let alarm = match text {
+            Some("1201") => Some(Alarm::A1201),
+            Some("1202") => Some(Alarm::A1202),
+            Some("1203") => Some(Alarm::A1203),
+            _ => None,
+        };
+        let is_right = alarm.is_some() || text.is_none();
+        self.check(is_right, "an alarm is 1201, 1202 or 1203");
+        alarm
+    }
+
+    /// What the words after `trace` ask for.
+    fn trace(&mut self) -> Task<'a> {
+        let from = self.number("from", "--from wants a number");
+        let to = self.number("to", "--to wants a number");
+        let is_right = from.unwrap_or(0) <= to.unwrap_or(u64::MAX);
+        self.check(is_right, "--from is beyond --to");
+        let choice = Choice {
+            alarms: self.given.get_flag("alarms"),
+            from,
+            to,
+            brief: self.given.get_flag("brief"),
+        };
+        if self.given.get_flag("script") {
+            Task::TraceScript(choice)
+        } else {
+            Task::Show(Show::Trace(choice))
+        }
+    }
+
+    /// What the words after `picture` ask for.
+    fn picture(&mut self) -> Show<'a> {
+        let width = self.number("width", "--width wants a number");
+        let from = self.seconds("from", "--from is seconds, such as 12.5");
+        let to = self.seconds("to", "--to is seconds, such as 12.5");
+        if !self.given.get_flag("time") {
+            self.check(width.is_none(), "--width goes with --time");
+            self.check(from.is_none(), "--from goes with --time");
+            self.check(to.is_none(), "--to goes with --time");
+            return Show::Picture;
+        }
+        let (width, from) = (width.unwrap_or(1600), from.unwrap_or(0));
+        self.check((1200..=10_000).contains(&width), "--width is 1200 to 10000");
+        let is_right = from < to.unwrap_or(u64::MAX);
+        self.check(is_right, "--to is not beyond --from");
+        Show::TimePicture(Span { width, from, to })
+    }
+
+    /// What the words after `explore` ask for.
+    fn explore(&mut self) -> Options {
+        let states = self.number("states", "--states wants a number");
+        Options {
+            states: states.unwrap_or(STATES),
+            alarm: self.alarm("alarm"),
+            through: self.given.get_flag("through"),
+            bench: self.alarm("bench"),
+        }
+    }
+
+    /// The step of a sweep. The word after its values is the file, if it is no number.
+    fn step(&mut self) -> u64 {
+        let word = self.given.get_str("step");
+        match self.given.get_one::<u64>("step") {
+            Some(step) => step,
+            None if word.is_none() => 1,
+            None => {
+                self.check(self.given.get_str("file").is_none(), "STEP is no number");
+                self.file = file_of(word);
+                1
+            }
+        }
+    }
+
+    /// What the words after `sweep` ask for.
+    fn sweep(&mut self) -> Values<'a> {
+        let from = self.bound("from", "FROM is no number");
+        let to = self.bound("to", "TO is no number");
+        let step = self.step();
+        self.check(step > 0, "STEP is 0");
+        self.check(from <= to, "FROM is beyond TO");
+        Values {
+            key: self.given.get_str("key").unwrap_or(""),
+            from,
+            to,
+            step,
+            csv: self.given.get_flag("csv"),
+        }
+    }
+
+    /// What the words after a command of this name ask for.
+    fn task(&mut self, command: &str) -> Task<'a> {
+        match command {
+            "trace" => self.trace(),
+            "picture" => Task::Show(self.picture()),
+            "page" => Task::Show(Show::Page(self.given.get_str("workbench"))),
+            "check" if self.given.get_flag("script") => Task::CheckScript,
+            "check" => Task::Check,
+            "explore" => Task::Explore(self.explore()),
+            "bench" => Task::Bench,
+            "peaks" => Task::Show(Show::Peaks),
+            "sweep" => Task::Sweep(self.sweep()),
+            _ => Task::Play,
+        }
+    }
+}
+
+/// The input of a task, of the file that is named, if one is.
+fn input_of<'a>(task: Task<'_>, file: Option<&'a str>) -> Input<'a> {
+    match (file, task) {
+        (Some(name), _) => Input::File(name),
+        (None, Task::Play) => Input::Empty,
+        (None, _) => Input::Standard,
+    }
+}
+
+/// What a command line asks for that `clap` takes.
+fn asked_by<'a>(alloc: Global, matches: &ArgMatches<'a>) -> Result<Asked<'a>, Stop> {
+    let Some((command, given)) = matches.subcommand() else {
+        return Err(refused_words(alloc, "", "a command is missing"));
+    };
+    let mut words = Words {
+        given,
+        file: file_of(given.get_str("file")),
+        wrong: None,
+    };
+    let task = words.task(command);
+    match words.wrong {
+        Some(reason) => Err(refused_words(alloc, command, reason)),
+        None => Ok(Asked {
+            task,
+            input: input_of(task, words.file),
+            has_progress: command == "sweep" || given.get_flag("progress"),
+        }),
+    }
+}
+
+/// Words after this command that are wrong for a reason that `clap` doesn't know.
+pub(crate) fn refused_words(alloc: Global, command: &str, reason: &str) -> Stop {
+    match named_command(alloc, command) {
+        Ok(mut command) => refused_as(&mut command, reason),
+        Err(_no_memory) => Stop::Fault(Fault::NoMemory),
+    }
+}
+
+/// Words that are wrong for a reason that `clap` doesn't know.
+fn refused_as(command: &mut Command<'_>, reason: &str) -> Stop {
+    match command.error(ErrorKind::ValueValidation, reason) {
+        Ok(error) => Stop::Words(error),
+        Err(_no_memory) => Stop::Fault(Fault::NoMemory),
+    }
+}
+
+/// Words that `clap` doesn't take as a task.
+fn refused_by(error: Error) -> Stop {
+    match error.kind() {
+        ErrorKind::OutOfMemory => Stop::Fault(Fault::NoMemory),
+        _ => Stop::Words(error),
+    }
+}
+
+/// What this program takes these words for.
+fn read<'a>(
+    alloc: Global,
+    program: &mut Command<'a>,
+    words: &'a [String],
+) -> Result<Asked<'a>, Stop> {
+    match program.try_get_matches_from_mut(words) {
+        Ok(matches) => asked_by(alloc, &matches),
+        Err(error) => Err(refused_by(error)),
+    }
+}
+
+/// What the words of a command line ask for, of which the first is the program's own name.
+///
+/// # Errors
+///
+/// `Words` for those that ask for a text, the help or the version, and for wrong ones; and that
+/// there is no memory.
+pub(crate) fn asked_for<'a>(alloc: Global, words: &'a [String]) -> Result<Asked<'a>, Stop> {
+    match whole_command(alloc) {
+        Ok(mut command) => read(alloc, &mut command, words),
+        Err(_no_memory) => Err(Stop::Fault(Fault::NoMemory)),
+    }
+}

@@ -1,0 +1,245 @@
+//! What each command does with its input, which is a text.
+use crate::checking::{check_document, check_script};
+use crate::documents::{Document, bench_in, document_in, scenario_in};
+use crate::naming::columns_of;
+use crate::page::put_page;
+use crate::progress::Teller;
+use crate::stops::Stop;
+use crate::sweeping::column_of;
+use crate::words::{Asked, Show, Task, Values};
+use crate::workbench::Workbench;
+use agc_document::Bench;
+use agc_orders::{Options, Reach, Watch, explore};
+use agc_peaks::{Sweep, bench_peaks, run_sweep, scenario_bench, scenario_peaks};
+use agc_picture::{picture, scenario_picture, scenario_time_picture, time_picture};
+use agc_play::{Manner, PlayFault, play};
+use agc_program::Fault;
+use agc_scenario::Scenario;
+use agc_text::{ReadFault, read_script};
+use agc_trace::{Choice, trace, trace_script, trace_timetable};
+use std::alloc::Global;
+use std::io::{Input, Write};
+
+/// How many bytes `agc` takes.
+const MOST_BYTES: u64 = 1_048_576;
+
+/// Writes the page of a text, which is a document.
+fn write_page<W: Write>(
+    rt: &HostRuntime,
+    named: Option<&str>,
+    text: &str,
+    writer: &mut W,
+) -> Result<(), Stop> {
+    let workbench = Workbench::found(rt, named)?;
+    if put_page(rt.alloc(), workbench.text().as_bytes(), text, writer)? {
+        Ok(())
+    } else {
+        Err(workbench.is_none(rt.alloc()))
+    }
+}
+
+/// Shows this of a text's bench.
+fn show_bench<W: Write>(
+    rt: &HostRuntime,
+    show: Show<'_>,
+    text: &str,
+    bench: &Bench,
+    progress: &mut Teller<'_>,
+    writer: &mut W,
+) -> Result<(), Stop> {
+    let alloc = rt.alloc();
+    let shown = match show {
+        Show::Page(named) => return write_page(rt, named, text, writer),
+        Show::Peaks => return Ok(bench_peaks(alloc, bench, writer)?),
+        Show::Trace(choice) => trace(alloc, bench, choice, progress, writer),
+        Show::Picture => picture(alloc, bench, progress, writer),
+        Show::TimePicture(span) => time_picture(alloc, bench, span, progress, writer),
+    };
+    match shown {
+        Ok(_watched) => Ok(()),
+        Err(fault) => Err(Stop::from(fault)),
+    }
+}
+
+/// Writes the trace of a scenario.
+fn trace_scenario<W: Write>(
+    alloc: Global,
+    choice: Choice,
+    scenario: &Scenario,
+    progress: &mut Teller<'_>,
+    writer: &mut W,
+) -> Result<(), Stop> {
+    let columns = columns_of(alloc, scenario)?;
+    let (bench, timing) = (scenario.bench(), scenario.timing());
+    match trace_timetable(alloc, bench, timing, columns, choice, progress, writer) {
+        Ok(_watched) => Ok(()),
+        Err(fault) => Err(Stop::from(fault)),
+    }
+}
+
+/// Shows this of a text's scenario.
+fn show_scenario<W: Write>(
+    rt: &HostRuntime,
+    show: Show<'_>,
+    text: &str,
+    scenario: &Scenario,
+    progress: &mut Teller<'_>,
+    writer: &mut W,
+) -> Result<(), Stop> {
+    let alloc = rt.alloc();
+    let shown = match show {
+        Show::Page(named) => return write_page(rt, named, text, writer),
+        Show::Peaks => return Ok(scenario_peaks(alloc, scenario, writer)?),
+        Show::Trace(choice) => return trace_scenario(alloc, choice, scenario, progress, writer),
+        Show::Picture => scenario_picture(alloc, scenario, progress, writer),
+        Show::TimePicture(span) => {
+            scenario_time_picture(alloc, scenario, span, progress, writer)
+        }
+    };
+    match shown {
+        Ok(_watched) => Ok(()),
+        Err(fault) => Err(Stop::from(fault)),
+    }
+}
+
+/// Shows this of a bench or a scenario. The exit status is 0.
+fn show_document<W: Write>(
+    rt: &HostRuntime,
+    show: Show<'_>,
+    text: &str,
+    progress: &mut Teller<'_>,
+    writer: &mut W,
+) -> Result<u8, Stop> {
+    let shown = match document_in(rt.alloc(), text)? {
+        Document::Bench(bench) => show_bench(rt, show, text, &bench, progress, writer),
+        Document::Scenario(scenario) => show_scenario(rt, show, text, &scenario, progress, writer),
+    };
+    match shown {
+        Ok(()) => Ok(0),
+        Err(stop) => Err(stop),
+    }
+}
+
+/// Writes the trace of a script. The exit status is 0.
+fn trace_requests<W: Write>(
+    alloc: Global,
+    choice: Choice,
+    text: &str,
+    progress: &mut Teller<'_>,
+    writer: &mut W,
+) -> Result<u8, Stop> {
+    match read_script(alloc, text) {
+        Err(fault) => Err(Stop::Fault(Fault::Script(fault))),
+        Ok(requests) => {
+            match trace_script(alloc, requests.as_slice(), choice, progress, writer) {
+                Ok(_watched) => Ok(0),
+                Err(fault) => Err(Stop::from(fault)),
+            }
+        }
+    }
+}
+
+/// Says what all orders of a bench come to. The exit status is 1 where an alarm can be reached, and
+/// 3 where that is undecided.
+fn explore_bench<W: Write>(
+    rt: &HostRuntime,
+    options: Options,
+    text: &str,
+    writer: &mut W,
+) -> Result<u8, Stop> {
+    let bench = bench_in(rt.alloc(), text)?;
+    match explore(rt.alloc(), &bench, options, &mut Watch::new(rt), writer) {
+        Ok(Reach::None) => Ok(0),
+        Ok(Reach::Some) => Ok(1),
+        Ok(Reach::Undecided) => Ok(3),
+        Err(fault) => Err(Stop::from(fault)),
+    }
+}
+
+/// Why play ended early, as the program's fault.
+fn play_fault(fault: PlayFault) -> Fault {
+    match fault {
+        PlayFault::NoMemory => Fault::NoMemory,
+        PlayFault::Input => Fault::Read(ReadFault::Input),
+        PlayFault::TooLong => Fault::Read(ReadFault::TooLong),
+        PlayFault::Output => Fault::Output,
+    }
+}
+
+/// Answers the lines of standard input, from a bench on. The exit status is 0.
+fn play_bench<W: Write>(
+    rt: &HostRuntime,
+    manner: Manner,
+    text: &str,
+    writer: &mut W,
+) -> Result<u8, Stop> {
+    let bench = bench_in(rt.alloc(), text)?;
+    match play(rt, &bench, manner, &mut rt.reader(), writer) {
+        Ok(()) => Ok(0),
+        Err(fault) => Err(Stop::Fault(play_fault(fault))),
+    }
+}
+
+/// Writes the bench that a scenario comes to. The exit status is 0.
+fn write_bench<W: Write>(alloc: Global, text: &str, writer: &mut W) -> Result<u8, Stop> {
+    let scenario = scenario_in(alloc, text)?;
+    let bytes = scenario_bench(alloc, &scenario, writer)?;
+    if bytes <= MOST_BYTES {
+        return Ok(0);
+    }
+    match writer.flush() {
+        Ok(()) => Err(Stop::TooLong(bytes)),
+        Err(_failed) => Err(Stop::Fault(Fault::Output)),
+    }
+}
+
+/// Writes what comes of each value of a number of a scenario. The exit status is 0.
+fn write_sweep<W: Write>(
+    alloc: Global,
+    values: Values<'_>,
+    text: &str,
+    progress: &mut Teller<'_>,
+    writer: &mut W,
+) -> Result<u8, Stop> {
+    let mut scenario = scenario_in(alloc, text)?;
+    let column = column_of(alloc, &scenario, values)?;
+    let Values {
+        key,
+        from,
+        to,
+        step,
+        csv,
+    } = values;
+    let sweep = Sweep {
+        from,
+        to,
+        step,
+        csv,
+    };
+    run_sweep(alloc, &mut scenario, key, column, sweep, progress, writer)?;
+    Ok(0)
+}
+
+/// Does what is asked for of a text, and returns the exit status. Here stands what each command
+/// takes: a bench or a scenario where it shows or checks a document, a bench where it explores or
+/// plays, a scenario where it writes a bench or a sweep, and else a script.
+pub(crate) fn work<W: Write>(
+    rt: &HostRuntime,
+    asked: &Asked<'_>,
+    manner: Manner,
+    text: &str,
+    writer: &mut W,
+) -> Result<u8, Stop> {
+    let alloc = rt.alloc();
+    let mut progress = Teller::new(rt, asked.has_progress);
+    match asked.task {
+        Task::Show(show) => show_document(rt, show, text, &mut progress, writer),
+        Task::Check => check_document(alloc, text, writer),
+        Task::Explore(options) => explore_bench(rt, options, text, writer),
+        Task::Play => play_bench(rt, manner, text, writer),
+        Task::Bench => write_bench(alloc, text, writer),
+        Task::Sweep(values) => write_sweep(alloc, values, text, &mut progress, writer),
+        Task::TraceScript(choice) => trace_requests(alloc, choice, text, &mut progress, writer),
+        Task::CheckScript => check_script(alloc, text, writer),
+    }
+}

@@ -1,0 +1,165 @@
+//! The workbench, a file that a page is made of: where it is, and whether it is of this version.
+use crate::commands::VERSION;
+use crate::files::{read_file, unread};
+use crate::stops::Stop;
+use agc_lint::add;
+use agc_program::Fault;
+use agc_text::{ReadFault, read_all};
+use std::alloc::{AllocError, Global};
+use std::env;
+use std::env::VarError;
+use std::io::ErrorKind;
+
+/// How the workbench begins; its version is the next word.
+const MARK: &str = "<!DOCTYPE html>\n<!-- AGC workbench ";
+
+/// The workbench, and the name of its file.
+#[derive(Drop)]
+pub(crate) struct Workbench {
+    name: String,
+    text: String,
+}
+
+/// These words as a text.
+fn joined(alloc: Global, words: &[&str]) -> Result<String, AllocError> {
+    let mut text = String::new(alloc);
+    add(&mut text, words)?;
+    Ok(text)
+}
+
+/// An end with this status, for which these words give the reason.
+fn said(alloc: Global, status: u8, words: &[&str]) -> Stop {
+    match joined(alloc, words) {
+        Ok(told) => Stop::Said(status, told),
+        Err(_no_memory) => Stop::Fault(Fault::NoMemory),
+    }
+}
+
+/// The files where the workbench may be if none is named: beside the program, and where
+/// `make install` puts it.
+fn places_of(alloc: Global, program: &str) -> Result<Vec<String>, AllocError> {
+    let mut places = Vec::new(alloc);
+    if let Some((folder, _name)) = program.rsplit_once('/') {
+        places.push(joined(alloc, &[folder, "/workbench.html"])?)?;
+        if let Some((above, _bin)) = folder.rsplit_once('/') {
+            places.push(joined(alloc, &[above, "/share/agc/workbench.html"])?)?;
+        }
+    }
+    Ok(places)
+}
+
+/// The same; none, if the system doesn't tell where the program is.
+fn places(rt: &HostRuntime) -> Result<Vec<String>, AllocError> {
+    match env::current_exe(rt) {
+        Ok(program) => places_of(rt.alloc(), program.as_str()),
+        Err(error) => {
+            if error.kind() == ErrorKind::OutOfMemory {
+                Err(AllocError)
+            } else {
+                Ok(Vec::new(rt.alloc()))
+            }
+        }
+    }
+}
+
+/// That no workbench is at these places.
+fn missing(alloc: Global, places: &[String]) -> Stop {
+    let begin = "no workbench";
+    let end = ": name one by --workbench or AGC_WORKBENCH";
+    match places {
+        [] => said(alloc, 4, &[begin, end]),
+        [only] => said(alloc, 4, &[begin, " at ", only.as_str(), end]),
+        [first, second, ..] => {
+            let words = [begin, " at ", first.as_str(), " or ", second.as_str(), end];
+            said(alloc, 4, &words)
+        }
+    }
+}
+
+/// That the file of this name is no workbench.
+fn not_one(alloc: Global, name: &str) -> Stop {
+    said(alloc, 1, &[name, " is not an empty AGC workbench"])
+}
+
+/// The version of a workbench.
+fn version_of(text: &str) -> Option<&str> {
+    let (version, _rest) = text.strip_prefix(MARK)?.split_once(' ')?;
+    Some(version)
+}
+
+/// Whether the file of this name, which has this text, is the workbench of this version.
+fn check_version(alloc: Global, name: &str, text: &str) -> Result<(), Stop> {
+    match version_of(text) {
+        None => Err(not_one(alloc, name)),
+        Some(version) => {
+            if version == VERSION {
+                return Ok(());
+            }
+            let is = " is the workbench of version ";
+            let words = [name, is, version, ", and this is version ", VERSION];
+            Err(said(alloc, 1, &words))
+        }
+    }
+}
+
+/// The workbench in a file of this name, which has these bytes.
+fn workbench_of(alloc: Global, name: &str, bytes: &[u8]) -> Result<Workbench, Stop> {
+    let mut unread = bytes;
+    match read_all(alloc, &mut unread) {
+        Ok(text) => {
+            check_version(alloc, name, text.as_str())?;
+            let name = joined(alloc, &[name])?;
+            Ok(Workbench { name, text })
+        }
+        Err(ReadFault::NoMemory) => Err(Stop::Fault(Fault::NoMemory)),
+        Err(_) => Err(not_one(alloc, name)),
+    }
+}
+
+/// The workbench that is named.
+fn named_workbench(rt: &HostRuntime, name: &str) -> Result<Workbench, Stop> {
+    match read_file(rt, name) {
+        Ok(bytes) => workbench_of(rt.alloc(), name, bytes.as_slice()),
+        Err(error) => Err(unread(rt.alloc(), name, &error)),
+    }
+}
+
+/// The workbench at the first of its places that has a file.
+fn placed_workbench(rt: &HostRuntime) -> Result<Workbench, Stop> {
+    let places = places(rt)?;
+    for place in &places {
+        match read_file(rt, place.as_str()) {
+            Ok(bytes) => return workbench_of(rt.alloc(), place.as_str(), bytes.as_slice()),
+            Err(error) => {
+                if error.kind() != ErrorKind::NotFound {
+                    return Err(unread(rt.alloc(), place.as_str(), &error));
+                }
+            }
+        }
+    }
+    Err(missing(rt.alloc(), places.as_slice()))
+}
+
+impl Workbench {
+    /// The workbench that is named, or else by the variable `AGC_WORKBENCH`, or else the one that
+    /// goes with the program.
+    pub(crate) fn found(rt: &HostRuntime, named: Option<&str>) -> Result<Workbench, Stop> {
+        if let Some(name) = named {
+            return named_workbench(rt, name);
+        }
+        match env::var(rt, "AGC_WORKBENCH") {
+            Ok(name) => named_workbench(rt, name.as_str()),
+            Err(VarError::OutOfMemory) => Err(Stop::Fault(Fault::NoMemory)),
+            Err(_) => placed_workbench(rt),
+        }
+    }
+
+    pub(crate) fn text(&self) -> &str {
+        self.text.as_str()
+    }
+
+    /// That this is none after all.
+    pub(crate) fn is_none(&self, alloc: Global) -> Stop {
+        not_one(alloc, self.name.as_str())
+    }
+}
