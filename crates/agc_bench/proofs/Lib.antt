@@ -5,3 +5,4 @@ pub mod Early
 pub mod Pulses
 pub mod Posts
 pub mod Settling
+pub mod Texts

@@ -5,6 +5,7 @@
 
 mod asker;
 mod closing;
+pub mod laws;
 mod opening;
 mod poster;
 mod threading;

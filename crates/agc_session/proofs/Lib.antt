@@ -2,3 +2,4 @@ pub mod Walks
 pub mod Sessions
 pub mod Pairs
 pub mod Pieces
+pub mod OneText

@@ -5,6 +5,7 @@ mod asking;
 mod counting;
 mod following;
 mod follows;
+pub mod laws;
 mod progress;
 mod run;
 mod run_fault;
