@@ -139,15 +139,15 @@ def rows_of_orders(hostile, room):
     status, text, _ = run_many(hostile, room, "--mode", "explore")
     head = "bench,status,a1201,a1202,a1203,jobs,areas,tasks,fault\n"
     wanted = (f"{head}a-calm,0,never,never,never,2,0,0,\nb-key,1,,,,,,,agc_watch: key\n"
-              "c-race,1,6,never,never,5,5,0,\nd-script,1,never,8,never,,,,\n")
+              "c-race,4,6,never,never,5,5,0,\nd-script,4,never,8,never,,,,\n")
     hostile.expect(f"many, of orders: status {status}, {text}", (status, text) == (1, wanted))
     write(f"{room}/told/obeying", OBEYING, 0o755)
-    told = "alarm 1201: by 1,000 requests:\nalarm 1202: undecided, 11 states seen\nalarm 1203: never"
-    write(f"{room}/told/a-some.toml", f"echo '{told}'; exit 1")
+    told = "alarm 1201: by 1,000 requests (9 states):\nalarm 1202: undecided, 11 states seen\nalarm 1203: never"
+    write(f"{room}/told/a-some.toml", f"echo '{told}'; exit 4")
     write(f"{room}/told/b-long.toml", "echo undecided: one caller has more; exit 3")
     write(f"{room}/told/c-other.toml", "echo alarm 1201: never")
     status, text, _ = run_many(hostile, f"{room}/told", "--mode", "explore", "--program", f"{room}/told/obeying")
-    wanted = (f"{head}a-some,1,1000,undecided,never,,,,\nb-long,3,undecided,undecided,undecided,,,,\n"
+    wanted = (f"{head}a-some,4,1000,undecided,never,,,,\nb-long,3,undecided,undecided,undecided,,,,\n"
               "c-other,0,,,,,,,it wrote no report\n")
     hostile.expect(f"many, of told orders: status {status}, {text}", (status, text) == (1, wanted))
 

@@ -140,6 +140,11 @@ const EXPLORE: Row = Row {
         ),
         ("through", Form::Flag, "Goes on after an alarm"),
         (
+            "peaks",
+            Form::Flag,
+            "Doesn't stop at the answer: tells the most jobs, areas and tasks",
+        ),
+        (
             "bench",
             Form::Option("ALARM"),
             "Writes a shortest order that raises this alarm, as a bench",

@@ -214,6 +214,7 @@ impl<'a, 'b> Words<'a, 'b> {
             states: states.unwrap_or(STATES),
             alarm: self.alarm("alarm"),
             through: self.given.get_flag("through"),
+            peaks: self.given.get_flag("peaks"),
             bench: self.alarm("bench"),
         }
     }

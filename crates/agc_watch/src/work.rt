@@ -139,7 +139,7 @@ fn trace_requests<W: Write>(
     }
 }
 
-/// Says what all orders of a bench come to. The exit status is 1 where an alarm can be reached, and
+/// Says what all orders of a bench come to. The exit status is 4 where an alarm can be reached, and
 /// 3 where that is undecided.
 fn explore_bench<W: Write>(
     rt: &HostRuntime,
@@ -150,7 +150,7 @@ fn explore_bench<W: Write>(
     let bench = bench_in(rt.alloc(), text)?;
     match explore(rt.alloc(), &bench, options, &mut Watch::new(rt), writer) {
         Ok(Reach::None) => Ok(0),
-        Ok(Reach::Some) => Ok(1),
+        Ok(Reach::Some) => Ok(4),
         Ok(Reach::Undecided) => Ok(3),
         Err(fault) => Err(Stop::from(fault)),
     }
