@@ -1,4 +1,4 @@
-use Rattle.std.proofs.Common.{◌≡◌, ◌++◌, length, take}
+use Rattle.std.proofs.Common.{◌≡◌, take}
 use Rattle.std.specs.List.{flat_map}
 use Rattle.agc_watch.specs.Data.{spelled}
 use Rattle.agc_watch.proofs.page.data_of.Given as goal
