@@ -16,6 +16,7 @@ COMMANDS = "crates/agc_watch/src/commands.rt"
 WATCHED = {"trace": "trace", "picture": "svg"}
 BUILT = ["crates/agc/out/agc", "crates/agc_watch/out/agc_watch", "crates/libagc/out/liblibagc.a"]
 MODULE = "libagc/js/agc.wasm"
+ONE_FILE = "libagc/out/agc.c"
 VERDICT = "logic=proved functions=1 target=wasm64-unknown-unknown sum=0123456789abcdef native=nat"
 HEADER = "libagc/include/agc.h"
 LOGIC = "0123456789abcdef"
@@ -61,6 +62,8 @@ def build(room):
     printed(["ar", "rcD", BUILT[2], "out.o"], room)
     os.remove(f"{room}/out.o")
     write(f"{room}/{MODULE}", "no module\n")
+    os.makedirs(f"{room}/libagc/out", exist_ok=True)
+    write(f"{room}/{ONE_FILE}", hashlib.sha256(b"no module\n").hexdigest())
     for path in [*BUILT, MODULE]:
         with open(f"{room}/{path}", "rb") as file:
             sums = printed(["cksum"], room, stdin=file), printed(["tools/sources"], room), f"no kit logic {LOGIC}"
@@ -158,6 +161,8 @@ def unpacked(hostile, room, place):
     said = read(f"{top}/PROVED-BY.txt")
     wanted = (f"no kit logic {LOGIC}", git(room, "rev-parse", "HEAD"), "Gate:      not known", f"agc.wasm:  {VERDICT}\n")
     hostile.expect("a release has the module", read(f"{top}/{MODULE}") == "no module\n")
+    notices = [f"{at}/{it}" for at, _, names in os.walk(f"{top}/share/licenses") for it in names]
+    hostile.expect("a release has others' licenses", len(notices) > 15 and all(os.path.getsize(it) for it in notices))
     hostile.expect("a release has the workbench", read(f"{top}/workbench.html") == read(f"{room}/share/workbench.html"))
     hostile.expect(f"PROVED-BY.txt: {said}", all(it in said for it in wanted))
 
@@ -193,6 +198,9 @@ def refusals(hostile, room):
     write(f"{room}/{BUILT[2]}.sums", sums.replace(LOGIC, "0" * 16))
     refuse(hostile, room, f"{BUILT[2]} was not proved by no kit logic {'0' * 16}: its logic is {LOGIC}")
     write(f"{room}/{BUILT[2]}.sums", sums)
+    write(f"{room}/{ONE_FILE}", "of another module\n")
+    refuse(hostile, room, f"{ONE_FILE} isn't there, or of another module")
+    write(f"{room}/{ONE_FILE}", hashlib.sha256(b"no module\n").hexdigest())
     sums = read(f"{room}/{MODULE}.sums")
     write(f"{room}/{MODULE}.sums", sums.replace(VERDICT, ""))
     refuse(hostile, room, f"nothing says that {MODULE} was proved")
