@@ -245,12 +245,15 @@ def run_tests():
     """Runs the tests of functions of the crates that hold the machine."""
     ran = subprocess.run([sys.executable, f"{TOP}/tests/run", "crates", *TESTED], check=False, stdout=subprocess.PIPE,
                          stderr=subprocess.STDOUT, text=True, errors="replace")
-    told = re.search(r"^crates: (\d+) passed, (\d+) failed", ran.stdout, re.M)
+    passed = len(re.findall(r"^test \S+ \.\.\. ok$", ran.stdout, re.M))
+    wrong, unjudged = [], []
+    for name, why in re.findall(r"^test (\S+) \.\.\. FAILED\n((?: +.*\n)*)", ran.stdout, re.M):
+        (unjudged if "no-answer" in why else wrong).append(f"{name}:\n{why.rstrip()}")
     if not ran.returncode:
-        return Came("tests of functions", int(told[1]), [], [])
-    is_judged = told and int(told[1]) or "error[" in ran.stdout
-    said = [ran.stdout]
-    return Came("tests of functions", int(told[1]) if told else 0, *((said, []) if is_judged else ([], said)))
+        passed = int(re.search(r"^crates: (\d+) passed, 0 failed", ran.stdout, re.M)[1])
+    elif not wrong and not unjudged:
+        (wrong if "error" in ran.stdout else unjudged).append(ran.stdout)
+    return Came("tests of functions", passed, wrong, unjudged)
 
 
 def run(given):
