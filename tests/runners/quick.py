@@ -32,7 +32,7 @@ PROGRAMS = ("agc", "agc_watch")
 TESTED = ("agc_exec", "agc_wait", "agc_phase", "agc_machine")
 BOTH = f"{os.path.dirname(os.path.realpath(__file__))}/both.rt"
 # Seconds of processor that each part takes, as measured: tests/run --quick says them first, and how far it is.
-EXPECTED = {"cases, unproved": 140, "cases, proved": 8, "tests of functions": 52}
+EXPECTED = {"cases, unproved": 115, "cases, proved": 8, "tests of functions": 48}
 # How long one run may take, and how often one is told how far it is.
 SECONDS, STEP = 36000, 15
 # A case costs about what so many requests do, whatever it asks; one of MOST takes seconds without optimization. Of
