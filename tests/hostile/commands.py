@@ -320,18 +320,22 @@ def unproved(clone):
 
 
 def progress(hostile):
-    """Long work tells each second how far it has come: a trace how many requests were asked, and only where that is
-    asked for, and a sweep how many runs are done."""
+    """Long work tells each second how far it has come: a trace how many requests were asked, where that is asked for or
+    standard error is a terminal, and a sweep how many runs are done."""
     with tempfile.TemporaryDirectory() as room:
-        write(f"{room}/bench.toml", "script = []\n" + 32 * '[[device]]\nline = "timer"\npulses = 1000000\n')
-        for words, total in (
-                (["trace", "--alarms", "--progress", f"{room}/bench.toml"], "32000000 requests"),
-                (["sweep", "seconds", "1", "3600", f"{TOP}/examples/landing.toml"], "3600 runs")):
-            ran = subprocess.Popen([WATCH, *words], stdout=subprocess.DEVNULL, stderr=subprocess.PIPE)
-            said = [ran.stderr.readline().decode() for _ in range(2)]
-            ran.kill()
-            ran.wait()
-            ran.stderr.close()
+        bench = f"{room}/bench.toml"
+        write(bench, "script = []\n" + 32 * '[[device]]\nline = "timer"\npulses = 1000000\n')
+        for ends, words, total in (
+                (os.pipe, ["trace", "--alarms", "--progress", bench], "32000000 requests"),
+                (os.openpty, ["trace", "--alarms", bench], "32000000 requests"),
+                (os.pipe, ["sweep", "seconds", "1", "3600", f"{TOP}/examples/landing.toml"], "3600 runs")):
+            reading, writing = ends()
+            ran = subprocess.Popen([WATCH, *words], stdout=subprocess.DEVNULL, stderr=writing)
+            with open(reading, encoding="utf-8") as file:
+                said = [file.readline() for _ in range(2)]
+                ran.kill()
+                ran.wait()
+            os.close(writing)
             hostile.runs += 1
             found = [re.fullmatch(rf"agc_watch: (\d+) of {total}\n", it) for it in said]
             is_right = all(found) and 0 < int(found[0][1]) < int(found[1][1])

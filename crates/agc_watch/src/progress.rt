@@ -1,6 +1,7 @@
 //! How far a run has come, in a line a second.
 use agc_peaks::Watches;
 use agc_session::Progress;
+use std::io::IsTerminal;
 use std::time::Instant;
 
 /// Of how many requests one looks at the clock.
@@ -18,9 +19,10 @@ pub(crate) struct Teller<'a> {
 }
 
 impl<'a> Teller<'a> {
-    /// A run begins now; its progress is reported if that is wanted.
+    /// A run begins now; its progress is reported if that is wanted, and wherever standard error is
+    /// a terminal.
     pub(crate) fn new(rt: &'a HostRuntime, is_wanted: bool) -> Teller<'a> {
-        let begun = if is_wanted {
+        let begun = if is_wanted || rt.stderr().is_terminal() {
             Instant::now(rt).ok()
         } else {
             None
