@@ -11,6 +11,7 @@
 import { Kind } from "../libagc/js/machine.js";
 import { alarmsOf } from "./chart.js";
 import { LOG_FULL, SPENT } from "./run.js";
+import { FIRST_ASKED } from "./first.js";
 import { PLACES, counted, octal, seconds, visible } from "./words.js";
 
 /** What is full at each alarm, and where that table is. */
@@ -277,8 +278,11 @@ function accountOfBeginning(run, shown, names, { about, count }) {
   ...(order === "" ? [] : [[order]])];
   if (power === undefined) {
     const asked = count === 0 ? "Nothing has been asked" : "No request has been served yet";
+    const isNew = count === 0 && run.source.document === "" && about === "";
+    const first = isNew ? [["Try these, or press Run:"], ...FIRST_ASKED.map(([line, what]) =>
+      [{ text: `\`${line}\` ${what}.`, isProse: true }])] : [];
     const lines = about !== "" ? said
-      : [[`${asked}: there is no job, no task waits, and all phases are 0.`]];
+      : [[`${asked}: there is no job, no task waits, and all phases are 0.`], ...first];
     return { heading: "The beginning", lines: [...lines, ...follow], isAlarm: false };
   }
   const isBroken = shown.reply.startsWith("alarm");
@@ -350,6 +354,30 @@ function listedSentence({ line, scene }, names) {
 }
 
 /**
+ * What a phase means from now on.
+ * @param {import("./run.js").Run} run
+ * @param {Shown} shown
+ */
+function phasedSentence({ bench }, { line }) {
+  const [group, phase] = line.split(" ").slice(1).map(Number);
+  if (phase === 0) return `Group ${group} is in phase 0: after a restart nothing of it begins again.`;
+  const found = bench.phase.find((it) => it.group === group && it.phase === phase);
+  const what = [found?.job, found?.task].filter((it) => it !== undefined).map((it) => `“${it}”`);
+  return `Group ${group} is in phase ${phase}. After a restart ${what.length === 0
+    ? "nothing of it begins again: the document has no row of this phase."
+    : `${what.join(" and ")} ${what.length === 1 ? "is" : "are"} asked for again.`}`;
+}
+
+/**
+ * Where a word was stored.
+ * @param {Shown} shown
+ */
+function storedSentence({ line, scene }) {
+  const [, place, word] = line.split(" ");
+  return `Work word ${place} of job ${scene.running} is ${word} now: the job keeps it in its core set.`;
+}
+
+/**
  * What else a reply says.
  * @param {import("./run.js").Run} run
  * @param {Shown} shown
@@ -375,6 +403,8 @@ function replySentence(run, shown, names) {
     case Kind.NO_SLEEPER: return [["No job sleeps at that address."]];
     case Kind.ROUSED: return [[`Job ${step?.number} is awake.`]];
     case Kind.LISTED: return [[listedSentence(shown, names)]];
+    case Kind.PHASED: return [[phasedSentence(run, shown)]];
+    case Kind.STORED: return [[storedSentence(shown)]];
     case Kind.IDLE: return [[`${endedSentence(shown)}No job is left that is awake.`]];
     case Kind.LEFT: case Kind.RUNS: {
       const ended = endedSentence(shown);
@@ -427,15 +457,35 @@ export function accountOf(run, shown, names, given = { about: "", count: 0, isHi
 }
 
 /**
+ * A time of a mission, in hours, minutes and seconds.
+ * @param {number} time
+ */
+function missionTime(time) {
+  const parts = [Math.floor(time / 3600), Math.floor(time / 60) % 60, Math.floor(time) % 60];
+  return parts.map((it) => String(it).padStart(2, "0")).join(":");
+}
+
+/**
+ * The second of a mission at which a document's time begins, if its comment says it so:
+ * `102:33:05 of the mission`.
+ * @param {string} about
+ */
+export function missionOf(about) {
+  const found = /([0-9]+):([0-9]{2}):([0-9]{2}) of the mission/.exec(about);
+  return found === null ? null : Number(found[1]) * 3600 + Number(found[2]) * 60 + Number(found[3]);
+}
+
+/**
  * A row in a sentence, as the live region says it. With a restart its jobs are gone: so they ran.
  * @param {Shown} shown
  * @param {number} count
  * @param {Names} names
+ * @param {number | null} mission the second of a mission at which its time begins
  */
-export function sentenceOf(shown, count, names) {
+export function sentenceOf(shown, count, names, mission = null) {
   const { running, sets } = shown.scene;
   const where = shown.row === 0 ? "The beginning" : `Request ${shown.row} of ${count}`;
-  const at = `at ${seconds(shown.ticks)}`;
+  const at = `at ${seconds(shown.ticks)}${mission === null ? "" : ` (${missionTime(mission + shown.ticks / 100)})`}`;
   const job = sets[0];
   const name = job === null ? undefined : names.job(job.at);
   const isOver = shown.after !== null && !shown.isAfter;

@@ -13,7 +13,7 @@
  *   device: { line: string, pulses: number }[], seconds?: number, steal: number | StealRow[],
  *   job: JobRow[], event: EventRow[] }} Bench
  */
-import { Unread, readToml } from "./toml.js";
+import { Unread, linesOf, readToml } from "./toml.js";
 import { ACTIONS, JOBS, LISTS, PARTS, REQUESTS, lineFault, nearest } from "./words.js";
 
 /** The longest document that is taken, in bytes, as by `agc`. */
@@ -168,8 +168,11 @@ function textsOf(given, row, place) {
     place.refuse(`expected ${many} strings`);
   }
   const isOne = row.kind === "oneOrMore" && items.length === 1;
-  return items.map((/** @type {any} */ it, /** @type {number} */ k) =>
-    textOf(it, row, isOne ? place : place.below(`${row.form} ${k + 1}`)));
+  const lines = linesOf.get(items);
+  return items.map((/** @type {any} */ it, /** @type {number} */ k) => {
+    const here = new Place(lines?.[k] ?? place.line, place.path);
+    return textOf(it, row, isOne ? here : here.below(`${row.form} ${k + 1}`));
+  });
 }
 
 /**

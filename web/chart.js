@@ -1,9 +1,11 @@
 /**
- * The strip along the top: how many core sets, areas and places of the Waitlist are used, for how
- * much of the time no job is running, and each alarm as a marked line. Across goes time in seconds,
- * or the requests' numbers where hardly any time goes by.
+ * The strip above the lanes, to navigate by: how many core sets, areas and places of the Waitlist
+ * are used, for how much of the time no job is running where there is a clock, and each alarm as a
+ * marked line. Across goes time in seconds, or the requests' numbers where hardly any time goes by.
+ * And what came of a run, in words.
  */
 import { by, fill, make } from "./dom.js";
+import { SPENT } from "./run.js";
 import { counted, octal, seconds } from "./words.js";
 
 const LANES = [
@@ -33,6 +35,8 @@ export class Strip {
     this.wide = Math.max(1, Math.min(MOST_WIDE, wide));
     this.isTime = run.ticksAt(count) >= 20;
     this.end = Math.max(1, this.isTime ? run.ticksAt(count) : count);
+    /** The idle time is of no use where nobody runs a clock. */
+    this.lanes = LANES.slice(0, run.bench.seconds === undefined ? 3 : 4);
     this.most = LANES.map(() => new Float32Array(this.wide));
     this.ticks = new Float32Array(this.wide);
     for (let row = 0; row <= count; row++) this.add(row);
@@ -84,16 +88,25 @@ export class Strip {
 }
 
 /**
+ * What was counted of a run.
+ * @type {WeakMap<import("./run.js").Run, { count: number, most: number[] }>}
+ */
+const used = new WeakMap();
+
+/**
  * How many core sets, areas and tasks are used at most, over the first rows.
  * @param {import("./run.js").Run} run
  * @param {number} count
  */
 function mostUsed(run, count) {
+  const known = used.get(run);
+  if (known?.count === count) return known.most;
   const most = [0, 0, 0];
   for (let row = 0; row <= count; row++) {
     const use = run.columns.uses.items[row];
     for (let k = 0; k < 3; k++) most[k] = Math.max(most[k], (use >> (4 * k)) & 15);
   }
+  used.set(run, { count, most });
   return most;
 }
 
@@ -104,9 +117,24 @@ function mostUsed(run, count) {
  */
 export function alarmsOf(run, count) {
   const alarms = run.alarms.filter((row) => row <= count);
-  if (alarms.length === 0) return "no alarm";
   const first = alarms.length > 1 ? ", the first one" : ":";
-  return `${counted(alarms.length, "alarm")}${first} ${alarmAt(run, alarms[0])}`;
+  const told = alarms.length === 0 ? "no alarm"
+    : `${counted(alarms.length, "alarm")}${first} ${alarmAt(run, alarms[0])}`;
+  return `${told}${refusedOf(run, count)}`;
+}
+
+/**
+ * How many of the first rows were refused, and from which on; nothing where none was.
+ * @param {import("./run.js").Run} run
+ * @param {number} count
+ */
+function refusedOf(run, count) {
+  const rows = run.refused.filter((row) => row <= count);
+  if (rows.length === 0) return "";
+  const why = run.columns.kinds.items[rows[0]] === SPENT ? "the allowance was used up"
+    : "the log was full";
+  const from = rows.length === 1 ? "" : "from ";
+  return `; ${counted(rows.length, "request")} refused, ${from}request ${rows[0]}${from === "" ? "" : " on"}, since ${why}`;
 }
 
 /**
@@ -130,39 +158,29 @@ export function alarmAt(run, row) {
 }
 
 /**
- * Draws a strip, and where the shown row is.
+ * Draws a strip.
  * @param {Strip} strip
- * @param {number} at
  */
-export function drawStrip(strip, at) {
+export function drawStrip(strip) {
   const canvas = by("chart");
   const scale = window.devicePixelRatio || 1;
   const [wide, high] = [canvas.clientWidth, canvas.clientHeight];
   [canvas.width, canvas.height] = [Math.max(1, wide * scale), Math.max(1, high * scale)];
   const pen = canvas.getContext("2d");
   const isDark = matchMedia("(prefers-color-scheme: dark)").matches;
-  const ink = isDark ? "#eee" : "#111";
   pen.scale(scale, scale);
-  const lane = high / LANES.length;
-  LANES.forEach((it, k) => {
+  const lane = high / strip.lanes.length;
+  strip.lanes.forEach((it, k) => {
     pen.fillStyle = isDark ? it.dark : it.light;
     for (let x = 0; x < strip.wide; x++) {
-      const tall = strip.most[k][x] * (lane - 3);
+      const tall = Math.round(strip.most[k][x] * (lane - 2));
       const left = Math.floor((x * wide) / strip.wide);
-      pen.fillRect(left, (k + 1) * lane - tall, Math.ceil(wide / strip.wide), tall);
+      pen.fillRect(left, Math.round((k + 1) * lane) - tall, Math.ceil(wide / strip.wide), tall);
     }
     pen.fillStyle = isDark ? "#444" : "#ccc";
     pen.fillRect(0, (k + 1) * lane - 1, wide, 1);
   });
   drawAlarms(pen, strip, wide, high, isDark ? "#ff6b5b" : "#c00");
-  const x = (strip.xOf(at) * wide) / strip.wide;
-  pen.fillStyle = ink;
-  pen.fillRect(Math.min(wide - 2, x), 0, 2, high);
-  pen.beginPath();
-  pen.moveTo(x - 5, 0);
-  pen.lineTo(x + 7, 0);
-  pen.lineTo(x + 1, 8);
-  pen.fill();
 }
 
 /**
@@ -174,7 +192,7 @@ export function drawStrip(strip, at) {
  */
 function drawAlarms(pen, strip, wide, high, colour) {
   pen.fillStyle = colour;
-  const tall = Math.round(0.85 * parseFloat(getComputedStyle(document.documentElement).fontSize));
+  const tall = Math.round(0.7 * parseFloat(getComputedStyle(document.documentElement).fontSize));
   pen.font = `bold ${tall}px system-ui, sans-serif`;
   let free = -99;
   for (const row of strip.run.alarms) {
@@ -201,15 +219,17 @@ function markStep(end) {
 }
 
 /**
- * The axis along the bottom: seconds or requests.
- * @param {Strip} strip
+ * The axis along the bottom, of what is seen: seconds or requests.
+ * @param {import("./timeline.js").Scale} scale
  */
-function drawAxis({ end, isTime }) {
-  const step = markStep(end);
-  const marks = Array.from({ length: Math.floor(end / step) + 1 }, (_, k) => k * step);
+export function drawAxis(scale) {
+  const { from, to, isTime } = scale;
+  const step = markStep(to - from);
+  const first = Math.ceil(from / step);
+  const marks = Array.from({ length: Math.floor(to / step) - first + 1 }, (_, k) => (first + k) * step);
   by("unit").textContent = isTime ? "seconds" : "requests";
   fill("axis", marks.map((it) => {
-    const part = it / end;
+    const part = scale.partOf(it);
     const mark = make("span", part > LAST_PART ? { class: "last" } : {},
       String(isTime ? it / 100 : it));
     mark.style.left = `${100 * part}%`;
@@ -225,12 +245,10 @@ function drawAxis({ end, isTime }) {
 export function drawLegend(strip) {
   const isDark = matchMedia("(prefers-color-scheme: dark)").matches;
   by("chart").setAttribute("aria-label", strip.text);
-  const most = [strip.run.sets, 5, 9, "100 %"];
-  fill("lanes", LANES.map((it, k) => {
+  fill("lanes", strip.lanes.map((it, k) => {
     const swatch = make("span", { class: "swatch" });
     swatch.style.background = isDark ? it.dark : it.light;
-    return make("li", {}, swatch, `${it.name} 0–${most[k]}`);
+    return make("li", {}, swatch, it.name);
   }));
-  drawAxis(strip);
   fill("legend", [make("span", { id: "summary" }, strip.text)]);
 }

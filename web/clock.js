@@ -1,21 +1,33 @@
 /**
  * The clock: how time passes is the rule of the module's own clock, which says which request comes
- * next. Here are its controls: run and pause, single centiseconds, speed, stolen time and costs.
+ * next. Here are its controls: run and pause, single centiseconds, speed. `sliders.js` has the
+ * numbers of the document, and says how a run differs from it; here a run goes on with others.
  */
 import { Clock } from "../libagc/js/machine.js";
 import { writeBench } from "./bench.js";
 import { button, by, fill, make } from "./dom.js";
 import { MOST_ROWS, Run } from "./run.js";
+import { Sliders, differencesOf } from "./sliders.js";
 import { seconds, visible } from "./words.js";
 
 /** How many times real time, and which is chosen first. */
 const SPEEDS = [0.1, 0.2, 0.5, 1, 2, 5, 10, 20, 50, 100];
 
 /** How many requests are asked at a stretch, so that the page goes on answering. */
-const STRETCH = 60_000;
+const STRETCH = 64_000;
 
 /** How often the strip is drawn anew while the clock runs, in milliseconds. */
 const DRAWN_EACH = 300;
+
+/**
+ * Who asks for what the clock gives: an event by its name or number, or the clock itself.
+ * @param {Run} run
+ * @param {number | null} event
+ */
+function whoOf(run, event) {
+  if (event === null) return "the clock";
+  return `event ${visible(run.bench.event[event]?.name ?? String(event + 1))}`;
+}
 
 /** The longest time that a run has, in seconds, where no scenario says it. */
 const LONGEST = 3600;
@@ -37,7 +49,8 @@ export class ClockPanel {
     /** The run that is being filled up to its end, a stretch at a time. */
     this.filled = null;
     /** The slider that was moved last, and the run and the row that have been shown since. */
-    this.moved = { slider: "", run: /** @type {Run | null} */ (null), at: 0 };
+    this.moved = { slider: "", run: /** @type {Run | null} */ (null), at: 0, isWhole: false };
+    this.sliders = new Sliders((given, name) => this.change(given, this.isWhole, name));
     fill("speed", SPEEDS.map((it) => make("option", { value: String(it) }, `${it} ×`)));
     by("speed").value = "1";
   }
@@ -50,11 +63,20 @@ export class ClockPanel {
    */
   runOf(bench, requests) {
     this.pause();
+    const run = this.begunOf(bench);
+    for (const [line, who] of requests) run.ask(line, who);
+    if (bench.seconds !== undefined) this.fill(run);
+    return run;
+  }
+
+  /**
+   * A run of a bench with a clock, of which nothing has been asked.
+   * @param {import("./bench.js").Bench} bench
+   */
+  begunOf(bench) {
     const run = new Run(bench);
     run.head.clock = clockOf(bench);
     run.checkpoints = [run.head.copy()];
-    for (const [line, who] of requests) run.ask(line, who);
-    if (bench.seconds !== undefined) this.fill(run);
     return run;
   }
 
@@ -64,11 +86,22 @@ export class ClockPanel {
    */
   fill(run) {
     this.filled = null;
-    for (let k = 0; k < STRETCH; k++) {
-      if (!this.step(run)) return;
-    }
+    if (this.passTime(run, STRETCH)) return;
     this.filled = run;
     setTimeout(() => this.fillOn(run), 0);
+  }
+
+  /**
+   * Lets time pass by at most so many requests. True where it is over.
+   * @param {Run} run
+   * @param {number} most
+   */
+  passTime(run, most) {
+    const left = Math.min(most, MOST_ROWS - run.count);
+    if (left <= 0) return true;
+    if (run.hasRoomFor(left)) return run.askByClock(left, (it) => whoOf(run, it)) < left;
+    for (let k = 0; k < left; k++) if (!this.step(run)) return true;
+    return false;
   }
 
   /**
@@ -76,10 +109,8 @@ export class ClockPanel {
    * @param {import("./bench.js").Bench} bench
    */
   wholeRunOf(bench) {
-    const run = new Run(bench);
-    run.head.clock = clockOf(bench);
-    run.checkpoints = [run.head.copy()];
-    while (this.step(run));
+    const run = this.begunOf(bench);
+    while (!this.passTime(run, STRETCH));
     return run;
   }
 
@@ -103,10 +134,7 @@ export class ClockPanel {
     if (run.count >= MOST_ROWS) return false;
     const request = run.head.clock.next(run.head.machine);
     if (request === null) return false;
-    const event = request.event === null ? undefined : run.bench.event[request.event];
-    const who = event === undefined ? "the clock"
-      : `event ${visible(event.name ?? String(request.event + 1))}`;
-    return run.ask(request.text, who) !== null;
+    return run.ask(request.text, whoOf(run, request.event)) !== null;
   }
 
   /**
@@ -226,6 +254,7 @@ export class ClockPanel {
   drawButtons() {
     by("run").textContent = this.isRunning ? "Pause" : "Run";
     by("run").setAttribute("aria-pressed", String(this.isRunning));
+    document.body.classList.toggle("running", this.isRunning);
   }
 
   /**
@@ -258,6 +287,7 @@ export class ClockPanel {
       const to = run.ticksAt(after) > ticks ? after - 1 : after;
       const alarm = run.alarms.find((row) => row > at && row <= to);
       workbench.go(Math.max(at, alarm ?? to));
+      workbench.stage.follow(workbench.view.at);
       const isEnd = workbench.view.at === count && this.nextText(run) === undefined;
       return alarm !== undefined || isEnd;
     }
@@ -268,6 +298,7 @@ export class ClockPanel {
       isAlarm = !isOver && run.isAlarm(run.count);
     }
     workbench.history.now = { run, count: run.count, at: run.count };
+    workbench.stage.follow(run.count);
     const isDue = performance.now() - (this.drawn ?? 0) > DRAWN_EACH;
     if (isDue) this.drawn = performance.now();
     if (isDue) workbench.drawAll();
@@ -276,27 +307,27 @@ export class ClockPanel {
   }
 
   /**
-   * Goes on with other numbers: from the row that is shown, or a scenario from its beginning. A
-   * slider that is moved on, after nothing else, changes what it changed before.
+   * Goes on with other numbers: from the beginning, or from the row that is shown. A slider that is
+   * moved on, after nothing else, changes what it changed before; the run before that stays on the
+   * chart.
    * @param {any} given
    * @param {boolean} isWhole
    * @param {string} slider
    */
   change(given, isWhole = this.isWhole, slider = "") {
     this.pause();
-    const { history } = this.workbench;
-    const { moved } = this;
+    const { workbench, moved } = this;
+    const { history } = workbench;
     const { run, at } = history.now;
-    const isMoved = moved.slider === slider && moved.run === run && moved.at === at;
+    const isMoved = moved.slider === slider && moved.run === run && moved.at === at
+      && moved.isWhole === isWhole;
     if (slider !== "" && isMoved) history.undo();
     else {
-      this.workbench.keepOutcome();
-      const what = { steal: "stolen time was changed", job: "a cost was changed",
-        event: "an event was left out" };
-      history.keep(`as ${what[/** @type {keyof typeof what} */ (Object.keys(given)[0])]}`);
+      workbench.keepOutcome();
+      history.keep(`as ${CHANGED[/** @type {keyof typeof CHANGED} */ (Object.keys(given)[0])]}`);
     }
     this.goOnWith(given, isWhole);
-    this.moved = { slider, run: history.now.run, at: history.now.at };
+    this.moved = { slider, run: history.now.run, at: history.now.at, isWhole };
   }
 
   /**
@@ -307,20 +338,32 @@ export class ClockPanel {
     const { workbench } = this;
     const { history } = workbench;
     const { at, run: old } = workbench.view;
-    const from = isWhole ? 0 : at;
-    const run = old.fork(from);
-    run.change(this.sinceThen(run, from, given), given);
-    if (run.bench.seconds !== undefined) this.fill(run);
-    const shown = isWhole ? run.rowAtTime(old.ticksAt(at), run.count) : at;
+    const isPlan = "sets" in given || "task" in given;
+    const from = isWhole || isPlan ? 0 : at;
+    const run = isPlan ? this.replanned(old, given) : old.fork(from);
+    if (!isPlan) run.change(this.sinceThen(run, from, given), given);
+    if (run.bench.seconds !== undefined && !isPlan) this.fill(run);
+    const shown = from === 0 ? run.rowAtTime(old.ticksAt(at), run.count) : at;
     history.show({ run, count: run.count, at: shown });
     run.source.isHidden = false;
     workbench.drawAll();
-    by("outcome").scrollIntoView({ block: "nearest" });
+    workbench.keep();
+  }
+
+  /**
+   * A run from the beginning by another plan, or with other core sets.
+   * @param {Run} old
+   * @param {any} given
+   */
+  replanned(old, given) {
+    const run = this.runOf({ ...old.bench, ...given }, []);
+    const { title, about, source, given: document } = old;
+    return Object.assign(run, { title, about, source, given: document });
   }
 
   /** Whether what is changed holds from the beginning of a scenario. */
   get isWhole() {
-    return by("whole").checked && this.workbench.view.run.bench.seconds !== undefined;
+    return !by("here").checked && this.workbench.view.run.bench.seconds !== undefined;
   }
 
   /**
@@ -344,19 +387,10 @@ export class ClockPanel {
    * @param {Run} run
    */
   draw(run) {
-    const { steal, job, event } = run.bench;
-    const now = typeof steal === "number" ? steal : steal.at(-1)?.percent ?? 0;
-    const costs = job.map((it, k) => {
-      const most = Math.max(400, 2 * it.cost);
-      return this.slider(visible(it.name ?? it.at), it.cost, 1, most, "cs", (cost) =>
-        ({ job: job.map((one, n) => (n === k ? { ...one, cost } : one)) }));
-    });
-    const stolen = this.slider("Stolen time", now, 0, 100, "%", (value) => ({ steal: value }));
-    const rows = [stolen, ...costs];
-    if (!this.isRunning || this.drawnFor !== run) this.drawSliders(rows);
-    this.drawnFor = run;
-    by("differs").textContent = differencesOf(run).join(" ");
-    const named = event.filter((it) => it.name !== undefined);
+    this.sliders.draw(run);
+    const told = differencesOf(run);
+    by("differs").textContent = told;
+    const named = run.bench.event.filter((it) => it.name !== undefined);
     by("events").hidden = named.length === 0;
     fill("events", named.map((it) => {
       const name = visible(it.name ?? "");
@@ -365,62 +399,11 @@ export class ClockPanel {
       }, { title: it.do.join(", ") });
     }));
   }
-
-  /**
-   * Exchanges the sliders: the one that has the focus keeps it.
-   * @param {HTMLElement[]} rows
-   */
-  drawSliders(rows) {
-    const old = [...by("sliders").children];
-    const place = old.findIndex((it) => it.contains(document.activeElement));
-    fill("sliders", rows);
-    rows[place]?.querySelector("input")?.focus();
-  }
-
-  /**
-   * @param {string} name
-   * @param {number} value
-   * @param {number} min
-   * @param {number} max
-   * @param {string} unit
-   * @param {(value: number) => any} given
-   */
-  slider(name, value, min, max, unit, given) {
-    const output = make("output", {}, `${value} ${unit}`);
-    const field = make("input", { type: "range", min, max, step: 1, "aria-label": name });
-    field.value = String(value);
-    field.setAttribute("aria-valuetext", `${value} ${unit}`);
-    field.addEventListener("input", () => {
-      output.textContent = `${field.value} ${unit}`;
-      field.setAttribute("aria-valuetext", `${field.value} ${unit}`);
-    });
-    field.addEventListener("change", () =>
-      this.change(given(Number(field.value)), this.isWhole, name));
-    return make("label", {}, name, field, output);
-  }
 }
 
-/**
- * Which numbers of the clock aren't those of the document.
- * @param {Run} run
- */
-function differencesOf({ bench, given }) {
-  const now = typeof bench.steal === "number" ? bench.steal : bench.steal.at(-1)?.percent ?? 0;
-  const isList = typeof given.steal !== "number";
-  const isSame = isList ? bench.steal === given.steal : now === given.steal;
-  const from = typeof bench.steal === "number" ? 0 : bench.steal.at(-1)?.from ?? 0;
-  const since = from > 0 ? ` from ${seconds(from)} on` : "";
-  const steal = `steal is ${now} here${since}, ${isList ? "a list" : given.steal} in the document.`;
-  const costs = bench.job.flatMap(({ at, name, cost }, k) => (cost === given.job[k]?.cost ? []
-    : [`${visible(name ?? at)} costs ${cost} cs here, ${given.job[k]?.cost} cs in the document.`]));
-  return [...(isSame ? [] : [steal]), ...costs];
-}
-
-/**
- * How long a run is, in words.
- * @param {Run} run
- * @param {number} count
- */
-export function lengthOf(run, count) {
-  return seconds(run.ticksAt(count));
-}
+/** What a branch is called that was left as such a number was changed. */
+const CHANGED = {
+  ...{ steal: "stolen time was changed", job: "a cost was changed" },
+  ...{ event: "an event was changed", sets: "the core sets were changed" },
+  task: "a period was changed",
+};

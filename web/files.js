@@ -79,23 +79,22 @@ async function through(bytes, stream) {
 }
 
 /**
- * The part of a link after `#`, for a document.
- * @param {string} document
+ * A text as a part of a link.
+ * @param {string} text
  */
-export async function markOf(document) {
-  const bytes = new TextEncoder().encode(document);
-  return `#bench=${base64url(await through(bytes, new CompressionStream("deflate-raw")))}`;
+export async function packed(text) {
+  const bytes = new TextEncoder().encode(text);
+  return base64url(await through(bytes, new CompressionStream("deflate-raw")));
 }
 
 /**
- * The document after `#`, or null where there is none.
- * @param {string} mark
+ * The text of such a part. One that is damaged or cut is thrown.
+ * @param {string} data
  */
-export async function documentOf(mark) {
-  const found = /^#bench=([A-Za-z0-9_-]+)$/.exec(mark);
-  if (found === null) return null;
-  const packed = atob(found[1].replaceAll("-", "+").replaceAll("_", "/"));
-  const bytes = Uint8Array.from(packed, (it) => it.charCodeAt(0));
+export async function unpacked(data) {
+  if (!/^[A-Za-z0-9_-]+$/.test(data)) throw new Error("it has other letters");
+  const text = atob(data.replaceAll("-", "+").replaceAll("_", "/"));
+  const bytes = Uint8Array.from(text, (it) => it.charCodeAt(0));
   return textOf(await through(bytes, new DecompressionStream("deflate-raw")));
 }
 

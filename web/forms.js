@@ -72,7 +72,7 @@ function openForm(word, bench, scene, ask) {
   };
   const form = make("div", { class: "fields",
     onkeydown: (/** @type {KeyboardEvent} */ event) => {
-      if (event.key !== "Enter" || !(event.target instanceof HTMLInputElement)) return;
+      if (event.key !== "Enter" || event.target instanceof HTMLButtonElement) return;
       event.preventDefault();
       enter();
     } },

@@ -7,7 +7,9 @@ const KEYS = [
   ["a A", "the next alarm, the alarm before"], ["c C", "the next change, the change before"],
   ["g", "go to a request or a time"], ["i /", "type a request"],
   ["space", "run the clock, or pause"], [". n", "a centisecond; to the next event"],
-  ["u r", "undo, redo"], ["o e p s", "open, examples, plan, save"], ["?", "this help"],
+  ["u r", "undo, redo"], ["b o e", "new, open, examples"], ["d p s", "edit, plan, save"],
+  ["+ -", "closer, wider"], ["[ ]", "move along the chart"], ["f x", "all of the chart; to an alarm"],
+  ["?", "this help"],
 ];
 
 const TABLES = [
@@ -40,10 +42,15 @@ export function HELP() {
       + "open an example, and step through what happens."),
     make("p", {}, "Each request is a row. If you type a request at an earlier row, the run goes on "
       + "from there, and the rows that came after it are kept as a branch. A box with an orange "
-      + "corner has changed since the row before. Each job number has its own colour."),
+      + "corner has changed since the row before. A job has the colour of its name, or of the address "
+      + "at which it began. Touch a box, by a click or by Tab and the arrows, and it is told what it is."),
+    make("p", {}, "The chart has a lane for each core set: a job is bright while it runs, pale while it "
+      + "waits, and hatched while it sleeps. Point at a block to see who it is; a click goes there. "
+      + "Zoom by the wheel, by two fingers, by keys, or draw a range."),
     make("p", {}, "The clock lets centiseconds pass. A job with a cost ends when it has run for "
-      + "that long, and stolen time is taken away from the jobs. You can change these numbers "
-      + "while the clock runs."),
+      + "that long, and stolen time is taken away from the jobs. The sliders change these numbers, "
+      + "from the beginning or from here on; the run before stays on the chart until you forget it. "
+      + "The address keeps what you did: copy it, or reload the page."),
     make("p", {}, "An alarm comes when a request needs a place and the table is full: 1201 areas, "
       + "1202 core sets, 1203 the Waitlist. Then all jobs and tasks are gone, and the phases say "
       + "what begins again. The button After the restart shows the tables with that."),

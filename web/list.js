@@ -9,14 +9,16 @@
 import { by, fill, make } from "./dom.js";
 import { octal } from "./words.js";
 
-/** How many rows there are before and after the one that is shown. */
-const AROUND = 7;
+/** How many lines the list has, also where there are fewer rows. */
+const LINES = 15;
 
 /** How many ticks in a row in which nothing changes are printed as one line. */
 const LEAST_QUIET = 3;
 
-/** The most lines that are printed. */
+/** The most lines that are printed; and of a scenario, how many before an alarm, and of how many. */
 const MOST_PRINTED = 5000;
+const BEFORE_ALARM = 14;
+const MOST_ALARMS = 4;
 
 /**
  * The core sets of a scene: number, name and priority. A job that is asleep is in brackets, and the
@@ -38,10 +40,10 @@ function setsCell(scene, names) {
  * @param {Shown} shown
  * @param {Names} names
  */
-function cellsOf({ row, time, line, reply, scene, who }, names) {
+function cellsOf({ row, ticks, line, reply, scene, who }, names) {
   const tasks = scene.tasks.map((it) => `${names.taskCell(it)}+${it.left}`).join(" ");
   return [
-    ...[String(row), String(time), line, reply],
+    ...[String(row), (ticks / 100).toFixed(2), line, reply],
     scene.running === 0 ? "-" : String(scene.running),
     setsCell(scene, names),
     scene.areas.map((it) => (it === 0 ? "." : String(it))).join(" "),
@@ -66,21 +68,20 @@ function lineOf(shown, run, names) {
 /**
  * Draws the rows around one.
  * @param {import("./run.js").Run} run
+ * @param {Shown[]} shown
  * @param {number} at
- * @param {number} count
  * @param {Names} names
  * @param {{ go: (row: number) => void, veiled: (shown: Shown) => Shown }} hands what is done when a
  *   row is clicked, and what of it may be seen
  */
-export function drawList(run, at, count, names, { go, veiled }) {
-  const from = Math.max(0, Math.min(at - AROUND, count - 2 * AROUND));
-  const rows = run.show(from, Math.min(count, from + 2 * AROUND)).map((it) => {
+export function drawList(run, shown, at, names, { go, veiled }) {
+  const rows = shown.map((it) => {
     const line = lineOf(veiled(it), run, names);
     if (it.row === at) line.setAttribute("aria-current", "true");
     line.addEventListener("click", () => go(it.row));
     return line;
   });
-  while (rows.length < 2 * AROUND + 1) {
+  while (rows.length < LINES) {
     rows.push(make("tr", { "aria-hidden": "true" }, make("td", { colSpan: 9 }, "\u00a0")));
   }
   fill("lines", rows);
@@ -114,6 +115,38 @@ function* stretches(run, count) {
 }
 
 /**
+ * The stretches that are printed: all of a bench; of a scenario its beginning, and what came before
+ * each of its first alarms.
+ * @param {import("./run.js").Run} run
+ * @param {number} count
+ * @returns {Generator<{ from: number, to: number, isQuiet: boolean, left?: number }>}
+ */
+function* printed(run, count) {
+  if (run.bench.seconds === undefined) {
+    yield* stretches(run, count);
+    return;
+  }
+  const ends = [Math.min(count, BEFORE_ALARM), ...run.alarms.slice(0, MOST_ALARMS).filter((it) => it <= count)];
+  let next = 0;
+  for (const end of ends) {
+    const all = [];
+    for (let row = end, lines = 0; row >= next && lines < BEFORE_ALARM; lines += 1) {
+      let from = row;
+      while (from > next && isQuiet(run, from) && isQuiet(run, from - 1)) from -= 1;
+      const isLong = row - from + 1 >= LEAST_QUIET;
+      if (!isLong) from = row;
+      all.unshift({ from, to: row, isQuiet: isLong });
+      row = from - 1;
+    }
+    if (all.length === 0) continue;
+    if (all[0].from > next) yield { from: next, to: all[0].from - 1, isQuiet: false, left: all[0].from - next };
+    yield* all;
+    next = end + 1;
+  }
+  if (next <= count) yield { from: next, to: count, isQuiet: false, left: count - next + 1 };
+}
+
+/**
  * The line of a stretch in which only time went by: the tables are those at its end.
  * @param {import("./run.js").Run} run
  * @param {number} from
@@ -125,7 +158,7 @@ function quietLine(run, from, to, names) {
   const [last] = run.show(to, to);
   const line = lineOf(last, run, names);
   const count = `tick, ${to - from + 1} times`;
-  [`${from} to ${to}`, `${first.time} to ${last.time}`, count].forEach((it, k) => {
+  [`${from} to ${to}`, `${(first.ticks / 100).toFixed(2)} to ${(last.ticks / 100).toFixed(2)}`, count].forEach((it, k) => {
     line.children[k].textContent = it;
   });
   return line;
@@ -144,8 +177,13 @@ export function drawPrinted(run, count, names, [title, outcome, plan], account) 
   const head = by("rows").querySelector("thead").cloneNode(true);
   const body = make("tbody");
   let until = 0;
-  for (const { from, to, isQuiet: isOne } of stretches(run, count)) {
+  for (const { from, to, isQuiet: isOne, left } of printed(run, count)) {
     if (body.children.length >= MOST_PRINTED) break;
+    if (left !== undefined) {
+      body.append(make("tr", {}, make("td", { colSpan: 9 }, `.. ${left} requests are left out ..`)));
+      until = to;
+      continue;
+    }
     until = isOne ? to : Math.min(to, from + MOST_PRINTED - body.children.length - 1);
     if (isOne) body.append(quietLine(run, from, to, names));
     else {
@@ -158,6 +196,6 @@ export function drawPrinted(run, count, names, [title, outcome, plan], account) 
   }
   const more = until < count ? [make("p", {}, `The first ${until} of ${count} requests.`)] : [];
   const plans = plan === "" ? [] : [make("h2", {}, "Plan"), make("pre", { class: "plan" }, plan)];
-  fill("printed", [make("h1", {}, title), make("p", {}, outcome), ...plans,
-    make("h2", {}, "Requests"), ...more, make("table", {}, head, body)]);
+  fill("printed", [make("h1", {}, title), make("p", {}, outcome), make("canvas", { id: "printed-chart" }),
+    make("h2", {}, "Requests"), ...more, make("table", {}, head, body), ...plans]);
 }

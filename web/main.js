@@ -1,9 +1,14 @@
-/** The workbench: what its controls do. */
+/**
+ * The workbench: what its controls do. `stage.js` is the chart, `clock.js` the clock, `address.js`
+ * what the address keeps, `guide.js` the first look.
+ */
 import { start } from "../libagc/js/machine.js";
-import { Names, accountOf, orderOf, sentenceOf } from "./account.js";
+import { Names, accountOf, missionOf, orderOf, sentenceOf } from "./account.js";
 import { countOf, emptyBench, readBench, requestsOf, writeBench } from "./bench.js";
-import { Strip, drawLegend, drawStrip, outcomeOf } from "./chart.js";
+import * as address from "./address.js";
+import { Strip, outcomeOf } from "./chart.js";
 import { ClockPanel } from "./clock.js";
+import { Colours } from "./colours.js";
 import { button, by, closeDialog, fill, make, openDialog, withCode } from "./dom.js";
 import * as files from "./files.js";
 import { drawCommon, drawTurns } from "./forms.js";
@@ -11,20 +16,53 @@ import { History, parting } from "./history.js";
 import { drawList, drawPrinted } from "./list.js";
 import { openPlan } from "./plan.js";
 import { MOST_ASKED, NO_SOURCE, Run, afterOf } from "./run.js";
+import { Editor } from "./editor.js";
+import { documentOfScript, isScript } from "./forgive.js";
+import { Guide } from "./guide.js";
 import { HELP } from "./help.js";
+import { predictionOf, verdictOf } from "./predict.js";
+import { Stage } from "./stage.js";
 import { drawSets, drawTables, drawWords } from "./tables.js";
+import { Touch } from "./touch.js";
 import { Prompt, completions } from "./typing.js";
 import { tries } from "./tries.js";
 import { counted, seconds, visible } from "./words.js";
 
-/** How many points wide the pictures of the strip are computed for. */
-const STRIP_WIDE = 1200;
+/** How long nothing has to happen before the address says what is shown, in milliseconds. */
+const KEPT_AFTER = 150;
+
+/** What is opened where nothing is asked for. */
+const FIRST = "landing-1202";
+
+/** The bench of `New`: so much may be asked of it that its clock runs for an hour and more. */
+function newBench() {
+  return { ...emptyBench(), limit: 1_000_000 };
+}
 
 class Workbench {
   constructor() {
     this.clock = new ClockPanel(this);
-    this.history = new History({ run: this.clock.runOf(emptyBench(), []), count: 0, at: 0 });
+    this.history = new History({ run: this.clock.runOf(newBench(), []), count: 0, at: 0 });
     this.names = new Names(emptyBench());
+    this.colours = new Colours(emptyBench(), this.names);
+    this.stage = new Stage(this);
+    this.guide = new Guide(this);
+    this.touch = new Touch(this);
+    /** What was expected of the exercise, by question. */
+    this.predicted = /** @type {Record<string, string>} */ ({});
+    this.editor = new Editor((text) => this.edited(text));
+    /** The run of what was typed last. */
+    this.editedRun = /** @type {Run | null} */ (null);
+    /** The run before the last change, for the chart. */
+    this.before = /** @type {{ run: Run, count: number } | null} */ (null);
+    /** The rows that were looked at last, of which run: a step along the list asks for few anew. */
+    this.seen = { run: /** @type {Run | null} */ (null), from: 0, count: 0, rows: /** @type {any[]} */ ([]) };
+    /** What the address says, and its document with what was done to it. */
+    this.mark = "";
+    this.documentMark = "";
+    this.keeping = 0;
+    /** The document within the page. */
+    this.own = "";
     /** The row of which the tables are shown as its restart left them, and its run. */
     this.restarted = { run: this.view.run, at: -1 };
     /** The exercise whose question was drawn last, whether its answer was hidden, and changed. */
@@ -48,8 +86,25 @@ class Workbench {
   }
 
   get scene() {
-    const [shown] = this.view.run.show(this.view.at, this.view.at);
+    const shown = this.rowOf(this.view.at);
     return shown.after ?? shown.scene;
+  }
+
+  /**
+   * A row of the shown run, and those around it, which the list shows.
+   * @param {number} row
+   * @returns {import("./run.js").Shown}
+   */
+  rowOf(row) {
+    const { run, count } = this.view;
+    const { seen } = this;
+    const isSeen = seen.run === run && seen.count === count && row >= seen.from
+      && row < seen.from + seen.rows.length;
+    if (!isSeen) {
+      const [from, to] = around(row, count);
+      this.seen = { run, from, count, rows: run.show(from, to) };
+    }
+    return this.seen.rows[row - this.seen.from];
   }
 
   /** The document that the run came of which is shown. */
@@ -65,7 +120,7 @@ class Workbench {
   /** What is shown of the row: as it was answered, or after the restart that it ended with. */
   get shown() {
     const { run, at } = this.view;
-    const [shown] = run.show(at, at);
+    const shown = this.rowOf(at);
     const isAfter = this.restarted.run === run && this.restarted.at === at;
     return isAfter ? afterOf(shown) : this.veiled(shown);
   }
@@ -83,12 +138,13 @@ class Workbench {
 
   /**
    * Opens a document: runs what it asks for, and shows its beginning.
-   * @param {string} text
+   * @param {string} given a bench, a scenario, or a script
    * @param {string} name
    * @param {import("./run.js").Source} source the exercise that it is, if any
    */
-  open(text, name, source = NO_SOURCE) {
+  open(given, name, source = NO_SOURCE) {
     try {
+      const text = isScript(given) ? documentOfScript(given) : given;
       const bench = readBench(text);
       const isOwn = source.question === "";
       const about = isOwn ? visible(files.questionOf(text)).replaceAll("\n", " ") : "";
@@ -123,17 +179,22 @@ class Workbench {
     const [, ...lines] = question.split("\n");
     const parts = document.trim().split(/\n\n+/);
     const order = isHidden ? "" : orderOf(this.view.run.bench);
-    const answer = button("Show what happens", () => {
+    const reveal = () => {
       this.source.isHidden = false;
       this.drawAll();
-    }, { id: "show-answer" });
+      this.keep();
+    };
+    const answer = button("Show what happens", reveal, { id: "show-answer" });
+    const verdict = isHidden ? [] : verdictOf(this);
     return [
       make("p", {}, ...withCode(lines.join(" "))),
       make("div", { class: "parts", role: "group", "aria-label": "The document" },
         ...parts.map((it) => make("pre", {}, it))),
       ...(order === "" ? [] : [make("p", { id: "order" }, order)]),
+      ...(isHidden ? [predictionOf(this, reveal)] : []),
+      ...(verdict.length === 0 ? [] : [make("ul", { class: "verdict", id: "verdict", role: "status" }, ...verdict)]),
       make("div", { class: "steps" }, ...(isHidden ? [answer] : []),
-        button("Change it", this.actions().open, { id: "change-exercise" }),
+        button("Change it", () => this.openEditor(), { id: "change-exercise" }),
         ...(isChanged ? [button("Back to the exercise as it was", () => this.openKept(exercise),
           { id: "exercise-again" }), "You have changed this exercise."] : [])),
     ];
@@ -163,10 +224,34 @@ class Workbench {
     const run = this.clock.runOf(bench, requestsOf(bench));
     const title = visible(bench.title ?? name);
     Object.assign(run, { title, about, source: { ...source }, isOpened: true });
-    this.beside = null;
-    this.outcome = "";
+    this.forgetBefore();
     this.history.show({ run, count: run.count, at: 0 });
     this.history.branches = [];
+    this.drawAll();
+    this.keep();
+  }
+
+  /** An empty machine, with room for an hour of clock. */
+  openNew() {
+    this.begin(newBench(), "An empty bench", "", { ...NO_SOURCE });
+    closeDialog();
+  }
+
+  /** An empty machine, to be asked. */
+  beginNew() {
+    this.openNew();
+    by("line").focus();
+  }
+
+  /** Nothing is compared with any more. */
+  forgetBefore() {
+    this.beside = null;
+    this.before = null;
+    this.outcome = "";
+  }
+
+  dismiss() {
+    this.forgetBefore();
     this.drawAll();
   }
 
@@ -185,9 +270,11 @@ class Workbench {
       this.prompt.hint(/** @type {Error} */ (fault).message, true);
       return;
     }
+    this.beside = null;
     this.history.show({ run, count: run.count, at: run.count });
     if (left > 0) this.noteOf(asideOf(left));
     this.drawAll();
+    this.keep();
   }
 
   /**
@@ -201,9 +288,11 @@ class Workbench {
 
   /** @param {number} row */
   go(row) {
-    this.history.now = { ...this.view, at: Math.max(0, Math.min(row, this.view.count)) };
+    this.history.now.at = Math.max(0, Math.min(row, this.view.count));
     this.restarted.at = -1;
+    this.stage.follow(this.view.at);
     this.drawRow();
+    this.keep();
   }
 
   /** Shows the tables as they are after the restart that the row ended with. */
@@ -271,18 +360,20 @@ class Workbench {
   drawAll() {
     const { run, count } = this.view;
     this.names = new Names(run.bench);
+    this.colours = new Colours(run.given, this.names);
+    this.colours.see(run.lanes);
+    this.seen.run = null;
     this.drawQuestion();
     by("title").textContent = run.title;
     document.title = `${run.title} - AGC workbench`;
     by("slider").max = String(count);
     by("chart-box").hidden = count === 0 || this.isHidden;
-    if (count > 0) {
-      this.strip = new Strip(run, count, STRIP_WIDE);
-      drawLegend(this.strip);
-    }
     this.clock.draw(run);
     by("outcome").textContent = this.outcome === "" || this.isHidden ? ""
       : `Before: ${this.outcome}. Now: ${outcomeOf(run, count)}.`;
+    this.stage.draw();
+    this.guide.follow();
+    this.editor.show(this.source.document);
     this.drawBranches();
     this.drawRow();
   }
@@ -290,29 +381,45 @@ class Workbench {
   drawRow() {
     const { run, count, at } = this.view;
     const { shown } = this;
-    drawTables(shown, this.names);
+    const held = this.touch.held();
+    drawTables(shown, this.names, this.colours);
+    this.touch.cover();
+    this.touch.holdAgain(held);
     this.drawAccount(shown);
     this.drawBeside(at);
     drawTurns(run, at, (line, who) => this.ask(line, who));
-    drawList(run, at, this.isHidden ? at : count, this.names, {
+    drawList(run, this.rowsAround(), at, this.names, {
       go: (row) => this.go(row), veiled: (it) => this.veiled(it),
     });
     by("slider").value = String(at);
     by("slider").setAttribute("aria-valuetext", `request ${at} of ${count}`);
-    by("sentence").textContent = sentenceOf(shown, count, this.names);
+    by("sentence").textContent = sentenceOf(shown, count, this.names, missionOf(run.about));
     by("sentence").className = !shown.isAfter && shown.reply.includes("alarm") ? "alarm" : "";
     const isWhole = at === 0 || this.clock.isWhole;
     const from = isWhole ? "the beginning" : run.ticksAt(at) > 0 ? seconds(run.ticksAt(at))
       : `request ${at}`;
-    by("since").textContent = `A change here takes effect from ${from} on.`;
+    by("since").textContent = `Sliders act from ${from} on.`;
     by("since-box").classList.toggle("later", !isWhole);
-    by("whole-box").hidden = run.bench.seconds === undefined || at === 0;
+    by("here-box").hidden = run.bench.seconds === undefined || at === 0;
     this.drawNote();
     by("undo").disabled = this.history.done.length === 0;
     by("redo").disabled = this.history.undone.length === 0;
     by("alarm-next").disabled = this.isHidden;
     by("alarm-back").disabled = this.isHidden;
-    if (count > 0 && this.strip !== undefined && !this.isHidden) drawStrip(this.strip, at);
+    this.stage.drawAt(at);
+    this.guide.follow();
+  }
+
+  /** The rows of the list: around the shown one, and none behind it that would answer an exercise. */
+  rowsAround() {
+    const { at, count } = this.view;
+    this.rowOf(at);
+    const [from, to] = around(at, this.isHidden ? at : count);
+    const { seen } = this;
+    if (seen.from > from || seen.from + seen.rows.length <= to) {
+      this.seen = { ...seen, from, rows: this.view.run.show(from, to) };
+    }
+    return this.seen.rows.slice(from - this.seen.from, to + 1 - this.seen.from);
   }
 
   /** @param {import("./run.js").Shown} shown */
@@ -341,7 +448,7 @@ class Workbench {
     link.addEventListener("click", (/** @type {Event} */ event) => {
       event.preventDefault();
       if (piece.row !== undefined) this.go(piece.row);
-      else by(`${piece.part}-name`).scrollIntoView({ block: "center" });
+      else by(`${piece.part}-name`).scrollIntoView({ block: "start" });
     });
     return link;
   }
@@ -357,7 +464,7 @@ class Workbench {
     const [shown] = other.run.show(row, row);
     const said = `request ${row}, ${shown.reply}. In all ${outcomeOf(other.run, other.count)}`;
     by("beside-name").textContent = `For comparison, ${other.name}: ${said}.`;
-    drawSets("beside-sets", shown.scene, shown.last, this.names);
+    drawSets("beside-sets", shown, this.names, this.colours);
   }
 
   drawBranches() {
@@ -392,7 +499,9 @@ class Workbench {
   /** Keeps what came of the run that is shown, so that the next one can be compared with it. */
   keepOutcome() {
     const { run, count } = this.view;
+    this.beside = null;
     this.outcome = outcomeOf(run, count);
+    this.before = { run, count };
   }
 
   openPlan() {
@@ -407,6 +516,7 @@ class Workbench {
       this.history.show({ run: made, count: made.count, at: Math.min(at, made.count) });
       closeDialog();
       this.drawAll();
+      this.keep();
     });
     const other = `Compare with ${this.view.run.sets === 7 ? "eight" : "seven"} core sets`;
     const name = this.beside === null ? other : "Stop comparing";
@@ -415,6 +525,47 @@ class Workbench {
       else this.compare(this.beside);
       closeDialog();
     }, { id: "beside-sets-button" })));
+  }
+
+  /**
+   * Runs the document as it is typed: what is typed on, after nothing else, is one step of undo.
+   * @param {string} text
+   */
+  edited(text) {
+    const bench = readBench(text);
+    if (countOf(bench) > MOST_ASKED) throw new Error("it asks for too many requests");
+    const { run, at } = this.view;
+    if (this.editedRun === run) this.history.undo();
+    else this.keepOutcome();
+    const made = this.clock.runOf(bench, requestsOf(bench));
+    const isOwn = run.source.question === "";
+    const title = isOwn ? files.firstSentence(text) || "A run" : run.title;
+    const about = isOwn ? visible(files.questionOf(text)).replaceAll("\n", " ") : run.about;
+    const source = isOwn ? { ...NO_SOURCE, document: text } : { ...this.changedTo(text), document: text };
+    Object.assign(made, { title: visible(bench.title ?? title), about, source, isOpened: true });
+    this.history.show({ run: made, count: made.count,
+      at: Math.min(made.count, made.rowAtTime(run.ticksAt(at), made.count)) });
+    this.editedRun = made;
+    this.drawAll();
+    this.keep();
+  }
+
+  /**
+   * The same requests by another plan.
+   * @param {any} given
+   */
+  replan(given) {
+    const { run, count, at } = this.view;
+    const bench = { ...run.bench, ...given };
+    const asked = bench.seconds === undefined ? run.requests(count) : [];
+    const made = this.clock.runOf(bench, asked);
+    const source = { ...run.source, document: writeBench(bench), isChanged: true };
+    Object.assign(made, { title: run.title, about: run.about, source });
+    this.keepOutcome();
+    this.history.keep("as the plan was changed");
+    this.history.show({ run: made, count: made.count, at: Math.min(at, made.count) });
+    this.drawAll();
+    this.keep();
   }
 
   async openSave() {
@@ -441,7 +592,7 @@ class Workbench {
     ]);
     // (the dialog doesn't wait for the link: what comes in between isn't covered by it later)
     const mark = kept ? `#${kept.name}`
-      : await files.markOf(isOpened ? source.document : whole).catch(() => "");
+      : `#bench=${await files.packed(isOpened ? source.document : whole).catch(() => "")}`;
     if (mark.length > 8000) fill(told, ["It is too long for a link."]);
     else link.value = `${location.href.split("#")[0]}${mark}`;
   }
@@ -453,18 +604,26 @@ class Workbench {
     drawPrinted(run, count, this.names, [run.title, outcome, plan], (shown) =>
       accountOf(run, shown, this.names).lines.map((line) =>
         line.map((it) => (typeof it === "string" ? it : it.text)).join("")).join("\n"));
+    this.stage.print(by("printed-chart"));
+  }
+
+  openEditor() {
+    if (this.editor.isOpen) this.editor.close();
+    else this.editor.open(this.source.document || writeBench(this.view.run.bench));
   }
 
   undo() {
     this.clock.pause();
-    this.outcome = "";
+    this.forgetBefore();
     if (this.history.undo()) this.drawAll();
+    this.keep();
   }
 
   redo() {
     this.clock.pause();
-    this.outcome = "";
+    this.forgetBefore();
     if (this.history.redo()) this.drawAll();
+    this.keep();
   }
 
   /** What each control does. */
@@ -478,7 +637,7 @@ class Workbench {
       "change-next": () => this.seek((row) => run.isChange(row), 1, "change"),
       "change-back": () => this.seek((row) => run.isChange(row), -1, "change"),
       ...{ undo: () => this.undo(), redo: () => this.redo(), plan: () => this.openPlan() },
-      save: () => this.openSave(),
+      ...{ save: () => this.openSave(), new: () => this.beginNew(), edit: () => this.openEditor() },
       open: () => files.openOpening(this.source, (text, name, isExercise) =>
         this.open(text, name, isExercise ? this.changedTo(text) : NO_SOURCE)),
       examples: () => files.openExamples(this.kept, (name) => this.openKept(name)),
@@ -497,19 +656,22 @@ class Workbench {
       if (!by("dialog").open) fill("dialog-body", []);
     });
     by("slider").addEventListener("input", () => this.go(Number(by("slider").value)));
-    by("whole").addEventListener("change", () => this.drawRow());
+    by("here").addEventListener("change", () => this.drawRow());
+    by("beside-stop").addEventListener("click", () => {
+      this.beside = null;
+      this.drawRow();
+    });
     by("go").addEventListener("keydown", (/** @type {KeyboardEvent} */ event) => {
       if (event.key === "Enter") this.goTyped();
     });
-    by("chart").addEventListener("click", (/** @type {MouseEvent} */ event) => {
-      const box = by("chart").getBoundingClientRect();
-      if (this.strip) this.go(this.strip.rowAt((event.clientX - box.left) / box.width));
-    });
     by("words-box").addEventListener("toggle", () => drawWords(this.shown.words));
     document.addEventListener("keydown", (event) => this.key(event));
-    window.addEventListener("resize", () => this.drawRow());
+    window.addEventListener("resize", () => {
+      this.stage.drawSeen();
+      this.drawRow();
+    });
     window.addEventListener("beforeprint", () => this.print());
-    window.addEventListener("hashchange", () => this.fromAddress());
+    window.addEventListener("popstate", () => this.fromAddress());
     matchMedia("(prefers-color-scheme: dark)").addEventListener("change", () => this.drawAll());
     files.hearDrops((text, name) => this.open(text, name));
   }
@@ -526,12 +688,14 @@ class Workbench {
       ...{ ArrowLeft: "back", ArrowRight: "next", Home: "first", End: "last", a: "alarm-next" },
       ...{ A: "alarm-back", c: "change-next", C: "change-back", u: "undo", z: "undo", r: "redo" },
       ...{ " ": "run", ".": "tick", n: "event", "?": "help", p: "plan", s: "save", o: "open" },
-      e: "examples",
+      ...{ e: "examples", b: "new", d: "edit", "+": "closer", "=": "closer", "-": "wider", f: "fit" },
+      x: "to-alarm",
     };
     const id = ids[/** @type {keyof typeof ids} */ (event.key)];
     if (event.key === "i" || event.key === "/") by("line").focus();
     else if (event.key === "g") by("go").focus();
-    else if (id in this.actions() && !by(id).disabled) by(id).click();
+    else if (event.key === "[" || event.key === "]") this.stage.move(event.key === "[" ? -0.3 : 0.3);
+    else if (id !== undefined && !by(id).disabled) by(id).click();
     else return;
     event.preventDefault();
   }
@@ -543,7 +707,10 @@ class Workbench {
   openKept(name) {
     const kept = this.kept.find((it) => it.name === name);
     if (kept === undefined) return false;
-    if (kept.kind !== "exercise") return this.open(kept.text, name);
+    if (kept.kind !== "exercise") {
+      return this.open(kept.text, name, { ...NO_SOURCE, exercise: name });
+    }
+    this.predicted = {};
     const question = visible(files.questionOf(kept.text));
     const source = { ...NO_SOURCE, exercise: name, question, isHidden: true };
     return this.open(files.withoutQuestion(kept.text), name, source);
@@ -560,17 +727,165 @@ class Workbench {
     return { ...source, isHidden: false, isChanged };
   }
 
-  /** Opens what the link has after `#`: a request's number, an example, an exercise, a document. */
+  /** Opens what the address says. What can't be read of it is said, and nothing is opened. */
   async fromAddress() {
-    const mark = location.hash;
-    if (/^#[0-9]+$/.test(mark)) this.go(Number(mark.slice(1)));
-    else if (this.openKept(mark.slice(1))) return;
-    else if (mark.startsWith("#bench=")) {
-      const text = await files.documentOf(mark).catch(() => null);
-      if (text === null) this.say("The part of the link after # can't be read.");
-      else this.open(text, "From a link");
+    if (location.hash === this.mark) return;
+    this.mark = location.hash;
+    try {
+      const found = address.readAddress(location.hash);
+      document.body.classList.toggle("embed", found.isEmbedded);
+      if (!await this.openAddress(found)) return;
+      await this.doAgain(found);
+    } catch (fault) {
+      this.sayDamaged(fault instanceof address.Damaged ? fault.message : "");
     }
   }
+
+  /** @param {string} why */
+  sayDamaged(why) {
+    const more = why === "" ? "" : ` (${why})`;
+    this.noteOf(`The part of the link after # can't be read${more}.`);
+    this.drawNote();
+  }
+
+  /**
+   * Opens the document of an address. False where there is none to open.
+   * @param {address.Address} found
+   */
+  async openAddress({ name, bench }) {
+    if (bench !== "") {
+      const text = await files.unpacked(bench).catch(() => {
+        throw new address.Damaged("its document is damaged or cut");
+      });
+      return this.open(text, "From a link");
+    }
+    if (name === "new") this.openNew();
+    else if (name !== "" && !this.openKept(name)) {
+      this.noteOf(`There is no example or exercise named “${visible(name).slice(0, 60)}”.`);
+      this.drawNote();
+      return false;
+    } else if (name === "" && this.own !== "" && this.source.document !== this.own) {
+      this.open(this.own, "A run");
+    }
+    return true;
+  }
+
+  /**
+   * Does what was done, and shows what was seen.
+   * @param {address.Address} found
+   */
+  async doAgain({ done, at, see, isShown }) {
+    if (done !== "") {
+      const recipe = await address.readRecipe(done);
+      const old = this.view.run;
+      const { title, about, source, given } = old;
+      const run = this.clock.begunOf({ ...given, ...recipe.plan });
+      Object.assign(run, { title, about, source, given });
+      address.follow(run, recipe, this.clock);
+      this.history.now = { run, count: run.count, at: 0 };
+    }
+    if (isShown) this.source.isHidden = false;
+    this.drawAll();
+    if (see !== null && this.stage.scale !== null) {
+      this.stage.scale.see(see[0], see[1]);
+      this.stage.drawSeen();
+    }
+    if (at !== null) this.go(at);
+  }
+
+  /** The address says what is shown, a moment after nothing more happens. */
+  keep() {
+    clearTimeout(this.keeping);
+    this.keeping = setTimeout(() => this.keepNow(), KEPT_AFTER);
+  }
+
+  async keepNow() {
+    if (this.clock.isRunning) {
+      this.keep();
+      return;
+    }
+    const { at } = this.view;
+    const first = await address.documentMark(this.view, this.kept, this.own);
+    const { scale } = this.stage;
+    const seen = scale === null || scale.isWhole ? [] : [`see=${Math.round(scale.from)}-${Math.round(scale.to)}`];
+    const embedded = document.body.classList.contains("embed") ? ["embed"] : [];
+    const rest = [...(at === 0 ? [] : [`at=${at}`]), ...seen, ...embedded];
+    const isOwn = first === "" && rest.length === 1 && at > 0 && seen.length === 0;
+    const mark = isOwn ? `#${at}` : [`#${first}`, ...rest].join("&").replace("#&", "#");
+    if (mark === this.mark || (mark === "#" && this.mark === "")) return;
+    try {
+      const state = { id: `${Date.now()} ${Math.random()}` };
+      if (first === this.documentMark || this.mark === "") history.replaceState(state, "", mark);
+      else history.pushState(state, "", mark);
+    } catch {
+      // (an address that is too long, or too many of them: the old one stays)
+    }
+    [this.mark, this.documentMark] = [location.hash, first];
+    await this.storeBranches();
+  }
+
+  async storeBranches() {
+    const marksOf = (/** @type {any[]} */ views) => Promise.all(views.slice(-address.MOST_STORED).map(async (it) =>
+      ({ mark: await address.documentMark(it, this.kept, this.own), at: it.at, name: it.name })));
+    const { done, undone, branches } = this.history;
+    address.store({ id: history.state?.id, done: await marksOf(done), undone: await marksOf(undone),
+      branches: await marksOf(branches), named: this.history.named });
+  }
+
+  /** Undo and branches as they were, one after the other, beside what the reader does. */
+  async restore() {
+    const found = address.stored(history.state);
+    if (found === null) return;
+    const viewsOf = async (/** @type {any[]} */ rows) => {
+      const views = [];
+      for (const { mark, at, name } of rows) {
+        await new Promise((done) => { setTimeout(done, 0); });
+        const view = await this.viewOf(mark).catch(() => null);
+        if (view !== null) views.push({ ...view, at: Math.min(at, view.count), name });
+      }
+      return views;
+    };
+    const [done, undone, branches] = [await viewsOf(found.done), await viewsOf(found.undone), await viewsOf(found.branches)];
+    if (this.history.done.length > 0) return;
+    Object.assign(this.history, { done, undone, branches, named: found.named });
+    this.drawBranches();
+    this.drawRow();
+  }
+
+  /**
+   * The run of a document's part of an address, if it is of the document that is open.
+   * @param {string} mark
+   */
+  async viewOf(mark) {
+    const { name, bench, done } = address.readAddress(`#${mark}`);
+    const now = this.view.run;
+    const mine = address.readAddress(`#${this.documentMark}`);
+    if (name !== mine.name || bench !== mine.bench) return null;
+    if (done === "") {
+      const asked = requestsOf(now.given);
+      const plain = this.clock.runOf(now.given, asked);
+      Object.assign(plain, { title: now.title, about: now.about, source: now.source, isOpened: true });
+      return { run: plain, count: plain.count };
+    }
+    const recipe = await address.readRecipe(done);
+    const run = this.clock.begunOf({ ...now.given, ...recipe.plan });
+    Object.assign(run, { title: now.title, about: now.about, source: now.source, given: now.given });
+    address.follow(run, recipe, this.clock);
+    return { run, count: run.count };
+  }
+}
+
+/** How many rows the list has before and after the one that is shown. */
+const AROUND = 7;
+
+/**
+ * The rows of the list around one.
+ * @param {number} at
+ * @param {number} count
+ */
+function around(at, count) {
+  const from = Math.max(0, Math.min(at - AROUND, count - 2 * AROUND));
+  return [from, Math.min(count, from + 2 * AROUND)];
 }
 
 /**
@@ -587,13 +902,38 @@ function bytesOf(text) {
   return Uint8Array.from(atob(text.replace(/\s/g, "")), (it) => it.charCodeAt(0));
 }
 
-await start(bytesOf(by("module").textContent));
-const workbench = new Workbench();
-const given = files.textOfData(by("document").textContent.replace(/^\n/, ""));
-if (given !== "") workbench.open(given, "A run");
-else workbench.drawAll();
-await workbench.fromAddress();
-// (what the page opened with can't be undone)
-workbench.history.done = [];
-workbench.drawRow();
-document.documentElement.dataset.ready = "yes";
+/** Begins: with the document within the page, with what the address says, or with a landing. */
+async function begin() {
+  const workbench = new Workbench();
+  const given = files.textOfData(by("document").textContent.replace(/^\n/, ""));
+  workbench.own = given;
+  if (given !== "") workbench.open(given, "A run");
+  else if (/^#?(&.*)?$|^#[0-9]+$/.test(location.hash)) {
+    workbench.openKept(FIRST);
+    const [first] = workbench.view.run.alarms;
+    workbench.stage.scale?.see(0, 1.15 * workbench.view.run.ticksAt(first));
+    workbench.stage.drawSeen();
+    by("speed").value = "5";
+    workbench.guide.begin();
+  } else workbench.drawAll();
+  clearTimeout(workbench.keeping);
+  const isAsked = location.hash.length > 1;
+  await workbench.fromAddress();
+  if (!isAsked) workbench.mark = location.hash;
+  workbench.documentMark = await address.documentMark(workbench.view, workbench.kept, given);
+  // (what the page opened with can't be undone)
+  workbench.history.done = [];
+  workbench.drawRow();
+  document.documentElement.dataset.ready = "yes";
+  await workbench.restore();
+}
+
+try {
+  await start(bytesOf(by("module").textContent));
+} catch (fault) {
+  by("broken").hidden = false;
+  by("broken").textContent = "This page runs the proved machine as WebAssembly, which this browser "
+    + `doesn't have, or doesn't allow here (${/** @type {Error} */ (fault).message}). Nothing on it works without.`;
+  for (const it of document.querySelectorAll("button, input, select")) /** @type {any} */ (it).disabled = true;
+}
+if (by("broken").hidden) await begin();

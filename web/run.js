@@ -7,12 +7,14 @@
  * @typedef {import("../libagc/js/machine.js").Scene} Scene
  * @typedef {{ at: number, bank: number, left: number, due: number, since: number }} HeldTask
  * @typedef {{ row: number, line: string, who: string, reply: string, kind: number,
- *   step: StepType | null, scene: Scene, words: Uint16Array, jobsSince: number[],
+ *   step: StepType | null, scene: Scene, words: Uint16Array, jobsSince: number[], jobsFrom: number[],
  *   tasksSince: number[], before: Scene | null, after: Scene | null, ticks: number, time: number,
  *   afterWords: Uint16Array, last: Scene | null, era: number, begun: number, ended: number,
  *   isAfter?: boolean }} Shown
  */
 import { Kind, Machine, sceneOf } from "../libagc/js/machine.js";
+import { Column } from "./column.js";
+import { Lanes } from "./lanes.js";
 
 /** How many rows lie between two checkpoints. */
 const APART = 256;
@@ -86,6 +88,8 @@ class Witness {
     this.machine = machine;
     /** Since which row each job is there, by number: twice it, and 1 more where an era began so. */
     this.born = new Float64Array(9);
+    /** At which address each job began, by number. */
+    this.from = new Uint16Array(9);
     /** @type {HeldTask[]} */
     this.tasks = [];
     this.living = 0;
@@ -104,12 +108,15 @@ class Witness {
     this.eraTicks = 0;
     /** The clock that says which request comes next, where there is one. */
     this.clock = /** @type {any} */ (null);
+    /** Where it is told what each lane holds: of the run's last row alone. */
+    this.lanes = /** @type {Lanes | null} */ (null);
   }
 
   copy() {
-    const made = Object.assign(Object.create(Witness.prototype), this);
+    const made = Object.assign(Object.create(Witness.prototype), this, { lanes: null });
     made.machine = this.machine.copy();
     made.born = this.born.slice();
+    made.from = this.from.slice();
     made.clock = this.clock === null ? null : this.clock.copy();
     return /** @type {Witness} */ (made);
   }
@@ -133,17 +140,33 @@ class Witness {
     const fresh = beginsEra ? living : living & ~this.living;
     const gone = beginsEra ? 0 : this.living & ~living;
     if (beginsEra) [this.begun, this.ended] = [0, 0];
+    if (fresh !== 0) this.lookFrom(words, fresh);
     for (let job = 1; (fresh | gone) !== 0 && job <= 8; job++) {
       if ((fresh >> job) & 1) this.born[job] = 2 * row + (beginsEra ? 1 : 0);
       this.begun += (fresh >> job) & 1;
       this.ended += (gone >> job) & 1;
     }
     if (movesTasks) this.tasks = this.tasksIn(waiting(words), row, beginsEra);
+    if (this.lanes !== null) {
+      this.lanes.lookAtJobs(row, words, beginsEra);
+      if (movesTasks) this.lanes.lookAtTasks(row, this.tasks, beginsEra);
+    }
     this.living = living;
     this.running = words[11] <= MOST_RUNNING ? words[0] : 0;
     let areas = 0;
     for (let k = 84; k < 89; k++) if (words[k] === 0) areas += 1;
     this.use = used | (areas << 4) | (this.tasks.length << 8) | (this.running === 0 ? 1 << 12 : 0);
+  }
+
+  /**
+   * Notes at which addresses these jobs begin.
+   * @param {Uint16Array} words
+   * @param {number} fresh
+   */
+  lookFrom(words, fresh) {
+    for (let k = 0; k < words.length - 11; k += k === 72 ? 60 : 12) {
+      if (words[k + 11] !== FREE && (fresh >> words[k]) & 1) this.from[words[k]] = words[k + 8];
+    }
   }
 
   /**
@@ -171,45 +194,23 @@ class Witness {
    */
   ask(line, row) {
     const step = this.machine.ask(line);
-    this.served += 1;
-    this.log += 1;
-    if (step.kind === Kind.TICKED || step.kind === Kind.TICK_ALARMED) this.now += 1;
-    const beginsEra = step.beginsEra;
-    this.look(row, beginsEra, beginsEra || step.kind === Kind.LISTED || step.fired.length > 0);
-    if (beginsEra) [this.log, this.era, this.eraTicks] = [0, row, this.now];
+    this.took(step, row);
     return step;
-  }
-}
-
-/**
- * An array of numbers that grows.
- * @template {Uint8Array | Uint16Array | Uint32Array} T
- */
-class Column {
-  /** @param {new (count: number) => T} kind */
-  constructor(kind) {
-    this.kind = kind;
-    this.items = new kind(1024);
   }
 
   /**
-   * @param {number} at
-   * @param {number} value
+   * Looks at what came of a request. A centisecond in which no task is due changes only the time.
+   * @param {StepType} step
+   * @param {number} row
    */
-  set(at, value) {
-    if (at >= this.items.length) {
-      const longer = new this.kind(2 * this.items.length);
-      longer.set(this.items);
-      this.items = longer;
-    }
-    this.items[at] = value;
-  }
-
-  /** @param {number} count */
-  front(count) {
-    const made = new Column(this.kind);
-    made.items = /** @type {T} */ (this.items.slice(0, Math.max(1024, count)));
-    return made;
+  took(step, row) {
+    this.served += 1;
+    this.log += 1;
+    if (step.kind === Kind.TICKED || step.kind === Kind.TICK_ALARMED) this.now += 1;
+    if (step.kind === Kind.TICKED && step.fired.length === 0) return;
+    const beginsEra = step.beginsEra;
+    this.look(row, beginsEra, beginsEra || step.kind === Kind.LISTED || step.fired.length > 0);
+    if (beginsEra) [this.log, this.era, this.eraTicks] = [0, row, this.now];
   }
 }
 
@@ -236,7 +237,10 @@ export function afterOf(shown) {
   if (after === null) return shown;
   const since = after.tasks.map(() => 2 * row + 1);
   const words = afterWords;
-  return { ...shown, scene: after, last: scene, words, tasksSince: since, isAfter: true };
+  const jobs = after.sets.map(() => 2 * row + 1);
+  const from = after.sets.map((it) => it?.at ?? 0);
+  return { ...shown, scene: after, last: scene, words, tasksSince: since, isAfter: true,
+    jobsSince: jobs, jobsFrom: from };
 }
 
 export class Run {
@@ -264,11 +268,15 @@ export class Run {
     };
     /** @type {number[]} */
     this.alarms = [];
+    /** The rows that weren't served. @type {number[]} */
+    this.refused = [];
     /** After which rows the clock was given another timetable, and the bench before that. */
     /** @type {{ row: number, given: any, before: import("./bench.js").Bench }[]} */
     this.changes = [];
     const plan = { task: bench.task, phase: bench.phase };
     this.head = new Witness(new Machine({ sets: this.sets, plan, power: bench.power }));
+    this.lanes = new Lanes(this.sets);
+    this.head.lanes = this.lanes;
     this.head.look(0, true, true);
     this.columns.uses.set(0, this.head.use);
     this.checkpoints = [this.head.copy()];
@@ -297,15 +305,62 @@ export class Run {
    * @returns {StepType | null} what came of it; nothing where it was refused
    */
   ask(line, who) {
-    const row = this.count + 1;
-    const { kinds, numbers, by, marks, ticks, uses } = this.columns;
     const before = this.head.running;
     const refused = this.refusal(line);
-    const step = refused === 0 ? this.head.ask(line, row) : null;
+    const step = refused === 0 ? this.head.ask(line, this.count + 1) : null;
     if (step !== null) this.head.clock?.served(this.head.machine, step);
+    this.note(once(line), this.asker(who), step, refused, before);
+    return step;
+  }
+
+  /**
+   * Whether the clock may ask so many requests before the log is full or the allowance is used up.
+   * @param {number} most
+   */
+  hasRoomFor(most) {
+    return this.head.log + most < this.bench.limit
+      && BigInt(this.head.served + most) < this.bench.allowance;
+  }
+
+  /**
+   * Lets the clock ask at most so many requests, of which none may be refused: in one loop of the
+   * module. Returns how many these were: fewer, where its time is over.
+   * @param {number} most
+   * @param {(event: number | null) => string} whoOf
+   */
+  askByClock(most, whoOf) {
+    const { head } = this;
+    /** @type {Map<number | null, number>} */
+    const askers = new Map();
+    let left = most;
+    head.machine.run(head.clock, 0x7fffffff, (asked, step) => {
+      const { event } = asked;
+      let by = askers.get(event);
+      if (by === undefined) askers.set(event, by = this.asker(whoOf(event)));
+      const before = head.running;
+      head.took(step, this.count + 1);
+      this.note(asked.name === "tick" ? "tick" : once(asked.text), by, step, 0, before);
+      left -= 1;
+      return left > 0;
+    });
+    return most - left;
+  }
+
+  /**
+   * Keeps a row.
+   * @param {string} line
+   * @param {number} asker
+   * @param {StepType | null} step
+   * @param {number} refused
+   * @param {number} before who ran
+   */
+  note(line, asker, step, refused, before) {
+    const row = this.count + 1;
+    const { kinds, numbers, by, marks, ticks, uses } = this.columns;
     this.count = row;
-    this.lines.push(once(line));
-    by.set(row, this.asker(who));
+    this.lines.push(line);
+    by.set(row, asker);
+    if (this.who[asker].startsWith("event ")) this.noteEvent(row, asker);
     kinds.set(row, step === null ? refused : step.kind);
     numbers.set(row, step === null ? 0 : step.number);
     ticks.set(row, this.head.now);
@@ -313,8 +368,21 @@ export class Run {
     const changes = step !== null && isChange(step, line, before, this.head.running);
     marks.set(row, (changes ? CHANGE : 0) | (step !== null && step.alarm !== 0 ? ALARM : 0));
     if (step !== null && step.alarm !== 0) this.alarms.push(row);
+    if (step === null) this.refused.push(row);
     if (row % APART === 0) this.checkpoints.push(this.head.copy());
-    return step;
+  }
+
+  /**
+   * An event with several requests is one mark.
+   * @param {number} row
+   * @param {number} asker
+   */
+  noteEvent(row, asker) {
+    const { count, rows, by } = this.lanes.events;
+    const last = count === 0 ? -1 : rows.items[count - 1];
+    const isSame = last >= 0 && by.items[count - 1] === asker
+      && this.ticksAt(last) === this.head.now;
+    if (!isSame) this.lanes.event(row, asker);
   }
 
   /**
@@ -382,7 +450,10 @@ export class Run {
     made.bench = this.changes.find((it) => it.row > row)?.before ?? this.bench;
     made.changes = this.changes.filter((it) => it.row <= row);
     made.alarms = this.alarms.filter((it) => it <= row);
+    made.refused = this.refused.filter((it) => it <= row);
     made.head = this.stateAt(row, true);
+    made.lanes = this.lanes.front(row);
+    made.head.lanes = made.lanes;
     made.checkpoints = this.checkpoints.slice(0, Math.floor(row / APART) + 1);
     return /** @type {Run} */ (made);
   }
@@ -414,8 +485,21 @@ export class Run {
   isChanged(count) {
     const spelled = (/** @type {any} */ { steal, job, event }) =>
       JSON.stringify([steal, job, event]);
-    const byHand = [...this.counts(count)].some(([who, n]) => n > 0 && who.startsWith("you"));
-    return byHand || spelled(this.bench) !== spelled(this.given);
+    const { bench, given } = this;
+    return this.handRows(count) > 0 || spelled(bench) !== spelled(given)
+      || bench.sets !== given.sets || bench.task !== given.task;
+  }
+
+  /**
+   * How many of the first rows were asked by hand.
+   * @param {number} count
+   */
+  handRows(count = this.count) {
+    const isHand = this.who.map((it) => it.startsWith("you"));
+    if (!isHand.includes(true)) return 0;
+    let found = 0;
+    for (let row = 1; row <= count; row++) if (isHand[this.columns.by.items[row]]) found += 1;
+    return found;
   }
 
   /** @param {number} row */
@@ -511,6 +595,7 @@ export class Run {
       reply: isBroken ? "alarm 1107" : "restarted",
       ...{ kind: Kind.RESTARTED, step: null, scene, words: state.machine.words },
       ...{ jobsSince: scene.sets.map(() => 1), tasksSince: scene.tasks.map(() => 1) },
+      jobsFrom: scene.sets.map((it) => it?.at ?? 0),
       ...{ before: null, after: null, ticks: 0, time: 0, afterWords: state.machine.words },
       ...{ last: null, era: 0, begun: state.begun, ended: state.ended },
     };
@@ -532,6 +617,7 @@ export class Run {
     const wasServed = row > 1 && this.columns.kinds.items[row - 1] < SPENT;
     const last = sceneOf(wasServed ? machine.moment : machine.words);
     const born = state.born.slice();
+    const from = state.from.slice();
     const isServed = kind < SPENT;
     const older = isServed ? Object.assign(Object.create(Witness.prototype), state) : state;
     const step = isServed ? state.ask(line, row) : null;
@@ -547,6 +633,8 @@ export class Run {
       reply: step !== null ? step.text : kind === SPENT ? "refused spent" : "refused log full",
       jobsSince: scene.sets.map((job) =>
         job === null ? 0 : (living >> job.number) & 1 ? born[job.number] : 2 * row),
+      jobsFrom: scene.sets.map((job) =>
+        job === null ? 0 : (living >> job.number) & 1 ? from[job.number] : job.at),
       tasksSince: tasks.map((it) => it.since),
       ticks: state.now,
       time: state.now - eraTicks,

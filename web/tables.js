@@ -4,6 +4,7 @@
  * @typedef {import("./run.js").Shown} Shown
  * @typedef {import("../libagc/js/machine.js").Scene} Scene
  * @typedef {import("./account.js").Names} Names
+ * @typedef {import("./colours.js").Colours} Colours
  */
 import { nameOfRestart } from "./account.js";
 import { by, fill, make } from "./dom.js";
@@ -30,45 +31,64 @@ function differs(one, other) {
 }
 
 /**
- * @param {Scene} scene
+ * @param {Shown} shown
  * @param {number} k
  * @param {Names} names
+ * @param {Colours} colours
  * @param {boolean} isNew
  */
-function setBox(scene, k, names, isNew) {
+function setBox(shown, k, names, colours, isNew) {
+  const { scene, jobsFrom } = shown;
   const job = scene.sets[k];
   if (job === null) return box(`set ${k}`, "free", [], "free", isNew);
   const runs = k === 0 && scene.running === job.number;
   const isNamed = scene.next === job.number && scene.next !== scene.running;
   const stands = runs ? "runs" : job.asleep ? "asleep" : isNamed ? "NEWJOB" : "waits";
   const state = `${stands}${job.area > 0 ? `, area ${job.area}` : ""}`;
-  const style = `${job.asleep ? `asleep s${job.number}` : `j${job.number}`}${runs ? " runs" : ""}`;
+  const colour = 1 + colours.of(jobsFrom[k]);
+  const style = `${job.asleep ? `asleep s${colour}` : `j${colour}`}${runs ? " runs" : ""}`;
+  const moved = comes(shown, k);
   const more = [`priority ${octal(job.priority, 2)}`, names.job(job.at) ?? octal(job.at, 5), state];
-  return box(`set ${k}`, `job ${job.number}`, more, style, isNew);
+  return box(`set ${k}`, `job ${job.number}`, more, `${style}${moved}`, isNew);
+}
+
+/**
+ * How a job moves that has just come, or fallen asleep, or woken.
+ * @param {Shown} shown
+ * @param {number} k
+ */
+function comes({ scene, last, isAfter }, k) {
+  const job = scene.sets[k];
+  if (last === null || job === null || isAfter) return "";
+  const before = last.sets.find((it) => it?.number === job.number);
+  if (before === undefined || before === null) return " comes";
+  return before.asleep !== job.asleep ? " turns-over" : "";
 }
 
 /**
  * Draws core sets into a list.
  * @param {string} id
- * @param {Scene} scene
- * @param {Scene | null} before
+ * @param {Shown} shown
  * @param {Names} names
+ * @param {Colours} colours
  */
-export function drawSets(id, scene, before, names) {
+export function drawSets(id, shown, names, colours) {
+  const { scene, last: before } = shown;
   fill(id, scene.sets.map((job, k) => {
     const isNew = before !== null && (differs(job, before.sets[k])
       || (k === 0 && scene.running !== before.running));
-    return setBox(scene, k, names, isNew);
+    return setBox(shown, k, names, colours, isNew);
   }));
 }
 
 /**
- * @param {Scene} scene
- * @param {Scene | null} before
+ * @param {Shown} shown
+ * @param {Colours} colours
  */
-function drawAreas(scene, before) {
+function drawAreas({ scene, last: before, jobsFrom }, colours) {
   fill("areas", scene.areas.map((owner, k) => {
-    const style = owner === 0 ? "free" : `j${owner}`;
+    const set = scene.sets.findIndex((it) => it?.number === owner);
+    const style = owner === 0 ? "free" : `j${1 + colours.of(jobsFrom[set])}`;
     const isNew = before !== null && owner !== before.areas[k];
     return box(`area ${k + 1}`, owner === 0 ? "free" : `job ${owner}`, [], style, isNew);
   }));
@@ -109,10 +129,21 @@ function drawBase({ phases, codes, next, running }, before) {
   fill("codes", codes.map((it, k) => box(["first", "second", "latest"][k],
     it === 0 ? "none" : octal(it, 4), [], it === 0 ? "free" : "lit",
     before !== null && it !== before.codes[k])));
+  drawDisplay(codes);
   const isNamed = next !== 0 && next !== running;
   const named = isNamed ? `job ${next}` : "no other";
   const isNew = before !== null && next !== before.next;
   fill("newjob", [box("names", named, [], isNamed ? "lit" : "free", isNew)]);
+}
+
+/**
+ * What the astronauts had of FAILREG: a light, and on VERB 05 NOUN 09 the three codes.
+ * @param {number[]} codes
+ */
+function drawDisplay(codes) {
+  const isLit = codes.some((it) => it !== 0);
+  fill("dsky", [make("span", { class: isLit ? "prog on" : "prog" }, isLit ? "PROG on" : "PROG off"),
+    make("span", {}, `VERB 05 NOUN 09: ${codes.map((it) => octal(it, 5)).join(" ")}`)]);
 }
 
 /**
@@ -157,12 +188,14 @@ function drawHeadings({ isAfter, line, scene }) {
  * Draws the tables of a row.
  * @param {Shown} shown
  * @param {Names} names
+ * @param {Colours} colours
  */
-export function drawTables(shown, names) {
+export function drawTables(shown, names, colours) {
   const { scene, last } = shown;
   drawHeadings(shown);
-  drawSets("sets", scene, last, names);
-  drawAreas(scene, last);
+  for (const id of ["sets", "tasks"]) by(id).classList.toggle("swept", shown.isAfter === true);
+  drawSets("sets", shown, names, colours);
+  drawAreas(shown, colours);
   drawTasks(scene, shown.tasksSince, shown.row, names);
   drawBase(scene, last);
   markFull(shown.isAfter ? 0 : shown.step?.alarm ?? 0);

@@ -20,6 +20,9 @@ export class Unread extends Error {
   }
 }
 
+/** In which line each item of an array stands. @type {WeakMap<object, number[]>} */
+export const linesOf = new WeakMap();
+
 const ESCAPES = { b: "\b", t: "\t", n: "\n", f: "\f", r: "\r", '"': '"', "\\": "\\" };
 // What may stand in a text: no control but the tab.
 const CONTROL = /[\u0000-\u0008\u000a-\u001f\u007f]/;
@@ -222,10 +225,15 @@ class Reader {
 
   /** @param {number} depth */
   array(depth) {
+    /** @type {Value[]} */
     const items = [];
+    /** @type {number[]} */
+    const lines = [];
+    linesOf.set(items, lines);
     for (;;) {
       this.blanks();
       if (this.takes("]")) return items;
+      lines.push(this.line);
       items.push(this.value(depth + 1));
       this.blanks();
       if (this.takes("]")) return items;

@@ -6,6 +6,8 @@
  * @typedef {import("./run.js").Shown} Shown
  */
 import { nameOfRestart } from "./account.js";
+import { FIRST_ASKED } from "./first.js";
+import { LOG_FULL } from "./run.js";
 import { visible } from "./words.js";
 
 /** How many events may be left out. */
@@ -18,11 +20,10 @@ const MOST_EVENTS = 2;
  */
 function atBeginning(workbench, shown) {
   const { run, count } = workbench.view;
-  const actions = workbench.actions();
   if (count === 0 && run.source.document !== "") return [];
   if (count === 0) {
-    return [["A landing with alarm 1202", () => workbench.openKept("landing-1202")],
-      ["Open an example", actions.examples], ["Help", actions.help]];
+    const asks = FIRST_ASKED.map(([line]) => /** @type {Try} */ ([line, () => workbench.ask(line, "you")]));
+    return [...asks, ["A landing with alarm 1202", () => workbench.openKept("landing-1202")]];
   }
   const alarm = run.alarms.find((/** @type {number} */ row) => row > shown.row && row <= count);
   return alarm === undefined ? [] : [["To the first alarm", () => workbench.go(alarm)]];
@@ -87,6 +88,9 @@ function atRestart(workbench, shown) {
  */
 export function tries(workbench, shown) {
   if (shown.row === 0) return workbench.isHidden ? [] : atBeginning(workbench, shown);
+  if (shown.kind === LOG_FULL) {
+    return [["With room for a million requests", () => workbench.replan({ limit: 1_000_000 })]];
+  }
   const isAlarm = shown.step !== null && shown.step.alarm !== 0 && !shown.isAfter;
   const more = isAlarm && !workbench.isHidden ? atAlarm(workbench, shown) : [];
   return [...atRestart(workbench, shown), ...more];

@@ -2,6 +2,7 @@
  * The line in which a request is typed: what may come next, history, and what is wrong.
  */
 import { by, fill, make } from "./dom.js";
+import { forgiven, requestsIn } from "./forgive.js";
 import { FORMS, MEANINGS, PARTS, REQUESTS, formOf, lineFault, octal } from "./words.js";
 
 /** How many completions are offered. */
@@ -75,6 +76,7 @@ export class Prompt {
     this.field.addEventListener("input", () => this.typed());
     this.field.addEventListener("keydown", (/** @type {KeyboardEvent} */ event) => this.key(event));
     this.field.addEventListener("blur", () => this.close());
+    this.field.addEventListener("paste", (/** @type {ClipboardEvent} */ event) => this.paste(event));
     by("enter").addEventListener("click", () => this.enter());
     this.hint(hintOf(""), false);
   }
@@ -149,7 +151,7 @@ export class Prompt {
   }
 
   enter() {
-    const line = this.field.value.trim();
+    const { line, told } = forgiven(this.field.value);
     const fault = lineFault(line);
     this.close();
     if (fault !== null) {
@@ -159,8 +161,25 @@ export class Prompt {
     this.history = [...this.history.filter((it) => it !== line), line];
     this.back = 0;
     this.field.value = "";
-    this.hint(hintOf(""), false);
+    this.hint(told === "" ? hintOf("") : `Asked: ${line}. ${told[0].toUpperCase()}${told.slice(1)}.`, false);
     this.ask(line);
+  }
+
+  /**
+   * Lines that are pasted are asked one after the other, up to the first that is none.
+   * @param {ClipboardEvent} event
+   */
+  paste(event) {
+    const text = event.clipboardData?.getData("text/plain").trim() ?? "";
+    if (!text.includes("\n")) return;
+    event.preventDefault();
+    try {
+      const lines = requestsIn(text);
+      for (const line of lines) this.ask(line);
+      this.hint(`${lines.length} lines were asked.`, false);
+    } catch (fault) {
+      this.hint(`Nothing was asked: ${/** @type {Error} */ (fault).message}`, true);
+    }
   }
 
   /** @param {KeyboardEvent} event */

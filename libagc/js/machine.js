@@ -820,7 +820,9 @@ export class Asked {
   static read() {
     const place = at.request / 4;
     const name = NAMES[numbers[place] - 1];
-    const given = Array.from(numbers.subarray(place + 1, place + 1 + WIDTHS[name].length));
+    const count = WIDTHS[name].length;
+    // (most are ticks, which have none)
+    const given = count === 0 ? [] : Array.from(numbers.subarray(place + 1, place + 1 + count));
     const source = numbers[at.answer / 4 + 1];
     return new Asked(name, given, source === 1 ? null : source - 2);
   }

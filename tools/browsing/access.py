@@ -182,14 +182,14 @@ def names(browser, folder):
 
 
 # The controls of the page, in its order, and which of them has the focus.
-CONTROLS = """Array.from(document.querySelectorAll('button, input, select, summary, a[href]'))
+CONTROLS = """Array.from(document.querySelectorAll('button, input, select, summary, a[href]')).filter((it) => it.tabIndex >= 0)
   .filter((it) => !it.disabled && it.getClientRects().length > 0)"""
 
 
 def reach(browser, trial, told):
     """The tabulator reaches each control, in the order of the page, and the focus is seen."""
     count, reached = browser.value(f"{CONTROLS}.length"), []
-    for _ in range(count + 2):
+    for _ in range(count + 14):
         browser.press("Tab")
         reached.append(browser.value(f"{CONTROLS}.indexOf(document.activeElement)"))
         seen = browser.value(OUTLINE)

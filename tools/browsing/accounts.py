@@ -41,7 +41,7 @@ def try_alarms(browser, trial):
 
 # Of rows of that run: what their accounts have, and the boxes that are marked as changed.
 TOLD = {
-    1: ("Done.|Asked by event begin.", "group 2"),
+    1: ("Group 2 is in phase 3. After a restart “novac 15 05100 00007” and “list 9 02100 00005” are asked for again.|Asked by event begin.", "group 2"),
     2: ("Job 1 is established at 04000, in core set 0 with VAC area 1. It runs.", "set 0, area 1"),
     3: ("Job 2 is established at 04100, in core set 1. It waits.", "set 1, names"),
     4: ("No job sleeps at that address.", ""),
@@ -117,8 +117,8 @@ def try_accounts(browser, trial):
     browser.press("ArrowRight")
     browser.press("ArrowRight")
     told = browser.value("Array.from(document.querySelectorAll('#sets li'), (it) => `${it.className}: ${it.innerText}`).slice(0, 2)")
-    trial.expect(f"{told}", told[0].split("\n") == ["j2 runs new: set 0", "job 2", "priority 30", "04100", "runs", "changed"]
-                 and told[1].split("\n") == ["asleep s1 new: set 1", "job 1", "priority 20", "06000", "asleep, area 1", "changed"])
+    trial.expect(f"{told}", told[0].split("\n") == ["j4 runs new: set 0", "job 2", "priority 30", "04100", "runs", "changed"]
+                 and told[1].split("\n") == ["asleep s3 turns-over new: set 1", "job 1", "priority 20", "06000", "asleep, area 1", "changed"])
     word = browser.value("document.querySelector('#words-rows tr').textContent")
     trial.expect(f"the words stay: {word}", word == "000002core set 0, number")
     browser.value("document.getElementById('words-box').open = false")
@@ -201,7 +201,7 @@ def try_rows(browser, trial):
         trial.expect(f"row {current} is marked, not {row}", current == str(row))
     go_to(browser, "50")
     changed = browser.value("Array.from(document.querySelectorAll('#lines tr.change'), (it) => it.textContent).join(' ')")
-    trial.expect(f"the change: {changed}", changed == "5049novac 20 04000 00005job 111/20 . . . . . .. . . . .-the script")
+    trial.expect(f"the change: {changed}", changed == "500.49novac 20 04000 00005job 111/20 . . . . . .. . . . .-the script")
     browser.value("document.querySelectorAll('#lines tr')[3].click()")
     says(browser, trial, "a row that is clicked", "Request 46 of 100")
     for key, wanted in ("c", 50), ("Home", 0), ("n", 50):

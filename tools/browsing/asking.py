@@ -6,7 +6,7 @@ from browsing.pages import go_to, open_text, says, texts, type_line
 def try_typing(browser, trial):
     for line, wanted in (("novac 28 02000 00005", "a priority is octal, 01 to 37"),
                          ("tock", 'did you mean "tick"?'), ("list 0 02000 00005", "a delay is decimal"),
-                         ("novac  20 02000 00005", 'it has the form "novac P A W"')):
+                         ("novac 20 2000", 'it has the form "novac P A W"')):
         type_line(browser, line)
         trial.expect(f"{line}: {browser.text('hint')}", wanted in browser.text("hint"))
         browser.value("document.getElementById('line').value = ''")
@@ -134,7 +134,7 @@ def try_offers(browser, trial):
 BEYOND = (("novac 00 02000 00005", "a priority"), ("prio 40", "a priority"), ("sleep 00000", "an address"), ("rouse 40000", "an address"),
           ("list 16251 02000 00005", "a delay"), ("list 0 02000 00005", "a delay"), ("store 0 00000", "a work word's place"),
           ("store 7 00000", "a work word's place"), ("phase 0 1", "a group"), ("phase 7 1", "a group"), ("phase 1 128", "a phase"),
-          ("novac 20 02000 0000", "a word"), ("novac 20 02000 100000", "a word"))
+          ("novac 20 02000 100000", "a word"))
 WITHIN = ("novac 01 00001 00000", "prio 37", "store 1 00000", "store 6 77777", "list 1 00001 00000", "list 16250 37777 77777", "phase 1 0", "phase 6 127")
 
 

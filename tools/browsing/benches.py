@@ -25,7 +25,7 @@ def words(browser, folder):
     """Random benches are opened, and each tenth typed in request by request: the words at the end are
     those of agc serial."""
     trial, dice = Trial("words"), random.Random(7)
-    browser.show(save(folder, "words", written(PROGRAM, "page", "")))
+    browser.show(save(folder, "words", written(PROGRAM, "page", "")), "#new")
     browser.value("document.getElementById('words-box').open = true")
     for k in range(COUNTS["benches"]):
         bench, lines = random_bench(dice)

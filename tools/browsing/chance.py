@@ -118,7 +118,7 @@ def play(browser, trial):
 def soak(browser, folder):
     """Random keys, clicks and documents alone."""
     trial = Trial(f"soak from seed {COUNTS['seed']}")
-    browser.show(save(folder, "soak", written(PROGRAM, "page", "")))
+    browser.show(save(folder, "soak", written(PROGRAM, "page", "")), "#new")
     play(browser, trial)
     return trial.faults
 

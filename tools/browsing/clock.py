@@ -57,7 +57,7 @@ def clock(browser, folder):
     and to the words that agc serial leaves of these. Then time is let run and pause, a slider forks,
     and what is tried at an alarm prevents it."""
     trial, dice = Trial("clock"), random.Random(5)
-    browser.show(save(folder, "clock", written(PROGRAM, "page", "")))
+    browser.show(save(folder, "clock", written(PROGRAM, "page", "")), "#new")
     browser.value("document.getElementById('words-box').open = true")
     for k in range(COUNTS["scenarios"]):
         scenario = random_scenario(dice) if k % 2 == 0 else plain_scenario(k)
@@ -123,7 +123,8 @@ def try_alarm(browser, trial):
 def try_landing(browser, trial):
     """With nothing but the page one finds why alarm 1202 comes in a landing, and what would have prevented
     it: the times are those of the table in docs/LANDING.md, the counts those of agc_watch peaks."""
-    open_text(browser, "")
+    browser.click("new")
+    browser.value("document.activeElement.blur()")
     trial.expect("no landing", press_try(browser, "A landing with alarm 1202"))
     trial.expect("no way to its alarm", press_try(browser, "To the first alarm"))
     says(browser, trial, "the landing", "at 30.50 s: tick. Reply: tick 02100/00005 alarm 1202.")
@@ -147,8 +148,6 @@ def try_slider_by_keys(browser, trial):
     """Begins with what try_landing leaves: stolen time goes from 15 % down."""
     count = "document.querySelectorAll('#branches li').length"
     branches = browser.value(count)
-    browser.value("document.getElementById('whole').focus()")
-    browser.press(" ")
     browser.value("document.querySelector('#sliders input').focus()")
     for times, wanted in (7, "1 alarm: 1202, in request "), (3, "1 alarm: 1202, in request "), (3, "no alarm"):
         for _ in range(times):
@@ -159,6 +158,6 @@ def try_slider_by_keys(browser, trial):
         at = {7: "at 38.50 s;", 3: "at 50.50 s;"}.get(times) if wanted != "no alarm" else "no alarm;"
         trial.expect(f"less stolen time, {at}: {told}", at in told.split("Now: ")[1])
     trial.expect("a branch for each step", browser.value(count) == branches + 1)
-    browser.value("document.activeElement.blur(); document.getElementById('whole').click()")
+    browser.value("document.activeElement.blur()")
     browser.press("u")
     says(browser, trial, "the slider undone", "alarm 1202")

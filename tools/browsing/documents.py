@@ -98,11 +98,11 @@ def try_examples(browser, trial):
     time.sleep(0.2)
     trial.expect(f"code in a question: {texts(browser, '#question code')}", texts(browser, "#question code") == "end")
     for mark, wanted in (mark_of(b"\xef\xbb\xbf\xef\xbb\xbfsets = 8\n"), "line 1: a key is expected"), (mark_of(b"#" * 2_000_000), ""):
-        browser.value("document.getElementById('sentence').textContent = ''")
         browser.value(f"location.hash = {json.dumps(mark)}")
         time.sleep(0.5)
-        found = browser.value("document.getElementById('fault')?.textContent ?? document.getElementById('sentence').textContent")
-        trial.expect(f"a link: {found}", wanted in found if wanted else found == "The part of the link after # can't be read.")
+        found = browser.value("document.getElementById('fault')?.textContent ?? document.getElementById('note').textContent")
+        trial.expect(f"a link: {found}", wanted in found if wanted else
+                     found == "The part of the link after # can't be read (its document is damaged or cut).")
         browser.press("Escape")
     for k in range(4):
         open_text(browser, f"# {'a' * k * k}\n")

@@ -1,10 +1,9 @@
 """Exercises: their questions, their answers, and what a change makes of them."""
-import json
 import re
 import time
 
 from browsing.browser import LAPTOP, PHONE
-from browsing.pages import exercise, open_text, saved, says, texts, type_line
+from browsing.pages import edit_text, exercise, open_text, saved, says, texts, type_line
 
 
 def try_exercise(browser, trial):
@@ -58,7 +57,7 @@ def try_questions(browser, trial):
                  "12 requests follow, with 1 alarm: 1201, in request 12 at 0.01 s.")
     open_text(browser, "")
     told = texts(browser, "#account li")
-    trial.expect(f"an empty bench: {told}", told == "Nothing has been asked: there is no job, no task waits, and all phases are 0.")
+    trial.expect(f"an empty bench: {told}", told.startswith("Nothing has been asked: there is no job, no task waits, and all phases are 0.|Try these, or press Run:|novac 20 "))
     open_text(browser, "# It takes `sets = 8`, *not* 7.\nscript = [\"tick\"]\n")
     told = texts(browser, "#account li"), texts(browser, "#account code"), texts(browser, "#account em")
     trial.expect(f"what a document says: {told}", told == ("It takes sets = 8, not 7.|1 request follows, with no alarm.", "sets = 8", "not"))
@@ -72,14 +71,13 @@ def try_editing(browser, trial):
     exercise(browser, 4)
     question = texts(browser, "#question p")
     browser.click("change-exercise")
-    text = browser.value("document.getElementById('pasted').value")
+    text = browser.value("document.getElementById('edit-text').value")
     trial.expect(f"the editor has {text[:60]}", text.startswith("script = [\n") and "#" not in text)
     at = browser.value("[document.activeElement.id, document.activeElement.selectionStart].join()")
-    trial.expect(f"the editor begins at {at}", at == "pasted,0")
-    trial.expect("the question isn't kept", browser.value("document.getElementById('keep-question').checked"))
+    trial.expect(f"the editor begins at {at}", at == "edit-text,0")
     changed = text.replace('"end",\n', '"end", "end", "end",\n', 3)
-    browser.value(f"document.getElementById('pasted').value = {json.dumps(changed)}")
-    browser.click("open-pasted")
+    edit_text(browser, changed)
+    browser.press("Escape")
     told = texts(browser, "#question p"), texts(browser, "#question pre"), texts(browser, "#question code"), browser.text("title")
     trial.expect(f"the exercise, changed: {told}", told == (question, changed.strip(), "end", "How many ends are missing?"))
     trial.expect("it isn't said that it is changed", "You have changed this exercise." in browser.value(shown)
@@ -109,7 +107,8 @@ def try_editing(browser, trial):
     browser.click("exercise-again")
     told = texts(browser, "#question pre"), saved(browser)[1]
     trial.expect(f"the exercise again: {told}", told[0] == text.strip() and told[1].endswith("#exercise-4"))
-    browser.click("change-exercise")
+    browser.click("open")
+    trial.expect("the question isn't kept", browser.value("document.getElementById('keep-question').checked"))
     browser.click("keep-question")
     browser.click("open-pasted")
     trial.expect("a question that isn't kept", browser.value("document.getElementById('question').hidden"))

@@ -23,7 +23,7 @@ def hands(browser, folder):
     path = save(folder, "hands", written(PROGRAM, "page", ""))
     for size in PHONE, LAPTOP:
         browser.width(*size)
-        browser.show(path)
+        browser.show(path, "#new")
         try_typing(browser, trial)
         try_branches(browser, trial)
         try_form(browser, trial)
@@ -34,7 +34,7 @@ def hands(browser, folder):
     trial.expect(f"{browser.shown()['broken']}", not browser.shown()["broken"])
     for part in (try_questions, try_editing, try_orders, try_restarts, try_axis, try_names, try_strip, try_panel, try_offers, try_bounds, try_forms, try_keys, try_meanings, try_files, try_examples, try_plans, try_beside,
                  try_tries, try_looks, try_tops, try_asides, try_percent, try_endings):
-        browser.show(path)
+        browser.show(path, "#new")
         part(browser, trial)
     trial.expect(f"{browser.shown()['broken']}", not browser.shown()["broken"])
     return trial.faults

@@ -53,11 +53,9 @@ def try_history(browser, trial):
 def try_beside(browser, trial):
     """What stands beside a run, at its own row of the same time, and what came of both; a document puts it away."""
     open_text(browser, PANEL)
-    browser.click("whole")
     go_to(browser, "0.15 s")
     browser.value("(() => { const it = document.querySelector('#sliders input'); it.value = '0'; it.dispatchEvent(new Event('change')); })()")
     says(browser, trial, "changed from the beginning", "Request 17 of 204, at 0.15 s")
-    browser.click("whole")
     browser.value("Array.from(document.querySelectorAll('#branches button')).find((it) => it.textContent === 'Compare').click()")
     go_to(browser, "0.15 s")
     told = browser.text("sentence"), browser.text("beside-name")

@@ -9,10 +9,13 @@ KEYED = (("ArrowLeft", "back", "Row before (left arrow)"), ("ArrowRight", "next"
          ("End", "last", "Last row (End)"), ("a", "alarm-next", "Next alarm (a)"), ("A", "alarm-back", "Alarm before (A)"),
          ("c", "change-next", "Next change (c)"), ("C", "change-back", "Change before (C)"), ("u", "undo", "Undo (u)"), ("r", "redo", "Redo (r)"),
          (" ", "run", "Run or pause (space)"), (".", "tick", "One centisecond (.)"), ("n", "event", "To the next event or change (n)"),
-         ("o", "open", ""), ("e", "examples", ""), ("p", "plan", ""), ("s", "save", ""), ("?", "help", ""))
+         ("o", "open", ""), ("e", "examples", ""), ("p", "plan", ""), ("s", "save", ""), ("?", "help", ""),
+         ("+", "closer", "Closer (+)"), ("f", "fit", "All of the run (f)"), ("-", "wider", "Wider (-)"),
+         ("x", "to-alarm", "To the next alarm, closer (x)"), ("d", "edit", "The document, beside its run (d)"), ("b", "new", "An empty bench (b)"))
 HELPED = ("← → the row before, the next row", "Home End the first row, the last", "a A the next alarm, the alarm before",
           "c C the next change, the change before", "g go to a request or a time", "i / type a request", "space run the clock, or pause",
-          ". n a centisecond; to the next event", "u r undo, redo", "o e p s open, examples, plan, save", "? this help")
+          ". n a centisecond; to the next event", "u r undo, redo", "b o e new, open, examples", "d p s edit, plan, save", "+ - closer, wider",
+          "[ ] move along the chart", "f x all of the chart; to an alarm", "? this help")
 
 # What the help says of each request.
 MEANT = ("novac P A W establish a job without a VAC area|findvac P A W establish a job with a VAC area|end end the running job|"
@@ -70,6 +73,7 @@ def try_keys(browser, trial):
         trial.expect(f"the help says {helped}", key != "?" or list(dict.fromkeys(helped.split("|"))) == list(HELPED))
         browser.press("Escape")
         time.sleep(0.05)
+    browser.value("document.getElementById('line').value = ''")
     for key, field in ("g", "go"), ("i", "line"), ("/", "line"):
         browser.press(key)
         found = browser.value("document.activeElement.id"), browser.value("document.activeElement.value")

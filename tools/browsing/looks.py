@@ -1,5 +1,6 @@
 """How it looks: styles, and what is seen first at each size."""
 import json
+import time
 
 from browsing.pages import open_text, says, texts
 
@@ -16,13 +17,14 @@ LOOKS = """(() => {
 })()"""
 LOOK = ('solid, " Δ", line-through, dashed, status polite, status polite, status polite, Core sets: 7 of 7 in use, , VAC areas: 0 of 5 in use, Waitlist: 0 of 9 in use, Phases, '
         "FAILREG, NEWJOB, Alarm 1202: why, First, Back, Next, Last, Alarm before, Alarm after, Change before, Change after, Undo, Redo, "
+        "Closer, Wider, Fit, Tothealarm, Forgetbefore, Run, cs, Nextevent, "
         "no, time, request, reply, running, sets, areas, tasks, asked by")
 
 
 def try_looks(browser, trial):
     """How an alarm, a change, a refusal, a sleeper and what is new look; names of lists, buttons and columns; what is said where there
     is no alarm."""
-    trial.expect(browser.text("title"), browser.text("title") == "AGC workbench")
+    trial.expect(browser.text("title"), browser.text("title") == "An empty bench")
     asked = ["novac 20 04000 00005", "sleep 04100", *7 * ["novac 20 04000 00005"], "tick"]
     open_text(browser, f"allowance = 9\nscript = {json.dumps(asked)}\n")
     browser.click("alarm-next")
@@ -45,20 +47,21 @@ def try_looks(browser, trial):
 
 def try_tops(browser, trial):
     """An account leads to the table that was full, and begins at its top, as a dialog does; areas have the colours of their owners."""
-    marks = browser.value("location.hash")
-    for text, part in ((8 * ["novac 20 04000 00005"], "sets"), (10 * ["list 5 02000 00005"], "tasks"), (6 * ["findvac 20 04000 00005"], "areas")):
+    for text, part in ((8 * ["novac 20 04000 00005"], "sets"), (10 * ["list 5 02000 00005"], "tasks"), ([f"findvac 20 0400{k} 00005" for k in range(6)], "areas")):
         open_text(browser, f"script = {json.dumps(text)}\n")
         browser.click("alarm-next")
         full = browser.value("document.querySelector('.full').id"), browser.value("document.querySelector('#account a').getAttribute('href')")
         trial.expect(f"full: {full}", full == (part, f"#{part}-name"))
+        time.sleep(0.5)
+        mark = browser.value("location.hash")
         browser.value("document.querySelector('#account a').click()")
-        trial.expect("a link changes the address", browser.value("location.hash") == marks)
+        trial.expect("a link changes the address", browser.value("location.hash") == mark)
         browser.value("document.getElementById('account').scrollTop = 999; document.getElementById('next').click()")
         trial.expect("an account begins lower", browser.value("document.getElementById('account').scrollTop") == 0)
         browser.press("ArrowLeft")
     colours = browser.value("Array.from(document.querySelectorAll('#areas li'), (it) => it.classList[0]).join(' ')")
     trial.expect(f"areas {colours}", colours == "j1 j2 j3 j4 j5")
-    open_text(browser, 'script = ["novac 20 04000 00005", "findvac 20 04000 00005", "findvac 20 04000 00005", "end"]\n')
+    open_text(browser, 'script = ["novac 20 04000 00005", "findvac 20 04100 00005", "findvac 20 04200 00005", "end"]\n')
     browser.press("End")
     found = texts(browser, "#areas li"), browser.value("Array.from(document.querySelectorAll('#areas li'), (it) => it.classList[0]).join(' ')"), \
         browser.shown()["sets"][2]

@@ -135,7 +135,7 @@ def hostile(browser, folder):
     names of what the language has, requests without end) are opened, or are told in a sentence what they
     lack, at once; a page goes on afterwards. Then random keys, clicks, sliders and documents."""
     trial = Trial("hostile")
-    browser.show(save(folder, "hostile", written(PROGRAM, "page", "")))
+    browser.show(save(folder, "hostile", written(PROGRAM, "page", "")), "#new")
     browser.call("Performance.enable", timeDomain="threadTicks")
     for text, more, times, wanted in HOSTILE:
         begun = browser.worked()

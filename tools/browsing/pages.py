@@ -144,6 +144,13 @@ def set_slider(browser, value):
                   f" it.value = '{value}'; it.dispatchEvent(new Event('change')); }})()")
 
 
+def edit_text(browser, text):
+    """Types a document beside its run, and waits until it runs."""
+    browser.value("(() => { const it = document.getElementById('edit-text');"
+                  f" it.value = {json.dumps(text)}; it.dispatchEvent(new Event('input')); }})()")
+    time.sleep(0.6)
+
+
 def go_to(browser, text):
     """Types where to go."""
     browser.value(f"document.getElementById('go').value = {json.dumps(text)}")

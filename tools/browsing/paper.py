@@ -17,8 +17,12 @@ def paper(browser, folder):
     browser.value("window.dispatchEvent(new Event('beforeprint'))")
     rows = browser.value("Array.from(document.querySelectorAll('#printed tbody tr'), (it) =>"
                          " Array.from(it.children, (one) => one.textContent))")
-    at, accounts = 0, 0
+    at, accounts, left = 0, 0, 0
     for cells in rows:
+        if len(cells) == 1 and cells[0].endswith(" requests are left out .."):
+            at += int(cells[0].split()[1])
+            left += 1
+            continue
         if len(cells) == 1:
             accounts += 1
             trial.expect(f"an account: {cells}", "A job is in each core set" in cells[0] and "\nThese hold them:\nset 0: job " in cells[0])
@@ -28,6 +32,7 @@ def paper(browser, folder):
         trial.expect(f"several rows: {cells}", first == last
                      or cells[2] == f"tick, {int(last) - int(first) + 1} times")
         at = int(last) + 1
+    trial.expect(f"rows are left out {left} times", 2 <= left <= 6)
     trial.expect(f"{at} rows", at == int(browser.value("document.getElementById('slider').max")) + 1)
     trial.expect(f"{accounts} accounts", accounts == sum("alarm" in it[3] for it in rows if len(it) > 3) > 0)
     heads = browser.text("printed")
@@ -39,13 +44,15 @@ def paper(browser, folder):
         trial.expect(f"contrast on paper: {fault}", False)
     data = base64.b64decode(browser.call("Page.printToPDF", preferCSSPageSize=True)["data"])
     pages = len(re.findall(rb"/Type */Page\b", data))
-    trial.expect(f"{pages} pages", 1 <= pages <= 12)
+    trial.expect(f"{pages} pages", 1 <= pages <= 4)
+    first = browser.value("Array.from(document.getElementById('printed').children, (it) => it.localName).join(' ')")
+    trial.expect(f"first on paper: {first}", first.startswith("h1 p canvas h2 "))
     quiet = [cells for cells in rows if "tick, " in cells[2:3]]
     trial.expect("a line stands for one or two rows", all(int(it[2].split()[1]) > 2 for it in quiet))
     for cells in rows:
         if len(cells) > 1 and " to " in cells[0] and " to " in cells[1]:
-            (first, last), (begun, ended) = ([int(one) for one in it.split(" to ")] for it in cells[:2])
-            trial.expect(f"{cells}", last - first == ended - begun)
+            (first, last), (begun, ended) = ([float(one) for one in it.split(" to ")] for it in cells[:2])
+            trial.expect(f"{cells}", last - first == round(100 * (ended - begun)))
     browser.scheme("light")
     print_long(browser, trial)
     return trial.faults

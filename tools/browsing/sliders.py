@@ -13,14 +13,15 @@ def try_sliders(browser, trial):
               + table("job", at="05000", cost=20)
               + table("event", at=0, every=60, name="both",
                       do=["novac 20 04000 00005", "novac 21 05000 00005"]))
+    browser.click("here")
     follow_link(browser)
     values = "Array.from(document.querySelectorAll('#sliders input'), (it) => it.value).join(' ')"
-    trial.expect(browser.value(values), browser.value(values) == "50 10 20")
+    trial.expect(browser.value(values), browser.value(values) == "50 10 20 60 7")
     for k, value, at in ((2, 30, 0), (0, 100, 1)):
         go_to(browser, f"{at} s" if at else "0")
         browser.value(f"document.querySelectorAll('#sliders input')[{k}].value = '{value}'")
         browser.value(f"document.querySelectorAll('#sliders input')[{k}].dispatchEvent(new Event('change'))")
-    trial.expect(browser.value(values), browser.value(values) == "100 10 30")
+    trial.expect(browser.value(values), browser.value(values) == "100 10 30 60 7")
     summary = browser.text("summary")
     trial.expect(summary, "7 of 7 core sets, 0 of 5 areas and 0 of 9 tasks" in summary)
     trial.expect(summary, "1202, in request" in summary and 2 < float(summary.split(" at ")[-1][:4]) < 3)
@@ -36,7 +37,7 @@ def try_sliders(browser, trial):
             trial.expect("a job ends that gets no time", ": end. " not in browser.text("sentence"))
     go_to(browser, "0.5 s")
     type_line(browser, "rouse 37777")
-    trial.expect(f"before stolen time was changed: {browser.value(values)}", browser.value(values) == "50 10 30")
+    trial.expect(f"before stolen time was changed: {browser.value(values)}", browser.value(values) == "50 10 30 60 7")
     for _ in range(40):
         if browser.text("summary") != summary:
             browser.click("undo")
@@ -55,6 +56,7 @@ def try_sliders(browser, trial):
     wait_for(browser, "alarm 1202")
     says(browser, trial, "time stops", "at 0.08 s: tick. Reply: tick 02000/00005 alarm 1202.")
     trial.expect(browser.text("run"), browser.text("run") == "Run")
+    browser.click("here")
 
 
 # A scenario of two seconds: half of the time is stolen, a job takes 0.2 seconds, and another the rest.
@@ -74,17 +76,20 @@ def try_panel(browser, trial):
     """The clock's controls: sliders with their bounds, from when a change holds, single centiseconds, the next event, the end."""
     open_text(browser, PANEL)
     told = browser.value(SLIDERS)
-    trial.expect(told, told == "Stolen time 0 100 50 50 % 50 %, WORK 1 400 10 10 cs 10 cs, 05000 1 600 300 300 cs 300 cs")
-    browser.value("(() => { const it = document.querySelectorAll('#sliders input')[1]; it.value = '37';"
-                  " it.dispatchEvent(new Event('input')); })()")
-    told = browser.value(SLIDERS)
-    trial.expect(f"as a slider moves: {told}", "WORK 1 400 37 37 cs 37 cs" in told)
+    trial.expect(told, told == "Stolen time 0 100 50 50 % 50 %, WORK 1 400 10 10 cs 10 cs, 05000 1 600 300 300 cs 300 cs, Core sets 7 8 7 7 7")
+    for value in 37, 10:
+        browser.value("(() => { const it = document.querySelectorAll('#sliders input')[1];"
+                      f" it.value = '{value}'; it.dispatchEvent(new Event('input')); }})()")
+        told = browser.value(SLIDERS)
+        trial.expect(f"as a slider moves: {told}", f"WORK 1 400 {value} {value} cs {value} cs" in told)
+        browser.value("document.querySelectorAll('#sliders input')[1].dispatchEvent(new Event('change'))")
+    browser.click("here")
     for typed, wanted in ("0", "the beginning"), ("0.5 s", "0.50 s"), ("1", "request 1"):
         go_to(browser, typed)
-        trial.expect(browser.text("since"), browser.text("since") == f"A change here takes effect from {wanted} on.")
-    browser.click("whole")
-    trial.expect(browser.text("since"), browser.text("since") == "A change here takes effect from the beginning on.")
-    browser.click("whole")
+        trial.expect(browser.text("since"), browser.text("since") == f"Sliders act from {wanted} on.")
+    browser.click("here")
+    trial.expect(browser.text("since"), browser.text("since") == "Sliders act from the beginning on.")
+    browser.click("here")
     go_to(browser, "0.29 s")
     says(browser, trial, "gone to a time", "at 0.29 s: tick.")
     for key, wanted in (".", "at 0.30 s: tick."), ("n", "at 1.50 s: novac 20 05000 00005. Reply: job 1."), ("n", "list 20 02000 00005. Reply: listed."):
@@ -97,9 +102,9 @@ def try_panel(browser, trial):
         says(browser, trial, f"after the end by {key}", "The time of this run is over.")
     browser.click("run")
     says(browser, trial, "to run after the end", "The time of this run is over: go to an earlier row, or change the plan.")
-    trial.expect("a scenario has no choice of its beginning", not browser.value("document.getElementById('whole-box').hidden"))
+    trial.expect("a scenario has no choice of its beginning", not browser.value("document.getElementById('here-box').hidden"))
     open_text(browser, "")
-    trial.expect("a bench has a choice of its beginning", browser.value("document.getElementById('whole-box').hidden"))
+    trial.expect("a bench has a choice of its beginning", browser.value("document.getElementById('here-box').hidden"))
     trial.expect("a bench has no sliders for jobs", browser.value(SLIDERS) == "Stolen time 0 100 0 0 % 0 %")
     type_line(browser, "list 5 02000 00005")
     browser.press("Escape")
@@ -126,6 +131,7 @@ def try_panel(browser, trial):
         at = float((re.search(r"at ([0-9.]+) s", browser.text("sentence")) or [0, 0])[1])
     trial.expect(f"on from an alarm, and beyond the bench: {browser.text('sentence')}", at >= 37)
     browser.click("run")
+    browser.click("here")
 
 
 def try_asides(browser, trial):
@@ -156,21 +162,25 @@ def try_percent(browser, trial):
     """A number of the clock that is changed shows what happens, and what the document has; it says from when on it holds."""
     path = browser.value("location.pathname")
     browser.show(path, "#exercise-10")
-    box = "document.getElementById('whole-box').hidden"
+    box = "document.getElementById('here-box').hidden"
     trial.expect("a box at the first row", browser.value(box))
     set_slider(browser, 23)
     told = browser.text("outcome"), texts(browser, "#differs")
     trial.expect(f"23 percent: {told}", told[0].startswith("Before: no alarm; ") and "Now: 1 alarm: 1201, " in told[0]
-                 and told[1] == "steal is 23 here, 15 in the document.")
+                 and told[1] == "This run differs from its document: steal 23 % (document: 15 %).")
     trial.expect("what is changed is hidden", browser.value("document.getElementById('show-answer') === null") and CHANGED in browser.text("question"))
     set_slider(browser, 15)
     trial.expect(f"as it was: {texts(browser, '#differs')}", texts(browser, "#differs") == "" and CHANGED not in browser.text("question"))
     go_to(browser, "32 s")
     told = browser.value(box), browser.value("document.getElementById('since-box').className"), texts(browser, "#note")
-    trial.expect(f"at 32 s: {told}", told == (False, "since later", ""))
+    trial.expect(f"at 32 s: {told}", told == (False, "since", ""))
+    browser.click("here")
+    told = browser.value("document.getElementById('since-box').className")
+    trial.expect(f"from 32 s on: {told}", told == "since later")
     set_slider(browser, 50)
     told = texts(browser, "#differs")
-    trial.expect(f"from 32 s on: {told}", told == "steal is 50 here from 32.00 s on, 15 in the document.")
+    trial.expect(f"from 32 s on: {told}", told == "This run differs from its document: steal 15 until 32.00 s, then 50 % (document: 15 %).")
+    browser.click("here")
     browser.press("u")
     go_to(browser, "32")
     told = texts(browser, "#note")

@@ -29,7 +29,23 @@ def rows_of(trace):
             long += cells_of(line.strip())
         elif not re.match(r" +[0-9]+ (requests? refused|\w+ pulses?)", line):
             accounts.setdefault(len(rows) - 1, []).append(line.strip())
-    return [[dict(zip(names, row))[it].rstrip("!") for it in COLUMNS] for row in rows], accounts
+    return with_seconds([[dict(zip(names, row))[it].rstrip("!") for it in COLUMNS] for row in rows]), accounts
+
+
+def begins_era(row):
+    """Whether a restart or a fresh start came of a row."""
+    return row[0] != "0" and ("alarm" in row[3] or row[2] in ("restart", "fresh") and "refused" not in row[3])
+
+
+def with_seconds(rows):
+    """The rows with their times in seconds since the beginning, as a page has them: a trace counts from the last restart, that of
+    a bench in centiseconds."""
+    before, found = 0, []
+    for row in rows:
+        now = before + (round(100 * float(row[1])) if "." in row[1] else int(row[1]))
+        found.append([row[0], f"{now / 100:.2f}", *row[2:]])
+        before = now if begins_era(row) else before
+    return found
 
 
 def compare(trial, shown, row, account, last):
@@ -37,7 +53,7 @@ def compare(trial, shown, row, account, last):
     number, _, asked, reply, runs, sets, areas, tasks = row
     where = f"request {number}"
     begins = f"Request {number} of {last}" if number != "0" else "The beginning"
-    is_over = number != "0" and ("alarm" in reply or asked in ("restart", "fresh") and "refused" not in reply)
+    is_over = begins_era(row)
     runner = f"No job {'was' if is_over else 'is'} running." if runs == "-" else f"Job {runs} {'ran' if is_over else 'runs'}"
     said = shown["sentence"]
     trial.expect(f"{where}: {said}", said.startswith(begins) and runner in said

@@ -1,0 +1,55 @@
+"""What is typed nearly right, scripts, and the document beside its run."""
+import time
+
+from browsing.browser import LAPTOP
+from browsing.pages import PROGRAM, Trial, edit_text, exercise, open_text, says, save, texts, type_line, written
+
+
+def paste(browser, text):
+    browser.value("(() => { const data = new DataTransfer(); data.setData('text/plain', TEXT); document.getElementById('line')"
+                  ".dispatchEvent(new ClipboardEvent('paste', { clipboardData: data, cancelable: true })); })()".replace("TEXT", repr(text)))
+
+
+def forgiving(browser, folder):
+    """Capitals, spaces and numbers without their zeros are taken, and told; pasted lines and scripts are asked; a fault of a document
+    is marked in its line beside the run."""
+    trial = Trial("forgiving")
+    browser.width(*LAPTOP)
+    browser.show(save(folder, "forgiving", written(PROGRAM, "page", "")), "#new")
+    for line, asked, told in (("NOVAC 20 2000 5", "novac 20 02000 00005", "02000 and 00005 are meant"), ("findvac  7 02000 00005", "findvac 07 02000 00005", "07 is meant"),
+                              ("List 007 2100 00005", "list 7 02100 00005", "7 and 02100 are meant")):
+        type_line(browser, line)
+        browser.press("Escape")
+        says(browser, trial, line, f": {asked}. Reply: ")
+        trial.expect(f"{line}: {browser.text('hint')}", told in browser.text("hint"))
+    type_line(browser, "novca 20 02000 00005")
+    trial.expect(browser.text("hint"), 'did you mean "novac"?' in browser.text("hint"))
+    browser.value("document.getElementById('line').value = ''")
+    paste(browser, "tick\nend\n\nTICK\n")
+    says(browser, trial, "pasted lines", "Request 6 of 6")
+    paste(browser, "tick\nendd\n")
+    trial.expect(f"a wrong line: {browser.text('hint')}", "line 2" in browser.text("hint") and 'did you mean "end"?' in browser.text("hint"))
+    says(browser, trial, "a wrong line", "Request 6 of 6")
+    open_text(browser, "novac 20 04000 00005\nend # a comment\nchange\n")
+    browser.click("last")
+    says(browser, trial, "a script", "Request 3 of 3, at 0.00 s: change.")
+    fault = open_text(browser, "tick\ntick\nnovac 20\n")
+    trial.expect(f"a script with a fault: {fault}", "line 3" in (fault or ""))
+    exercise(browser, 1)
+    text = browser.value("document.querySelector('#question pre').textContent")
+    browser.click("change-exercise")
+    lines = text.split("\n")
+    lines[2] = lines[2].replace("findvac", "finvac", 1) if "findvac" in lines[2] else lines[2].replace('"', '"x', 1)
+    edit_text(browser, "\n".join(lines))
+    told = browser.text("edit-fault"), texts(browser, "#edit-lines .wrong")
+    trial.expect(f"a typo in line 3: {told}", told[0].startswith("line 3: ") and "3" in told[1])
+    trial.expect("the run is gone", browser.text("question") != "")
+    edit_text(browser, text.replace('"', '"', 1) + "\n# more\n")
+    time.sleep(0.3)
+    trial.expect(f"mended: {browser.text('edit-fault')}", browser.text("edit-fault") == "" and texts(browser, "#edit-lines .wrong") == "")
+    browser.click("edit-close")
+    browser.value("Array.from(document.querySelectorAll('#common button')).find((it) => it.textContent.startsWith('findvac')).click()")
+    browser.press("Enter")
+    trial.expect("Enter in a form's first field does nothing", not browser.value("document.getElementById('dialog').open"))
+    trial.expect(f"{browser.shown()['broken']}", not browser.shown()["broken"])
+    return trial.faults

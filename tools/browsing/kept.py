@@ -1,0 +1,83 @@
+"""Nothing is lost: the address says what is shown."""
+import time
+
+from browsing.browser import LAPTOP
+from browsing.pages import PROGRAM, Trial, go_to, save, set_slider, texts, type_line, wait_for, written
+
+ROW = "document.getElementById('sentence').textContent"
+STATE = """[document.getElementById('sentence').textContent, document.getElementById('summary').textContent,
+  document.getElementById('differs').textContent, document.getElementById('window').style.width].join('; ')"""
+
+
+def settled(browser):
+    """The address, when it doesn't change any more."""
+    time.sleep(0.5)
+    return browser.value("location.hash")
+
+
+def again(browser):
+    """As F5 does."""
+    browser.call("Page.reload")
+    time.sleep(0.3)
+    begun = time.monotonic()
+    while browser.value("document.documentElement.dataset.ready") != "yes" and time.monotonic() - begun < 10:
+        time.sleep(0.05)
+
+
+def kept(browser, folder):
+    """F5, Back, Forward and a copied address bring back document, changes, row and zoom, an exercise with its question, and undo
+    and branches. A link that is damaged, cut, or names no exercise says so. Embedded, chart, tables and why stand alone."""
+    trial = Trial("kept")
+    browser.width(*LAPTOP)
+    path = save(folder, "kept", written(PROGRAM, "page", ""))
+    browser.show(path, "#landing-1202")
+    browser.press("x")
+    set_slider(browser, 5)
+    go_to(browser, "20 s")
+    type_line(browser, "rouse 06000")
+    browser.press("Escape")
+    mark, before = settled(browser), browser.value(STATE)
+    trial.expect(f"the address: {mark}", mark.startswith("#landing-1202&do=") and "&at=" in mark and "&see=" in mark)
+    again(browser)
+    trial.expect(f"F5: {browser.value(STATE)}, not {before}", browser.value(STATE) == before)
+    begun = time.monotonic()
+    while browser.value("document.getElementById('undo').disabled") and time.monotonic() - begun < 10:
+        time.sleep(0.1)
+    trial.expect("no branches after F5", "stolen time was changed" in browser.text("branches"))
+    browser.press("u")
+    trial.expect(f"undone after F5: {browser.text('differs')}", "by hand" not in browser.text("differs") and "steal 5 %" in browser.text("differs"))
+    browser.show(path, mark)
+    trial.expect(f"a copied address: {browser.value(STATE)}", browser.value(STATE) == before)
+    browser.show(path, "#exercise-3")
+    settled(browser)
+    browser.click("show-answer")
+    go_to(browser, "3")
+    mark, question = settled(browser), browser.text("question")
+    trial.expect(f"an exercise: {mark}", mark == "#exercise-3&shown&at=3")
+    browser.click("examples")
+    browser.value("Array.from(document.querySelectorAll('#dialog-body button')).find((it) => it.textContent === 'landing').click()")
+    trial.expect("another document", settled(browser) == "#landing")
+    browser.value("history.back()")
+    wait_for(browser, "Request 3 of")
+    trial.expect(f"Back: {browser.value(ROW)}", browser.text("question") == question and "Request 3 of" in browser.value(ROW))
+    browser.value("history.forward()")
+    wait_for(browser, "The beginning")
+    trial.expect(f"Forward: {browser.text('title')}", browser.text("title").startswith("A landing: a radar"))
+    try_links(browser, trial, path)
+    browser.show(path, "#landing-1202&at=3128&embed")
+    seen = browser.value("['lanes-chart', 'sets', 'told', 'open', 'line', 'slider', 'rows'].filter((it) =>"
+                         " document.getElementById(it).getClientRects().length > 0).join()")
+    trial.expect(f"embedded: {seen}", seen == "lanes-chart,sets,told")
+    trial.expect(f"embedded: {browser.value(ROW)}", "alarm 1202" in browser.value(ROW))
+    trial.expect(f"{browser.shown()['broken']}", not browser.shown()["broken"])
+    return trial.faults
+
+
+def try_links(browser, trial, path):
+    for mark, wanted in (("#exercise-99", "There is no example or exercise named “exercise-99”."),
+                         ("#bench=abc", "can't be read (its document is damaged or cut)"),
+                         ("#landing&do=xyz", "can't be read (what was done can't be read: it may be cut)"),
+                         ("#landing&at=q", "can't be read (\"at=q\" has no meaning here)")):
+        browser.show(path, mark)
+        trial.expect(f"{mark}: {texts(browser, '#note')}", wanted in texts(browser, "#note"))
+        trial.expect(f"{mark} is blank", browser.value("document.getElementById('sets').children.length") == 7)

@@ -1,0 +1,122 @@
+"""The lanes of the chart: blocks, what is told of them, and zoom."""
+import re
+import time
+
+from browsing.browser import LAPTOP, PHONE, SIZES
+from browsing.pages import PROGRAM, Trial, go_to, open_text, says, save, table, written
+
+# Two jobs of different names in turn, one that sleeps, an event with a name, and an alarm at the end.
+LANED = "seconds = 20\nsteal = 20\n" + "".join((
+    table("job", name="ALPHA", at="04000", cost=300), table("job", name="BETA", at="05000", cost=100),
+    table("event", name="begin", at=0, do=["novac 15 06000 00011", "sleep 06000", "novac 20 04000 00005"]),
+    table("event", name="press", at=100, do="novac 30 05000 00005", every=200),
+    table("event", name="flood", at=1500, do=[*8 * ["novac 10 05100 00005"]])))
+
+# The colour of a point of the lanes, and where the sets are: `at` is a part of the width, `set` a core set.
+POINT = """((at, set) => {
+  const canvas = document.getElementById('lanes-chart');
+  const names = Array.from(document.querySelectorAll('#lane-names li')).map((it) => parseFloat(it.style.top));
+  const scale = canvas.width / canvas.clientWidth;
+  const data = canvas.getContext('2d').getImageData(Math.floor(at * canvas.width), Math.floor((names[set] + 2) * scale), 1, 1).data;
+  return '#' + Array.from(data.slice(0, 3), (it) => it.toString(16).padStart(2, '0')).join('');
+})"""
+BOX = "(() => { const it = document.getElementById('lanes-chart').getBoundingClientRect(); return [it.left, it.top, it.width, it.height]; })()"
+SEEN = "[parseFloat(document.getElementById('window').style.left) || 0, parseFloat(document.getElementById('window').style.width)]"
+BRIGHT = ["#0072b2", "#e69f00", "#009e73", "#cc79a7"]
+PALE = ["#a6cee4", "#f6dda6", "#a6ddce", "#edd0e0"]
+
+
+def point(browser, at, core_set):
+    """The colour there: of those that are known the one that it nearly is."""
+    found = browser.value(f"{POINT}({at}, {core_set})")
+    parts = lambda it: [int(it[k:k + 2], 16) for k in (1, 3, 5)]
+    near = [it for it in BRIGHT + PALE if max(abs(one - other) for one, other in zip(parts(it), parts(found))) < 9]
+    return near[0] if near else found
+
+
+def pointer(browser, kind, at, core_set, **more):
+    left, top, wide, _ = browser.value(BOX)
+    y = browser.value(f"parseFloat(document.querySelectorAll('#lane-names li')[{core_set}].style.top)")
+    browser.call("Input.dispatchMouseEvent", type=kind, x=left + at * wide, y=top + y, **more)
+
+
+def lanes(browser, folder):
+    """A lane for each core set with its jobs as blocks over time: bright while they run, pale while they wait, hatched while they
+    sleep, coloured by name. What is pointed at is told, a click goes there. Wheel, pinch, keys, a drawn range and buttons zoom."""
+    trial = Trial("lanes")
+    browser.width(*LAPTOP)
+    browser.show(save(folder, "lanes", written(PROGRAM, "page", LANED)))
+    found = point(browser, 0.97 / 20, 0), point(browser, 2.1 / 20, 0), point(browser, 2.1 / 20, 2)
+    trial.expect(f"ALPHA runs, then BETA, and ALPHA waits: {found}", found == (BRIGHT[0], BRIGHT[1], PALE[0]))
+    row = {browser.value(f"{POINT}({k / 1000}, 1)") for k in range(500, 540)}
+    trial.expect(f"a sleeper is hatched: {row}", len(row) > 2)
+    boxes = browser.value("document.querySelector('#sets li').className")
+    go_to(browser, "0.5 s")
+    boxes = browser.value("document.querySelector('#sets li').className")
+    trial.expect(f"the box of ALPHA is {boxes}", boxes.startswith("j1 "))
+    browser.value("window.scrollTo(0, 0)")
+    pointer(browser, "mouseMoved", 0.5 / 20, 0)
+    told = browser.text("block")
+    trial.expect(f"pointed at: {told}", re.match("0[.][45][0-9] s, core set 0: job 2, ALPHA .04000., priority 20, runs, since request 3", told)
+                 and "; until end, request " in told)
+    for kind in "mousePressed", "mouseReleased":
+        pointer(browser, kind, 1.2 / 20, 0, button="left", clickCount=1)
+    row = browser.text("sentence").split(" s: ")[0]
+    trial.expect(f"a click: {row}", re.search("at 1[.](1[5-9]|2[0-4])$", row))
+    try_zoom(browser, trial, row)
+    for size in SIZES:
+        browser.width(*size)
+        time.sleep(0.1)
+        found = point(browser, 0.97 / 20, 0)
+        trial.expect(f"{size[0]} points: {found}", found == BRIGHT[0])
+    browser.width(*LAPTOP)
+    open_text(browser, 'script = ["novac 20 04000 00005", "end"]\n')
+    names = browser.value("Array.from(document.querySelectorAll('#lane-names li'), (it) => it.textContent).join(' ')")
+    trial.expect(f"without a clock: {names}", names == "set 0 set 1 set 2 set 3 set 4 set 5 set 6 areas tasks")
+    trial.expect(f"{browser.shown()['broken']}", not browser.shown()["broken"])
+    return trial.faults
+
+
+def try_zoom(browser, trial, row):
+    pointer(browser, "mouseWheel", 0.5, 3, deltaX=0, deltaY=-400)
+    time.sleep(0.2)
+    left, wide = browser.value(SEEN)
+    trial.expect(f"by the wheel: {left} {wide}", 10 < wide < 90 and abs(left + wide / 2 - 50) < 3)
+    browser.press("f")
+    trial.expect(f"all of it: {browser.value(SEEN)}", browser.value(SEEN) == [0, 100])
+    for key, wanted in ("+", 66.7), ("+", 44.4), ("-", 66.7), ("]", 66.7):
+        browser.press(key)
+        trial.expect(f"by {key}: {browser.value(SEEN)}", abs(browser.value(SEEN)[1] - wanted) < 0.2)
+    browser.press("f")
+    pointer(browser, "mousePressed", 0.25, 3, button="left", clickCount=1)
+    for part in 0.3, 0.4, 0.5:
+        pointer(browser, "mouseMoved", part, 3, button="left", buttons=1)
+    pointer(browser, "mouseReleased", 0.5, 3, button="left", clickCount=1)
+    left, wide = browser.value(SEEN)
+    trial.expect(f"a drawn range: {left} {wide}", abs(left - 25) < 1 and abs(wide - 25) < 1)
+    trial.expect(f"a range is no click: {browser.text('sentence')}", row in browser.text("sentence"))
+    browser.press("f")
+    browser.press("x")
+    says(browser, trial, "to the alarm", "alarm 1202")
+    left, wide = browser.value(SEEN)
+    trial.expect(f"around the alarm: {left} {wide}", wide < 80 and left + wide > 70)
+    browser.press("Home")
+    left, wide = browser.value(SEEN)
+    trial.expect(f"what is shown is seen: {left} {wide}", left == 0)
+    browser.press("f")
+    browser.width(*PHONE)
+    pinch(browser)
+    trial.expect(f"by two fingers: {browser.value(SEEN)}", browser.value(SEEN)[1] < 80)
+    browser.width(*LAPTOP)
+    browser.press("f")
+
+
+def pinch(browser):
+    browser.value("document.getElementById('chart-box').scrollIntoView()")
+    left, top, wide, high = browser.value(BOX)
+    points = lambda apart: [{"x": left + wide / 2 + side * apart, "y": top + high / 2, "id": k} for k, side in enumerate((-1, 1))]
+    browser.call("Input.dispatchTouchEvent", type="touchStart", touchPoints=points(30))
+    for apart in 40, 55, 70, 90:
+        browser.call("Input.dispatchTouchEvent", type="touchMove", touchPoints=points(apart))
+    browser.call("Input.dispatchTouchEvent", type="touchEnd", touchPoints=[])
+    time.sleep(0.2)

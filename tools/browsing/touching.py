@@ -1,0 +1,124 @@
+"""What is touched is told, what can be asked of it is offered, and what was seen wrong before."""
+import json
+import time
+
+from browsing.browser import LAPTOP, PHONE
+from browsing.pages import PROGRAM, Trial, exercise, go_to, open_text, says, save, texts, type_line, written
+
+ASKED = 'script = ["novac 20 04000 00005", "findvac 30 04100 00005", "sleep 06000", "list 100 02000 00005", "phase 3 2"]\n'
+
+
+def touch(browser, what, k):
+    browser.value(f"document.querySelectorAll('#{what} .cover')[{k}].click()")
+    return browser.text("touch-name"), texts(browser, "#touch-body p"), texts(browser, "#touch-body button")
+
+
+def touching(browser, folder):
+    """A click or the keyboard on a core set, an area, a place, a phase or a code says what it is, since when, by which request, and
+    offers what can be asked. Exercises take a prediction. Refused requests are counted; comparisons can be stopped; times are one
+    kind; phases and words explain themselves; on a phone nothing is cut; without WebAssembly the page says so."""
+    trial = Trial("touching")
+    browser.width(*LAPTOP)
+    path = save(folder, "touching", written(PROGRAM, "page", ""))
+    browser.show(path, "#new")
+    open_text(browser, ASKED)
+    browser.press("End")
+    for what, k, name, told, asks in (
+            ("sets", 0, "Core set 0", "Job 2 began at 04100, since request 2. It runs, with priority 30, and owns VAC area 1.", "End it|Put it to sleep"),
+            ("sets", 4, "Core set 4", "It is free", "Establish a job"), ("areas", 0, "VAC area 1", "Job 2 began at 04100", "End it|Put it to sleep"),
+            ("tasks", 0, "Place 1 of the Waitlist", "Task 02000 waits, since request 4, and is due in 100 cs, at 1.00 s.", ""),
+            ("phases", 2, "Group 3", "It is in phase 2, since request 5. After a restart nothing of it begins again.", "Phase 0"),
+            ("codes", 0, "FAILREG, first", "No code is here.", ""), ("newjob", 0, "NEWJOB", "It names no other job", "")):
+        found = touch(browser, what, k)
+        trial.expect(f"{what} {k}: {found}", found[0] == name and told in found[1] and found[2] == asks and "|" in found[1])
+    found = touch(browser, "sets", 1)
+    trial.expect(f"a sleeper: {found}", "Job 1 began at 04000, since request 1. It sleeps, with priority 20." in found[1] and found[2] == "Wake it")
+    browser.value("document.querySelector('#sets .cover').focus()")
+    browser.press("ArrowRight")
+    at = browser.value("document.activeElement.getAttribute('aria-label')")
+    trial.expect(f"along the sets: {at}", at.startswith("set 1: "))
+    browser.press("Enter")
+    trial.expect(f"by Enter: {browser.text('touch-name')}", browser.text("touch-name") == "Core set 1")
+    browser.press("Escape")
+    trial.expect("Escape doesn't close it", browser.value("document.getElementById('touch').hidden"))
+    touch(browser, "phases", 2)
+    browser.value("document.querySelector('#touch-body button').click()")
+    says(browser, trial, "asked by touch", "Request 6 of 6, at 0.00 s: phase 3 0.")
+    try_predictions(browser, trial)
+    try_also(browser, trial)
+    try_phone(browser, trial, path)
+    try_flown(browser, trial, path)
+    trial.expect(f"{browser.shown()['broken']}", not browser.shown()["broken"])
+    try_no_module(browser, trial, folder)
+    return trial.faults
+
+
+def try_predictions(browser, trial):
+    exercise(browser, 1)
+    browser.value("(() => { const it = (name) => document.querySelector(`#prediction [name=${name}]`);"
+                  " it('alarms').value = '1'; it('code').value = '1202'; it('row').value = '12'; })()")
+    browser.click("check-prediction")
+    told = texts(browser, "#verdict li")
+    trial.expect(told, told == "Right: 1 alarm.|You expected “1202”, and it is: alarm 1201. See request 12.|Right: in request 12.")
+    browser.value("document.querySelector('#verdict a').click()")
+    says(browser, trial, "where it went wrong", "Request 12 of 12")
+
+
+def try_also(browser, trial):
+    open_text(browser, f"script = {json.dumps(1400 * ['tick'])}\n")
+    trial.expect(browser.text("summary"), "no alarm; 400 requests refused, from request 1001 on, since the log was full" in browser.text("summary"))
+    go_to(browser, "1001")
+    trial.expect(f"more room: {texts(browser, '#try button')}", texts(browser, "#try button") == "With room for a million requests")
+    browser.value("document.querySelector('#try button').click()")
+    trial.expect(browser.text("summary"), browser.text("summary").endswith("no alarm."))
+    open_text(browser, "seconds = 2\n" + "[[event]]\nat = 99\ndo = [" + ", ".join(9 * ['"novac 20 04000 00005"']) + "]\n")
+    browser.press("a")
+    times = browser.value("Array.from(document.querySelectorAll('#lines tr'), (it) => Number(it.children[1].textContent))")
+    trial.expect(f"times go back: {times}", times == sorted(times) and times[-1] > 0.9)
+    browser.value("Array.from(document.querySelectorAll('#try button')).find((it) => it.textContent === 'With eight core sets?').click()")
+    browser.press("Home")
+    browser.click("beside-stop")
+    trial.expect("a comparison can't be stopped", browser.value("document.getElementById('beside').hidden"))
+    open_text(browser, 'script = ["phase 4 5", "novac 20 04000 00005", "store 2 00007"]\n')
+    for row, wanted in (1, "Group 4 is in phase 5. After a restart nothing of it begins again"), (3, "Work word 2 of job 1 is 00007 now"):
+        go_to(browser, str(row))
+        trial.expect(browser.text("account"), wanted in browser.text("account"))
+    type_line(browser, "tick")
+    browser.press("Escape")
+
+
+def try_phone(browser, trial, path):
+    browser.width(*PHONE)
+    browser.show(path, "#landing-1202&at=3128")
+    cut = browser.value("(() => { const it = document.getElementById('sentence'); return it.scrollWidth > it.clientWidth || it.scrollHeight > it.clientHeight + 1; })()")
+    trial.expect("the alarm's text is cut on a phone", not cut)
+    browser.press("Home")
+    browser.click("run")
+    browser.value("document.getElementById('sets-name').scrollIntoView()")
+    time.sleep(0.3)
+    seen = browser.value("(() => { const bar = document.querySelector('.bar').getBoundingClientRect();"
+                         " return innerHeight - bar.bottom; })()")
+    trial.expect(f"{seen} points of tables while it runs", seen > 300)
+    browser.click("run")
+    browser.width(*LAPTOP)
+
+
+def try_flown(browser, trial, path):
+    """The five alarms of Apollo 11, with mission times, the PROG light and what VERB 05 NOUN 09 shows."""
+    browser.show(path, "#apollo-11")
+    for time_flown in "102:38:21", "102:39:03", "102:42:19", "102:42:41", "102:42:59":
+        browser.press("a")
+        says(browser, trial, "an alarm of the flight", f"({time_flown}): ")
+    trial.expect(f"before it is read: {texts(browser, '#dsky span')}", texts(browser, "#dsky span") == "PROG on|VERB 05 NOUN 09: 01202 01202 01202")
+    browser.press("Home")
+    trial.expect(f"at the beginning: {texts(browser, '#dsky span')}", texts(browser, "#dsky span") == "PROG off|VERB 05 NOUN 09: 00000 00000 00000")
+
+
+def try_no_module(browser, trial, folder):
+    page = written(PROGRAM, "page", "").replace("'wasm-unsafe-eval'", "")
+    browser.open(save(folder, "no-module", page))
+    begun = time.monotonic()
+    while browser.value("document.getElementById('broken').hidden") and time.monotonic() - begun < 5:
+        time.sleep(0.05)
+    told = browser.text("broken"), browser.value("document.getElementById('run').disabled")
+    trial.expect(f"without WebAssembly: {told}", "WebAssembly" in told[0] and told[1])

@@ -1,0 +1,168 @@
+/**
+ * The address says what is shown, so that F5, Back, a copied address and a saved link bring it back:
+ * `#DOCUMENT&at=ROW&see=FROM-TO&do=DATA&shown&embed`. The document is the name of an example or an
+ * exercise, `new`, `bench=DATA`, or nothing for the one within the page. `do` has what was done to
+ * the document's run: rows by hand, other numbers of the clock, another plan. Where the browser has
+ * storage, undo and branches are kept there, as such addresses.
+ *
+ * @typedef {import("./run.js").Run} Run
+ * @typedef {{ plan?: any, parts: any[] }} Recipe
+ */
+import { requestsOf } from "./bench.js";
+import { packed, unpacked } from "./files.js";
+
+const STORED = "agc-workbench-undo";
+
+/** How many steps and branches are kept over F5, and how many letters these may have. */
+export const MOST_STORED = 12;
+const MOST_LETTERS = 1_000_000;
+
+/** What an address has that can't be read. */
+export class Damaged extends Error {}
+
+/**
+ * What was done to a run, up to a row: nothing where it is just what its document asks for.
+ * @param {Run} run
+ * @param {number} count
+ * @returns {Recipe | null}
+ */
+export function recipeOf(run, count) {
+  const asked = requestsOf(run.given);
+  const first = run.changes[0]?.before ?? run.bench;
+  /** @type {any[]} */
+  const parts = [];
+  const add = (/** @type {string} */ kind) => {
+    const last = parts.at(-1);
+    if (last?.[0] === kind) last[1] += 1;
+    else parts.push([kind, 1]);
+  };
+  const changes = run.changes.filter((it) => it.row <= count);
+  for (let row = 0, at = 0; row <= count; row++) {
+    if (row > 0) {
+      const [line, who] = [run.lines[row], run.whoAsked(row)];
+      const next = run.isByClock(row) ? null : asked.next().value;
+      if (run.isByClock(row)) add("c");
+      else if (next?.[0] === line && next[1] === who) add("d");
+      else parts.push(["y", line, who]);
+    }
+    while (changes[at]?.row === row) parts.push(["s", changes[at++].given]);
+  }
+  const plan = {
+    ...(first.sets === run.given.sets ? {} : { sets: first.sets }),
+    ...(first.task === run.given.task ? {} : { task: first.task }),
+  };
+  const isPlan = Object.keys(plan).length > 0;
+  const isPlain = parts.every((it) => it[0] === "d" || it[0] === "c")
+    && (run.given.seconds !== undefined || parts.every((it) => it[0] === "d"));
+  if (isPlain && !isPlan && count === run.count) return null;
+  return { ...(isPlan ? { plan } : {}), parts };
+}
+
+/**
+ * Does to a run that has just begun what was done to it before.
+ * @param {Run} run
+ * @param {Recipe} recipe
+ * @param {import("./clock.js").ClockPanel} clock
+ */
+export function follow(run, { parts }, clock) {
+  const asked = requestsOf(run.given);
+  for (const [kind, one, who] of parts) {
+    if (kind === "c") clock.passTime(run, Number(one));
+    else if (kind === "y") run.ask(String(one), String(who));
+    else if (kind === "s") run.change(one, one);
+    else if (kind === "d") {
+      for (let k = 0; k < one; k++) {
+        const next = asked.next();
+        if (next.done) throw new Damaged("it asks for more than its document has");
+        run.ask(...next.value);
+      }
+    } else throw new Damaged("it has a part of an unknown kind");
+  }
+}
+
+/**
+ * @typedef {{ name: string, bench: string, at: number | null, see: [number, number] | null,
+ *   done: string, isShown: boolean, isEmbedded: boolean }} Address
+ */
+
+/**
+ * Reads what stands behind `#`.
+ * @param {string} mark
+ * @returns {Address}
+ */
+export function readAddress(mark) {
+  /** @type {Address} */
+  const found = { name: "", bench: "", at: null, see: null, done: "", isShown: false, isEmbedded: false };
+  for (const [k, part] of mark.replace(/^#/, "").split("&").entries()) {
+    const [name, value] = part.includes("=") ? [part.slice(0, part.indexOf("=")), part.slice(part.indexOf("=") + 1)] : [part, ""];
+    if (part === "" && k === 0) continue;
+    if (/^[0-9]{1,9}$/.test(part) && k === 0) found.at = Number(part);
+    else if (name === "at" && /^[0-9]{1,9}$/.test(value)) found.at = Number(value);
+    else if (name === "see" && /^[0-9]{1,9}-[0-9]{1,9}$/.test(value)) {
+      const [from, to] = value.split("-").map(Number);
+      found.see = [from, to];
+    } else if (name === "bench" && value !== "") found.bench = value;
+    else if (name === "do" && value !== "") found.done = value;
+    else if (part === "shown") found.isShown = true;
+    else if (part === "embed") found.isEmbedded = true;
+    else if (k === 0 && value === "" && !part.includes("=")) found.name = part;
+    else throw new Damaged(`"${part.slice(0, 40)}" has no meaning here`);
+  }
+  return found;
+}
+
+/** @param {string} data */
+export async function readRecipe(data) {
+  try {
+    const recipe = JSON.parse(await unpacked(data));
+    if (!Array.isArray(recipe.parts)) throw new Damaged("");
+    return /** @type {Recipe} */ (recipe);
+  } catch {
+    throw new Damaged("what was done can't be read: it may be cut");
+  }
+}
+
+/**
+ * The document and what was done to it, as the first parts of an address.
+ * @param {{ run: Run, count: number, mark?: string, markedAt?: string }} view
+ * @param {{ name: string, text: string }[]} kept
+ * @param {string} own the document within the page
+ */
+export async function documentMark(view, kept, own) {
+  const { run, count } = view;
+  const { source } = run;
+  const state = `${count} ${source.isHidden} ${run.count}`;
+  if (view.mark !== undefined && view.markedAt === state) return view.mark;
+  const named = !source.isChanged && kept.some((it) => it.name === source.exercise);
+  const first = named ? source.exercise : source.document === "" ? "new"
+    : source.document === own ? "" : `bench=${await packed(source.document)}`;
+  const recipe = recipeOf(run, count);
+  const parts = [first];
+  if (recipe !== null) parts.push(`do=${await packed(JSON.stringify(recipe))}`);
+  if (source.question !== "" && !source.isHidden) parts.push("shown");
+  Object.assign(view, { mark: parts.join("&"), markedAt: state });
+  return /** @type {string} */ (view.mark);
+}
+
+/**
+ * Keeps undo and branches, where there is storage.
+ * @param {any} given
+ */
+export function store(given) {
+  try {
+    const text = JSON.stringify(given);
+    if (text.length < MOST_LETTERS) sessionStorage.setItem(STORED, text);
+  } catch {
+    // (a browser that keeps nothing has the address alone)
+  }
+}
+
+/** What was kept of this place of the browser's history. @param {any} state */
+export function stored(state) {
+  try {
+    const found = JSON.parse(sessionStorage.getItem(STORED) ?? "null");
+    return found !== null && found.id === state?.id ? found : null;
+  } catch {
+    return null;
+  }
+}

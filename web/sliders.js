@@ -1,0 +1,207 @@
+/**
+ * The numbers of the document as sliders: stolen time, what jobs cost, periods, core sets. A slider
+ * that is moved asks for its change at once, step by step. And how a run differs from its document,
+ * in one line, with since when.
+ */
+import { by, fill, make } from "./dom.js";
+import { seconds, visible } from "./words.js";
+
+/** The most sliders of jobs and of periods. */
+const MOST_COSTS = 24;
+const MOST_PERIODS = 8;
+
+/**
+ * @typedef {import("./run.js").Run} Run
+ * @typedef {{ name: string, value: number, min: number, max: number, unit: string,
+ *   given: (value: number) => any }} Number
+ */
+
+/** A line that lists a task once more, from the action of the task itself. */
+const AGAIN = /^list ([0-9]+) ([0-7]{5}) ([0-7]{5})$/;
+
+/**
+ * How often tasks come that list themselves again, and events that have a period.
+ * @param {import("./bench.js").Bench} bench
+ * @returns {Number[]}
+ */
+function periodsOf({ task, event }) {
+  const tasks = task.flatMap((row, k) => row.action.map((line, n) => ({ row, k, n, found: AGAIN.exec(line) })))
+    .filter(({ row, found }) => found !== null && found[2] === row.at && found[3] === row.bank)
+    .map(({ row, k, n, found }) => ({
+      ...{ name: `${visible(row.name ?? row.at)} every`, value: Number(found?.[1]), min: 1 },
+      ...{ max: Math.min(16250, Math.max(400, 2 * Number(found?.[1]))), unit: "cs" },
+      given: (/** @type {number} */ value) => ({ task: task.map((one, m) => (m !== k ? one
+        : { ...one, action: one.action.map((it, i) => (i === n ? `list ${value} ${one.at} ${one.bank}` : it)) })) }),
+    }));
+  const events = event.flatMap((row, k) => (row.every === undefined ? [] : [{
+    ...{ name: `${visible(row.name ?? `event ${k + 1}`)} every`, value: row.every, min: 1 },
+    ...{ max: Math.max(400, 2 * row.every), unit: "cs" },
+    given: (/** @type {number} */ every) =>
+      ({ event: event.map((one, m) => (m === k ? { ...one, every } : one)) }),
+  }]));
+  return [...tasks, ...events].slice(0, MOST_PERIODS);
+}
+
+/**
+ * @param {import("./bench.js").Bench} bench
+ * @returns {Number[]}
+ */
+function numbersOf(bench) {
+  const { steal, job } = bench;
+  const now = typeof steal === "number" ? steal : steal.at(-1)?.percent ?? 0;
+  const stolen = { name: "Stolen time", value: now, min: 0, max: 100, unit: "%",
+    given: (/** @type {number} */ value) => ({ steal: value }) };
+  const costs = job.slice(0, MOST_COSTS).map((it, k) => ({
+    ...{ name: visible(it.name ?? it.at), value: it.cost, min: 1, max: Math.max(400, 2 * it.cost) },
+    unit: "cs",
+    given: (/** @type {number} */ cost) =>
+      ({ job: job.map((one, n) => (n === k ? { ...one, cost } : one)) }),
+  }));
+  if (bench.seconds === undefined) return [stolen, ...costs];
+  const sets = { name: "Core sets", value: bench.sets ?? 7, min: 7, max: 8, unit: "",
+    given: (/** @type {number} */ value) => ({ sets: value }) };
+  return [stolen, ...costs, ...periodsOf(bench), sets];
+}
+
+export class Sliders {
+  /** @param {(given: any, name: string) => void} change */
+  constructor(change) {
+    this.change = change;
+    /** @type {Map<string, { field: any, output: any, number: Number }>} */
+    this.shown = new Map();
+    this.due = 0;
+  }
+
+  /**
+   * Draws the sliders of a run: those that are there already stay, so that one that is moved isn't
+   * taken away.
+   * @param {Run} run
+   */
+  draw(run) {
+    const numbers = numbersOf(run.bench);
+    const isSame = numbers.length === this.shown.size
+      && numbers.every((it) => this.shown.get(it.name)?.number.max !== undefined);
+    if (!isSame) {
+      this.shown.clear();
+      fill("sliders", numbers.map((it) => this.row(it)));
+    }
+    for (const it of numbers) this.set(it);
+  }
+
+  /** @param {Number} number */
+  set(number) {
+    const shown = this.shown.get(number.name);
+    if (shown === undefined) return;
+    shown.number = number;
+    const { field, output } = shown;
+    const isMoved = this.due !== 0 && field === this.moved;
+    if (isMoved) return;
+    // (a slider that is held keeps its bounds)
+    if (field !== this.moved) [field.min, field.max] = [number.min, number.max];
+    field.value = String(number.value);
+    this.tell(field, output, number);
+  }
+
+  /** @param {any} field @param {any} output @param {Number} number */
+  tell(field, output, { unit }) {
+    const text = unit === "" ? field.value : `${field.value} ${unit}`;
+    output.textContent = text;
+    field.setAttribute("aria-valuetext", text);
+  }
+
+  /** @param {Number} number */
+  row(number) {
+    const output = make("output", {});
+    const { name, min, max } = number;
+    const field = make("input", { type: "range", min, max, step: 1, "aria-label": name });
+    field.value = String(number.value);
+    this.shown.set(name, { field, output, number });
+    field.addEventListener("input", () => {
+      this.tell(field, output, number);
+      this.moved = field;
+      // (one change a frame: what the hand does in between is passed over)
+      if (this.due === 0) this.due = requestAnimationFrame(() => this.ask(name));
+    });
+    field.addEventListener("change", () => {
+      cancelAnimationFrame(this.due);
+      this.ask(name);
+      this.moved = null;
+    });
+    return make("label", {}, make("span", {}, name), field, output);
+  }
+
+  /** @param {string} name */
+  ask(name) {
+    this.due = 0;
+    const shown = this.shown.get(name);
+    if (shown === undefined) return;
+    const value = Number(shown.field.value);
+    if (value !== shown.number.value) this.change(shown.number.given(value), name);
+  }
+}
+
+/**
+ * The history of a number: `0 until 30.50 s, then 15`.
+ * @param {{ from: number, value: string }[]} rows
+ */
+function historyOf(rows) {
+  const kept = rows.filter((it, k) => k === 0 || it.value !== rows[k - 1].value);
+  return kept.map(({ value }, k) => (k + 1 < kept.length ? `${value} until ${seconds(kept[k + 1].from)}` : value))
+    .join(", then ");
+}
+
+/** @param {import("./bench.js").Bench["steal"]} steal */
+function stealText(steal) {
+  if (typeof steal === "number") return String(steal);
+  const rows = [];
+  let end = 0;
+  for (const it of [...steal].sort((a, b) => a.from - b.from)) {
+    if (it.from > end) rows.push({ from: end, value: "0" });
+    rows.push({ from: it.from, value: String(it.percent) });
+    end = it.to;
+  }
+  return historyOf(rows);
+}
+
+/**
+ * What a run has of its bench over time: as it began, and as it was changed.
+ * @param {Run} run
+ * @param {(bench: import("./bench.js").Bench) => string} told
+ */
+function overTime(run, told) {
+  const { changes } = run;
+  const rows = changes.map((it, k) => ({ from: k === 0 ? 0 : run.ticksAt(changes[k - 1].row), value: told(it.before) }));
+  const last = changes.at(-1);
+  const all = [...rows, { from: last === undefined ? 0 : run.ticksAt(last.row), value: told(run.bench) }];
+  // (of several changes at one time only the last holds)
+  return historyOf(all.filter((it, k) => k + 1 === all.length || all[k + 1].from > it.from));
+}
+
+/**
+ * How a run differs from its document, in full; nothing where it doesn't.
+ * @param {Run} run
+ */
+export function differencesOf(run) {
+  const { bench, given } = run;
+  const found = [];
+  /** @type {(name: string, here: string, there: string, unit?: string) => void} */
+  const add = (name, here, there, unit = "") => {
+    if (here !== there) found.push(`${name} ${here}${unit} (document: ${there}${unit})`);
+  };
+  add("steal", stealText(bench.steal), stealText(given.steal), " %");
+  given.job.forEach((it, k) =>
+    add(`${visible(it.name ?? it.at)} costs`, overTime(run, (one) => String(one.job[k]?.cost)), String(it.cost), " cs"));
+  add("core sets", String(bench.sets ?? 7), String(given.sets ?? 7));
+  const periods = periodsOf(given);
+  periodsOf(bench).forEach((it, k) => {
+    if (periods[k]?.name === it.name) add(it.name, String(it.value), String(periods[k].value), " cs");
+  });
+  for (const it of given.event) {
+    if (!bench.event.some((one) => one.at === it.at && one.name === it.name)) {
+      found.push(`without ${visible(it.name ?? `the event at ${seconds(it.at)}`)}`);
+    }
+  }
+  const asked = run.handRows();
+  if (asked > 0) found.push(`${asked} asked by hand`);
+  return found.length === 0 ? "" : `This run differs from its document: ${found.join("; ")}.`;
+}
