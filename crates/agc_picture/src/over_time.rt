@@ -1,19 +1,20 @@
 // The picture of a run over time.
-ghost use Rattle.std.specs.Prelude.{◌≡◌, IfErr, IfOk};
+ghost use Rattle.std.specs.Prelude.{◌≡◌, IfErr};
 ghost use Rattle.std.specs.List.{fold};
+ghost use Rattle.agc_run.specs.Runs.{clock_requests};
 ghost use Rattle.agc_scenario.specs.Scenarios.{schedule_of};
 ghost use Rattle.agc_scene.specs.Events.{watched, watching_from};
 ghost use Rattle.agc_session.specs.Runs.{bench_machine, bench_requests};
 ghost use Rattle.agc_session.specs.Shown.{EndsIn};
-ghost use Rattle.agc_trace.specs.Following.{clock_requests};
 
-use crate::drawing::{Drawing, draw, draw_clock};
+use crate::drawing::draw;
 use crate::labels::Labels;
 use crate::scale::{Scale, Span};
 use crate::sizing::bench_length;
 use crate::timed::OverTime;
 use agc_clock::Timetables;
 use agc_document::Bench;
+use agc_run::{Asks, WatchedRun};
 use agc_scenario::Scenario;
 use agc_scene::Watched;
 use agc_session::{Progress, RunFault, count_requests, machine_of};
@@ -30,19 +31,12 @@ fn end_of(alloc: Global, bench: &Bench, span: Span) -> Result<u64, RunFault>
     }
 }
 
-/// A drawing of a bench's machine, which was asked for nothing yet.
-fn begun(
-    alloc: Global,
-    bench: &Bench,
-    labels: Labels,
-    scale: Scale,
-) -> Result<Drawing<OverTime>, RunFault>
-    ensures begun { IfOk result (λ d. d ≡ watching_from (bench_machine bench.now)) }
-    ensures refused { IfErr result (λ e. e ≡ RunFault.NoMemory) }
+/// How a bench's run is drawn, of which nothing was drawn yet.
+fn begun(alloc: Global, bench: &Bench, labels: Labels, scale: Scale) -> Result<OverTime, RunFault>
+    ensures { IfErr result (λ e. e ≡ RunFault.NoMemory) }
 {
-    let machine = machine_of(alloc, bench)?;
     match OverTime::new(alloc, bench.sets().count() as u64, scale, labels) {
-        Ok(form) => Ok(Drawing::new(machine, form)),
+        Ok(form) => Ok(form),
         Err(_no_memory) => Err(RunFault::NoMemory),
     }
 }
@@ -72,10 +66,12 @@ pub fn time_picture<P: Progress, W: Write>(
 {
     let end = end_of(alloc, bench, span)?;
     let scale = Scale::new(span, end);
-    let mut drawing = begun(alloc, bench, Labels::none(alloc), scale)?;
+    let mut form = begun(alloc, bench, Labels::none(alloc), scale)?;
+    let machine = machine_of(alloc, bench)?;
+    let mut run = WatchedRun::new(machine, Asks::of_bench(bench));
     progress.expect(count_requests(bench).requests);
-    draw(&mut drawing, bench, progress, writer)?;
-    Ok(drawing.into_watched())
+    draw(&mut run, &mut form, progress, writer)?;
+    Ok(run.into_watched())
 }
 
 /// Writes the picture of a scenario over time, as [`time_picture`] does a bench's, with its title,
@@ -102,8 +98,9 @@ pub fn scenario_time_picture<P: Progress, W: Write>(
     let timing = scenario.timing();
     let labels = Labels::of(alloc, scenario)?;
     let scale = Scale::new(span, u64::from(timing.lasts()));
-    let drawing = begun(alloc, scenario.bench(), labels, scale)?;
+    let mut form = begun(alloc, scenario.bench(), labels, scale)?;
     let machine = machine_of(alloc, scenario.bench())?;
-    let drawing = draw_clock(machine, drawing, timing, progress, writer)?;
-    Ok(drawing.into_watched())
+    let mut run = WatchedRun::new(machine, Asks::of_scenario(timing));
+    draw(&mut run, &mut form, progress, writer)?;
+    Ok(run.into_watched())
 }

@@ -1,48 +1,39 @@
 // How long a run lasts, and how many requests it has.
 ghost use Rattle.std.specs.Prelude.{◌≡◌, IfErr};
 
-use crate::drawing::{Drawing, Draws};
 use agc_document::Bench;
+use agc_run::{Asks, WatchedRun};
 use agc_scenario::Scenario;
-use agc_scene::{Event, Scene};
-use agc_session::{RunFault, Silent, follow_bench, machine_of};
-use agc_spelling::Pen;
-use agc_trace::follow_clock;
+use agc_session::{RunFault, machine_of};
 use std::alloc::Global;
-use std::io;
-use std::io::Write;
 
-/// A run of which only the time is taken, and the number of the last request.
+/// The time of a run, and the number of its last request.
 #[derive(Clone, Copy)]
 struct Size {
     time: u64,
     requests: u64,
 }
 
-impl Draws for Size {
-    fn begin<W: Write>(&mut self, _pen: &mut Pen<W>, _scene: Scene) {}
-
-    fn draw<W: Write>(&mut self, _pen: &mut Pen<W>, event: Event) {
-        self.time = event.total;
-        self.requests = event.number;
+/// Asks for all that is still to be asked in a run. Returns its size.
+fn size_of(run: &mut WatchedRun<'_>) -> Size {
+    let mut size = Size {
+        time: 0,
+        requests: 0,
+    };
+    while let Some((_source, event)) = run.next() {
+        size.time = event.total;
+        size.requests = event.number;
     }
-
-    fn finish<W: Write>(&mut self, _pen: &mut Pen<W>) {}
+    size
 }
-
-/// Of a run of which nothing was asked yet.
-const NONE: Size = Size {
-    time: 0,
-    requests: 0,
-};
 
 /// How many centiseconds a bench's run lasts.
 pub(crate) fn bench_length(alloc: Global, bench: &Bench) -> Result<u64, RunFault>
     ensures { IfErr result (λ e. e ≡ RunFault.NoMemory) }
 {
-    let mut sized = Drawing::new(machine_of(alloc, bench)?, NONE);
-    let _ = follow_bench(&mut sized, &mut Silent, bench, &mut io::sink());
-    Ok(sized.form.time)
+    let machine = machine_of(alloc, bench)?;
+    let mut run = WatchedRun::new(machine, Asks::of_bench(bench));
+    Ok(size_of(&mut run).time)
 }
 
 /// How many requests a scenario's clock asks for.
@@ -50,16 +41,6 @@ pub(crate) fn clock_size(alloc: Global, scenario: &Scenario) -> Result<u64, RunF
     ensures { IfErr result (λ e. e ≡ RunFault.NoMemory) }
 {
     let machine = machine_of(alloc, scenario.bench())?;
-    let sized = Drawing::new(machine_of(alloc, scenario.bench())?, NONE);
-    let ran = follow_clock(
-        machine,
-        scenario.timing(),
-        sized,
-        &mut Silent,
-        &mut io::sink(),
-    );
-    match ran {
-        Ok(sized) => Ok(sized.form.requests),
-        Err(_failed) => Ok(0),
-    }
+    let mut run = WatchedRun::new(machine, Asks::of_scenario(scenario.timing()));
+    Ok(size_of(&mut run).requests)
 }

@@ -1,17 +1,17 @@
 // The picture of a run: its head, the columns of its requests, and its end.
-ghost use Rattle.std.specs.Prelude.{◌≡◌, IfErr, IfOk};
 ghost use Rattle.std.specs.List.{fold};
+ghost use Rattle.agc_run.specs.Runs.{clock_requests};
 ghost use Rattle.agc_scenario.specs.Scenarios.{schedule_of};
 ghost use Rattle.agc_scene.specs.Events.{watched, watching_from};
 ghost use Rattle.agc_session.specs.Runs.{bench_machine, bench_requests};
 ghost use Rattle.agc_session.specs.Shown.{EndsIn};
-ghost use Rattle.agc_trace.specs.Following.{clock_requests};
 
-use crate::drawing::{Drawing, draw, draw_clock};
+use crate::drawing::draw;
 use crate::labels::Labels;
 use crate::lanes::Columns;
 use crate::sizing::clock_size;
 use agc_document::Bench;
+use agc_run::{Asks, WatchedRun};
 use agc_scenario::Scenario;
 use agc_scene::Watched;
 use agc_session::{Progress, RunFault, count_requests, machine_of};
@@ -42,19 +42,10 @@ pub fn picture<P: Progress, W: Write>(
     let machine = machine_of(alloc, bench)?;
     let count = count_requests(bench).requests;
     progress.expect(count);
-    let mut drawing = Drawing::new(machine, Columns::new(count, Labels::none(alloc)));
-    draw(&mut drawing, bench, progress, writer)?;
-    Ok(drawing.into_watched())
-}
-
-/// A drawing of a scenario's machine, which was asked for nothing yet.
-fn begun(alloc: Global, scenario: &Scenario, count: u64) -> Result<Drawing<Columns>, RunFault>
-    ensures begun { IfOk result (λ d. d ≡ watching_from (bench_machine scenario.now.bench)) }
-    ensures refused { IfErr result (λ e. e ≡ RunFault.NoMemory) }
-{
-    let labels = Labels::of(alloc, scenario)?;
-    let machine = machine_of(alloc, scenario.bench())?;
-    Ok(Drawing::new(machine, Columns::new(count, labels)))
+    let mut run = WatchedRun::new(machine, Asks::of_bench(bench));
+    let mut form = Columns::new(count, Labels::none(alloc));
+    draw(&mut run, &mut form, progress, writer)?;
+    Ok(run.into_watched())
 }
 
 /// Writes the picture of a scenario in the same way, with its title, and with names of jobs in
@@ -78,8 +69,9 @@ pub fn scenario_picture<P: Progress, W: Write>(
 {
     let count = clock_size(alloc, scenario)?;
     progress.expect(count);
-    let drawing = begun(alloc, scenario, count)?;
+    let mut form = Columns::new(count, Labels::of(alloc, scenario)?);
     let machine = machine_of(alloc, scenario.bench())?;
-    let drawing = draw_clock(machine, drawing, scenario.timing(), progress, writer)?;
-    Ok(drawing.into_watched())
+    let mut run = WatchedRun::new(machine, Asks::of_scenario(scenario.timing()));
+    draw(&mut run, &mut form, progress, writer)?;
+    Ok(run.into_watched())
 }

@@ -6,17 +6,17 @@ ghost use Rattle.agc_session.specs.Runs.{bench_machine};
 
 use agc_document::Bench;
 use agc_exec::Seat;
-use agc_machine::Refusal;
+use agc_machine::{Machine, Refusal};
 use agc_phase::code_word;
 use agc_plan::{Reply, Request};
+use agc_run::{Asks, Source, WatchedRun};
 use agc_scene::{Event, Scene, Watched};
-use agc_session::{Follows, RunFault, Silent, Source, follow_all, machine_of};
+use agc_session::{RunFault, machine_of};
 use agc_spelling::Filling::{Number, Octal, Priority, Text};
 use agc_spelling::Pen;
 use agc_text::Output;
-use agc_trace::{Choice, Columns, Tracer};
+use agc_trace::{Choice, Columns, Rows};
 use std::alloc::Global;
-use std::io;
 use std::io::Write;
 use std::marker::Model;
 
@@ -42,24 +42,21 @@ struct Last {
     came: Came,
 }
 
-/// The machine that is played with; a tracer, which has a second one in the same state and writes
-/// the rows; and what is kept of the last request. Contracts see the machine. Source: profile.
+/// The machine that is played with, the rows of what is asked of it, and what is kept of the last
+/// request. Contracts see the machine. Source: profile.
 #[derive(Drop)]
 pub(crate) struct Player {
     watched: Watched,
-    tracer: Tracer,
+    rows: Rows,
     last: Last,
 }
 
 impl Model for Player {
-    ghost use Rattle.std.specs.Prelude.{◌≡◌};
     ghost use Rattle.agc_scene.specs.Events.{Watching};
 
     ghost Value = { Watching };
 
     ghost view = { λ p. p.watched };
-
-    ghost invariant = { λ p. p.tracer ≡ p.watched };
 }
 
 /// What came of an event, beside its row.
@@ -72,17 +69,31 @@ fn came_of(event: &Event) -> Came {
     }
 }
 
-/// Asks for one request, and returns what is kept of it.
-fn ask(machine: &mut Watched, request: &Request) -> Last
-    ensures { machine.new ≡ watched machine.old request.now }
-{
-    let event = machine.ask(request);
+/// What is kept of an event.
+fn last_of(event: &Event) -> Last {
     Last {
         number: event.number,
         time: if event.era.is_some() { 0 } else { event.time },
         total: event.total,
-        came: came_of(&event),
+        came: came_of(event),
     }
+}
+
+/// This machine, of which nothing was asked, after these requests, and what is kept of the last.
+fn replayed(machine: Machine, requests: &[Request]) -> (Watched, Last)
+    ensures { result.0 ≡ fold watched (watching_from machine) requests.now }
+{
+    let mut last = Last {
+        number: 0,
+        time: 0,
+        total: 0,
+        came: Came::Served,
+    };
+    let mut run = WatchedRun::new(machine, Asks::of_script(requests));
+    while let Some((_source, event)) = run.next() {
+        last = last_of(&event);
+    }
+    (run.into_watched(), last)
 }
 
 /// Writes what a core set holds.
@@ -165,27 +176,15 @@ fn put_rest<W: Write>(pen: &mut Pen<W>, scene: &Scene) {
     pen.text("\n");
 }
 
-/// A bench's machine before its first request.
-fn watched_of(alloc: Global, bench: &Bench) -> Result<Watched, RunFault>
-    ensures { IfOk result (λ w. w ≡ watching_from (bench_machine bench.now)) }
-{
-    let machine = machine_of(alloc, bench)?;
-    Ok(Watched::new(machine))
-}
-
-/// A tracer of a bench's machine before its first request, which writes the rows of the requests
-/// after this number.
-fn tracer_of(alloc: Global, bench: &Bench, number: u64) -> Result<Tracer, RunFault>
-    ensures { IfOk result (λ t. t ≡ watching_from (bench_machine bench.now)) }
-{
-    let machine = machine_of(alloc, bench)?;
+/// The rows of all that is asked, as they are written in this manner.
+fn rows_of(alloc: Global) -> Rows {
     let choice = Choice {
         alarms: false,
-        from: Some(number.saturating_add(1)),
+        from: None,
         to: None,
         brief: false,
     };
-    Ok(Tracer::new(machine, choice, Columns::of_bench(alloc, false)))
+    Rows::new(choice, Columns::of_bench(alloc, false))
 }
 
 /// Writes the heading, and what came of power-up, if the bench has phase words.
@@ -198,38 +197,12 @@ pub(crate) fn put_heading<W: Write>(
     bench: &Bench,
     writer: &mut W,
 ) -> Result<(), RunFault> {
-    match tracer_of(alloc, bench, 0) {
-        Ok(tracer) => Ok(tracer.begin(bench.power(), writer)?),
-        Err(fault) => Err(fault),
-    }
+    let watched = Watched::new(machine_of(alloc, bench)?);
+    Ok(rows_of(alloc).begin(&watched, bench.power(), writer)?)
 }
 
 impl Player {
-    /// A bench's machine before its first request; rows are written of the requests after this
-    /// number.
-    ///
-    /// # Errors
-    ///
-    /// `NoMemory`.
-    fn new(alloc: Global, bench: &Bench, number: u64) -> Result<Player, RunFault>
-        ensures { IfOk result (λ p. p ≡ watching_from (bench_machine bench.now)) }
-    {
-        let watched = watched_of(alloc, bench)?;
-        let tracer = tracer_of(alloc, bench, number)?;
-        let last = Last {
-            number: 0,
-            time: 0,
-            total: 0,
-            came: Came::Served,
-        };
-        Ok(Player {
-            watched,
-            tracer,
-            last,
-        })
-    }
-
-    /// A bench's machine after these requests.
+    /// A bench's machine after these requests, of which no rows are written.
     ///
     /// # Errors
     ///
@@ -242,10 +215,13 @@ impl Player {
         ensures { IfOk result (λ p.
             p ≡ fold watched (watching_from (bench_machine bench.now)) requests.now) }
     {
-        let mut player = Player::new(alloc, bench, requests.len() as u64)?;
-        let writer = &mut io::sink();
-        follow_all(&mut player, &mut Silent, Source::Script, requests, writer)?;
-        Ok(player)
+        let machine = machine_of(alloc, bench)?;
+        let (watched, last) = replayed(machine, requests);
+        Ok(Player {
+            watched,
+            rows: rows_of(alloc),
+            last,
+        })
     }
 
     /// Asks for one request; its row and account are written, but where only rows are wanted in
@@ -262,12 +238,13 @@ impl Player {
     ) -> Result<(), Output>
         ensures { self.new ≡ watched self.old request.now }
     {
-        self.last = ask(&mut self.watched, request);
-        let source = Source::Script;
+        let event = self.watched.ask(request);
+        self.last = last_of(&event);
         if is_told || !matches!(self.last.came, Came::Quiet) {
-            self.tracer.follow(source, request, writer)
+            let source = Source::Bench(agc_session::Source::Script);
+            self.rows.tell(&self.watched, source, &event, writer)
         } else {
-            self.tracer.follow(source, request, &mut io::sink())
+            Ok(())
         }
     }
 
@@ -298,21 +275,5 @@ impl Player {
             "    the log has {} of {} requests\n",
             &[Number(stored), Number(limit)],
         );
-    }
-}
-
-impl Follows for Player {
-    ghost use Rattle.agc_scene.specs.Events.{watched};
-
-    ghost next = { λ player request. watched player request };
-
-    /// Asks for one request, as often as requests are asked again.
-    fn follow<W: Write>(
-        &mut self,
-        _source: Source,
-        request: &Request,
-        writer: &mut W,
-    ) -> Result<(), Output> {
-        self.ask(request, true, writer)
     }
 }

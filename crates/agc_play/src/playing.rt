@@ -7,11 +7,11 @@ use crate::player::{Came, Player, put_heading};
 use agc_document::Bench;
 use agc_machine::Refusal;
 use agc_plan::Request;
-use agc_session::{Follows, RunFault, Silent, Source, follow_bench, written};
+use agc_session::{RunFault, Walk, written};
 use agc_spelling::Filling::{Number, Text};
 use agc_spelling::{Filling, Pen, put_bench};
 use agc_text::Output;
-use std::alloc::Global;
+use std::alloc::{AllocError, Global};
 use std::io::{BufRead, ErrorKind, Read, Write};
 use std::marker::Model;
 use std::{fs, io};
@@ -81,44 +81,14 @@ impl From<RunFault> for PlayFault {
     }
 }
 
-/// The requests of a bench, as they are gathered.
-#[derive(Drop)]
-struct Gatherer {
-    requests: Vec<Request>,
-}
-
-impl Model for Gatherer {
-    ghost Value = { Unit {0} };
-
-    ghost view = { λ _. tt };
-}
-
-impl Follows for Gatherer {
-    ghost next = { λ gatherer request. gatherer };
-
-    /// Keeps one request, and writes nothing: it fails where there is no memory for it.
-    fn follow<W: Write>(
-        &mut self,
-        _source: Source,
-        request: &Request,
-        _writer: &mut W,
-    ) -> Result<(), Output> {
-        match self.requests.push(*request) {
-            Ok(()) => Ok(()),
-            Err(_lacking) => Err(Output),
-        }
-    }
-}
-
 /// All requests of a bench, in the order of `agc serial`.
-fn requests_of(alloc: Global, bench: &Bench) -> Result<Vec<Request>, RunFault> {
-    let mut gatherer = Gatherer {
-        requests: Vec::new(alloc),
-    };
-    match follow_bench(&mut gatherer, &mut Silent, bench, &mut io::sink()) {
-        Ok(()) => Ok(gatherer.requests),
-        Err(Output) => Err(RunFault::NoMemory),
+fn requests_of(alloc: Global, bench: &Bench) -> Result<Vec<Request>, AllocError> {
+    let mut requests = Vec::new(alloc);
+    let mut walk = Walk::new(bench);
+    while walk.advance() {
+        requests.extend_from_slice(walk.requests())?;
     }
+    Ok(requests)
 }
 
 /// A play: the bench that it began from, all that was asked, from the bench's own requests on, how

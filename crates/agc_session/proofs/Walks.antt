@@ -1,14 +1,9 @@
 -- What is left of a walk: the requests that are still to be asked.
-use Rattle.std.proofs.Common.{◌≡◌, ℕ, List, [], ◌∷◌, ◌++◌, ◌+◌, ◌<◌, ◌≤◌, length, get_or, drop, Option, map, subst, refl, sym, ap, ◌∙◌, append_assoc, append-nil, Result, Ok, Err}
+use Rattle.std.proofs.Common.{◌≡◌, ℕ, List, [], ◌∷◌, ◌++◌, Option, subst, refl, sym, ap, ◌∙◌, append_assoc, append-nil, Result, Ok, Err}
 use Rattle.std.specs.Prelude.{IsErr}
-use Rattle.std.specs.List.{fold, flat_map}
-use Rattle.std.proofs.lemmas.List.Concat.{flat_map-cons}
-use Rattle.std.proofs.lemmas.List.Folds.{flat_map-map}
+use Rattle.std.specs.List.{fold}
 use Rattle.std.proofs.lemmas.List.Sums.{fold-append}
-use Rattle.agc_plan.proofs.Lists.{next_is, none_left}
 use Rattle.agc_plan.specs.declared.request.Request.{Request}
-use Rattle.agc_document.specs.Benches.{Benched}
-use Rattle.agc_session.specs.Runs.{device_requests, bench_requests}
 use Rattle.agc_session.specs.Walks.{AllWritten, AsksInOrder, StopsIn, Writing}
 
 -- of a walk from a state and contents on, these requests are left, those before them were asked
@@ -73,11 +68,6 @@ walk_done {S} {next} {writes} {start} {s} {all} {o} {w} left =
     let is : left.asked ≡ all = sym (left.whole ∙ append-nil left.asked) in
     (left.here_is ∙ ap (fold next start) is, subst (λ (rs : List Request). AllWritten next writes start rs o w) is left.told)
 
--- all that was left is asked last
-pub walk_ended : {S T E : Type 0} → {next : S → Request → S} → {writes : Writing S} → {start s : S} → {all : List Request} → {o w : Option (List ℕ)} → (stops : Writing S) (t : S) (n : Option (List ℕ)) (a : List Request) (result : Result T E) → IsLeft S next writes start all o s w a → AsksInOrder next writes stops s a t w n result → AsksInOrder next writes stops start all t o n result
-walk_ended stops t n a (Ok x) left asks = walk_done (some_asked a [] (left_as (sym (append-nil a)) left) asks)
-walk_ended stops t n a (Err x) left asks = some_stopped a [] (left_as (sym (append-nil a)) left) asks
-
 -- the next one is asked
 pub one_asked : {S : Type 0} → {next : S → Request → S} → {writes : Writing S} → {start s t : S} → {all rest : List Request} → {o w n : Option (List ℕ)} → {q : Request} → IsLeft S next writes start all o s w (q ∷ rest) → t ≡ next s q → writes s q w n → IsLeft S next writes start all o t n rest
 unfolding AllWritten
@@ -88,25 +78,3 @@ unfolding AllWritten
 one_failed {S} {T} {E} {next} {writes} {start} {s} {t} {all} {rest} {o} {w} {n} {q} stops result left is front err =
     let stop : StopsIn next writes stops s (q ∷ []) t w n = record { before = []; last = q; after = []; whole = refl; end_is = is; between = w; told = refl; front = front } in
     walk_stopped (q ∷ []) rest result left stop err
-
--- where no write fails, all are asked
-pub never_stops : {S : Type 0} → {next : S → Request → S} → {writes : Writing S} → {start t : S} → {all : List Request} → {o n : Option (List ℕ)} → StopsIn next writes (λ _ _ _ _. ⊥) start all t o n → ⊥
-never_stops stop = stop.front
-
--- the next of what is left, and the rest
-pub next_item : {X : Type 0} → (f : X → List Request) (xs : List X) (i : ℕ) (x : X) → i < length xs → x ≡ get_or xs i x → flat_map f (drop i xs) ≡ f x ++ flat_map f (drop (i + 1) xs)
-next_item f xs i x l is = ap (flat_map f) (next_is xs i x l is) ∙ flat_map-cons f x (drop (i + 1) xs)
-
-pub no_item : {X : Type 0} → (f : X → List Request) (xs : List X) (i : ℕ) → length xs ≤ i → flat_map f (drop i xs) ≡ []
-no_item f xs i l = ap (flat_map f) (none_left xs i l)
-
--- the requests of a bench, its workers' as their lists hold them
-bench_is : {V : Type 0} → (f : V → List Request) (bench : Benched) (workers : List V) → map f workers ≡ bench.workers → bench_requests bench ≡ bench.script ++ (flat_map f workers ++ flat_map (device_requests bench) bench.devices)
-unfolding bench_requests
-bench_is f bench workers e =
-    let k : flat_map (λ rs. rs) bench.workers ≡ flat_map f workers = ap (flat_map (λ rs. rs)) (sym e) ∙ flat_map-map (λ rs. rs) f workers in
-    ap (λ (rs : List Request). bench.script ++ (rs ++ flat_map (device_requests bench) bench.devices)) k
-
--- before the first request of a bench all are left
-pub bench_left : {S V : Type 0} → (next : S → Request → S) (writes : Writing S) (start : S) (o : Option (List ℕ)) (f : V → List Request) (bench : Benched) (workers : List V) → map f workers ≡ bench.workers → IsLeft S next writes start (bench_requests bench) o start o (bench.script ++ (flat_map f workers ++ flat_map (device_requests bench) bench.devices))
-bench_left next writes start o f bench workers e = left_as (bench_is f bench workers e) (all_left next writes start (bench_requests bench) o)

@@ -1,20 +1,13 @@
-// One walk of a bench, whoever follows it.
+// What pulses ask for.
 ghost use Rattle.std.specs.Prelude.{◌≡◌, ◌≤◌, ◌+◌, ◌<◌, ◌++◌, ◌==◌, length, take};
-ghost use Rattle.std.specs.List.{flat_map};
 ghost use Rattle.std.specs.Option.{option_to_list};
 ghost use Rattle.agc_plan.specs.Pulses.{action_request, asks_nothing, pulse_requests};
 ghost use Rattle.agc_plan.specs.Pulses.{requests_for};
 ghost use Rattle.agc_session.specs.Pieces.{pulse_asks};
-ghost use Rattle.agc_session.specs.Runs.{bench_plan, bench_requests, device_requests};
-ghost use Rattle.agc_session.specs.Walks.{AsksInOrder};
+ghost use Rattle.agc_session.specs.Runs.{bench_plan};
 
-use crate::follows::Follows;
-use crate::progress::Progress;
-use crate::source::Source;
 use agc_document::Bench;
 use agc_plan::{Action, Line, Request, action_request};
-use agc_text::Output;
-use std::io::Write;
 
 /// Puts what an action asks for after the first so many requests. Returns how many there are then.
 fn put_request(requests: &mut [Request; 4], count: usize, action: Action) -> usize
@@ -74,101 +67,4 @@ pub fn asks_nothing(bench: &Bench, line: Line) -> bool
     ensures { result ≡ asks_nothing (bench_plan bench.now) line }
 {
     pulse_of(bench, line).1 == 0
-}
-
-/// Asks for all requests in order, which come of one source, and tells of each that it was asked.
-/// Source: profile.
-///
-/// # Errors
-///
-/// Where a write fails. No further request is then asked.
-#[inline(always)]
-pub fn follow_all<F: Follows, P: Progress, W: Write>(
-    follower: &mut F,
-    progress: &mut P,
-    source: Source,
-    requests: &[Request],
-    writer: &mut W,
-) -> Result<(), Output>
-    ensures { AsksInOrder F.next F.writes F.stops follower.old requests.now
-        follower.new (W.contents writer.old) (W.contents writer.new) result }
-{
-    for request in requests {
-        follower.follow(source, request, writer)?;
-        progress.asked();
-    }
-    Ok(())
-}
-
-/// Asks for a device's requests, one pulse after the other.
-fn follow_device<F: Follows, P: Progress, W: Write>(
-    follower: &mut F,
-    progress: &mut P,
-    bench: &Bench,
-    device: (Line, u32),
-    writer: &mut W,
-) -> Result<(), Output>
-    ensures { AsksInOrder F.next F.writes F.stops follower.old (device_requests bench.now device)
-        follower.new (W.contents writer.old) (W.contents writer.new) result }
-{
-    let (requests, count) = pulse_of(bench, device.0);
-    let source = Source::Pulse(device.0);
-    for _pulse in 0..device.1 {
-        follow_all(follower, progress, source, &requests[..count], writer)?;
-    }
-    Ok(())
-}
-
-/// Asks for each worker's requests.
-fn follow_workers<F: Follows, P: Progress, W: Write>(
-    follower: &mut F,
-    progress: &mut P,
-    workers: &[Vec<Request>],
-    writer: &mut W,
-) -> Result<(), Output>
-    ensures { AsksInOrder F.next F.writes F.stops follower.old (flat_map (λ w. w.items) workers.now)
-        follower.new (W.contents writer.old) (W.contents writer.new) result }
-{
-    for (k, worker) in workers.iter().enumerate() {
-        let source = Source::Worker(k as u64 + 1);
-        follow_all(follower, progress, source, worker.as_slice(), writer)?;
-    }
-    Ok(())
-}
-
-/// Asks for each device's requests.
-fn follow_devices<F: Follows, P: Progress, W: Write>(
-    follower: &mut F,
-    progress: &mut P,
-    bench: &Bench,
-    writer: &mut W,
-) -> Result<(), Output>
-    ensures { AsksInOrder F.next F.writes F.stops follower.old
-        (flat_map (device_requests bench.now) bench.now.devices)
-        follower.new (W.contents writer.old) (W.contents writer.new) result }
-{
-    for device in bench.devices() {
-        follow_device(follower, progress, bench, *device, writer)?;
-    }
-    Ok(())
-}
-
-/// Asks for all requests of a bench: those of its script, then each worker's, then each device's.
-/// Source: profile.
-///
-/// # Errors
-///
-/// Where a write fails. No further request is then asked.
-pub fn follow_bench<F: Follows, P: Progress, W: Write>(
-    follower: &mut F,
-    progress: &mut P,
-    bench: &Bench,
-    writer: &mut W,
-) -> Result<(), Output>
-    ensures { AsksInOrder F.next F.writes F.stops follower.old (bench_requests bench.now)
-        follower.new (W.contents writer.old) (W.contents writer.new) result }
-{
-    follow_all(follower, progress, Source::Script, bench.script(), writer)?;
-    follow_workers(follower, progress, bench.workers(), writer)?;
-    follow_devices(follower, progress, bench, writer)
 }

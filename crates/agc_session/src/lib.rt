@@ -4,7 +4,6 @@
 mod asking;
 mod counting;
 mod following;
-mod follows;
 pub mod laws;
 mod progress;
 mod run;
@@ -13,10 +12,9 @@ mod source;
 mod walk;
 
 pub use counting::{Counts, count_requests};
-pub use following::{asks_nothing, follow_all, follow_bench};
-pub use follows::{Follows, written};
+pub use following::asks_nothing;
 pub use progress::{Progress, Silent};
 pub use run::{machine_of, machine_on, run_script, script_machine, serial};
-pub use run_fault::RunFault;
+pub use run_fault::{RunFault, written};
 pub use source::Source;
 pub use walk::Walk;

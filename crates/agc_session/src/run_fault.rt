@@ -1,11 +1,11 @@
-ghost use Rattle.std.specs.Prelude.{◌≡◌, Some};
+ghost use Rattle.std.specs.Prelude.{◌≡◌, ◌↔◌, Some, IsOk};
 ghost use Rattle.agc_session.specs.declared.run_fault.RunFault.TheVariants as run;
 
 use agc_machine::NoMemory;
 use agc_text::Output;
 use std::alloc::{AllocError, AllocFailed};
-use std::fmt;
 use std::thread::SpawnError;
+use std::{fmt, io};
 
 /// Why a run did not come to its end. Source: profile.
 #[derive(Clone, Copy, PartialEq, Eq, Debug)]
@@ -77,3 +77,14 @@ impl fmt::Display for RunFault {
 }
 
 impl std::error::Error for RunFault {}
+
+/// The result of a write, as runs return it. Source: profile.
+///
+/// # Errors
+///
+/// Where the write failed.
+pub fn written(put: io::Result<()>) -> Result<(), Output>
+    ensures { IsOk result ↔ IsOk put }
+{
+    put.map_err(|_failed| Output)
+}

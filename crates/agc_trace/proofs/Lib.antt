@@ -2,4 +2,3 @@ mod Fronts
 mod Runners
 mod Still
 mod Quieted
-mod Followed

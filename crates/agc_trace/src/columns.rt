@@ -1,9 +1,8 @@
 // Which columns rows have, and what is called by a name in them.
 use crate::line::put_source;
 use crate::names::Names;
-use agc_clock::Source as Asker;
 use agc_plan::{Phase, Task};
-use agc_session::Source;
+use agc_run::Source;
 use agc_spelling::Filling::{Number, Octal, Seconds, Text};
 use agc_spelling::{Filling, Pen, put_task};
 use std::alloc::Global;
@@ -14,13 +13,6 @@ const MOST_LETTERS: usize = 24;
 
 /// How wide the column is that says who asks, unless a name in it is longer.
 const SOURCE_WIDTH: usize = 9;
-
-/// Who asks for a request, of a bench, or of a scenario.
-#[derive(Clone, Copy)]
-pub(crate) enum By {
-    Bench(Source),
-    Scenario(Asker),
-}
 
 /// The columns of rows: how wide the one is that says who asks, where it is there; whether times
 /// are in seconds; and the names that are shown. Source: profile.
@@ -88,11 +80,11 @@ impl Columns {
     }
 
     /// Writes who asks: an event by its name, or else by its number from 1.
-    pub(crate) fn put_source<W: Write>(&self, pen: &mut Pen<W>, by: By) {
-        match by {
-            By::Bench(source) => put_source(pen, source),
-            By::Scenario(Asker::Clock) => pen.text("clock"),
-            By::Scenario(Asker::Event(event)) => match self.names.event(event) {
+    pub(crate) fn put_source<W: Write>(&self, pen: &mut Pen<W>, source: Source) {
+        match source {
+            Source::Bench(source) => put_source(pen, source),
+            Source::Time(agc_clock::Source::Clock) => pen.text("clock"),
+            Source::Time(agc_clock::Source::Event(event)) => match self.names.event(event) {
                 None => pen.fill("event ", Number(event.saturating_add(1) as u64)),
                 Some(name) => put_joined(pen, name),
             },

@@ -1,7 +1,8 @@
 // The row of a request: its columns, and those of its scene.
-use crate::columns::{By, Columns};
+use crate::columns::Columns;
 use crate::line::Line;
 use crate::tables::{put_names, put_tables};
+use agc_run::Source;
 use agc_scene::{Event, Scene};
 use agc_spelling::Filling::{Number, Text};
 use agc_spelling::{Filling, Pen, put_answer, put_request};
@@ -58,7 +59,7 @@ pub(crate) fn put_power_row<W: Write>(
 }
 
 /// Writes the cells of a request's row, up to its answer.
-fn put_cells<W: Write>(pen: &mut Pen<W>, columns: &Columns, by: By, event: &Event) {
+fn put_cells<W: Write>(pen: &mut Pen<W>, columns: &Columns, source: Source, event: &Event) {
     let mark = if event.answer.is_err() { "!" } else { "" };
     let fillings = [
         Number(event.number),
@@ -67,7 +68,7 @@ fn put_cells<W: Write>(pen: &mut Pen<W>, columns: &Columns, by: By, event: &Even
         columns.time(event.total),
     ];
     pen.put("{}{}\t{}\t{}\t", &fillings);
-    columns.put_source(pen, by);
+    columns.put_source(pen, source);
     pen.text("\t");
     put_request(pen, &event.request);
     pen.text("\t");
@@ -75,10 +76,15 @@ fn put_cells<W: Write>(pen: &mut Pen<W>, columns: &Columns, by: By, event: &Even
 }
 
 /// Writes the row of a request; the number of a refused one is followed by `!`.
-pub(crate) fn put_row<W: Write>(pen: &mut Pen<W>, columns: &Columns, by: By, event: &Event) {
+pub(crate) fn put_row<W: Write>(
+    pen: &mut Pen<W>,
+    columns: &Columns,
+    source: Source,
+    event: &Event,
+) {
     let widths = columns.widths();
     let mut line = Line::new(pen, &widths);
-    put_cells(&mut Pen::new(&mut line), columns, by, event);
+    put_cells(&mut Pen::new(&mut line), columns, source, event);
     line.end(REPLY_WIDTH, columns.front_width());
     put_tables(pen, columns, &event.scene);
 }

@@ -1,10 +1,11 @@
 use Rattle.std.proofs.Common.{◌∙◌, ap}
-use Rattle.std.specs.List.{fold}
-use Rattle.agc_scene.specs.Events.{Watching, watched, watching_from}
+use Rattle.agc_run.specs.Runs.{to_ask}
+use Rattle.agc_run.proofs.Following.{followed}
+use Rattle.agc_session.specs.Runs.{script_machine}
 use Rattle.agc_trace.proofs.tracer.trace_script.Goals as goal
 
 pub returns : goal.returns
 returns g c =
     c.into_watched.ensures ∙ c.in_ok-trace_requests.ensures
-    ∙ ap (λ (w : Watching). fold watched w c.args.requests.now)
-    (c.new-tracer.ensures ∙ ap watching_from c.in_ok-machine.ensures.machine)
+    ∙ followed _ _ _ script_machine (λ m. c.args.requests.now) c.new-run.ensures.watched c.in_ok-machine.ensures.machine
+    (λ k. ap (to_ask k) c.new-run.ensures.asks ∙ c.of_script.ensures k)
