@@ -111,8 +111,7 @@ def missing(found):
     told = {it for _, new in found for it in new}
     help_text = next(it for it in cases.all_read()[0] if it.name == "watch-help").text("stdout").decode()
     commands = re.findall(r"^  ([a-z]+) ", help_text.partition("Commands:")[2].partition("Options:")[0], re.M)
-    # page writes into the workbench, which is a file of its own.
-    wanted = [f"agc_watch {it}" for it in commands if it != "page"] + [f"agc {it}" for it in ("script", "serial", "threads")]
+    wanted = [f"agc_watch {it}" for it in commands] + [f"agc {it}" for it in ("script", "serial", "threads")]
     wanted += [*kinds_of_request(), *(f"alarm {it}" for it in (1201, 1202, 1203))]
     rows = re.findall(r"^\| 1 \| the input is refused \| (.*) \|$", repository.text_of(f"{TOP}/docs/FORMATS.md"), re.M)
     wanted += [it.removesuffix(" N") for it in re.findall(r"`(agc: .*?)`", rows[0])]
@@ -197,6 +196,9 @@ def lay_both(room):
 
 def lay_case(room, case):
     words = [case.program().encode(), *(case.parts["args"].words() if "args" in case.parts else [])]
+    # rt try runs it without variables, and by a loader, beside which no workbench is.
+    if words[1:2] == [b"page"] and b"--workbench" not in words:
+        words += [b"--workbench", f"{TOP}/share/workbench.html".encode()]
     texts = ("", case.text("stdin")), (".args", b"".join(it + b"\n" for it in words)), (".stdout", case.text("stdout"))
     for ending, text in texts:
         with open(f"{room}/{case.name}{ending}", "wb") as file:
