@@ -428,6 +428,22 @@ AGC_INLINE uint32_t agc_pointer(const uint16_t *words) {
    first of AGC_PLAN_RANGE, AGC_TASK_TWICE, AGC_PHASE_TWICE and AGC_TOO_MANY_AREAS. */
 AGC_USED uint32_t agc_plan_check(const AgcRow *rows, size_t row_count, const AgcPhaseEntry *entries, size_t entry_count);
 
+/* Which row or entry is the first with which a plan lacks what agc_plan_check says: its place among the
+   rows, or how many rows there are and its place among the entries; the number of both where it lacks
+   nothing. */
+AGC_INLINE size_t agc_plan_first(const AgcPlan *plan) {
+    uint32_t code = agc_plan_check(plan->rows, plan->row_count, plan->entries, plan->entry_count);
+    size_t low = 0, high = plan->row_count + plan->entry_count;
+    if (code == AGC_OK) return high;
+    /* more rows never lack less */
+    while (low + 1 < high) {
+        size_t count = (low + high) / 2, rows = count < plan->row_count ? count : plan->row_count;
+        if (agc_plan_check(plan->rows, rows, plan->entries, count - rows) == code) high = count;
+        else low = count;
+    }
+    return low;
+}
+
 /* One request, with all that follows from it: in a tick each task that is due fires, and the actions
    of its row are done; after an alarm, and at a restart or fresh start, an era begins by the plan's
    entries. `fired` gets the tasks that fired, in order, in its first places; the others stay.

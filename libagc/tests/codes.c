@@ -382,6 +382,29 @@ static void texts(void) {
     check(!strcmp(agc_reply_text(0), "no reply is of this kind"), "agc_reply_text", 7, 0);
 }
 
+/* Which row or entry of a plan is told as the first. */
+static void firsts(void) {
+    AgcRow rows[5];
+    AgcPhaseEntry entries[3];
+    AgcPlan plan;
+    memset(rows, 0, sizeof rows);
+    memset(entries, 0, sizeof entries);
+    for (int k = 0; k < 5; k++) rows[k].at = (uint32_t)(k + 1);
+    for (int k = 0; k < 3; k++) entries[k].group = (uint32_t)(k + 1), entries[k].phase = 1;
+    plan.rows = rows, plan.row_count = 5, plan.entries = entries, plan.entry_count = 3;
+    check(agc_plan_first(&plan) == 8, "agc_plan_first of a plan", 7, 0);
+    entries[2].group = 1;
+    check(agc_plan_first(&plan) == 7, "agc_plan_first of a phase twice", 7, 11);
+    rows[3].at = 2;
+    check(agc_plan_first(&plan) == 3, "agc_plan_first of a task twice", 7, 10);
+    entries[1].phase = 128;
+    check(agc_plan_first(&plan) == 6, "agc_plan_first of a phase", 7, 9);
+    rows[4].bank = 32768;
+    check(agc_plan_first(&plan) == 4, "agc_plan_first of a bank", 7, 9);
+    rows[0].at = 0;
+    check(agc_plan_first(&plan) == 0, "agc_plan_first of the first", 7, 9);
+}
+
 int main(void) {
     agc_clear(image, 7);
     images();
@@ -397,5 +420,6 @@ int main(void) {
     ticks();
     words();
     texts();
+    firsts();
     return failed;
 }

@@ -117,8 +117,8 @@ def release(hostile):
         run(hostile, room)
         hostile.expect("a second release has the same bytes", packed(room) == first)
         git(place, "clone", "-q", room, "clone")
-        built = *BUILT, MODULE
-        for path in (*built, *(f"{it}.sums" for it in built)):
+        built = *BUILT, MODULE, ONE_FILE
+        for path in (*built, *(f"{it}.sums" for it in built if it != ONE_FILE)):
             os.makedirs(os.path.dirname(f"{place}/clone/{path}"), exist_ok=True)
             shutil.copy(f"{room}/{path}", f"{place}/clone/{path}")
         run(hostile, f"{place}/clone")
