@@ -5,7 +5,7 @@ ghost use Rattle.agc_machine.specs.Machines.{after};
 ghost use Rattle.agc_run.specs.Runs.{to_ask};
 
 use crate::counting::{Counts, counts_of};
-use crate::era::Era;
+use crate::era::{Era, Style};
 use crate::tally::Tally;
 use agc_machine::Machine;
 use agc_plan::{Fired, Request};
@@ -18,8 +18,8 @@ use std::io::Write;
 #[derive(Clone, Copy)]
 pub(crate) enum Told {
     Nothing,
-    /// The row of the era that ended with it, with the percentage of its ticks or without.
-    Eras(bool),
+    /// The row of the era that ended with it.
+    Eras(Style),
     /// Itself, as a line of a script.
     Requests,
 }
@@ -35,7 +35,7 @@ impl Told {
         let mut pen = Pen::new(writer);
         match (self, ended) {
             (Told::Requests, _) => put_script_line(&mut pen, request),
-            (Told::Eras(has_idle), Some(era)) => era.put(has_idle, &mut pen),
+            (Told::Eras(style), Some(era)) => era.put(style, &mut pen),
             _ => {}
         }
         pen.end()

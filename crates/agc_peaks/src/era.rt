@@ -2,12 +2,24 @@
 use crate::columns::{put_cell, put_cells, put_spaces};
 use crate::counting::Counts;
 use agc_spelling::Filling::{Number, Seconds, Text};
-use agc_spelling::Pen;
+use agc_spelling::{Filling, Pen};
 use std::io::Write;
 
 /// The names of the columns.
 const HEADING: &str = " era    begins  by         lasts  requests  begun  ended   sets    since  \
     areas    since  tasks    since";
+
+/// The same as a row of comma-separated values.
+const NAMES: &str = "era,begins,by,lasts,requests,begun,ended,sets,sets_since,areas,areas_since,\
+    tasks,tasks_since,idle,ended_by\n";
+
+/// How eras are written: with the percentage of their ticks at which no job was running, or
+/// without; and as comma-separated values, or in columns. Source: profile.
+#[derive(Clone, Copy)]
+pub(crate) struct Style {
+    pub(crate) has_idle: bool,
+    pub(crate) csv: bool,
+}
 
 /// How wide the columns are from the third of numbers on.
 const WIDTHS: [usize; 10] = [9, 9, 6, 6, 6, 8, 6, 8, 6, 8];
@@ -89,20 +101,32 @@ impl Era {
         self.see(counts, time);
     }
 
-    /// Writes its row, with the percentage of its ticks at which no job was running, if that is
-    /// wanted.
-    pub(crate) fn put<W: Write>(&self, has_idle: bool, pen: &mut Pen<W>) {
+    /// The percentage of its ticks at which no job was running.
+    fn idle_percent(&self) -> u64 {
         let lasts = self.ended.saturating_sub(self.began);
+        self.idle.saturating_mul(100) / lasts.max(1)
+    }
+
+    /// Writes its row.
+    pub(crate) fn put<W: Write>(&self, style: Style, pen: &mut Pen<W>) {
+        if style.csv {
+            put_csv(self, style.has_idle, pen);
+        } else {
+            self.put_columns(style.has_idle, pen);
+        }
+    }
+
+    /// Writes its row in columns.
+    fn put_columns<W: Write>(&self, has_idle: bool, pen: &mut Pen<W>) {
         put_cell(pen, 4, Number(self.number));
         pen.text(" ");
         put_cell(pen, 9, Seconds(self.began));
         pen.fill("  ", Text(self.by));
         put_spaces(pen, self.by.len(), 7);
-        put_numbers(self, lasts, pen);
+        put_cells(pen, " ", &WIDTHS, &numbers(self));
         if has_idle {
-            let percent = self.idle.saturating_mul(100) / lasts.max(1);
             pen.text(" ");
-            put_cell(pen, 4, Number(percent));
+            put_cell(pen, 4, Number(self.idle_percent()));
             pen.text("%");
         }
         pen.fill("  ", Text(self.end));
@@ -110,10 +134,10 @@ impl Era {
     }
 }
 
-/// Writes the numbers of an era that lasted so long.
-fn put_numbers<W: Write>(era: &Era, lasts: u64, pen: &mut Pen<W>) {
-    let cells = [
-        Seconds(lasts),
+/// The numbers of an era's row.
+fn numbers(era: &Era) -> [Filling<'static>; 10] {
+    [
+        Seconds(era.ended.saturating_sub(era.began)),
         Number(era.requests),
         Number(era.jobs_begun),
         Number(era.jobs_ended),
@@ -123,14 +147,31 @@ fn put_numbers<W: Write>(era: &Era, lasts: u64, pen: &mut Pen<W>) {
         Seconds(era.areas.since),
         Number(era.tasks.count),
         Seconds(era.tasks.since),
-    ];
-    put_cells(pen, " ", &WIDTHS, &cells);
+    ]
+}
+
+/// Writes an era's row as comma-separated values.
+fn put_csv<W: Write>(era: &Era, has_idle: bool, pen: &mut Pen<W>) {
+    let first = [Number(era.number), Seconds(era.began), Text(era.by)];
+    pen.put("{},{},{}", &first);
+    for cell in numbers(era) {
+        pen.fill(",", cell);
+    }
+    pen.text(",");
+    if has_idle {
+        pen.add(Number(era.idle_percent()));
+    }
+    pen.put(",{}\n", &[Text(era.end)]);
 }
 
 /// Writes the names of the columns.
-pub(crate) fn put_heading<W: Write>(has_idle: bool, pen: &mut Pen<W>) {
+pub(crate) fn put_heading<W: Write>(style: Style, pen: &mut Pen<W>) {
+    if style.csv {
+        pen.text(NAMES);
+        return;
+    }
     pen.text(HEADING);
-    pen.text(if has_idle {
+    pen.text(if style.has_idle {
         "  idle  ended by\n"
     } else {
         "  ended by\n"

@@ -6,12 +6,17 @@ mod columns;
 mod counted;
 mod counting;
 mod era;
+mod jobs;
+mod jobs_rows;
+mod ledger;
+mod lives;
 mod peaks;
 mod rows;
 mod sweep;
 mod tally;
 mod writing;
 
+pub use jobs::{bench_jobs, scenario_jobs};
 pub use peaks::{bench_peaks, scenario_peaks};
 pub use sweep::{Column, Sweep, Watches, run_sweep};
 pub use writing::scenario_bench;

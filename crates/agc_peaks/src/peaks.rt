@@ -1,6 +1,6 @@
 //! How full the tables were, era by era.
 use crate::counted::{Told, counted_to_end};
-use crate::era::put_heading;
+use crate::era::{Style, put_heading};
 use crate::tally::Tally;
 use agc_document::Bench;
 use agc_run::{Asks, Run};
@@ -13,17 +13,19 @@ use std::alloc::Global;
 use std::io::Write;
 
 /// Writes the names of the columns.
-fn put_first<W: Write>(has_idle: bool, writer: &mut W) -> Result<(), Output> {
+fn put_first<W: Write>(style: Style, writer: &mut W) -> Result<(), Output> {
     let mut pen = Pen::new(writer);
-    put_heading(has_idle, &mut pen);
+    put_heading(style, &mut pen);
     pen.end()
 }
 
-/// Writes the row of the last era, and how many requests were refused.
-fn put_last<W: Write>(tally: &Tally, has_idle: bool, writer: &mut W) -> Result<(), Output> {
+/// Writes the row of the last era, and in a table that isn't for other programs how many requests
+/// were refused.
+fn put_last<W: Write>(tally: &Tally, style: Style, writer: &mut W) -> Result<(), Output> {
     let mut pen = Pen::new(writer);
-    tally.era("the end").put(has_idle, &mut pen);
+    tally.era("the end").put(style, &mut pen);
     match tally.refused {
+        _ if style.csv => {}
         0 => {}
         1 => pen.text("1 request was refused\n"),
         count => pen.put("{} requests were refused\n", &[Number(count)]),
@@ -31,17 +33,18 @@ fn put_last<W: Write>(tally: &Tally, has_idle: bool, writer: &mut W) -> Result<(
     pen.end()
 }
 
-/// Runs to the end, and writes a row for each era, with the percentage of its ticks or without.
-fn put_eras<W: Write>(mut run: Run<'_>, has_idle: bool, writer: &mut W) -> Result<(), RunFault> {
-    put_first(has_idle, writer)?;
-    let tally = counted_to_end(&mut run, Told::Eras(has_idle), writer)?;
-    Ok(put_last(&tally, has_idle, writer)?)
+/// Runs to the end, and writes a row for each era.
+fn put_eras<W: Write>(mut run: Run<'_>, style: Style, writer: &mut W) -> Result<(), RunFault> {
+    put_first(style, writer)?;
+    let tally = counted_to_end(&mut run, Told::Eras(style), writer)?;
+    Ok(put_last(&tally, style, writer)?)
 }
 
 /// Runs a scenario, and writes for each era when it began and why, how long it lasted, how many
 /// requests were served and jobs begun and ended in it, the most core sets, VAC areas and places of
 /// the Waitlist that were in use at once and since when, the percentage of its ticks at which no
-/// job was running, and what ended it. The writer is not flushed. Source: profile.
+/// job was running, and what ended it; as comma-separated values, if that is asked. The writer is
+/// not flushed. Source: profile.
 ///
 /// # Errors
 ///
@@ -49,11 +52,16 @@ fn put_eras<W: Write>(mut run: Run<'_>, has_idle: bool, writer: &mut W) -> Resul
 pub fn scenario_peaks<W: Write>(
     alloc: Global,
     scenario: &Scenario,
+    csv: bool,
     writer: &mut W,
 ) -> Result<(), RunFault> {
     let machine = machine_of(alloc, scenario.bench())?;
     let asks = Asks::of_scenario(scenario.timing());
-    put_eras(Run::new(machine, asks), true, writer)
+    let style = Style {
+        has_idle: true,
+        csv,
+    };
+    put_eras(Run::new(machine, asks), style, writer)
 }
 
 /// Asks a bench's machine for all its requests, as `serial` does, and writes the same for each era,
@@ -63,10 +71,19 @@ pub fn scenario_peaks<W: Write>(
 /// # Errors
 ///
 /// `NoMemory`, and nothing was written. `Output`, where a write failed.
-pub fn bench_peaks<W: Write>(alloc: Global, bench: &Bench, writer: &mut W) -> Result<(), RunFault> {
+pub fn bench_peaks<W: Write>(
+    alloc: Global,
+    bench: &Bench,
+    csv: bool,
+    writer: &mut W,
+) -> Result<(), RunFault> {
+    let style = Style {
+        has_idle: false,
+        csv,
+    };
     put_eras(
         Run::new(machine_of(alloc, bench)?, Asks::of_bench(bench)),
-        false,
+        style,
         writer,
     )
 }

@@ -7,7 +7,7 @@ use agc_text::Output;
 use std::io::Write;
 
 /// Writes a name as a value of CSV: in quotes where it has a comma or a quote, each of these twice.
-fn put_quoted<W: Write>(pen: &mut Pen<W>, name: &str) {
+pub(crate) fn put_quoted<W: Write>(pen: &mut Pen<W>, name: &str) {
     if !name.contains(',') && !name.contains('"') {
         pen.text(name);
         return;
@@ -23,7 +23,7 @@ pub(crate) fn put_names<W: Write>(name: &str, csv: bool, writer: &mut W) -> Resu
     let mut pen = Pen::new(writer);
     if csv {
         put_quoted(&mut pen, name);
-        pen.text(",alarm,at,alarms,sets,areas,tasks\n");
+        pen.text(",alarm,at,alarms,most_sets,most_areas,most_tasks\n");
     } else {
         put_spaces(&mut pen, name.chars().count(), 10);
         pen.text(name);

@@ -1,5 +1,5 @@
 // What is still to be asked in a run.
-ghost use Rattle.std.specs.Prelude.{◌≡◌, []};
+ghost use Rattle.std.specs.Prelude.{◌≡◌, [], option_map};
 ghost use Rattle.agc_exec.specs.Image.{IsLawfulWords, jobs_in};
 ghost use Rattle.agc_machine.specs.Machines.{Machined, plain_of};
 ghost use Rattle.agc_run.specs.Runs.{Pulls, clock_after, clock_requests, rest, to_ask};
@@ -83,6 +83,17 @@ impl<'a> Asks<'a> {
             listed: Requests::of_script(&[]),
             timing: Some(timing),
             clock: Clock::new(),
+        }
+    }
+
+    /// The clock as it is, if time passes by itself.
+    pub(crate) fn clock(&self) -> Option<&Clock>
+        ensures { option_map (λ clock. clock.now) result
+            ≡ option_map (λ _. self.now.clock) self.now.table }
+    {
+        match self.timing {
+            None => None,
+            Some(_timing) => Some(&self.clock),
         }
     }
 

@@ -1,9 +1,10 @@
 // A run that is pulled: a machine, and what is still to be asked of it.
-ghost use Rattle.std.specs.Prelude.{◌≡◌};
+ghost use Rattle.std.specs.Prelude.{◌≡◌, option_map};
 ghost use Rattle.agc_machine.specs.Machines.{after, answer_of};
 ghost use Rattle.agc_run.specs.Runs.{Pulls, asks_after};
 
 use crate::asks::{Asked, Asks};
+use agc_clock::Clock;
 use agc_machine::{Machine, Refusal};
 use agc_plan::{Fired, Reply};
 use std::marker::Model;
@@ -44,6 +45,14 @@ impl<'a> Run<'a> {
         ensures { result ≡ self.entry.machine }
     {
         self.machine
+    }
+
+    /// The clock as it is, if time passes by itself. Source: profile.
+    pub fn clock(&self) -> Option<&Clock>
+        ensures { option_map (λ clock. clock.now) result
+            ≡ option_map (λ _. self.now.asks.clock) self.now.asks.table }
+    {
+        self.asks.clock()
     }
 
     /// What comes next, and who asks for it; the machine is then to be asked for it. None, where

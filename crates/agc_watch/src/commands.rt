@@ -46,6 +46,8 @@ const PROGRESS: Argument = (
     "Says on standard error, once a second, how far it has come",
 );
 
+const CSV: Argument = ("csv", Form::Flag, "Writes comma-separated values");
+
 const TRACE: Row = Row {
     name: "trace",
     called: "agc_watch trace",
@@ -165,7 +167,15 @@ const PEAKS: Row = Row {
     called: "agc_watch peaks",
     about: "Says for each era how full the tables were, and what ended it",
     example: "Example: agc_watch peaks examples/no-vac-area.toml",
-    arguments: &[FILE],
+    arguments: &[FILE, CSV],
+};
+
+const JOBS: Row = Row {
+    name: "jobs",
+    called: "agc_watch jobs",
+    about: "Says how long the jobs of each address took, and what they waited for",
+    example: "Example: agc_watch jobs examples/landing.toml",
+    arguments: &[FILE, CSV],
 };
 
 const SWEEP: Row = Row {
@@ -196,7 +206,7 @@ Example: agc_watch sweep steal 0 20 5 scenario.toml",
             Form::Word("FILE", false),
             "The scenario to read; standard input if none is named, or -",
         ),
-        ("csv", Form::Flag, "Writes comma-separated values"),
+        CSV,
     ],
 };
 
@@ -213,8 +223,8 @@ const PLAY: Row = Row {
 };
 
 /// The commands, in the order of the help.
-const COMMANDS: [Row; 9] = [
-    TRACE, PICTURE, PAGE, CHECK, EXPLORE, BENCH, PEAKS, SWEEP, PLAY,
+const COMMANDS: [Row; 10] = [
+    TRACE, PICTURE, PAGE, CHECK, EXPLORE, BENCH, PEAKS, JOBS, SWEEP, PLAY,
 ];
 
 /// A word or an option of a command, as `clap` reads it.

@@ -33,8 +33,10 @@ pub(crate) enum Show<'a> {
     TimePicture(Span),
     /// Its page, made of the workbench that is named, if one is.
     Page(Option<&'a str>),
-    /// How full the tables were, era by era.
-    Peaks,
+    /// How full the tables were, era by era; as comma-separated values, if so.
+    Peaks(bool),
+    /// What its jobs came to; as comma-separated values, if so.
+    Jobs(bool),
 }
 
 /// What the program is to do, and of which kind its input is.
@@ -259,7 +261,8 @@ impl<'a, 'b> Words<'a, 'b> {
             "check" => Task::Check,
             "explore" => Task::Explore(self.explore()),
             "bench" => Task::Bench,
-            "peaks" => Task::Show(Show::Peaks),
+            "peaks" => Task::Show(Show::Peaks(self.given.get_flag("csv"))),
+            "jobs" => Task::Show(Show::Jobs(self.given.get_flag("csv"))),
             "sweep" => Task::Sweep(self.sweep()),
             _ => Task::Play,
         }

@@ -10,7 +10,9 @@ use crate::words::{Asked, Show, Task, Values};
 use crate::workbench::Workbench;
 use agc_document::Bench;
 use agc_orders::{Options, Reach, Watch, explore};
-use agc_peaks::{Sweep, bench_peaks, run_sweep, scenario_bench, scenario_peaks};
+use agc_peaks::{
+    Sweep, bench_jobs, bench_peaks, run_sweep, scenario_bench, scenario_jobs, scenario_peaks,
+};
 use agc_picture::{picture, scenario_picture, scenario_time_picture, time_picture};
 use agc_play::{Manner, PlayFault, play};
 use agc_program::Fault;
@@ -50,7 +52,8 @@ fn show_bench<W: Write>(
     let alloc = rt.alloc();
     let shown = match show {
         Show::Page(named) => return write_page(rt, named, text, writer),
-        Show::Peaks => return Ok(bench_peaks(alloc, bench, writer)?),
+        Show::Peaks(csv) => return Ok(bench_peaks(alloc, bench, csv, writer)?),
+        Show::Jobs(csv) => return Ok(bench_jobs(alloc, bench, csv, writer)?),
         Show::Trace(choice) => trace(alloc, bench, choice, progress, writer),
         Show::Picture => picture(alloc, bench, progress, writer),
         Show::TimePicture(span) => time_picture(alloc, bench, span, progress, writer),
@@ -89,7 +92,8 @@ fn show_scenario<W: Write>(
     let alloc = rt.alloc();
     let shown = match show {
         Show::Page(named) => return write_page(rt, named, text, writer),
-        Show::Peaks => return Ok(scenario_peaks(alloc, scenario, writer)?),
+        Show::Peaks(csv) => return Ok(scenario_peaks(alloc, scenario, csv, writer)?),
+        Show::Jobs(csv) => return Ok(scenario_jobs(alloc, scenario, csv, writer)?),
         Show::Trace(choice) => return trace_scenario(alloc, choice, scenario, progress, writer),
         Show::Picture => scenario_picture(alloc, scenario, progress, writer),
         Show::TimePicture(span) => {

@@ -1,0 +1,181 @@
+//! What the jobs of a run came to.
+ghost use Rattle.std.specs.Prelude.{◌≡◌, IfOk};
+ghost use Rattle.std.specs.List.{fold};
+ghost use Rattle.agc_machine.specs.Machines.{after};
+ghost use Rattle.agc_run.specs.Runs.{to_ask};
+
+use crate::jobs_rows::put_jobs;
+use crate::ledger::{Ledger, Passed};
+use crate::lives::{Jobs, MOST, Moment, jobs_seen};
+use agc_document::Bench;
+use agc_machine::Machine;
+use agc_plan::{Fired, Request};
+use agc_run::{Asks, Run};
+use agc_scenario::{Scenario, Timing};
+use agc_session::{RunFault, machine_of};
+use std::alloc::{AllocError, Global};
+use std::io::Write;
+
+/// Where a clock is: its centisecond, the computing time that is left of it, and what each job was
+/// given.
+#[derive(Clone, Copy)]
+struct Reading {
+    time: u64,
+    left: u64,
+    given: [u32; MOST],
+}
+
+/// Where a run's clock is; a bench has none, and its time is that of its ticks.
+fn read(run: &Run<'_>, ticks: u64) -> Reading {
+    match run.clock() {
+        None => Reading {
+            time: ticks,
+            left: 0,
+            given: [0; MOST],
+        },
+        Some(clock) => Reading {
+            time: u64::from(clock.time()),
+            left: u64::from(clock.left()),
+            given: *clock.given(),
+        },
+    }
+}
+
+impl Reading {
+    /// How many hundredths of a centisecond have gone by.
+    fn moment(&self) -> Moment {
+        self.time.saturating_mul(100).saturating_sub(self.left)
+    }
+
+    /// How many hundredths jobs were given in all.
+    fn sum(&self) -> u64 {
+        let mut sum: u64 = 0;
+        for given in self.given {
+            sum = sum.saturating_add(u64::from(given));
+        }
+        sum
+    }
+
+    /// What the clock did from here to there: within a centisecond the running job was given what
+    /// isn't left any more; beyond it, what the jobs show.
+    fn passed(&self, there: &Reading, is_within: bool) -> Passed {
+        if is_within {
+            return Passed {
+                computed: self.left.saturating_sub(there.left),
+                stolen: 0,
+                idle: 0,
+            };
+        }
+        let computed = there.sum().saturating_sub(self.sum());
+        let gone = there.time.saturating_sub(self.time).saturating_mul(100);
+        Passed {
+            computed,
+            stolen: gone.saturating_sub(there.left),
+            idle: self.left.saturating_sub(computed),
+        }
+    }
+}
+
+/// Takes note of the time that passed before a request, or up to the end.
+fn pass(ledger: &mut Ledger, run: &Run<'_>, before: &Reading, after: &Reading, is_asked: bool) {
+    let passed = match run.clock() {
+        None => Passed {
+            computed: 0,
+            stolen: 0,
+            idle: 0,
+        },
+        Some(_clock) => before.passed(after, is_asked && before.time == after.time),
+    };
+    ledger.pass(passed, after.time, after.moment());
+}
+
+/// How many ticks there were with this request.
+fn ticks_with(ticks: u64, request: &Request) -> u64 {
+    ticks.saturating_add(u64::from(*request == Request::Tick))
+}
+
+/// The jobs when a request has been acted on, before an era begins with it.
+fn jobs_then(machine: &Machine, request: &Request) -> Jobs {
+    let moment = machine.moment(request);
+    jobs_seen(moment.words())
+}
+
+/// Asks for all requests of a run, in order, and for no others, and takes note of what becomes of
+/// its jobs.
+fn jobs_to_end(alloc: Global, run: &mut Run<'_>) -> Result<Ledger, AllocError>
+    ensures { IfOk result (λ _. run.new.machine
+        ≡ fold after run.old.machine (to_ask run.old.machine run.old.asks)) }
+{
+    let mut ledger = Ledger::new(alloc, &jobs_seen(run.machine().erasable()))?;
+    let mut ticks: u64 = 0;
+    let mut before = read(run, ticks);
+    while let Some(asked) = run.next() {
+        let then = jobs_then(run.machine(), &asked.request);
+        let after = read(run, ticks_with(ticks, &asked.request));
+        pass(&mut ledger, run, &before, &after, true);
+        let mut fired = Fired::new();
+        if let Ok(reply) = run.ask(&asked, &mut fired) {
+            ticks = ticks_with(ticks, &asked.request);
+            ledger.see(&then)?;
+            if reply.begins() {
+                ledger.begin_era(&jobs_seen(run.machine().erasable()))?;
+            }
+        }
+        before = read(run, ticks);
+    }
+    let after = read(run, ticks);
+    pass(&mut ledger, run, &before, &after, false);
+    ledger.close()?;
+    Ok(ledger)
+}
+
+/// Runs to the end, and writes what the jobs came to.
+fn put_run<W: Write>(
+    alloc: Global,
+    mut run: Run<'_>,
+    timing: Option<&Timing>,
+    csv: bool,
+    writer: &mut W,
+) -> Result<(), RunFault> {
+    let ledger = jobs_to_end(alloc, &mut run)?;
+    Ok(put_jobs(&ledger, timing, csv, writer)?)
+}
+
+/// Runs a scenario, and writes for the jobs of each address how many began, ended, were lost as an
+/// era began and live still; the shortest, mean, 95th percentile and longest time from where a job
+/// was established to where it ended, and how much of it on average it computed, waited and slept;
+/// how often another job took over from one; and its share of the processor. Then a line for each
+/// era says how much of its time was used by jobs, stolen and idle. The writer is not flushed.
+/// Source: profile.
+///
+/// # Errors
+///
+/// `NoMemory`, and nothing was written. `Output`, where a write failed.
+pub fn scenario_jobs<W: Write>(
+    alloc: Global,
+    scenario: &Scenario,
+    csv: bool,
+    writer: &mut W,
+) -> Result<(), RunFault> {
+    let machine = machine_of(alloc, scenario.bench())?;
+    let timing = scenario.timing();
+    let run = Run::new(machine, Asks::of_scenario(timing));
+    put_run(alloc, run, Some(timing), csv, writer)
+}
+
+/// Asks a bench's machine for all its requests, as `serial` does, and writes the same, in which
+/// time passes with ticks alone, and no computing time is known. The writer is not flushed. Source:
+/// profile.
+///
+/// # Errors
+///
+/// `NoMemory`, and nothing was written. `Output`, where a write failed.
+pub fn bench_jobs<W: Write>(
+    alloc: Global,
+    bench: &Bench,
+    csv: bool,
+    writer: &mut W,
+) -> Result<(), RunFault> {
+    let run = Run::new(machine_of(alloc, bench)?, Asks::of_bench(bench));
+    put_run(alloc, run, None, csv, writer)
+}

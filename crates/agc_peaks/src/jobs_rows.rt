@@ -1,0 +1,240 @@
+//! The table of a run's jobs.
+use crate::columns::{put_cells, put_spaces};
+use crate::ledger::{Kind, Ledger, Spent};
+use crate::rows::put_quoted;
+use agc_scenario::Timing;
+use agc_spelling::Filling::{Number, Octal, Seconds, Text};
+use agc_spelling::{Filling, Pen};
+use agc_text::Output;
+use std::io::Write;
+
+/// The names of the columns behind the first.
+const HEADING: &str =
+    "  began  ended   lost  alive    least     mean      95%     most  computing  \
+    waiting  sleeping  taken over   share\n";
+
+/// The same as a row of comma-separated values.
+const NAMES: &str = "job,began,ended,lost,alive,least,mean,p95,most,computing,waiting,sleeping,\
+    taken_over,share\n";
+
+/// How wide the columns are.
+const WIDTHS: [usize; 12] = [5, 5, 5, 5, 7, 7, 7, 7, 9, 7, 8, 10];
+
+/// The names of the columns of the second table.
+const ERAS: &str = "\n era    begins     lasts  computing  stolen    idle\n";
+
+/// Hundredths of a centisecond as seconds, to the nearest hundredth.
+fn seconds(hundredths: u64) -> Filling<'static> {
+    Seconds(hundredths.saturating_add(50) / 100)
+}
+
+/// A part of a whole in thousandths, to the nearest.
+fn thousandths(part: u64, whole: u64) -> u64 {
+    let doubled = whole.saturating_mul(2).max(1);
+    part.saturating_mul(2000).saturating_add(whole) / doubled
+}
+
+/// Writes thousandths as a percentage with one decimal, at the right end of a column.
+fn put_percent<W: Write>(pen: &mut Pen<W>, width: usize, thousandths: u64) {
+    let letters = match thousandths {
+        0..100 => 3,
+        100..1000 => 4,
+        _ => 5,
+    };
+    put_spaces(pen, letters, width);
+    pen.put(
+        "{}.{}",
+        &[Number(thousandths / 10), Number(thousandths % 10)],
+    );
+}
+
+/// What the jobs of an address took on average: the whole, and what they computed, waited and slept
+/// of it, in hundredths of a centisecond.
+#[derive(Clone, Copy)]
+struct Mean {
+    response: u64,
+    computed: u64,
+    waited: u64,
+    slept: u64,
+}
+
+/// The mean of an address's jobs that ended.
+fn mean_of(kind: &Kind) -> Mean {
+    let count = (kind.responses.len() as u64).max(1);
+    let mut sum: u64 = 0;
+    for response in kind.responses.iter() {
+        sum = sum.saturating_add(*response);
+    }
+    let waited = sum
+        .saturating_sub(kind.computed_to_end)
+        .saturating_sub(kind.slept_to_end);
+    Mean {
+        response: sum / count,
+        computed: kind.computed_to_end / count,
+        waited: waited / count,
+        slept: kind.slept_to_end / count,
+    }
+}
+
+/// The least time of those in order that is not exceeded by so many percent of them.
+fn percentile(times: &[u64], percent: usize) -> u64 {
+    let rank = times.len().saturating_mul(percent).saturating_add(99) / 100;
+    times.get(rank.saturating_sub(1)).copied().unwrap_or(0)
+}
+
+/// What fills the columns of an address's jobs, with this for computing time that isn't known.
+fn cells(kind: &Kind, unknown: Option<&'static str>) -> [Filling<'static>; 12] {
+    let times = kind.responses.as_slice();
+    let mean = mean_of(kind);
+    let computed = match unknown {
+        None => seconds(mean.computed),
+        Some(unknown) => Text(unknown),
+    };
+    [
+        Number(kind.began),
+        Number(times.len() as u64),
+        Number(kind.lost),
+        Number(kind.alive),
+        seconds(times.first().copied().unwrap_or(0)),
+        seconds(mean.response),
+        seconds(percentile(times, 95)),
+        seconds(times.last().copied().unwrap_or(0)),
+        computed,
+        seconds(mean.waited),
+        seconds(mean.slept),
+        Number(kind.taken_over),
+    ]
+}
+
+/// The name of an address's jobs, if a scenario gives one.
+fn name_at(timing: Option<&Timing>, at: u16) -> Option<&str> {
+    let timing = timing?;
+    for job in timing.jobs() {
+        if job.at().get() == at {
+            return job.name();
+        }
+    }
+    None
+}
+
+/// How wide the column of names is: as wide as the longest.
+fn width_of(ledger: &Ledger, timing: Option<&Timing>) -> usize {
+    let mut width = 8;
+    for kind in ledger.kinds.iter() {
+        if let Some(name) = name_at(timing, kind.at) {
+            width = name.chars().count().max(width);
+        }
+    }
+    width
+}
+
+/// Writes the row of an address's jobs, in a run of which so much time is known to have passed.
+fn put_row<W: Write>(
+    pen: &mut Pen<W>,
+    width: usize,
+    name: Option<&str>,
+    kind: &Kind,
+    time: Option<u64>,
+) {
+    match name {
+        None => {
+            pen.add(Octal(kind.at));
+            put_spaces(pen, 5, width);
+        }
+        Some(name) => {
+            pen.text(name);
+            put_spaces(pen, name.chars().count(), width);
+        }
+    }
+    match time {
+        None => {
+            put_cells(pen, "  ", &WIDTHS, &cells(kind, Some("        -")));
+            pen.text("       -\n");
+        }
+        Some(time) => {
+            put_cells(pen, "  ", &WIDTHS, &cells(kind, None));
+            put_percent(pen, 7, thousandths(kind.computed, time));
+            pen.text("%\n");
+        }
+    }
+}
+
+/// Writes the same row as comma-separated values.
+fn put_csv<W: Write>(pen: &mut Pen<W>, name: Option<&str>, kind: &Kind, time: Option<u64>) {
+    match name {
+        None => pen.add(Octal(kind.at)),
+        Some(name) => put_quoted(pen, name),
+    }
+    let unknown = if time.is_none() { Some("") } else { None };
+    for cell in cells(kind, unknown) {
+        pen.fill(",", cell);
+    }
+    pen.text(",");
+    if let Some(time) = time {
+        put_percent(pen, 0, thousandths(kind.computed, time));
+    }
+    pen.text("\n");
+}
+
+/// Writes the row of an era, which ended at this centisecond.
+fn put_era<W: Write>(pen: &mut Pen<W>, number: u64, era: &Spent, ended: u64) {
+    let lasts = ended.saturating_sub(era.began);
+    let time = era
+        .computed
+        .saturating_add(era.stolen)
+        .saturating_add(era.idle);
+    put_cells(
+        pen,
+        "",
+        &[4, 10, 10],
+        &[Number(number), Seconds(era.began), Seconds(lasts)],
+    );
+    for (width, part) in [(10, era.computed), (7, era.stolen), (7, era.idle)] {
+        put_percent(pen, width, thousandths(part, time));
+        pen.text("%");
+    }
+    pen.text("\n");
+}
+
+/// Writes how the time of each era was used.
+fn put_eras<W: Write>(pen: &mut Pen<W>, ledger: &Ledger) {
+    pen.text(ERAS);
+    let eras = ledger.eras.as_slice();
+    for (k, era) in eras.iter().enumerate() {
+        let ended = match eras.get(k.saturating_add(1)) {
+            None => ledger.time,
+            Some(next) => next.began,
+        };
+        put_era(pen, (k as u64).saturating_add(1), era, ended);
+    }
+}
+
+/// Writes what the jobs of each address came to, and, where time passes by itself and not as CSV,
+/// how the time of each era was used.
+pub(crate) fn put_jobs<W: Write>(
+    ledger: &Ledger,
+    timing: Option<&Timing>,
+    csv: bool,
+    writer: &mut W,
+) -> Result<(), Output> {
+    let mut pen = Pen::new(writer);
+    let width = width_of(ledger, timing);
+    pen.text(if csv { NAMES } else { "job" });
+    if !csv {
+        put_spaces(&mut pen, 3, width);
+        pen.text(HEADING);
+    }
+    let time = timing.map(|_timing| ledger.now);
+    for kind in ledger.kinds.iter() {
+        let name = name_at(timing, kind.at);
+        if csv {
+            put_csv(&mut pen, name, kind, time);
+        } else {
+            put_row(&mut pen, width, name, kind, time);
+        }
+    }
+    if timing.is_some() && !csv {
+        put_eras(&mut pen, ledger);
+    }
+    pen.end()
+}

@@ -1,0 +1,182 @@
+//! What the jobs of each address came to, and how the time of each era was used.
+use crate::lives::{Change, Jobs, Life, MOST, Moment, State, see};
+use std::alloc::{AllocError, Global};
+
+/// The jobs of an address: how many began, were lost as an era began, and live at the end; how
+/// often another job took over from one; the computing time of all; of those that ended, the
+/// time from where they began to where they ended, and how much of it they computed and slept.
+/// Times are hundredths of a centisecond.
+#[derive(Drop)]
+pub(crate) struct Kind {
+    pub(crate) at: u16,
+    pub(crate) began: u64,
+    pub(crate) lost: u64,
+    pub(crate) alive: u64,
+    pub(crate) taken_over: u64,
+    pub(crate) computed: u64,
+    pub(crate) responses: Vec<u64>,
+    pub(crate) computed_to_end: u64,
+    pub(crate) slept_to_end: u64,
+}
+
+impl Kind {
+    /// A job of this kind was seen for the last time.
+    fn leave(&mut self, life: &Life) {
+        self.computed = self.computed.saturating_add(life.computed);
+        self.taken_over = self.taken_over.saturating_add(life.taken_over);
+    }
+
+    /// A job of this kind ended.
+    fn end(&mut self, life: &Life, now: Moment) -> Result<(), AllocError> {
+        self.leave(life);
+        self.computed_to_end = self.computed_to_end.saturating_add(life.computed);
+        self.slept_to_end = self.slept_to_end.saturating_add(life.slept);
+        self.responses.push(now.saturating_sub(life.began))?;
+        Ok(())
+    }
+}
+
+/// The centisecond at which an era began, and how its time was used, in hundredths of one: by jobs
+/// that have a cost, by what steals time, and by nothing.
+#[derive(Clone, Copy)]
+pub(crate) struct Spent {
+    pub(crate) began: u64,
+    pub(crate) computed: u64,
+    pub(crate) stolen: u64,
+    pub(crate) idle: u64,
+}
+
+/// What a clock did between two requests.
+#[derive(Clone, Copy)]
+pub(crate) struct Passed {
+    pub(crate) computed: u64,
+    pub(crate) stolen: u64,
+    pub(crate) idle: u64,
+}
+
+/// What is known of a run's jobs: those that live, those of each address, in the order in which the
+/// first of each began, and each era's time.
+#[derive(Drop)]
+pub(crate) struct Ledger {
+    alloc: Global,
+    lives: [Option<Life>; MOST],
+    pub(crate) kinds: Vec<Kind>,
+    pub(crate) eras: Vec<Spent>,
+    pub(crate) now: Moment,
+    /// The present centisecond.
+    pub(crate) time: u64,
+}
+
+/// An era that begins at a centisecond.
+fn unspent(began: u64) -> Spent {
+    Spent {
+        began,
+        computed: 0,
+        stolen: 0,
+        idle: 0,
+    }
+}
+
+impl Ledger {
+    /// These jobs are there as the run begins.
+    pub(crate) fn new(alloc: Global, jobs: &Jobs) -> Result<Ledger, AllocError> {
+        let mut ledger = Ledger {
+            alloc,
+            lives: [None; MOST],
+            kinds: Vec::new(alloc),
+            eras: Vec::new(alloc),
+            now: 0,
+            time: 0,
+        };
+        ledger.begin_era(jobs)?;
+        Ok(ledger)
+    }
+
+    /// The jobs of an address.
+    fn kind_at(&mut self, at: u16) -> Result<&mut Kind, AllocError> {
+        let known = self.kinds.iter().position(|kind| kind.at == at);
+        let place = known.unwrap_or(self.kinds.len());
+        if known.is_none() {
+            self.kinds.push(Kind {
+                at,
+                began: 0,
+                lost: 0,
+                alive: 0,
+                taken_over: 0,
+                computed: 0,
+                responses: Vec::new(self.alloc),
+                computed_to_end: 0,
+                slept_to_end: 0,
+            })?;
+        }
+        Ok(&mut self.kinds[place])
+    }
+
+    /// Time passed, up to this moment of a centisecond; the running job was given what was
+    /// computed.
+    pub(crate) fn pass(&mut self, passed: Passed, time: u64, now: Moment) {
+        self.time = time;
+        self.now = now;
+        for life in self.lives.iter_mut().flatten() {
+            if life.state == State::Runs {
+                life.computed = life.computed.saturating_add(passed.computed);
+            }
+        }
+        if let Some(era) = self.eras.last_mut() {
+            era.computed = era.computed.saturating_add(passed.computed);
+            era.stolen = era.stolen.saturating_add(passed.stolen);
+            era.idle = era.idle.saturating_add(passed.idle);
+        }
+    }
+
+    /// These jobs are there after a request: some began, ended, or do something else.
+    pub(crate) fn see(&mut self, seen: &Jobs) -> Result<(), AllocError> {
+        for place in 0..MOST {
+            let before = self.lives[place];
+            let change = see(&mut self.lives[place], seen[place], self.now);
+            match (change, before, self.lives[place]) {
+                (Change::Began, _, Some(life)) => {
+                    let kind = self.kind_at(life.at)?;
+                    kind.began = kind.began.saturating_add(1);
+                }
+                (Change::Ended, Some(life), _) => {
+                    self.lives[place] = None;
+                    let now = self.now;
+                    self.kind_at(life.at)?.end(&life, now)?;
+                }
+                _ => {}
+            }
+        }
+        Ok(())
+    }
+
+    /// An era begins with these jobs: those that live are lost.
+    pub(crate) fn begin_era(&mut self, jobs: &Jobs) -> Result<(), AllocError> {
+        for place in 0..MOST {
+            if let Some(life) = self.lives[place] {
+                self.lives[place] = None;
+                let kind = self.kind_at(life.at)?;
+                kind.leave(&life);
+                kind.lost = kind.lost.saturating_add(1);
+            }
+        }
+        self.eras.push(unspent(self.time))?;
+        self.see(jobs)
+    }
+
+    /// The run is over: what the jobs that live still were given is added to their kinds, and the
+    /// times of those that ended are sorted.
+    pub(crate) fn close(&mut self) -> Result<(), AllocError> {
+        for place in 0..MOST {
+            if let Some(life) = self.lives[place] {
+                let kind = self.kind_at(life.at)?;
+                kind.leave(&life);
+                kind.alive = kind.alive.saturating_add(1);
+            }
+        }
+        for kind in self.kinds.iter_mut() {
+            kind.responses.sort()?;
+        }
+        Ok(())
+    }
+}
