@@ -30,7 +30,7 @@ from repository import TOP
 
 PROGRAMS = ("agc", "agc_watch")
 TESTED = ("agc_exec", "agc_wait", "agc_phase", "agc_machine")
-BOTH = f"{os.path.dirname(os.path.realpath(__file__))}/both.rt"
+BOTH = f"{os.path.dirname(os.path.realpath(__file__))}/both.test"
 # Seconds of processor that each part takes, as measured: tests/run --quick says them first, and how far it is.
 EXPECTED = {"cases, unproved": 115, "cases, proved": 8, "tests of functions": 48}
 # How long one run may take, and how often one is told how far it is.
