@@ -59,6 +59,7 @@ export class Editor {
 
   apply() {
     const text = this.field.value;
+    this.field.dataset.ran = "yes";
     try {
       this.ran = isScript(text) ? documentOfScript(text) : text;
       this.run(this.ran);

@@ -10,17 +10,22 @@ STATE = """[document.getElementById('sentence').textContent, document.getElement
 
 
 def settled(browser):
-    """The address, when it doesn't change any more."""
-    time.sleep(0.5)
-    return browser.value("location.hash")
+    """The address, when it has been the same for a while."""
+    found, since, begun = None, time.monotonic(), time.monotonic()
+    while time.monotonic() - since < 0.8 and time.monotonic() - begun < 20:
+        now = browser.value("location.hash")
+        if now != found:
+            found, since = now, time.monotonic()
+        time.sleep(0.05)
+    return found
 
 
 def again(browser):
     """As F5 does."""
+    browser.value("window.before = true")
     browser.call("Page.reload")
-    time.sleep(0.3)
     begun = time.monotonic()
-    while browser.value("document.documentElement.dataset.ready") != "yes" and time.monotonic() - begun < 10:
+    while browser.value("window.before === true || document.documentElement?.dataset.ready !== 'yes'") and time.monotonic() - begun < 20:
         time.sleep(0.05)
 
 

@@ -71,7 +71,9 @@ def try_new(browser, trial):
     says(browser, trial, "tried", "novac 20 04000 00005. Reply: job 1. Job 1 runs.")
     browser.value("document.getElementById('speed').value = '100'")
     browser.click("run")
-    time.sleep(1)
+    begun = time.monotonic()
+    while int(browser.text("sentence").split()[1]) < 1300 and time.monotonic() - begun < 30:
+        time.sleep(0.05)
     browser.click("run")
     said = browser.text("sentence")
     trial.expect(f"it runs on: {said}", "refused" not in said and int(said.split()[1]) > 1200)

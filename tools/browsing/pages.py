@@ -147,8 +147,10 @@ def set_slider(browser, value):
 def edit_text(browser, text):
     """Types a document beside its run, and waits until it runs."""
     browser.value("(() => { const it = document.getElementById('edit-text');"
-                  f" it.value = {json.dumps(text)}; it.dispatchEvent(new Event('input')); }})()")
-    time.sleep(0.6)
+                  f" it.dataset.ran = 'no'; it.value = {json.dumps(text)}; it.dispatchEvent(new Event('input')); }})()")
+    begun = time.monotonic()
+    while browser.value("document.getElementById('edit-text').dataset.ran") != "yes" and time.monotonic() - begun < 10:
+        time.sleep(0.05)
 
 
 def go_to(browser, text):
