@@ -136,12 +136,12 @@ def long(browser, folder):
     browser.call("Performance.enable", timeDomain="threadTicks")
     browser.show(path, "#50000")
     took = browser.worked()
-    trial.expect(f"it opens in {took:.2f} s", took < 2)
+    trial.expect_within(2, "to open", took)
     for _ in range(20):
         browser.press("ArrowRight")
     says(browser, trial, "20 steps", "Request 50020 of 100009")
     step = (browser.worked() - took) / 20
-    trial.expect(f"a step takes {step:.3f} s", step < 0.1)
+    trial.expect_within(0.1, "a step", step)
     print(f"browse: 100,009 requests open in {took:.2f} s, a step takes {step:.3f} s")
     run_hour(browser, trial)
     return trial.faults
@@ -152,9 +152,9 @@ def run_hour(browser, trial):
     before, begun = browser.worked(), time.monotonic()
     hour = repository.text_of(f"{TOP}/examples/landing.toml").replace("seconds = 600", "seconds = 3600")
     open_text(browser, hour)
-    while "Over 3600.00 s" not in browser.text("summary") and time.monotonic() - begun < 60:
+    while "Over 3600.00 s" not in browser.text("summary") and time.monotonic() - begun < 600:
         time.sleep(0.1)
     took = browser.worked() - before
-    trial.expect(f"an hour passes in {took:.2f} s: {browser.text('summary')}",
-                 took < 3.6 and "Over 3600.00 s" in browser.text("summary"))
+    trial.expect(f"an hour passes: {browser.text('summary')}", "Over 3600.00 s" in browser.text("summary"))
+    trial.expect_within(3.6, "an hour", took)
     print(f"browse: 360,000 centiseconds of clock pass in {took:.2f} s")

@@ -24,7 +24,7 @@ def opening(browser, folder):
     browser.call("Performance.enable", timeDomain="threadTicks")
     browser.show(path)
     took = browser.worked()
-    trial.expect(f"it is ready in {took:.2f} s", took < 0.6)
+    trial.expect_within(0.6, "to be ready", took)
     trial.expect("it has more than 450,000 bytes", os.path.getsize(path) <= 450_000)
     for size in PHONE, LAPTOP:
         browser.width(*size)

@@ -28,6 +28,13 @@ class Trial:
             self.faults.append(f"{self.name}: {what}")
         return holds
 
+    def expect_within(self, seconds, what, took):
+        """What takes a page's thread longer than it should is told; it fails only where a machine four times as slow
+        would not excuse it."""
+        if took >= seconds:
+            print(f"browse: SLOW: {self.name}: {what} takes {took:.3f} s in place of {seconds}")
+        self.expect(f"{what} takes {took:.3f} s", took < 5 * seconds)
+
 
 def written(program, word, bench):
     """What a program writes of a bench."""

@@ -69,7 +69,7 @@ def try_speed(browser, trial):
         set_slider(browser, value)
         steps.append(browser.worked() - before)
     steps.sort()
-    trial.expect(f"a step of the slider takes {steps[len(steps) // 2]:.3f} s", steps[len(steps) // 2] < 0.15)
+    trial.expect_within(0.1, "a step of the slider", steps[len(steps) // 2])
     tables = "".join(table("task", at=f"{0o2000 + k:05o}", bank="00005", action=f"list {k + 2} {0o2000 + k:05o} 00005") for k in range(9))
     open_text(browser, f"limit = 200000\nscript = {json.dumps([f'list {k + 1} {0o2000 + k:05o} 00005' for k in range(9)])}\n{tables}"
               + table("device", line="timer", pulses=98_000))
@@ -77,5 +77,5 @@ def try_speed(browser, trial):
     browser.value("(() => { const it = document.getElementById('slider'); for (let k = 0; k < 40; k++) {"
                   " it.value = String(2400 * k + 77); it.dispatchEvent(new Event('input')); } })()")
     took = browser.worked() - before
-    trial.expect(f"40 moves take {took:.2f} s", took < 1.0)
+    trial.expect_within(0.7, "40 moves", took)
     print(f"browse: a step of a slider takes {steps[len(steps) // 2]:.3f} s, 40 moves over 98,009 requests {took:.2f} s")
