@@ -144,7 +144,7 @@ def hostile(browser, folder):
         trial.expect(f"{told}: {said}", said.endswith("." if wanted.startswith("It") else "") and wanted in said
                      if wanted else not said)
         took = browser.worked() - begun
-        trial.expect(f"{told}: {took:.1f} s", took < 3)
+        trial.expect_within(3, told, took)
         trial.expect(f"{told}: a script ran", browser.value("document.title") != "broken")
         trial.expect(f"{told}: {browser.shown()['broken']}", not browser.shown()["broken"])
         turned = browser.value(r"/[\u061c\u200e\u200f\u202a-\u202e\u2066-\u2069]/.test(document.body.innerText)")
