@@ -159,7 +159,7 @@ def main():
     words = argparse.ArgumentParser(description=__doc__, formatter_class=argparse.RawDescriptionHelpFormatter)
     words.add_argument("--runs", type=int, default=0)
     words.add_argument("--seed", type=int, default=0)
-    words.add_argument("rest", nargs="+")
+    words.add_argument("rest", nargs=argparse.REMAINDER)
     given = words.parse_args()
     if not given.runs:
         with open(given.rest[0], "rb") as file:
