@@ -138,7 +138,8 @@ def rows_of_orders(hostile, room):
     write(f"{room}/d-script.toml", EIGHT_JOBS)
     status, text, _ = run_many(hostile, room, "--mode", "explore")
     head = "bench,status,a1201,a1202,a1203,jobs,areas,tasks,fault\n"
-    wanted = (f"{head}a-calm,0,never,never,never,2,0,0,\nb-key,1,,,,,,,agc_watch: key\n"
+    wanted = (f"{head}a-calm,0,never,never,never,2,0,0,\n"
+              'b-key,1,,,,,,,"agc_watch: line 1: unknown key ""no"" agc_watch: key"\n'
               "c-race,4,6,never,never,5,5,0,\nd-script,4,never,8,never,,,,\n")
     hostile.expect(f"many, of orders: status {status}, {text}", (status, text) == (1, wanted))
     write(f"{room}/told/obeying", OBEYING, 0o755)
