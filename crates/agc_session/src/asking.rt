@@ -12,6 +12,7 @@ use agc_text::{Output, write_answer_to};
 use std::io::Write;
 
 /// Asks for all of these requests in order, and writes a line for each answer.
+#[inline(always)]
 pub(crate) fn ask_all<W: Write>(
     machine: &mut Machine,
     requests: &[Request],
