@@ -318,11 +318,11 @@ function accountOfAlarm(run, shown, names) {
   const table = TABLES[/** @type {keyof typeof TABLES} */ (/** @type {unknown} */ (number))];
   const { running } = shown.scene;
   const lines = [
-    ...(shown.after === null ? []
-      : [["The tables are as they were when the alarm came."], ...beginsAgain(shown.after, names)]),
     [{ text: table.text, part: table.part }, ".", ...balance(run, shown),
       running === 0 ? " No job was running." : ` Job ${running} ran.`],
     ...raisedBy(run, shown, names),
+    ...(shown.after === null ? []
+      : [["The tables are as they were when the alarm came."], ...beginsAgain(shown.after, names)]),
     [number === 0o1203 ? "These wait:" : "These hold them:"],
     ...holders(run, shown, names),
   ];

@@ -219,19 +219,27 @@ function markStep(end) {
 }
 
 /**
- * The axis along the bottom, of what is seen: seconds or requests.
+ * The marks of the axis, of what is seen: seconds or requests.
+ * @param {import("./timeline.js").Scale} scale
+ */
+export function marksOf({ from, to, isTime }) {
+  const step = markStep(to - from);
+  const first = Math.ceil(from / step);
+  return Array.from({ length: Math.floor(to / step) - first + 1 }, (_, k) => {
+    const place = (first + k) * step;
+    return { place, text: String(isTime ? place / 100 : place) };
+  });
+}
+
+/**
+ * The axis along the bottom.
  * @param {import("./timeline.js").Scale} scale
  */
 export function drawAxis(scale) {
-  const { from, to, isTime } = scale;
-  const step = markStep(to - from);
-  const first = Math.ceil(from / step);
-  const marks = Array.from({ length: Math.floor(to / step) - first + 1 }, (_, k) => (first + k) * step);
-  by("unit").textContent = isTime ? "seconds" : "requests";
-  fill("axis", marks.map((it) => {
-    const part = scale.partOf(it);
-    const mark = make("span", part > LAST_PART ? { class: "last" } : {},
-      String(isTime ? it / 100 : it));
+  by("unit").textContent = scale.isTime ? "seconds" : "requests";
+  fill("axis", marksOf(scale).map(({ place, text }) => {
+    const part = scale.partOf(place);
+    const mark = make("span", part > LAST_PART ? { class: "last" } : {}, text);
     mark.style.left = `${100 * part}%`;
     return mark;
   }));

@@ -48,8 +48,8 @@ export class Guide {
         + "Each bar is a program (a job) that holds one of seven core sets: bright while it runs, "
         + "pale while it waits, hatched while it sleeps. Press Run.",
       "Time passes. Every two seconds a guidance job begins, and it ends too late: the lanes fill up.",
-      "Alarm 1202: all seven core sets were in use as one more job was asked for. “Alarm 1202: why” "
-        + "says who held them. What would have prevented it? Guess, then move Stolen time to 0.",
+      "Alarm 1202: all seven core sets were in use as one more job was asked for. “Why?” shows "
+        + "who held them. What would have prevented it? Guess, then move Stolen time to 0.",
       workbench.view.run.alarms.length === 0
         ? "No alarm any more: the guidance now ends in time. Before and after are on the chart. "
           + "Try other numbers, or press New for an empty machine."
@@ -62,7 +62,8 @@ export class Guide {
     by("guide").hidden = false;
     by("guide-text").textContent = `${step} of 4. ${captions[step - 1]}`;
     const [name, run] = /** @type {[string, () => void]} */ (actions[step - 1]);
-    fill("guide-steps", [button(name, run), button(step === 4 ? "Done" : "Skip", () => this.end())]);
+    const why = step === 3 ? [button("Why?", () => workbench.showWhy())] : [];
+    fill("guide-steps", [...why, button(name, run), button(step === 4 ? "Done" : "Skip", () => this.end())]);
   }
 
   /** Follows what is shown: another caption where the reader has gone on. */

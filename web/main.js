@@ -330,6 +330,12 @@ class Workbench {
     this.say(`There is no ${what} ${step > 0 ? "after" : "before"} this row.`);
   }
 
+  /** To the account of what is shown, where that isn't in sight. */
+  showWhy() {
+    by("told").scrollIntoView({ block: "start" });
+    by("account").focus({ preventScroll: true });
+  }
+
   /** @param {string} text */
   say(text) {
     by("sentence").textContent = text;
@@ -398,6 +404,7 @@ class Workbench {
     const isWhole = at === 0 || this.clock.isWhole;
     const from = isWhole ? "the beginning" : run.ticksAt(at) > 0 ? seconds(run.ticksAt(at))
       : `request ${at}`;
+    by("why").hidden = !by("told").classList.contains("alarm");
     by("since").textContent = `Sliders act from ${from} on.`;
     by("since-box").classList.toggle("later", !isWhole);
     by("here-box").hidden = run.bench.seconds === undefined || at === 0;
@@ -657,6 +664,10 @@ class Workbench {
     });
     by("slider").addEventListener("input", () => this.go(Number(by("slider").value)));
     by("here").addEventListener("change", () => this.drawRow());
+    by("why").addEventListener("click", (/** @type {Event} */ event) => {
+      event.preventDefault();
+      this.showWhy();
+    });
     by("beside-stop").addEventListener("click", () => {
       this.beside = null;
       this.drawRow();

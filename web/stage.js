@@ -5,7 +5,7 @@
  */
 import { Strip, drawAxis, drawLegend, drawStrip } from "./chart.js";
 import { by, fill, make } from "./dom.js";
-import { Scale, drawLanes, tellAt } from "./timeline.js";
+import { Scale, drawLanes, laneNames, tellAt } from "./timeline.js";
 
 /** How many points wide the pictures of the strip are computed for. */
 const STRIP_WIDE = 1200;
@@ -74,8 +74,6 @@ export class Stage {
         { high: Math.max(6, Math.round(this.high * 0.5)), isBrief: true });
     }
     drawAxis(scale);
-    const { style } = document.documentElement;
-    style.setProperty("--bar", `${document.querySelector(".bar")?.clientHeight ?? 0}px`);
     this.drawNames();
     this.drawWindow();
     this.drawAt(workbench.view.at);
@@ -97,15 +95,9 @@ export class Stage {
   /** The names on the left of the lanes. */
   drawNames() {
     const { parts } = this;
-    const { run } = this.workbench.view;
-    const rows = Array.from({ length: run.sets }, (_, k) =>
-      [`set ${k}`, parts.sets + (k + 0.5) * parts.high]);
-    rows.push(["areas", parts.areas + 2.5 * parts.thin], ["tasks", parts.tasks + 4.5 * parts.line]);
-    if (parts.stolen > 0) {
-      rows.push(["stolen", parts.stolen + parts.broad / 2], ["idle", parts.idle + parts.broad / 2]);
-    }
+    const rows = laneNames(this.workbench.view.run.sets, parts);
     fill("lane-names", rows.map(([name, y]) => {
-      const made = make("li", {}, String(name));
+      const made = make("li", {}, name);
       made.style.top = `${y}px`;
       return made;
     }));
@@ -228,6 +220,11 @@ export class Stage {
 
   hear() {
     const canvas = by("lanes-chart");
+    // (what is scrolled to stands below the bar, however high that is)
+    const bar = /** @type {HTMLElement} */ (document.querySelector(".bar"));
+    new ResizeObserver(() => {
+      document.documentElement.style.setProperty("--bar-high", `${bar.offsetHeight}px`);
+    }).observe(bar);
     canvas.addEventListener("wheel", (/** @type {WheelEvent} */ event) => this.wheel(event), { passive: false });
     canvas.addEventListener("pointerdown", (/** @type {PointerEvent} */ event) => this.down(event));
     canvas.addEventListener("pointermove", (/** @type {PointerEvent} */ event) => this.moved(event));

@@ -129,7 +129,6 @@ function drawBase({ phases, codes, next, running }, before) {
   fill("codes", codes.map((it, k) => box(["first", "second", "latest"][k],
     it === 0 ? "none" : octal(it, 4), [], it === 0 ? "free" : "lit",
     before !== null && it !== before.codes[k])));
-  drawDisplay(codes);
   const isNamed = next !== 0 && next !== running;
   const named = isNamed ? `job ${next}` : "no other";
   const isNew = before !== null && next !== before.next;
@@ -137,10 +136,12 @@ function drawBase({ phases, codes, next, running }, before) {
 }
 
 /**
- * What the astronauts had of FAILREG: a light, and on VERB 05 NOUN 09 the three codes.
- * @param {number[]} codes
+ * What the astronauts had of FAILREG: a light, and on VERB 05 NOUN 09 the three codes. An alarm
+ * lights it at once, before the tables are swept.
+ * @param {Shown} shown
  */
-function drawDisplay(codes) {
+function drawDisplay({ scene, after, step }) {
+  const { codes } = (step?.alarm ? after : null) ?? scene;
   const isLit = codes.some((it) => it !== 0);
   fill("dsky", [make("span", { class: isLit ? "prog on" : "prog" }, isLit ? "PROG on" : "PROG off"),
     make("span", {}, `VERB 05 NOUN 09: ${codes.map((it) => octal(it, 5)).join(" ")}`)]);
@@ -198,6 +199,7 @@ export function drawTables(shown, names, colours) {
   drawAreas(shown, colours);
   drawTasks(scene, shown.tasksSince, shown.row, names);
   drawBase(scene, last);
+  drawDisplay(shown);
   markFull(shown.isAfter ? 0 : shown.step?.alarm ?? 0);
   drawWords(shown.words);
 }

@@ -9,6 +9,7 @@
  * @typedef {{ text: string, row?: number }} Said
  */
 import { sinceOf } from "./account.js";
+import { marksOf } from "./chart.js";
 import { BRIGHT, INK, PALE } from "./colours.js";
 import { State, lastUpTo } from "./lanes.js";
 import { octal, seconds, visible } from "./words.js";
@@ -19,6 +20,10 @@ const LEAST_SPAN = 20;
 /** What a block needs at least, in points, to be drawn by itself and to have its name on it. */
 const LEAST_BLOCK = 0.8;
 const LEAST_NAMED = 26;
+
+/** On paper: the room for names on the left, and for the axis below, in points. */
+const PAPER_LEFT = 52;
+const PAPER_BELOW = 16;
 
 /** Which part of a run is seen. */
 export class Scale {
@@ -122,13 +127,29 @@ export function layout(sets, high, isTimed) {
   return parts;
 }
 
+/**
+ * What is written on the left of the lanes, each with how far down its middle is.
+ * @param {number} sets
+ * @param {ReturnType<typeof layout>} parts
+ * @returns {[string, number][]}
+ */
+export function laneNames(sets, parts) {
+  const rows = Array.from({ length: sets }, (_, k) =>
+    /** @type {[string, number]} */ ([`set ${k}`, parts.sets + (k + 0.5) * parts.high]));
+  rows.push(["areas", parts.areas + 2.5 * parts.thin], ["tasks", parts.tasks + 4.5 * parts.line]);
+  if (parts.stolen > 0) {
+    rows.push(["stolen", parts.stolen + parts.broad / 2], ["idle", parts.idle + parts.broad / 2]);
+  }
+  return rows;
+}
+
 /** Colours of the ground. */
 export function groundOf(isDark) {
   return isDark
     ? { ink: "#eee", soft: "#bbb", line: "#3d3d3d", paper: "#121212", alarm: "#ff6b5b",
-      task: "#c49c94", stolen: "#8c8c8c", idle: "#4d5a66", event: "#8ab4ff" }
+      task: "#c49c94", stolen: "#8c8c8c", idle: "#7f9ab0", event: "#8ab4ff" }
     : { ink: "#111", soft: "#555", line: "#ddd", paper: "#fff", alarm: "#c00", task: "#8c564b",
-      stolen: "#767676", idle: "#c4d3df", event: "#0645ad" };
+      stolen: "#767676", idle: "#5f87a5", event: "#0645ad" };
 }
 
 /** What is drawn on, and all that a lane needs to know. */
@@ -391,7 +412,7 @@ class Picture {
  * @param {Scale} scale
  * @param {import("./colours.js").Colours} colours
  * @param {{ high: number, isBrief: boolean, width?: number }} of how high a core set is; the width,
- *   if it is for paper
+ *   if it is for paper, where names and axis are on the picture itself
  */
 export function drawLanes(canvas, scale, colours, { high, isBrief, width }) {
   const isDark = width === undefined && matchMedia("(prefers-color-scheme: dark)").matches;
@@ -399,12 +420,14 @@ export function drawLanes(canvas, scale, colours, { high, isBrief, width }) {
   const all = layout(scale.run.sets, high, isTimed);
   const parts = isBrief ? { ...all, end: all.areas } : all;
   const ratio = window.devicePixelRatio || 1;
-  canvas.style.height = `${parts.end}px`;
-  const wide = width ?? canvas.clientWidth;
-  [canvas.width, canvas.height] = [Math.max(1, wide * ratio), Math.max(1, parts.end * ratio)];
+  const [left, below] = width === undefined ? [0, 0] : [PAPER_LEFT, PAPER_BELOW];
+  canvas.style.height = `${parts.end + below}px`;
+  const wide = (width ?? canvas.clientWidth) - left;
+  [canvas.width, canvas.height] = [Math.max(1, (wide + left) * ratio), Math.max(1, (parts.end + below) * ratio)];
   const pen = canvas.getContext("2d");
   if (pen === null) return parts;
   pen.scale(ratio, ratio);
+  pen.translate(left, 0);
   pen.font = `${Math.max(9, Math.round(high * 0.68))}px system-ui, sans-serif`;
   const picture = new Picture(pen, scale, colours, { wide, parts, isDark, isBrief });
   picture.drawSets();
@@ -414,7 +437,29 @@ export function drawLanes(canvas, scale, colours, { high, isBrief, width }) {
     picture.drawStolen();
   }
   picture.drawMarks();
+  if (width !== undefined) drawAround(pen, scale, parts, wide);
   return parts;
+}
+
+/**
+ * On paper: the names of the lanes on the left, and the axis below.
+ * @param {CanvasRenderingContext2D} pen
+ * @param {Scale} scale
+ * @param {ReturnType<typeof layout>} parts
+ * @param {number} wide
+ */
+function drawAround(pen, scale, parts, wide) {
+  pen.fillStyle = "#000";
+  pen.textAlign = "right";
+  for (const [name, y] of laneNames(scale.run.sets, parts)) pen.fillText(name, -6, y + 4);
+  pen.fillText(scale.isTime ? "seconds" : "requests", -6, parts.end + 12);
+  for (const { place, text } of marksOf(scale)) {
+    const x = scale.partOf(place) * wide;
+    pen.fillRect(x, parts.end, 0.7, 4);
+    pen.textAlign = x + 30 > wide ? "right" : "left";
+    pen.fillText(text, x + (x + 30 > wide ? -3 : 3), parts.end + 12);
+  }
+  pen.textAlign = "left";
 }
 
 /**

@@ -52,9 +52,10 @@ TOLD = {
     11: ("Due: the task ALPHA (02000), then BETA (02100).|Job 3 is established at WORK (05000).|Job 4 is established at 05100.|Asked by the clock.",
          "set 2, set 3, area 2"),
     20: ("Job 5 is established at WORK (05000), in core set 4 with VAC area 3. It waits.|Asked by event 2.", "set 4, area 3"),
-    24: ("The tables are as they were when the alarm came.|All jobs and tasks are gone. By the phases 0 3 0 0 0 0 these begin again: job 1, priority 15, at 05100; task BETA (02100) "
-         "in 9 cs.|All five VAC areas are owned. Since the beginning 7 jobs began and 0 ended, and the computer was idle 0 % of the "
-         "time. Job 2 ran.|It was asked in the tick of request 24, by action 2 of the task ALPHA (02000): findvac 10 05000 00007.|These hold them:"
+    24: ("All five VAC areas are owned. Since the beginning 7 jobs began and 0 ended, and the computer was idle 0 % of the "
+         "time. Job 2 ran.|It was asked in the tick of request 24, by action 2 of the task ALPHA (02000): findvac 10 05000 00007.|"
+         "The tables are as they were when the alarm came.|All jobs and tasks are gone. By the phases 0 3 0 0 0 0 these begin again: job 1, priority 15, at 05100; task BETA (02100) "
+         "in 9 cs.|These hold them:"
          "|set 1: job 1, priority 20, at 06000, area 1, since request 2|set 2: job 3, priority 10, at WORK (05000), area 2, since "
          "request 11 (0.02 s)|set 4: job 5, priority 20, at WORK (05000), area 3, since request 20 (0.10 s)|set 5: job 6, "
          "priority 20, at WORK (05000), area 4, since request 21 (0.10 s)|set 6: job 7, priority 20, at WORK (05000), area 5, "
@@ -186,7 +187,7 @@ def try_since(browser, trial):
     open_text(browser, "script = " + json.dumps(["list 40 02010 00005", "list 20 02010 00005", *8 * ["list 50 02020 00005"]]) + "\n")
     browser.press("a")
     account = browser.text("account")
-    trial.expect(account, "Nine tasks wait. No job was running.These wait:place 1: task 02010, in 20 cs, since request 2place 2: task 02010, in 40 cs, "
+    trial.expect(account, "Nine tasks wait. No job was running." in account and "These wait:place 1: task 02010, in 20 cs, since request 2place 2: task 02010, in 40 cs, "
                  "since request 1place 3: task 02020, in 50 cs, since request 3" in account)
 
 
@@ -281,16 +282,16 @@ TABLED = """['#sets-name', '#areas-name', '#tasks-name', '#sets b', '#areas b', 
 
 
 def try_restarts(browser, trial):
-    """The tables after a restart are shown by a button, and after the last row by the next step; what begins again is said first. The
+    """The tables after a restart are shown by a button, and after the last row by the next step; why the alarm came is said first. The
     jobs and tasks are those of the solution of exercise 6."""
     exercise(browser, 6)
     browser.click("show-answer")
     browser.press("End")
     says(browser, trial, "the alarm", "Request 13 of 13, at 0.00 s: novac 10 03000 00005. Reply: alarm 1202. Job 2 ran.")
     told = texts(browser, "#account li").split("|")[:3]
-    trial.expect(f"the account: {told}", told == ["The tables are as they were when the alarm came.",
-        "All jobs and tasks are gone. By the phases 1 0 2 0 1 0 these begin again: job 1, priority 20, at 02000; job 2, priority 25, at 05000; "
-        "task 04100 in 10 cs; task 04000 in 100 cs.", "A job is in each core set. Since the beginning 7 jobs began and 0 ended. Job 2 ran."])
+    trial.expect(f"the account: {told}", told == ["A job is in each core set. Since the beginning 7 jobs began and 0 ended. Job 2 ran.",
+        "The tables are as they were when the alarm came.", "All jobs and tasks are gone. By the phases 1 0 2 0 1 0 these begin again: job 1, "
+        "priority 20, at 02000; job 2, priority 25, at 05000; task 04100 in 10 cs; task 04000 in 100 cs."])
     before = "Core sets: 7 of 7 in use|VAC areas: 0 of 5 in use|Waitlist: 1 of 9 in use|job 2 job 1 job 3 job 4 job 5 job 6 job 7||04000"
     after = "Core sets, after the restart: 2 of 7 in use|VAC areas, after the restart: 1 of 5 in use|Waitlist, after the restart: 2 of 9 in use|job 1 job 2|job 1|04100 04000"
     browser.value("document.getElementById('words-box').open = true")
@@ -349,10 +350,11 @@ def try_endings(browser, trial):
     path = browser.value("location.pathname")
     browser.show(path, "#exercise-1")
     for row, wanted in ((5, "Job 1 ended: its core set and its VAC area are free. Job 3 runs next, at 02000.|"),
-                        (12, "The tables are as they were when the alarm came.|All jobs and tasks are gone. ")):
+                        (12, "A job is in each core set. Since the beginning ")):
         go_to(browser, str(row))
         told = texts(browser, "#account li")
         trial.expect(f"row {row}: {told}", told.startswith(wanted))
+    trial.expect(f"of what time the tables are: {told}", "|The tables are as they were when the alarm came.|All jobs and tasks are gone. " in told)
     open_text(browser, 'script = ["novac 20 04000 00005", "end"]\n')
     browser.press("End")
     told = texts(browser, "#account li")

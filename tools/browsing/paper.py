@@ -47,6 +47,8 @@ def paper(browser, folder):
     trial.expect(f"{pages} pages", 1 <= pages <= 4)
     first = browser.value("Array.from(document.getElementById('printed').children, (it) => it.localName).join(' ')")
     trial.expect(f"first on paper: {first}", first.startswith("h1 p canvas h2 "))
+    left, below = browser.value(INKED)
+    trial.expect(f"names on the left of the chart: {left}, its axis: {below}", 0.02 < left < 0.2 and 0.02 < below < 0.3)
     quiet = [cells for cells in rows if "tick, " in cells[2:3]]
     trial.expect("a line stands for one or two rows", all(int(it[2].split()[1]) > 2 for it in quiet))
     for cells in rows:
@@ -56,6 +58,15 @@ def paper(browser, folder):
     browser.scheme("light")
     print_long(browser, trial)
     return trial.faults
+
+
+# How much of the printed chart's left edge, and of its lower one, has ink: names, and the axis.
+INKED = """(() => {
+  const it = document.getElementById('printed-chart');
+  const inked = (...box) => { const { data } = it.getContext('2d').getImageData(...box);
+    return data.filter((one, k) => k % 4 === 3 && one > 60).length * 4 / data.length; };
+  return [inked(0, 0, 46, it.height - 16), inked(60, it.height - 14, it.width - 60, 14)];
+})()"""
 
 
 def print_long(browser, trial):

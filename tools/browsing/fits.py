@@ -1,0 +1,115 @@
+"""Whether all that is shown can be read: nothing is cut or shines through, at four sizes."""
+import time
+
+from browsing.access import CONTRAST
+from browsing.browser import LAPTOP, PHONE
+from browsing.pages import DRAWN, PROGRAM, Trial, edit_text, save, set_slider, written
+
+TABLET = 768, 1024
+FOUR = (1400, 900), (1920, 1080), TABLET, PHONE
+
+# What scrolls sideways, and texts that are cut: a name of a slider, a button, a heading, a paragraph.
+CUT = """(() => {
+  const faults = [];
+  if (document.documentElement.scrollWidth > innerWidth) faults.push(`${document.documentElement.scrollWidth} points wide`);
+  for (const it of document.querySelectorAll('button, p, h2, #sliders span, #sliders output, .boxes b, .boxes span, #axis, .dsky span')) {
+    if (it.getClientRects().length === 0 || it.closest('.hidden')) continue;
+    const style = getComputedStyle(it);
+    const isCut = style.overflowX !== 'visible' && it.scrollWidth > it.clientWidth + 1 && it.id !== 'sentence';
+    const isLow = style.overflowY === 'hidden' && it.clientHeight > 0 && it.scrollHeight > it.clientHeight + 2;
+    if (isCut || isLow) faults.push(`cut: ${it.id} ${it.textContent.slice(0, 40)}`);
+    const box = it.getBoundingClientRect();
+    if (box.right > innerWidth + 1 && !it.closest('.wide')) faults.push(`beyond the edge: ${it.id} ${it.textContent.slice(0, 40)}`);
+  }
+  return faults;
+})()"""
+
+# The bar's ground; and what of the bar is in view once the page is scrolled.
+GROUND = "getComputedStyle(document.querySelector('.bar')).backgroundColor"
+
+
+def at_alarm(browser, path):
+    browser.show(path, "#landing-1202")
+    browser.press("a")
+
+
+def compared(browser, path):
+    at_alarm(browser, path)
+    set_slider(browser, 0)
+
+
+def fault_in_document(browser, path):
+    browser.show(path, "#landing-1202")
+    browser.click("edit")
+    text = browser.value("document.getElementById('edit-text').value")
+    edit_text(browser, text.replace("\nseconds =", "\nsecnds =", 1))
+
+
+def touched(browser, path):
+    at_alarm(browser, path)
+    browser.value("document.querySelector('#sets .cover').click()")
+
+
+VIEWS = {
+    "opening": lambda browser, path: browser.show(path),
+    "alarm": at_alarm,
+    "compared": compared,
+    "document": fault_in_document,
+    "touched": touched,
+    "flown": lambda browser, path: (browser.show(path, "#apollo-11"), browser.press("a")),
+    "exercise": lambda browser, path: browser.show(path, "#exercise-1"),
+    "embedded": lambda browser, path: browser.show(path, "#landing-1202&at=3128&embed"),
+    "examples": lambda browser, path: (browser.show(path, "#new"), browser.click("examples")),
+    "help": lambda browser, path: (browser.show(path, "#new"), browser.click("help")),
+    "plan": lambda browser, path: (browser.show(path, "#landing-1202"), browser.click("plan")),
+}
+
+
+def fits(browser, folder):
+    """In each view, at four sizes, no text is cut, nothing scrolls sideways, and the bar that stays in view hides what scrolls
+    below it; in light and dark all has its contrast. At an alarm `Why?` leads to the account where that is out of view, and the
+    PROG light is lit."""
+    trial = Trial("fits")
+    path = save(folder, "fits", written(PROGRAM, "page", ""))
+    browser.show(path)
+    browser.value("localStorage.clear(); sessionStorage.clear()")
+    for name, come in VIEWS.items():
+        browser.width(*LAPTOP)
+        come(browser, path)
+        for size in FOUR:
+            browser.width(*size)
+            for fault in browser.value(f"{DRAWN}.then(() => {CUT})", True):
+                trial.expect(f"{name} at {size}: {fault}", False)
+            ground = browser.value(GROUND)
+            trial.expect(f"{name} at {size}: the bar has {ground}", "rgba" not in ground)
+        for scheme in "dark", "light":
+            browser.scheme(scheme)
+            for fault in browser.value(f"{DRAWN}.then(() => {CONTRAST})", True):
+                trial.expect(f"{name}, {scheme}: contrast {fault}", False)
+    try_why(browser, trial, path)
+    browser.width(*LAPTOP)
+    trial.expect(f"{browser.shown()['broken']}", not browser.shown()["broken"])
+    return trial.faults
+
+
+# Whether the account's heading is between the bar and the window's end.
+SEEN = """(() => { const box = document.getElementById('told-name').getBoundingClientRect();
+  const bar = document.querySelector('.bar').getBoundingClientRect();
+  return box.top >= bar.bottom - 1 && box.bottom <= innerHeight; })()"""
+
+
+def try_why(browser, trial, path):
+    """From an alarm to why: on a laptop it is in view, on a tablet and a phone by one click."""
+    for size in (1400, 900), TABLET, PHONE:
+        browser.width(*size)
+        browser.show(path, "#landing-1202")
+        trial.expect(f"why? without an alarm at {size}", browser.value("document.getElementById('why').getClientRects().length") == 0)
+        browser.press("a")
+        if size[0] < 960:
+            browser.click("why")
+            time.sleep(0.1)
+        trial.expect(f"the account isn't seen at {size}", browser.value(SEEN))
+        told = browser.value("document.querySelector('#account li').textContent")
+        trial.expect(f"first is told: {told}", told.startswith("A job is in each core set. Since the beginning 48 jobs began and 41 ended"))
+        light = browser.text("dsky")
+        trial.expect(f"at the alarm: {light}", light == "PROG onVERB 05 NOUN 09: 01202 00000 01202")
