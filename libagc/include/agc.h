@@ -111,7 +111,8 @@ enum {
     AGC_NO_ROOM = 14,     /* a text doesn't fit: the number says how many bytes it wants */
     AGC_TIME_RANGE = 15,  /* a number of the timetable is out of its range */
     AGC_STEAL_TWICE = 16, /* two rows of stolen time hold at one time */
-    AGC_COST_TWICE = 17   /* one address has two costs */
+    AGC_COST_TWICE = 17,  /* one address has two costs */
+    AGC_OUTSIDE = 18      /* a map has a table beyond the end of the memory */
 };
 
 /* The kinds of replies, and what the reply's number then is. */
@@ -181,7 +182,8 @@ enum {
     AGC_RULE_NO_TASK = 16,      /* LST2 behind the last task is 0 */
     AGC_RULE_PHASE = 17,        /* a phase is at most 127 */
     AGC_RULE_PAIR = 18,         /* -PHASE is the complement of PHASE */
-    AGC_RULE_CODE = 19          /* FAILREG has codes of alarms, the first, the second and the latest */
+    AGC_RULE_CODE = 19,         /* FAILREG has codes of alarms, the first, the second and the latest */
+    AGC_RULE_ENDTASK = 20       /* of a real computer: where no task waits, LST2 has 0, and not ENDTASK */
 };
 
 /* A function of this header itself, and a type that has a bool. C90 has neither `inline` nor
@@ -235,6 +237,18 @@ typedef struct { uint32_t code, at, bank, left; } AgcWaiting;
    there, and what would have to, or AGC_ANY where the other words leave more than one choice. */
 typedef struct { uint32_t code, rule, place, found, wanted; } AgcFinding;
 enum { AGC_ANY = 65535 };
+
+/* Where a program of a real computer keeps its tables: addresses in its erasable memory, counted from 0,
+   as E0 to E7 lie one behind the other. The number of core sets, 7 or 8; MPAC of core set 0, which the
+   others follow; VAC1USE, which the other areas follow, of 44 words each; NEWJOB; TIME3; LST1; LST2;
+   -PHASE1; FAILREG; and the address that LST2 has where no task waits, or 0 where that is 0. */
+typedef struct {
+    uint32_t sets, mpac, vac1use, newjob, time3, lst1, lst2, phase1, failreg, endtask;
+} AgcMap;
+
+/* A word of a real computer's tables: its address, what stands there, and the rule of lawful words that
+   it breaks, or 0. */
+typedef struct { uint32_t code, at, word, rule; } AgcCell;
 
 /* The phases of groups 1 to 6. */
 typedef struct { uint32_t code; uint8_t phases[6]; } AgcPhases;
@@ -335,6 +349,7 @@ AGC_INLINE const char *agc_code_text(uint32_t code) {
     case AGC_TIME_RANGE: return "a number of the timetable is out of its range";
     case AGC_STEAL_TWICE: return "two rows of stolen time hold at one time";
     case AGC_COST_TWICE: return "one address has two costs";
+    case AGC_OUTSIDE: return "the map has a table beyond the end of the memory";
     default: return "no call answers this code";
     }
 }
@@ -382,6 +397,7 @@ AGC_INLINE const char *agc_rule_text(uint32_t rule) {
     case AGC_RULE_PHASE: return "a phase is at most 127";
     case AGC_RULE_PAIR: return "-PHASE is the complement of PHASE";
     case AGC_RULE_CODE: return "FAILREG has codes of alarms: the first, the second and the latest";
+    case AGC_RULE_ENDTASK: return "where no task waits, LST2 has 0, and not ENDTASK";
     default: return "no rule is broken";
     }
 }
@@ -576,6 +592,17 @@ AGC_INLINE AGC_USED AgcNumber agc_area_at(const uint16_t words[AGC_WORDS], uint3
     }
     return found;
 }
+
+/* The tables of a real computer, or of an emulator of one: `memory` is its erasable memory, read by a map
+   and left as it is. What stands there is told, and nothing is refused but a map: AGC_NO_SUCH_SETS,
+   AGC_OUTSIDE, and AGC_OUT_OF_RANGE for the last number. agc_core_at: the word that a program has at a
+   place of `words`, as agc_place_name calls it, and the rule that the model would have broken there.
+   agc_core_job: the job in a core set; real jobs have no numbers, so its number is that of the set, from
+   1, and its work words are 0. An area that no map knows is 0. agc_core_task: the task at a place of
+   LST2, 0 to 8; its address is 0 where there is none. */
+AGC_USED AgcCell agc_core_at(const uint16_t *memory, size_t memory_size, const AgcMap *map, uint32_t place);
+AGC_USED AgcJob agc_core_job(const uint16_t *memory, size_t memory_size, const AgcMap *map, uint32_t set);
+AGC_USED AgcWaiting agc_core_task(const uint16_t *memory, size_t memory_size, const AgcMap *map, uint32_t place);
 
 /* The library's release: 10000 times its first number, 100 times its second, and its third. */
 AGC_USED uint32_t agc_version(void);

@@ -25,6 +25,7 @@ export declare const Code: {
   readonly TIME_RANGE: 15;
   readonly STEAL_TWICE: 16;
   readonly COST_TWICE: 17;
+  readonly OUTSIDE: 18;
 };
 
 /** The kinds of replies. */
@@ -289,6 +290,55 @@ export declare function placeName(place: number): string;
 /** What words say that a machine has left, or had at a moment. Other words are refused. */
 export declare function sceneOf(words: ArrayLike<number>): Scene;
 
+/** A word of a real computer's tables that a model wouldn't hold: the rule that it breaks. */
+export interface Odd {
+  rule: number;
+  /** Its place among the words of a model. */
+  place: number;
+  /** Its address in the memory. */
+  at: number;
+  found: number;
+  text: string;
+}
+
+/** Where a program of a real computer keeps its tables: numbers, or their five octal digits. */
+export interface CoreMap {
+  /** How many core sets there are, 7 or 8. */
+  sets: number;
+  /** MPAC of core set 0, which the others follow. */
+  mpac: number | string;
+  /** The use word of VAC area 1, which the other areas follow. */
+  vac1use: number | string;
+  newjob: number | string;
+  time3: number | string;
+  lst1: number | string;
+  lst2: number | string;
+  /** -PHASE1. */
+  phase1: number | string;
+  failreg: number | string;
+  /** What LST2 has where no task waits. */
+  endtask?: number | string;
+  /** How many numbers come before the memory. */
+  skip?: number;
+}
+
+/** What the memory of a real computer says. */
+export interface Core {
+  /** The number of a job is that of its core set, from 1, since real jobs have none. */
+  sets: (Job | null)[];
+  /** Which VAC areas are taken. */
+  taken: boolean[];
+  tasks: Waiting[];
+  phases: number[];
+  codes: number[];
+  newjob: number;
+  /** What a model wouldn't hold. */
+  odd: Odd[];
+}
+
+/** The tables in the erasable memory of a real computer or an emulator. Only a map is refused. */
+export declare function readCore(memory: ArrayLike<number>, map: CoreMap): Core;
+
 /** Takes the module agc.wasm, as bytes or compiled. Importing `agc` has done it. */
 export declare function start(source: BufferSource | WebAssembly.Module): Promise<void>;
 
@@ -355,6 +405,15 @@ export interface Library {
   agc_task_at(answer: bigint, words: bigint, sets: number, place: number): void;
   agc_phase_at(answer: bigint, words: bigint, sets: number, group: number): void;
   agc_failreg(answer: bigint, words: bigint, sets: number, place: number): void;
+  agc_core_at(
+    answer: bigint, memory: bigint, memory_size: bigint, map: bigint, place: number,
+  ): void;
+  agc_core_job(
+    answer: bigint, memory: bigint, memory_size: bigint, map: bigint, set: number,
+  ): void;
+  agc_core_task(
+    answer: bigint, memory: bigint, memory_size: bigint, map: bigint, place: number,
+  ): void;
   agc_version(): number;
   agc_restart(words: bigint, sets: number): number;
   agc_migrate(words: bigint): number;

@@ -30,6 +30,13 @@
  *   totals: Totals }} MachineState
  * @typedef {{ rule: number, place: number, found: number, wanted: number | null,
  *   text: string }} Finding
+ * @typedef {{ rule: number, place: number, at: number, found: number, text: string }} Odd
+ * @typedef {{ sets: number, mpac: number | string, vac1use: number | string,
+ *   newjob: number | string, time3: number | string, lst1: number | string,
+ *   lst2: number | string, phase1: number | string, failreg: number | string,
+ *   endtask?: number | string, skip?: number }} CoreMap
+ * @typedef {{ sets: (Job | null)[], taken: boolean[], tasks: Waiting[], phases: number[],
+ *   codes: number[], newjob: number, odd: Odd[] }} Core
  * @typedef {{ timetable: Timetable, at: number[] }} ClockState
  */
 
@@ -59,6 +66,7 @@ export const Code = Object.freeze({
   TIME_RANGE: 15,
   STEAL_TWICE: 16,
   COST_TWICE: 17,
+  OUTSIDE: 18,
 });
 
 /** The kinds of replies. */
@@ -98,6 +106,7 @@ const CODE_TEXTS = {
   [Code.TIME_RANGE]: "a number of the timetable is out of its range",
   [Code.STEAL_TWICE]: "two rows of stolen time hold at one time",
   [Code.COST_TWICE]: "one address has two costs",
+  [Code.OUTSIDE]: "the map has a table beyond the end of the memory",
 };
 
 /** @type {Record<number, string>} */
@@ -140,6 +149,7 @@ const RULE_TEXTS = [
   "a phase is at most 127",
   "-PHASE is the complement of PHASE",
   "FAILREG has codes of alarms: the first, the second and the latest",
+  "where no task waits, LST2 has 0, and not ENDTASK",
 ];
 
 /**
@@ -175,8 +185,8 @@ export class Lacking extends Error {
 // asked last, the words as they were at its last request, a call's numbers and answer, a clock, a text,
 // words from elsewhere, that machine's plan, and behind it that clock's timetable.
 const SIZE = {
-  ...{ words: 288, moment: 288, answer: 24, fired: 72, request: 16, totals: 40, phases: 24 },
-  ...{ clock: 64, text: 2048, other: 288 },
+  ...{ words: 288, moment: 288, answer: 40, fired: 72, request: 16, totals: 40, phases: 24 },
+  ...{ clock: 64, text: 2048, other: 288, map: 40 },
 };
 const ROW = 72;
 const ENTRY = 36;
@@ -1306,4 +1316,78 @@ function sceneIn(words) {
     phases: [1, 2, 3, 4, 5, 6].map((group) => all[116 + 2 * group]),
     codes: all.slice(129, 132),
   };
+}
+
+const MAP = ["sets", "mpac", "vac1use", "newjob", "time3", "lst1", "lst2", "phase1", "failreg"];
+
+/**
+ * What a call answers of the memory that lies in the module's.
+ * @param {Function} call
+ * @param {number} count
+ * @param {number} number
+ */
+function ofCore(call, count, number) {
+  call(to.answer, to.plan, BigInt(count), to.map, number);
+  const found = numbers.slice(at.answer / 4, at.answer / 4 + 10);
+  served(found[0]);
+  return found;
+}
+
+/**
+ * The tables in the erasable memory of a real computer or an emulator, by a map of addresses, which
+ * are numbers or their five octal digits. `skip` is how many numbers come before the memory, and
+ * `endtask` what LST2 has where no task waits; both may be left out. Real jobs have no numbers, so
+ * theirs are those of their core sets, from 1. `odd` is what a model wouldn't hold. Only a map is
+ * refused.
+ * @param {ArrayLike<number>} memory
+ * @param {CoreMap} map
+ * @returns {Core}
+ */
+export function readCore(memory, map) {
+  known("a map", map, [...MAP, "endtask", "skip"], MAP);
+  const skipped = Array.from(memory).slice(map.skip ?? 0);
+  const words = counted(skipped, skipped.length);
+  leave();
+  reach(at.plan + 2 * words.length);
+  halves.set(words, at.plan / 2);
+  const places = [...MAP, "endtask"].map((it) => octal(Reflect.get(map, it) ?? 0));
+  numbers.set(places, at.map / 4);
+  /** @type {(call: Function, number: number) => Uint32Array} */
+  const of = (call, number) => ofCore(call, words.length, number);
+  of(calls.agc_core_at, 0);
+  const cells = Array.from({ length: 48 + 12 * map.sets }, (_, k) => of(calls.agc_core_at, k));
+  const jobs = Array.from({ length: map.sets }, (_, k) => of(calls.agc_core_job, k));
+  const tasks = Array.from({ length: 9 }, (_, k) => of(calls.agc_core_task, k));
+  const found = cells.map((it) => it[2]);
+  return {
+    sets: jobs.map((it) => (it[1] === 0 ? null : heldOf(it))),
+    taken: found.slice(84, 89).map((it) => it === 0),
+    tasks: tasks.filter((it) => it[1]).map(([, at, bank, left]) => ({ at, bank, left })),
+    phases: [1, 2, 3, 4, 5, 6].map((group) => found[116 + 2 * group]),
+    codes: found.slice(129, 132),
+    newjob: found[89],
+    odd: cells.flatMap((it, place) => (it[3] === 0 ? [] : [oddOf(it, place)])),
+  };
+}
+
+/**
+ * The job that a call answers.
+ * @param {Uint32Array} answer
+ * @returns {Job}
+ */
+function heldOf(answer) {
+  const [, number, priority, at, bank, area, asleep] = answer;
+  return { number, priority, at, bank, asleep: (asleep & 1) === 1, area, work: [0, 0, 0, 0, 0, 0] };
+}
+
+/**
+ * What a model wouldn't hold at a place.
+ * @param {Uint32Array} answer
+ * @param {number} place
+ * @returns {Odd}
+ */
+function oddOf([, at, found, rule], place) {
+  const [where, is] = [at, found].map((it) => it.toString(8).padStart(5, "0"));
+  const text = `${placeName(place)} (at ${where}) is ${is}: ${RULE_TEXTS[rule]}`;
+  return { rule, place, at, found, text };
 }

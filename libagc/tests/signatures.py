@@ -20,7 +20,7 @@ NUMBERS = {"uint32_t": "u32", "int32_t": "i32", "uint8_t": "u8", "bool": "bool",
 NUMBERS |= {"uint16_t": "u16", "AgcAction": "AgcRequest"}
 SIZES = {"AGC_WORDS": 144, "AGC_PHASE_WORDS": 12, "AGC_FIRED": 9, "AGC_ACTIONS": 4}
 LENGTHS = {"rows": "row_count", "entries": "entry_count", "text: &[": "length", "text: &mut [": "room"}
-LENGTHS |= {"stolen": "stolen_count", "costs": "cost_count", "events": "event_count", "requests": "request_count"}
+LENGTHS |= {"memory": "memory_size", "stolen": "stolen_count", "costs": "cost_count", "events": "event_count", "requests": "request_count"}
 
 
 def text_of(path):
@@ -223,9 +223,9 @@ def compared_texts(header, module):
     held = [script[script.index("RULE_TEXTS = [") :].split("];")[0], module[module.index("fn agc_rule_text") :].split("\n}")[0]]
     others = [agc.RULE_TEXTS[1:], *(re.findall(r'"([^"]+)",', it) for it in held)]
     for name, texts in zip(("agc.py", "machine.js", "agc.rs"), [others[0], others[1][1:], others[2][:-1]]):
-        if texts != rules or len(rules) != 19:
+        if texts != rules or len(rules) != 20:
             yield f"signatures: rules of {name} aren't those of agc.h"
-    if len(wanted) != 33:
+    if len(wanted) != 34:
         yield f"signatures: agc.h has {len(wanted)} texts"
 
 
@@ -237,7 +237,7 @@ def compared(name, wanted, found):
 
 def main():
     source = "".join(text_of(it) for it in glob.glob(f"{HERE}/../../crates/libagc/src/*.rt"))
-    source += "".join(text_of(it) for it in glob.glob(f"{HERE}/../../crates/agc_image/src/*.rt"))
+    source += "".join(text_of(it) for name in ("agc_image", "agc_core") for it in glob.glob(f"{HERE}/../../crates/{name}/src/*.rt"))
     source += "".join(text_of(f"{HERE}/../../crates/agc_clock/src/{it}.rt") for it in ("clock", "timetable"))
     calls, structs = of_rust(source, r'no_mangle\)\]\npub extern "C" ')
     header, module = text_of(f"{HERE}/../include/agc.h"), text_of(f"{HERE}/../rust/agc.rs")

@@ -11,3 +11,4 @@ pub mod LateTimes
 pub mod Clocks
 pub mod Tables
 pub mod Explaining
+pub mod Reading

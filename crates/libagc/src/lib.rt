@@ -11,6 +11,7 @@ mod jobs;
 mod lines;
 mod phases;
 mod plans;
+mod reading;
 mod ready;
 mod reply;
 mod steps;
@@ -24,6 +25,7 @@ mod words;
 
 pub use explaining::AgcFinding;
 pub use phases::AgcPhases;
+pub use reading::AgcCell;
 pub use reply::{AgcNumber, AgcReply, AgcTask, AgcTruth};
 pub use steps::{AgcFired, AgcStep};
 pub use tables::{AgcJob, AgcWaiting};

@@ -62,8 +62,15 @@ impl AgcJob {
     fn refused(fault: Fault) -> AgcJob
         ensures { result ≡ no_job (code_of fault) }
     {
+        AgcJob::none(fault.code())
+    }
+
+    /// No job, with this code.
+    pub(crate) fn none(code: u32) -> AgcJob
+        ensures { result ≡ no_job code }
+    {
         AgcJob {
-            code: fault.code(),
+            code,
             number: 0,
             priority: 0,
             at: 0,
@@ -80,8 +87,15 @@ impl AgcWaiting {
     fn refused(fault: Fault) -> AgcWaiting
         ensures { result ≡ no_task (code_of fault) }
     {
+        AgcWaiting::none(fault.code())
+    }
+
+    /// No task, with this code.
+    pub(crate) fn none(code: u32) -> AgcWaiting
+        ensures { result ≡ no_task code }
+    {
         AgcWaiting {
-            code: fault.code(),
+            code,
             at: 0,
             bank: 0,
             left: 0,
@@ -111,16 +125,7 @@ fn job_told(words: &[u16; 144], set: usize, seat: Option<Seat>) -> AgcJob
     ensures served { result.code ≡ 0 }
 {
     match seat {
-        None => AgcJob {
-            code: 0,
-            number: 0,
-            priority: 0,
-            at: 0,
-            bank: 0,
-            area: 0,
-            asleep: false,
-            work: [0; 6],
-        },
+        None => AgcJob::none(0),
         Some(seat) => AgcJob {
             code: 0,
             number: u32::from(seat.number),

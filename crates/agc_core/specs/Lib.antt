@@ -1,0 +1,4 @@
+pub mod Map
+pub mod Jobs
+pub mod Tasks
+pub mod Rules
