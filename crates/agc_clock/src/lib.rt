@@ -5,12 +5,10 @@ mod asked;
 mod clock;
 mod counting;
 pub mod laws;
-mod running;
 mod times;
 mod timetable;
 
 pub use asked::{Asked, Source};
 pub use clock::Clock;
-pub use running::{Serves, run};
 pub use times::Times;
 pub use timetable::{Cost, Event, Stolen, Then, Timetable, Timetables};

@@ -13,6 +13,7 @@ mod tables;
 mod texts;
 mod twice;
 mod values;
+mod writing;
 
 pub use agc_plan::Line;
 pub use bench::{Bench, bench_from, bench_of, or_line, read_bench};
@@ -28,3 +29,4 @@ pub use tables::{
 };
 pub use texts::{EntryTexts, Lists, RowTexts, Settings, Text, Texts};
 pub use values::{Spelled, all_spelled, is_name};
+pub use writing::{put_bench, put_script_line, put_settings, put_tables};

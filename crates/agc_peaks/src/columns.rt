@@ -1,5 +1,5 @@
 //! Numbers in columns.
-use agc_spelling::{Filling, Pen};
+use agc_text::{Filling, Pen};
 use std::io::Write;
 
 /// Writes spaces, up to a column, after so many letters.

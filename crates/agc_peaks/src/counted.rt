@@ -7,11 +7,11 @@ ghost use Rattle.agc_run.specs.Runs.{to_ask};
 use crate::counting::{Counts, counts_of};
 use crate::era::{Era, Style};
 use crate::tally::Tally;
+use agc_document::put_script_line;
 use agc_machine::Machine;
 use agc_plan::{Fired, Request};
 use agc_run::Run;
-use agc_spelling::{Pen, put_script_line};
-use agc_text::Output;
+use agc_text::{Output, Pen};
 use std::io::Write;
 
 /// What is written of a request.

@@ -1,8 +1,8 @@
 //! What is counted of an era.
 use crate::columns::{put_cell, put_cells, put_spaces};
 use crate::counting::Counts;
-use agc_spelling::Filling::{Number, Seconds, Text};
-use agc_spelling::{Filling, Pen};
+use agc_text::Filling::{Number, Seconds, Text};
+use agc_text::{Filling, Pen};
 use std::io::Write;
 
 /// The names of the columns.

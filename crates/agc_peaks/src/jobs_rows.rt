@@ -3,9 +3,8 @@ use crate::columns::{put_cells, put_spaces};
 use crate::ledger::{Kind, Ledger, Spent};
 use crate::rows::put_quoted;
 use agc_scenario::Timing;
-use agc_spelling::Filling::{Number, Octal, Seconds, Text};
-use agc_spelling::{Filling, Pen};
-use agc_text::Output;
+use agc_text::Filling::{Number, Octal, Seconds, Text};
+use agc_text::{Filling, Output, Pen};
 use std::io::Write;
 
 /// The names of the columns behind the first.

@@ -6,9 +6,8 @@ use agc_document::Bench;
 use agc_run::{Asks, Run};
 use agc_scenario::Scenario;
 use agc_session::{RunFault, machine_of};
-use agc_spelling::Filling::Number;
-use agc_spelling::Pen;
-use agc_text::Output;
+use agc_text::Filling::Number;
+use agc_text::{Output, Pen};
 use std::alloc::Global;
 use std::io::Write;
 

@@ -1,9 +1,8 @@
 //! The rows of a sweep.
 use crate::columns::{put_cell, put_cells, put_spaces};
 use crate::tally::Found;
-use agc_spelling::Filling::{Number, Seconds, Text};
-use agc_spelling::Pen;
-use agc_text::Output;
+use agc_text::Filling::{Number, Seconds, Text};
+use agc_text::{Output, Pen};
 use std::io::Write;
 
 /// Writes a name as a value of CSV: in quotes where it has a comma or a quote, each of these twice.

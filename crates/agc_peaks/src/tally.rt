@@ -6,7 +6,7 @@ use crate::counting::{Counts, counts_of};
 use crate::era::Era;
 use agc_machine::{Machine, Refusal};
 use agc_plan::{Alarm, Reply, Request};
-use agc_spelling::alarm_code;
+use agc_text::alarm_code;
 
 /// What is counted of all eras that have ended.
 #[derive(Clone, Copy)]

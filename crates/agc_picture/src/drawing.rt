@@ -7,8 +7,7 @@ ghost use Rattle.agc_scene.specs.Events.{watched};
 use agc_run::WatchedRun;
 use agc_scene::{Event, Scene};
 use agc_session::Progress;
-use agc_spelling::Pen;
-use agc_text::Output;
+use agc_text::{Output, Pen};
 use std::io::Write;
 
 /// How the events of a run are drawn.

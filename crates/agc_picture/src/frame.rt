@@ -1,7 +1,7 @@
 // What stands around the lanes.
 use crate::labels::Labels;
-use agc_spelling::Filling::{Bytes, Number, Text};
-use agc_spelling::Pen;
+use agc_text::Filling::{Bytes, Number, Text};
+use agc_text::Pen;
 use std::io::Write;
 
 /// A column of a picture: the request's number, and where it begins, in points from the left.

@@ -3,8 +3,8 @@ use crate::labels::Labels;
 use agc_exec::Seat;
 use agc_plan::Alarm;
 use agc_scene::Scene;
-use agc_spelling::Filling::{Number, Priority};
-use agc_spelling::Pen;
+use agc_text::Filling::{Number, Priority};
+use agc_text::Pen;
 use std::io::Write;
 
 /// What a lane is of: the running job, a core set, a VAC area, or the tasks that wait.

@@ -4,7 +4,7 @@ ghost use Rattle.std.specs.Prelude.{◌≡◌, IfErr};
 use crate::escaping::escaped;
 use agc_scenario::Scenario;
 use agc_session::RunFault;
-use agc_spelling::{Filling, Pen};
+use agc_text::{Filling, Pen};
 use std::alloc::{AllocError, Global};
 use std::io::Write;
 

@@ -2,8 +2,8 @@
 use crate::held::{Held, Place, put_job, put_name};
 use crate::labels::Labels;
 use crate::scale::{COLUMN, Scale};
-use agc_spelling::Filling::{Number, Seconds, Text};
-use agc_spelling::Pen;
+use agc_text::Filling::{Number, Seconds, Text};
+use agc_text::Pen;
 use std::io::Write;
 
 /// How wide a letter of a name may be, in points.

@@ -4,8 +4,8 @@ use crate::frame::{Column, column_at, put_head, width_of};
 use crate::held::{Held, PLACES, Place, full_table, held_in, put_job, put_name};
 use crate::labels::Labels;
 use agc_scene::{Event, Scene};
-use agc_spelling::Filling::{Number, Text};
-use agc_spelling::{Pen, alarm_code};
+use agc_text::Filling::{Number, Text};
+use agc_text::{Pen, alarm_code};
 use std::io::Write;
 
 /// What is drawn of a scene: all lanes, those that have changed, or, as an era begins, these and

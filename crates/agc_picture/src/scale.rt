@@ -1,5 +1,5 @@
 // Which column of a picture over time a moment has.
-use agc_spelling::Filling;
+use agc_text::Filling;
 
 /// What of a run is drawn over time, and how. Times are in centiseconds since the start. Source:
 /// profile.

@@ -4,8 +4,8 @@ use crate::held::{Place, put_name};
 use crate::labels::Labels;
 use crate::lane::Strip;
 use crate::scale::{LEFT, Scale, short};
-use agc_spelling::Filling::{Bytes, Number, Seconds, Text};
-use agc_spelling::Pen;
+use agc_text::Filling::{Bytes, Number, Seconds, Text};
+use agc_text::Pen;
 use std::io::Write;
 
 /// The fonts, the marks, and the colours: on light ground, and then those that are others on dark.

@@ -6,8 +6,8 @@ use crate::lane::Lane;
 use crate::scale::Scale;
 use crate::sheet::{put_foot, put_ground, put_head, strip_of};
 use agc_scene::{Event, Scene};
-use agc_spelling::Filling::{Number, Seconds, Text};
-use agc_spelling::{Pen, alarm_code};
+use agc_text::Filling::{Number, Seconds, Text};
+use agc_text::{Pen, alarm_code};
 use std::alloc::{AllocError, Global};
 use std::io::Write;
 

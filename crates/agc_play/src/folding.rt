@@ -1,7 +1,6 @@
 //! Rows on a terminal: the tables of a row are listed below it, each with its name.
-use agc_spelling::Filling::{Bytes, Text};
-use agc_spelling::Pen;
-use agc_text::Output;
+use agc_text::Filling::{Bytes, Text};
+use agc_text::{Output, Pen};
 use arrayvec::ArrayVec;
 use std::io;
 use std::io::{ErrorKind, Write};

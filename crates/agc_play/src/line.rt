@@ -1,10 +1,9 @@
 //! What a line asks for, and what is said of one that asks for nothing.
-use agc_lint::{Finding, LineFault, script_findings, script_told};
+use agc_check::{Finding, LineFault, script_findings, script_told};
 use agc_plan::Request;
 use agc_session::RunFault;
-use agc_spelling::Filling::{Number, Text};
-use agc_spelling::Pen;
-use agc_text::parse_line;
+use agc_text::Filling::{Number, Text};
+use agc_text::{Pen, parse_line};
 use std::alloc::{AllocError, Global};
 use std::io::Write;
 

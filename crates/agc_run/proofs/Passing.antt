@@ -1,4 +1,4 @@
--- How a run comes to its end. (The first half is that of agc_clock's proofs/Living.antt.)
+-- How a run comes to its end.
 use Rattle.std.proofs.Common.{◌≡◌, ℕ, Bool, suc, ◌+◌, ◌-◌, ◌<◌, List, [], ◌∷◌, ◌++◌, length, Option, Some, None, refl, sym, ap, ◌∙◌, arith, subst, map, append-nil, append_assoc}
 use Rattle.std.specs.List.{fold}
 use Rattle.std.proofs.lemmas.Option.{same_Some}

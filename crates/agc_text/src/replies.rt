@@ -7,7 +7,7 @@ ghost use Rattle.agc_plan.specs.declared.request.Task.{Task};
 ghost use Rattle.agc_plan.specs.Steps.{alarm_of};
 ghost use Rattle.agc_text.specs.Writing.{Writes};
 ghost use Rattle.agc_text.specs.Replies.{alarm_text, fired_text, end_text, reply_text, runner_text};
-ghost use Rattle.agc_text.specs.Replies.{refusal_text};
+ghost use Rattle.agc_text.specs.Replies.{answer_text, refusal_text};
 
 use crate::fault::Output;
 use crate::numerals::octal_digit;
@@ -20,7 +20,8 @@ use std::io::Write;
 // A line of a few is a text by itself, which costs nothing to spell.
 
 fn established_line(number: JobNo) -> &'static str
-    ensures { result.now ≡ codes "job " ++ decimal number ++ 10 ∷ [] }
+    ensures text { result.now ≡ codes "job " ++ decimal number ++ 10 ∷ [] }
+    ensures len { length result.now ≤ 128 }
 {
     match number.get() {
         1 => "job 1\n",
@@ -36,7 +37,8 @@ fn established_line(number: JobNo) -> &'static str
 }
 
 fn left_line(number: JobNo) -> &'static str
-    ensures { result.now ≡ codes "left " ++ decimal number ++ 10 ∷ [] }
+    ensures text { result.now ≡ codes "left " ++ decimal number ++ 10 ∷ [] }
+    ensures len { length result.now ≤ 128 }
 {
     match number.get() {
         1 => "left 1\n",
@@ -52,7 +54,8 @@ fn left_line(number: JobNo) -> &'static str
 }
 
 fn roused_line(number: JobNo) -> &'static str
-    ensures { result.now ≡ codes "roused " ++ decimal number ++ 10 ∷ [] }
+    ensures text { result.now ≡ codes "roused " ++ decimal number ++ 10 ∷ [] }
+    ensures len { length result.now ≤ 128 }
 {
     match number.get() {
         1 => "roused 1\n",
@@ -68,7 +71,8 @@ fn roused_line(number: JobNo) -> &'static str
 }
 
 fn runs_line(number: JobNo) -> &'static str
-    ensures { result.now ≡ codes "runs " ++ decimal number ++ 10 ∷ [] }
+    ensures text { result.now ≡ codes "runs " ++ decimal number ++ 10 ∷ [] }
+    ensures len { length result.now ≤ 128 }
 {
     match number.get() {
         1 => "runs 1\n",
@@ -84,7 +88,8 @@ fn runs_line(number: JobNo) -> &'static str
 }
 
 fn alarm_line(alarm: Alarm) -> &'static str
-    ensures { result.now ≡ alarm_text alarm ++ 10 ∷ [] }
+    ensures text { result.now ≡ alarm_text alarm ++ 10 ∷ [] }
+    ensures len { length result.now ≤ 128 }
 {
     match alarm {
         Alarm::A1201 => "alarm 1201\n",
@@ -94,7 +99,8 @@ fn alarm_line(alarm: Alarm) -> &'static str
 }
 
 fn refusal_line(refusal: Refusal) -> &'static str
-    ensures { result.now ≡ refusal_text refusal ++ 10 ∷ [] }
+    ensures text { result.now ≡ refusal_text refusal ++ 10 ∷ [] }
+    ensures len { length result.now ≤ 128 }
 {
     match refusal {
         Refusal::Spent => "refused spent\n",
@@ -162,6 +168,16 @@ fn add_tasks(line: &mut ArrayVec<u8, 128>, fired: &Fired)
     }
 }
 
+/// Makes the line of a tick.
+fn fill_tick(line: &mut ArrayVec<u8, 128>, fired: &Fired, alarm: Option<Alarm>)
+    requires { line.old.items ≡ [] }
+    ensures { line.new.items ≡ reply_text fired.now (Ticked alarm) ++ 10 ∷ [] }
+{
+    add(line, "tick".as_bytes());
+    add_tasks(line, fired);
+    add(line, line_end(alarm).as_bytes());
+}
+
 /// Writes the line of a tick. It stands apart so that others don't pay for the line's buffer.
 ///
 /// # Errors
@@ -173,15 +189,14 @@ fn put_tick<W: Write>(writer: &mut W, fired: &Fired, alarm: Option<Alarm>) -> Re
         (reply_text fired.now (Ticked alarm) ++ 10 ∷ []) result }
 {
     let mut line = ArrayVec::new();
-    add(&mut line, "tick".as_bytes());
-    add_tasks(&mut line, fired);
-    add(&mut line, line_end(alarm).as_bytes());
+    fill_tick(&mut line, fired, alarm);
     put(writer, line.as_slice())
 }
 
 /// The line of a job that ended or sleeps, by who runs now.
 fn runner_line(runner: Option<JobNo>) -> &'static str
-    ensures { result.now ≡ codes "left " ++ runner_text runner ++ 10 ∷ [] }
+    ensures text { result.now ≡ codes "left " ++ runner_text runner ++ 10 ∷ [] }
+    ensures len { length result.now ≤ 128 }
 {
     match runner {
         Some(number) => left_line(number),
@@ -193,6 +208,7 @@ fn runner_line(runner: Option<JobNo>) -> &'static str
 fn reply_line(reply: &Reply) -> Option<&'static str>
     ensures line { (fired : List Task) → IfSome result (λ line. line.now
         ≡ reply_text fired reply.now ++ 10 ∷ []) }
+    ensures len { IfSome result (λ line. length line.now ≤ 128) }
     ensures tick { IfNone result (reply.now ≡ Ticked (alarm_of reply.now)) }
 {
     match reply {
@@ -236,4 +252,28 @@ pub(crate) fn put_refusal<W: Write>(writer: &mut W, refusal: Refusal) -> Result<
         (refusal_text refusal ++ 10 ∷ []) result }
 {
     put(writer, refusal_line(refusal).as_bytes())
+}
+
+/// Makes the line of an answer, of a tick with what fired.
+fn fill_line(line: &mut ArrayVec<u8, 128>, answer: &Result<Reply, Refusal>, fired: &Fired)
+    requires { line.old.items ≡ [] }
+    ensures { line.new.items ≡ answer_text fired.now answer.now ++ 10 ∷ [] }
+{
+    match answer {
+        Err(refusal) => add(line, refusal_line(*refusal).as_bytes()),
+        Ok(reply) => match reply_line(reply) {
+            Some(text) => add(line, text.as_bytes()),
+            None => fill_tick(line, fired, reply.alarm()),
+        },
+    }
+}
+
+/// An answer as a text, of a tick with what fired, without a line end. Source: profile.
+pub fn answer_text(answer: &Result<Reply, Refusal>, fired: &Fired) -> ArrayVec<u8, 128>
+    ensures { result.items ≡ answer_text fired.now answer.now }
+{
+    let mut line = ArrayVec::new();
+    fill_line(&mut line, answer, fired);
+    let _end = line.pop();
+    line
 }

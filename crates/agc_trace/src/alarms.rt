@@ -6,8 +6,8 @@ use crate::tables::put_tables;
 use agc_exec::Seat;
 use agc_plan::{Alarm, Phase, Plan, Task};
 use agc_scene::{Event, Scene, Since};
-use agc_spelling::Filling::{Number, Priority, Text};
-use agc_spelling::{Pen, alarm_code, put_action};
+use agc_text::Filling::{Number, Priority, Text};
+use agc_text::{Pen, alarm_code, put_action};
 use std::io::Write;
 
 /// Which table was full, in a scene.

@@ -3,8 +3,8 @@ use crate::line::put_source;
 use crate::names::Names;
 use agc_plan::{Phase, Task};
 use agc_run::Source;
-use agc_spelling::Filling::{Number, Octal, Seconds, Text};
-use agc_spelling::{Filling, Pen, put_task};
+use agc_text::Filling::{Number, Octal, Seconds, Text};
+use agc_text::{Filling, Pen, put_task};
 use std::alloc::Global;
 use std::io::Write;
 

@@ -8,8 +8,8 @@ use agc_document::Bench;
 use agc_phase::recover;
 use agc_scene::Scene;
 use agc_session::{Source, asks_nothing};
-use agc_spelling::Filling::{Number, Octal, Text};
-use agc_spelling::Pen;
+use agc_text::Filling::{Number, Octal, Text};
+use agc_text::Pen;
 use agc_word::Word;
 use std::io::Write;
 

@@ -1,6 +1,6 @@
 // A line of cells.
 use agc_session::Source;
-use agc_spelling::{Filling, Pen};
+use agc_text::{Filling, Pen};
 use std::io;
 use std::io::Write;
 

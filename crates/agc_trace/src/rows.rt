@@ -4,8 +4,8 @@ use crate::line::Line;
 use crate::tables::{put_names, put_tables};
 use agc_run::Source;
 use agc_scene::{Event, Scene};
-use agc_spelling::Filling::{Number, Text};
-use agc_spelling::{Filling, Pen, put_answer, put_request};
+use agc_text::Filling::{Number, Text};
+use agc_text::{Filling, Pen, put_answer, put_request};
 use std::io::Write;
 
 /// How wide the column of an answer is.

@@ -3,8 +3,8 @@ use crate::columns::Columns;
 use crate::line::Line;
 use agc_exec::Seat;
 use agc_scene::Scene;
-use agc_spelling::Filling::{Number, Priority, Text};
-use agc_spelling::Pen;
+use agc_text::Filling::{Number, Priority, Text};
+use agc_text::Pen;
 use std::io::Write;
 
 /// How wide the columns are: of the running job, the core sets and the areas.

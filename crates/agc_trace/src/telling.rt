@@ -8,9 +8,8 @@ use agc_machine::Refusal;
 use agc_plan::Reply;
 use agc_run::Source;
 use agc_scene::{Event, Scene, Watched};
-use agc_spelling::Filling::{Number, Text};
-use agc_spelling::Pen;
-use agc_text::Output;
+use agc_text::Filling::{Number, Text};
+use agc_text::{Output, Pen};
 use agc_word::Word;
 use std::io::Write;
 

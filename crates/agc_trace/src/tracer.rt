@@ -16,8 +16,7 @@ use agc_run::{Asks, WatchedRun};
 use agc_scenario::Timing;
 use agc_scene::Watched;
 use agc_session::{Progress, RunFault, count_requests, machine_of, script_machine};
-use agc_spelling::Pen;
-use agc_text::Output;
+use agc_text::{Output, Pen};
 use std::alloc::Global;
 use std::io::Write;
 

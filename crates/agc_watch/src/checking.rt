@@ -1,17 +1,16 @@
 //! What is wrong with a document or a script, or else warnings and a summary of its run.
 use crate::stops::Stop;
+use agc_check::{
+    Warned, add_script_summary, add_summary, add_where, bench_told, bench_warnings, run_bench,
+    run_scenario, run_warnings, script_findings, script_told, warnings_told,
+};
 use agc_clock::{Then, Timetables};
 use agc_document::{Bench, Key, Place, ScenarioKey};
 use agc_findings::{findings, line_at, places_in};
-use agc_lint::{add_where, bench_told, script_findings, script_told};
 use agc_plan::{Action, Actions, Address, JobStart, PhaseEntry, Request, Task, action_request};
 use agc_program::Fault;
 use agc_scenario::{CheckedScenario, Scenario, TimedJob, is_scenario, scenario_findings};
 use agc_text::{put, read_script};
-use agc_warn::{
-    Warned, add_script_summary, add_summary, bench_warnings, run_bench, run_scenario, run_warnings,
-    warnings_told,
-};
 use std::alloc::{AllocError, Global};
 use std::fmt::Write as Told;
 use std::io::Write;

@@ -1,8 +1,8 @@
 //! The document that a text is. Of one that is none it is said what is wrong with it.
 use crate::stops::Stop;
+use agc_check::bench_told;
 use agc_document::{Bench, BenchFault, read_bench};
 use agc_findings::{Finding, findings};
-use agc_lint::bench_told;
 use agc_program::Fault;
 use agc_scenario::{Scenario, is_scenario, read_scenario, scenario_findings};
 use std::alloc::{AllocError, Global};

@@ -1,7 +1,7 @@
 //! Which number of a scenario a sweep exchanges.
 use crate::stops::Stop;
 use crate::words::{Values, refused_words};
-use agc_lint::add;
+use agc_check::add;
 use agc_peaks::Column;
 use agc_scenario::Scenario;
 use agc_text::add_word;

@@ -2,7 +2,7 @@
 use crate::commands::VERSION;
 use crate::files::{read_file, unread};
 use crate::stops::Stop;
-use agc_lint::add;
+use agc_check::add;
 use agc_program::Fault;
 use agc_text::{ReadFault, read_all};
 use std::alloc::{AllocError, Global};

@@ -1,0 +1,10 @@
+use Rattle.std.proofs.Common.{◌∙◌, ap}
+use Rattle.agc_run.specs.Runs.{to_ask}
+use Rattle.agc_run.proofs.Following.{asked_all}
+use Rattle.agc_session.specs.Runs.{bench_machine, bench_requests}
+use Rattle.agc_check.proofs.ran.run_bench.Goals as goal
+
+pub returns : goal.returns
+returns c whole =
+    c.into_machine.ensures ∙ c.run_most-ran.ensures whole
+    ∙ asked_all _ _ (bench_machine c.args.bench.now) (λ m. bench_requests c.args.bench.now) (c.new-run.ensures.machine ∙ c.in-Ok.ensures.machine) (λ k. ap (to_ask k) c.new-run.ensures.asks ∙ c.of_bench.ensures k)

@@ -1,0 +1,25 @@
+//! What is said of what is wrong with a script or a bench, and of what is worth a second look in a
+//! bench that can be run: in which line, and what was expected there. Source: profile.
+#![tactic(auto)]
+
+mod bench;
+mod items;
+mod kind;
+mod line;
+mod names;
+mod ran;
+mod saying;
+mod script;
+mod telling;
+mod warning;
+mod warnings;
+
+pub use bench::{add_where, bench_told};
+pub use kind::{Kind, Part};
+pub use line::LineFault;
+pub use ran::{Ran, run_bench, run_scenario};
+pub use saying::{Piece, Said, add, add_decimal, put, said};
+pub use script::{Finding, script_findings, script_told};
+pub use telling::{add_script_summary, add_summary, warnings_told};
+pub use warning::Warned;
+pub use warnings::{bench_warnings, run_warnings};

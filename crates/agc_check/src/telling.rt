@@ -1,0 +1,116 @@
+//! The lines that tell of warnings, and what a run comes to, in one line.
+use crate::bench::add_where;
+use crate::ran::{Ran, run_requests};
+use crate::saying::{Piece, Said, put};
+use crate::warning::{LOG_FULL, Warned};
+use agc_document::Place;
+use agc_findings::{line_at, places_in};
+use agc_plan::Request;
+use std::alloc::{AllocError, Global};
+
+/// How many requests the log of a script holds.
+const SCRIPT_LIMIT: u64 = 1000;
+
+/// A line for each warning of a document, with the number of the line at which its place begins.
+/// Source: profile.
+///
+/// # Errors
+///
+/// Where there is no memory.
+pub fn warnings_told(
+    alloc: Global,
+    document: &str,
+    warnings: &[Warned],
+) -> Result<String, AllocError> {
+    let mut places: Vec<Place> = Vec::new(alloc);
+    for one in warnings {
+        places.push(one.place)?;
+    }
+    let mut told = String::new(alloc);
+    let added = match places_in(alloc, document, places.as_slice()) {
+        Ok(found) => add_warnings(&mut told, document, warnings, found.as_slice()),
+        Err(error) => Err(error),
+    };
+    match added {
+        Ok(()) => Ok(told),
+        Err(error) => Err(error),
+    }
+}
+
+/// Appends a line for each warning, which is at this place of the document.
+fn add_warnings(
+    told: &mut String,
+    document: &str,
+    warnings: &[Warned],
+    found: &[usize],
+) -> Result<(), AllocError> {
+    for (one, at) in warnings.iter().zip(found.iter()) {
+        add_where(told, line_at(document, *at), "warning: ", one.place)?;
+        add_warning(told, &one.warning)?;
+    }
+    Ok(())
+}
+
+/// Appends a warning, and ends its line.
+fn add_warning(told: &mut String, warning: &Said<'_>) -> Result<(), AllocError> {
+    let (text, pieces) = warning;
+    put(told, text, pieces)?;
+    told.push('\n')
+}
+
+/// A number of things as it is told, and what its word ends with.
+fn amount(number: u64) -> (Piece<'static>, Piece<'static>) {
+    match number {
+        0 => (Piece::Text("no"), Piece::Text("")),
+        1 => (Piece::Number(1), Piece::Text("")),
+        _ => (Piece::Number(number), Piece::Text("s")),
+    }
+}
+
+/// Appends how many requests were asked, how many tasks fired, and how many alarms came; of a run
+/// that was cut the line says so. Source: profile.
+///
+/// # Errors
+///
+/// Where there is no memory.
+pub fn add_summary(told: &mut String, ran: &Ran) -> Result<(), AllocError> {
+    let first = Piece::Text(if ran.is_cut { "the first " } else { "" });
+    let (requests, of_requests) = amount(ran.requests);
+    let (tasks, of_tasks) = amount(ran.fired);
+    let (alarms, of_alarms) = amount(ran.alarms);
+    let pieces = [
+        first,
+        requests,
+        of_requests,
+        tasks,
+        of_tasks,
+        alarms,
+        of_alarms,
+    ];
+    put(
+        told,
+        "ok: {}{} request{}, {} task{} fired, {} alarm{}\n",
+        &pieces,
+    )
+}
+
+/// Appends what the requests of a script come to, and before that a warning where its log is too
+/// small for them. Source: profile.
+///
+/// # Errors
+///
+/// Where there is no memory.
+pub fn add_script_summary(
+    alloc: Global,
+    told: &mut String,
+    requests: &[Request],
+) -> Result<(), AllocError> {
+    let ran = run_requests(alloc, requests)?.1;
+    if let Some(first) = ran.log_full {
+        let first = Piece::Number(first);
+        put(told, "line {}: warning: ", &[first])?;
+        put(told, LOG_FULL, &[first, Piece::Number(SCRIPT_LIMIT)])?;
+        told.push('\n')?;
+    }
+    add_summary(told, &ran)
+}

@@ -1,0 +1,36 @@
+//! What is warned of, and how it is worded.
+use crate::saying::Said;
+use agc_document::Place;
+
+/// What a bench has that is no fault, and of which nothing comes, or less than it asks for: where
+/// its reason stands, and what is said of it. Source: profile.
+#[derive(Clone, Copy)]
+pub struct Warned {
+    pub place: Place,
+    pub warning: Said<'static>,
+    /// The numbers of what it is said of, where that isn't said of them twice.
+    pub(crate) once: Option<(u16, u16)>,
+}
+
+pub(crate) const NO_ROWS: &str = "the bench has no task row, so nothing is done when a task fires";
+
+pub(crate) const NO_ROW: &str = "no task row has {} in bank {}, so nothing is done when it fires";
+
+pub(crate) const OTHER_BANK: &str =
+    "no task row has {} in bank {}, but one has that address in bank {}";
+
+pub(crate) const NEVER_LISTED: &str = "nothing else lists this task, so it never fires";
+
+pub(crate) const NO_ENTRY: &str =
+    "group {} has no entry for phase {}, so nothing begins again in it";
+
+pub(crate) const NO_REQUEST: &str = "a pulse asks for nothing, since the action of {} is nothing";
+
+/// The first of these is a request's number.
+pub(crate) const LOG_FULL: &str = "request {} is the first that is refused: log full (limit {})";
+
+pub(crate) const SPENT: &str =
+    "request {} is the first that is refused: spent (allowance {}, all served)";
+
+pub(crate) const CUT: &str =
+    "only the first 200000 requests were run, so a later one may be refused too";
