@@ -1,8 +1,7 @@
 -- Why a bench is refused, from why a part of it is.
-use Rattle.std.proofs.Common.{◌≡◌, ◌≢◌, ◌⊎◌, inl, inr, List, Option, Some, sym, ap, subst}
+use Rattle.std.proofs.Common.{◌≡◌, ◌≢◌, ◌⊎◌, inl, inr, Option, Some, refl, sym, ap, subst}
 use Rattle.std.specs.Option.{option_map}
-use Rattle.agc_plan.specs.Plans.{Rows, fault_of}
-use Rattle.agc_plan.specs.Begins.{Begins}
+use Rattle.agc_plan.specs.Plans.{fault_of}
 use Rattle.agc_plan.specs.declared.plan.PlanFault.{PlanFault}
 use Rattle.agc_plan.specs.declared.plan.PlanFault.TheVariants as plan
 use Rattle.toml.specs.Data.{Members}
@@ -11,7 +10,7 @@ use Rattle.agc_document.specs.declared.fault.BenchFault.TheVariants.{NoMemory, N
 use Rattle.agc_document.specs.Texts.{Texts}
 use Rattle.agc_document.specs.Keys.{texts_in}
 use Rattle.agc_document.specs.Benches.{Benched, bench_texts, IsInRange}
-use Rattle.agc_document.specs.Gives.{AreNoted, IsNotedFor, RefusedLine}
+use Rattle.agc_document.specs.Gives.{RefusedLine}
 use Rattle.agc_document.specs.Faults.{bench_fault, HasTexts, RefusesTexts, RefusesBench}
 
 pub refused_because : (why other : Type 0) (fault : BenchFault) → (why → other) → RefusedLine why fault → RefusedLine other fault
@@ -23,15 +22,19 @@ refused_because why other TaskTwice f h = absurd h
 refused_because why other PhaseTwice f h = absurd h
 refused_because why other TooManyAreas f h = absurd h
 
+-- what follows from want of memory, and from texts that spell nothing, follows from their refusal
+pub by_line : (why : Type 0) (P : BenchFault → Type 0) (fault r : BenchFault) → (fault ≡ NoMemory → r ≡ NoMemory) → (fault ≢ NoMemory → r ≡ Line) → P NoMemory → (why → P Line) → RefusedLine why fault → P r
+by_line why P NoMemory r m l none some h = subst P (sym (m refl)) none
+by_line why P Line r m l none some h = subst P (sym (l (λ e. cc))) (some h)
+by_line why P NotToml r m l none some h = absurd h
+by_line why P Key r m l none some h = absurd h
+by_line why P TaskTwice r m l none some h = absurd h
+by_line why P PhaseTwice r m l none some h = absurd h
+by_line why P TooManyAreas r m l none some h = absurd h
+
 -- texts that spell no bench
-pub refused_line : (texts : Texts) (fault : BenchFault) → RefusedLine ((b : Benched) → IsInRange b → texts ≢ bench_texts b) fault → RefusesTexts texts fault
-refused_line texts NoMemory h = tt
-refused_line texts Line h = h
-refused_line texts NotToml h = absurd h
-refused_line texts Key h = absurd h
-refused_line texts TaskTwice h = absurd h
-refused_line texts PhaseTwice h = absurd h
-refused_line texts TooManyAreas h = absurd h
+pub refused_line : (texts : Texts) (fault r : BenchFault) → (fault ≡ NoMemory → r ≡ NoMemory) → (fault ≢ NoMemory → r ≡ Line) → RefusedLine ((b : Benched) → IsInRange b → texts ≢ bench_texts b) fault → RefusesTexts texts r
+refused_line texts fault r m l h = by_line _ (RefusesTexts texts) fault r m l tt (λ never. never) h
 
 -- texts of a bench whose rows and entries make no plan
 plan_refused : (texts : Texts) (b : Benched) (f : PlanFault) → IsInRange b → texts ≡ bench_texts b → fault_of b.rows b.entries ≡ Some f → RefusesTexts texts (bench_fault f)
@@ -40,9 +43,9 @@ plan_refused texts b plan.TaskTwice r t h = (b, r, t, ap (option_map bench_fault
 plan_refused texts b plan.PhaseTwice r t h = (b, r, t, ap (option_map bench_fault) h)
 plan_refused texts b plan.TooManyAreas r t h = (b, r, t, ap (option_map bench_fault) h)
 
-pub refused_plan : (texts : Texts) (b : Benched) (fault : BenchFault) → IsInRange b → texts ≡ bench_texts b → (fault ≡ NoMemory) ⊎ ((f : PlanFault) × (fault ≡ bench_fault f) × (fault_of b.rows b.entries ≡ Some f)) → RefusesTexts texts fault
-refused_plan texts b fault r t (inl is) = subst (RefusesTexts texts) (sym is) tt
-refused_plan texts b fault r t (inr h) = subst (RefusesTexts texts) (sym h.1) (plan_refused texts b h.0 r t h.2)
+pub refused_plan : (texts : Texts) (b : Benched) (f : PlanFault) → IsInRange b → texts ≡ bench_texts b → (f ≡ plan.NoMemory) ⊎ (fault_of b.rows b.entries ≡ Some f) → RefusesTexts texts (bench_fault f)
+refused_plan texts b f r t (inl is) = subst (λ x. RefusesTexts texts (bench_fault x)) (sym is) tt
+refused_plan texts b f r t (inr h) = plan_refused texts b f r t h
 
 -- a document whose texts spell none
 pub refused_texts : (document : Option Members) (ms : Members) (texts : Texts) (fault : BenchFault) → document ≡ Some ms → texts_in ms ≡ Some texts → RefusesTexts texts fault → RefusesBench document fault
@@ -53,26 +56,6 @@ refused_texts document ms texts Key d t h = absurd h
 refused_texts document ms texts TaskTwice d t h = (texts, (ms, d, t), h)
 refused_texts document ms texts PhaseTwice d t h = (texts, (ms, d, t), h)
 refused_texts document ms texts TooManyAreas d t h = (texts, (ms, d, t), h)
-
--- a fault of texts is noted as one, and what makes no plan needs no note
-pub noted_line : {N M : Type 0} → (keys : List N) (texts : List M) (why : Type 0) (fault : BenchFault) → RefusedLine why fault → AreNoted texts → IsNotedFor keys texts fault
-noted_line keys texts why NoMemory h n = tt
-noted_line keys texts why Line h n = n
-noted_line keys texts why NotToml h n = tt
-noted_line keys texts why Key h n = absurd h
-noted_line keys texts why TaskTwice h n = tt
-noted_line keys texts why PhaseTwice h n = tt
-noted_line keys texts why TooManyAreas h n = tt
-
-noted_fault : {N M : Type 0} → (keys : List N) (texts : List M) (f : PlanFault) → IsNotedFor keys texts (bench_fault f)
-noted_fault keys texts plan.NoMemory = tt
-noted_fault keys texts plan.TaskTwice = tt
-noted_fault keys texts plan.PhaseTwice = tt
-noted_fault keys texts plan.TooManyAreas = tt
-
-pub noted_plan : {N M : Type 0} → (keys : List N) (texts : List M) (rows : Rows) (entries : List Begins) (fault : BenchFault) → (fault ≡ NoMemory) ⊎ ((f : PlanFault) × (fault ≡ bench_fault f) × (fault_of rows entries ≡ Some f)) → IsNotedFor keys texts fault
-noted_plan keys texts rows entries fault (inl is) = subst (IsNotedFor keys texts) (sym is) tt
-noted_plan keys texts rows entries fault (inr h) = subst (IsNotedFor keys texts) (sym h.1) (noted_fault keys texts h.0)
 
 -- what a document's members are is what the document is
 pub refused_in : (document : Option Members) (ms : Members) (fault : BenchFault) → document ≡ Some ms → RefusesBench (Some ms) fault → RefusesBench document fault

@@ -4,20 +4,18 @@ ghost use Rattle.toml.specs.View.{table_view};
 ghost use Rattle.agc_word.specs.Profiles.{count_of};
 ghost use Rattle.agc_plan.specs.Plans.{fault_of};
 ghost use Rattle.agc_plan.specs.Ranges.{IsBetween};
-ghost use Rattle.agc_plan.specs.declared.plan.PlanFault.{PlanFault};
 ghost use Rattle.agc_document.specs.Benches.{Benched, bench_texts, IsInRange, IsBench};
-ghost use Rattle.agc_document.specs.Faults.{bench_fault, HasTexts, RefusesTexts, RefusesBench};
-ghost use Rattle.agc_document.specs.Gives.{IsNotedFor, RefusedLine};
+ghost use Rattle.agc_document.specs.Faults.{fault_of_refusal, HasTexts, RefusesTexts, RefusesBench};
+ghost use Rattle.agc_document.specs.Gives.{RefusedLine};
 
 use crate::fault::BenchFault;
-use crate::key::Form;
 use crate::keys::texts_in;
 use crate::notes::Notes;
-use crate::place::Place;
+use crate::refusal::Refusal;
 use crate::texts::Texts;
 use crate::twice::refused_at;
 use crate::values::{actions_of, all_spelled, power_of, workers_of};
-use agc_plan::{Actions, Limit, Line, PhaseEntry, Plan, Request, Task};
+use agc_plan::{Actions, Limit, Line, PhaseEntry, Plan, PlanFault, Request, Task};
 use agc_word::{Sets, Word};
 use std::alloc::Global;
 use std::marker::Model;
@@ -230,11 +228,10 @@ fn parts_of(alloc: Global, texts: &Texts<'_>) -> Result<Parts, BenchFault>
 }
 
 /// Whether the rows and entries of parts make a plan.
-fn planned(alloc: Global, parts: &Parts) -> Result<(), BenchFault>
+fn planned(alloc: Global, parts: &Parts) -> Result<(), PlanFault>
     ensures found { IfOk result (λ _. fault_of parts.now.rows parts.now.entries ≡ None) }
-    ensures refused { IfErr result (λ fault. (fault ≡ BenchFault.NoMemory)
-        ⊎ ((f : PlanFault) × (fault ≡ bench_fault f)
-        × (fault_of parts.now.rows parts.now.entries ≡ Some f))) }
+    ensures refused { IfErr result (λ fault. (fault ≡ PlanFault.NoMemory)
+        ⊎ (fault_of parts.now.rows parts.now.entries ≡ Some fault)) }
 {
     match Plan::with_lists(
         alloc,
@@ -244,62 +241,42 @@ fn planned(alloc: Global, parts: &Parts) -> Result<(), BenchFault>
         parts.radar.copied(),
     ) {
         Ok(_plan) => Ok(()),
-        Err(fault) => Err(BenchFault::from(fault)),
+        Err(fault) => Err(fault),
     }
 }
 
-/// The values that numbers and texts spell. Where a text is not of its form, one is noted.
-#[tactic(auto, using(crate::proofs::Refusals::noted_line, crate::proofs::Refusals::refused_line))]
-fn spelled<'a>(alloc: Global, texts: &Texts<'_>, notes: &mut Notes<'a>) -> Result<Parts, BenchFault>
-    ensures found { IfOk result (λ p. IsInRange (p) × (texts.now ≡ bench_texts (p))) }
-    ensures refused { IfErr result (RefusesTexts texts.now) }
-    ensures noted { IfErr result (IsNotedFor notes.new.keys.items notes.new.texts.items) }
-{
-    match parts_of(alloc, texts) {
-        Ok(parts) => Ok(parts),
-        Err(fault) => {
-            // For the proof: each text was looked at when it was read.
-            if notes.texts.is_empty() {
-                notes.text(Place::Whole, "", Form::Request);
-            }
-            Err(fault)
-        }
-    }
-}
-
-/// The bench that numbers and texts spell; each text was looked at when it was read. Where there is
-/// none, that is noted. Source: profile.
+/// The bench that numbers and texts spell; each text was looked at when it was read. Source:
+/// profile.
 ///
 /// # Errors
 ///
-/// The first that applies: `Line`, a text that is not of its form; `TaskTwice`, `PhaseTwice` and
-/// `TooManyAreas`, rows and entries that make no plan. `NoMemory` may come in place of any.
-#[tactic(auto, using(crate::proofs::Refusals::noted_plan, crate::proofs::Refusals::refused_plan))]
+/// The first that applies: a text that is not of its form, or rows and entries that make no plan.
+/// `NoMemory` may come in place of any.
+#[tactic(auto, using(crate::proofs::Refusals::refused_line, crate::proofs::Refusals::refused_plan))]
 pub fn bench_from<'a>(
     alloc: Global,
     texts: &Texts<'_>,
-    notes: &mut Notes<'a>,
-) -> Result<Bench, BenchFault>
+    notes: &Notes<'a>,
+) -> Result<Bench, Refusal<'a>>
     ensures found { IfOk result (λ b. IsBench b × (texts.now ≡ bench_texts b)) }
-    ensures refused { IfErr result (RefusesTexts texts.now) }
-    ensures noted { IfErr result (IsNotedFor notes.new.keys.items notes.new.texts.items) }
+    ensures refused { IfErr result (λ r. RefusesTexts texts.now (fault_of_refusal r)) }
 {
-    let parts = spelled(alloc, texts, notes)?;
+    let parts = match parts_of(alloc, texts) {
+        Ok(parts) => parts,
+        Err(fault) => return Err(notes.refusal(fault)),
+    };
     match planned(alloc, &parts) {
         Ok(()) => Ok(Bench { parts }),
         Err(fault) => {
-            notes.plan = refused_at(
-                alloc,
-                fault,
-                parts.rows.as_slice(),
-                parts.entries.as_slice(),
-            )?;
-            Err(fault)
+            let (rows, entries) = (parts.rows.as_slice(), parts.entries.as_slice());
+            let place = refused_at(alloc, fault, rows, entries)?;
+            Err(Refusal::Plan(fault, place))
         }
     }
 }
 
-/// The bench that a document's table is. What is wrong is noted. Source: profile.
+/// The bench that a document's table is. What is wrong is noted, if that is wanted. Source:
+/// profile.
 ///
 /// # Errors
 ///
@@ -309,11 +286,11 @@ pub fn bench_of<'a>(
     alloc: Global,
     table: &'a Table,
     notes: &mut Notes<'a>,
-) -> Result<Bench, BenchFault>
+) -> Result<Bench, Refusal<'a>>
     ensures found { IfOk result (λ b. IsBench b
         × HasTexts (Some (table_view table.now)) (bench_texts b)) }
-    ensures refused { IfErr result (RefusesBench (Some (table_view table.now))) }
-    ensures noted { IfErr result (IsNotedFor notes.new.keys.items notes.new.texts.items) }
+    ensures refused { IfErr result (λ r.
+        RefusesBench (Some (table_view table.now)) (fault_of_refusal r)) }
 {
     let texts = texts_in(alloc, table, notes)?;
     bench_from(alloc, &texts, notes)
@@ -346,6 +323,6 @@ pub fn read_bench(alloc: Global, text: &str) -> Result<Bench, BenchFault>
     let mut notes = Notes::new(false);
     match bench_of(alloc, &table, &mut notes) {
         Ok(bench) => Ok(bench),
-        Err(fault) => Err(fault),
+        Err(refusal) => Err(refusal.fault()),
     }
 }

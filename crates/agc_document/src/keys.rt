@@ -5,17 +5,17 @@ ghost use Rattle.toml.specs.Data.{as_str};
 ghost use Rattle.toml.specs.View.{table_view};
 ghost use Rattle.agc_word.specs.Profiles.{count_of};
 ghost use Rattle.agc_plan.specs.Ranges.{IsBetween};
-ghost use Rattle.agc_document.specs.Gives.{AreNoted, GivesOrKey};
+ghost use Rattle.agc_document.specs.Gives.{GivesOrKey};
 ghost use Rattle.agc_document.specs.Keys.{least, most, value_of, read_at, read_or, items_of};
 ghost use Rattle.agc_document.specs.Keys.{given, some_texts, row, row_in, entry, entry_in};
 ghost use Rattle.agc_document.specs.Keys.{worker, device, numbers_in, settings_in, lists_in};
 ghost use Rattle.agc_document.specs.Keys.{texts_in};
 ghost use Rattle.agc_document.specs.declared.key.Key.TheVariants as key_of;
 
-use crate::fault::BenchFault;
 use crate::key::{Key, Level};
 use crate::notes::Notes;
 use crate::place::Place;
+use crate::refusal::Refusal;
 use crate::tables::{
     FromData, has_only, items_of, items_or_none, number_at, number_or, one_text, optional_text,
     some_texts, some_texts_at, table_at, text_at, value_at, value_of,
@@ -31,10 +31,8 @@ pub fn row_in<'a>(
     table: &'a Table,
     place: Place,
     notes: &mut Notes<'a>,
-) -> Result<RowTexts<'a>, BenchFault>
-    ensures value { GivesOrKey (λ t. t) result (row_in (table_view table.now))
-        notes.new.keys.items }
-    ensures kept { AreNoted notes.old.keys.items → AreNoted notes.new.keys.items }
+) -> Result<RowTexts<'a>, Refusal<'a>>
+    ensures value { GivesOrKey (λ t. t) result (row_in (table_view table.now)) }
 {
     let at = text_at(table, Key::At, place, notes);
     let bank = text_at(table, Key::Bank, place, notes);
@@ -55,7 +53,7 @@ impl<'a> FromData<'a> for RowTexts<'a> {
         key: Key,
         place: Place,
         notes: &mut Notes<'a>,
-    ) -> Result<RowTexts<'a>, BenchFault> {
+    ) -> Result<RowTexts<'a>, Refusal<'a>> {
         let table = table_at(value, key, place, notes)?;
         let place = place.of_table();
         let known = has_only(table, Level::Task, place, notes);
@@ -69,10 +67,8 @@ pub fn entry_in<'a>(
     table: &'a Table,
     place: Place,
     notes: &mut Notes<'a>,
-) -> Result<EntryTexts<'a>, BenchFault>
-    ensures value { GivesOrKey (λ t. t) result (entry_in (table_view table.now))
-        notes.new.keys.items }
-    ensures kept { AreNoted notes.old.keys.items → AreNoted notes.new.keys.items }
+) -> Result<EntryTexts<'a>, Refusal<'a>>
+    ensures value { GivesOrKey (λ t. t) result (entry_in (table_view table.now)) }
 {
     let group = number_at(table, Key::Group, place, notes);
     let phase = number_at(table, Key::Phase, place, notes);
@@ -102,7 +98,7 @@ impl<'a> FromData<'a> for EntryTexts<'a> {
         key: Key,
         place: Place,
         notes: &mut Notes<'a>,
-    ) -> Result<EntryTexts<'a>, BenchFault> {
+    ) -> Result<EntryTexts<'a>, Refusal<'a>> {
         let table = table_at(value, key, place, notes)?;
         let place = place.of_table();
         let known = has_only(table, Level::Phase, place, notes);
@@ -120,7 +116,7 @@ impl<'a> FromData<'a> for WorkerTexts<'a> {
         key: Key,
         place: Place,
         notes: &mut Notes<'a>,
-    ) -> Result<WorkerTexts<'a>, BenchFault> {
+    ) -> Result<WorkerTexts<'a>, Refusal<'a>> {
         let table = table_at(value, key, place, notes)?;
         let place = place.of_table();
         let known = has_only(table, Level::Worker, place, notes);
@@ -139,7 +135,7 @@ impl<'a> FromData<'a> for DeviceTexts<'a> {
         key: Key,
         place: Place,
         notes: &mut Notes<'a>,
-    ) -> Result<DeviceTexts<'a>, BenchFault> {
+    ) -> Result<DeviceTexts<'a>, Refusal<'a>> {
         let table = table_at(value, key, place, notes)?;
         let place = place.of_table();
         let known = has_only(table, Level::Device, place, notes);
@@ -161,17 +157,13 @@ fn script_at<'a>(
     table: &'a Table,
     place: Place,
     notes: &mut Notes<'a>,
-) -> Result<Vec<Text<'a>>, BenchFault>
+) -> Result<Vec<Text<'a>>, Refusal<'a>>
     ensures value { GivesOrKey (λ v. v.items) result
-        (read_at (items_of as_str key_of.Requests) key_of.Requests (table_view table.now))
-        notes.new.keys.items }
-    ensures kept { AreNoted notes.old.keys.items → AreNoted notes.new.keys.items }
+        (read_at (items_of as_str key_of.Requests) key_of.Requests (table_view table.now)) }
 {
     let key = Key::Requests;
-    match value_of(table, key, place, notes) {
-        None => Err(BenchFault::Key),
-        Some(value) => items_of(alloc, value, key, place.of_value(key), notes),
-    }
+    let value = value_at(table, key, place, notes)?;
+    items_of(alloc, value, key, place.of_value(key), notes)
 }
 
 /// The texts of the actions of a pulse: `nothing` alone where the key is missing.
@@ -180,16 +172,14 @@ fn pulse_at<'a>(
     table: &'a Table,
     key: Key,
     notes: &mut Notes<'a>,
-) -> Result<Vec<Text<'a>>, BenchFault>
+) -> Result<Vec<Text<'a>>, Refusal<'a>>
     requires low { least key ≤ 1 }
     requires high { 1 ≤ most key }
     ensures value { GivesOrKey (λ v. v.items) result
-        (read_or (codes "nothing" ∷ []) (some_texts key) (value_of key (table_view table.now)))
-        notes.new.keys.items }
+        (read_or (codes "nothing" ∷ []) (some_texts key) (value_of key (table_view table.now))) }
     ensures few { IfOk result (λ v. IsBetween (least key) (most key) (length v.items)) }
-    ensures kept { AreNoted notes.old.keys.items → AreNoted notes.new.keys.items }
 {
-    match value_of(table, key, Place::Whole, notes) {
+    match value_of(table, key) {
         None => one_text(alloc, "nothing"),
         Some(value) => some_texts(alloc, value, key, Place::Value(key), notes),
     }
@@ -200,14 +190,13 @@ fn power_at<'a>(
     alloc: Global,
     table: &'a Table,
     notes: &mut Notes<'a>,
-) -> Result<Option<Vec<Text<'a>>>, BenchFault>
+) -> Result<Option<Vec<Text<'a>>>, Refusal<'a>>
     ensures value { GivesOrKey (λ o. option_map (λ v. v.items) o) result
         (read_or None (given (items_of as_str key_of.Power))
-        (value_of key_of.Power (table_view table.now))) notes.new.keys.items }
-    ensures kept { AreNoted notes.old.keys.items → AreNoted notes.new.keys.items }
+        (value_of key_of.Power (table_view table.now))) }
 {
     let key = Key::Power;
-    match value_of(table, key, Place::Whole, notes) {
+    match value_of(table, key) {
         None => Ok(None),
         Some(value) => {
             let texts: Vec<Text<'a>> = items_of(alloc, value, key, Place::Value(key), notes)?;
@@ -232,7 +221,7 @@ fn sets_for(number: u64) -> Sets
 fn names_sets(table: &Table) -> bool
     ensures { result ≡ is_some (value_of key_of.Sets (table_view table.now)) }
 {
-    value_at(table, Key::Sets.row().name).is_some()
+    value_of(table, Key::Sets).is_some()
 }
 
 /// The numbers of a bench: its core sets, its limit, its allowance, and how often a thread attends.
@@ -240,11 +229,10 @@ fn names_sets(table: &Table) -> bool
 fn numbers_in<'a>(
     table: &'a Table,
     notes: &mut Notes<'a>,
-) -> Result<(Sets, u32, u64, u32), BenchFault>
+) -> Result<(Sets, u32, u64, u32), Refusal<'a>>
     ensures value { GivesOrKey (λ n. (count_of n.0, n.1, n.2, n.3)) result
-        (numbers_in (table_view table.now)) notes.new.keys.items }
+        (numbers_in (table_view table.now)) }
     ensures range { IfOk result (λ n. (n.2 ≤ 9223372036854775807) × (n.3 ≤ 1000)) }
-    ensures kept { AreNoted notes.old.keys.items → AreNoted notes.new.keys.items }
 {
     let sets = number_or(table, Key::Sets, 7, notes);
     let limit = number_or(table, Key::Limit, 1000, notes);
@@ -267,10 +255,8 @@ pub fn settings_in<'a>(
     alloc: Global,
     table: &'a Table,
     notes: &mut Notes<'a>,
-) -> Result<Settings<'a>, BenchFault>
-    ensures value { GivesOrKey (λ s. s) result (settings_in (table_view table.now))
-        notes.new.keys.items }
-    ensures kept { AreNoted notes.old.keys.items → AreNoted notes.new.keys.items }
+) -> Result<Settings<'a>, Refusal<'a>>
+    ensures value { GivesOrKey (λ s. s) result (settings_in (table_view table.now)) }
 {
     let numbers = numbers_in(table, notes);
     let key = pulse_at(alloc, table, Key::Key, notes);
@@ -299,10 +285,8 @@ fn lists_in<'a>(
     alloc: Global,
     table: &'a Table,
     notes: &mut Notes<'a>,
-) -> Result<Lists<'a>, BenchFault>
-    ensures value { GivesOrKey (λ l. l) result (lists_in (table_view table.now))
-        notes.new.keys.items }
-    ensures kept { AreNoted notes.old.keys.items → AreNoted notes.new.keys.items }
+) -> Result<Lists<'a>, Refusal<'a>>
+    ensures value { GivesOrKey (λ l. l) result (lists_in (table_view table.now)) }
 {
     let script = items_or_none(alloc, table, Key::Script, notes);
     let rows = items_or_none(alloc, table, Key::Tasks, notes);
@@ -330,8 +314,8 @@ pub(crate) fn texts_in<'a>(
     alloc: Global,
     table: &'a Table,
     notes: &mut Notes<'a>,
-) -> Result<Texts<'a>, BenchFault>
-    ensures { GivesOrKey (λ t. t) result (texts_in (table_view table.now)) notes.new.keys.items }
+) -> Result<Texts<'a>, Refusal<'a>>
+    ensures { GivesOrKey (λ t. t) result (texts_in (table_view table.now)) }
 {
     let known = has_only(table, Level::Bench, Place::Whole, notes);
     let settings = settings_in(alloc, table, notes);

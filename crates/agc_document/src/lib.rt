@@ -9,6 +9,7 @@ mod key_fault;
 mod keys;
 mod notes;
 mod place;
+mod refusal;
 mod tables;
 mod texts;
 mod twice;
@@ -23,6 +24,7 @@ pub use key_fault::KeyFault;
 pub use keys::{entry_in, row_in, settings_in};
 pub use notes::{KeyNote, Notes, TextNote};
 pub use place::Place;
+pub use refusal::Refusal;
 pub use tables::{
     FromData, has_only, items_of, items_or_none, number_at, number_of, number_or, optional_number,
     optional_text, some_texts_at, table_at, text_at, value_of,

@@ -1,12 +1,13 @@
 //! What is found wrong while a document is read.
-ghost use Rattle.std.specs.Prelude.{◌≡◌};
-ghost use Rattle.agc_document.specs.Gives.{AreNoted};
-ghost use Rattle.agc_document.specs.declared.fault.BenchFault.TheVariants as refusal;
+ghost use Rattle.std.specs.Prelude.{◌≡◌, ◌≢◌};
+ghost use Rattle.agc_document.specs.Faults.{fault_of_refusal};
+ghost use Rattle.agc_document.specs.declared.fault.BenchFault.TheVariants.{NoMemory, Line};
 
 use crate::fault::BenchFault;
 use crate::key::{Form, Key};
 use crate::key_fault::KeyFault;
 use crate::place::Place;
+use crate::refusal::Refusal;
 use arrayvec::ArrayVec;
 
 /// How many faults of either kind are noted.
@@ -48,14 +49,12 @@ impl<'a> Default for TextNote<'a> {
     }
 }
 
-/// What is wrong with a document's keys, and with its texts: of either the first twenty.
+/// All that is wrong with a document's keys, and with its texts, if that is wanted and not only the
+/// first: of either the first twenty.
 #[derive(Drop)]
 pub struct Notes<'a> {
     pub keys: ArrayVec<KeyNote<'a>, MOST_NOTED>,
     pub texts: ArrayVec<TextNote<'a>, MOST_NOTED>,
-    /// Where rows and entries make no plan.
-    pub plan: Place,
-    /// Whether all that is wrong is wanted, and not only whether something is.
     is_whole: bool,
 }
 
@@ -64,41 +63,40 @@ impl<'a> Notes<'a> {
         Notes {
             keys: ArrayVec::new(),
             texts: ArrayVec::new(),
-            plan: Place::Whole,
             is_whole,
         }
     }
 
-    /// Notes what is wrong with a key.
-    pub fn key(&mut self, place: Place, text: &'a str, fault: KeyFault) -> BenchFault
-        ensures fault { result ≡ refusal.Key }
-        ensures noted { AreNoted self.new.keys.items }
-    {
-        if self.keys.len() < MOST_NOTED {
-            self.keys.push(KeyNote { place, text, fault });
+    /// What is wrong with a key, which is noted if that is wanted.
+    pub fn key(&mut self, place: Place, text: &'a str, fault: KeyFault) -> KeyNote<'a> {
+        let note = KeyNote { place, text, fault };
+        if self.is_whole && self.keys.len() < MOST_NOTED {
+            self.keys.push(note);
         }
-        BenchFault::Key
+        note
     }
 
-    /// Notes a text that isn't of its form.
-    pub fn text(&mut self, place: Place, text: &'a str, form: Form)
-        ensures noted { AreNoted self.new.texts.items }
-        ensures keys { self.new.keys ≡ self.old.keys }
-    {
-        if self.texts.len() < MOST_NOTED {
+    /// Notes a text that isn't of its key's form, if that is wanted.
+    pub fn look_at(&mut self, place: Place, text: &'a str, key: Key) {
+        let Some(form) = key.form() else {
+            return;
+        };
+        if self.is_whole && self.texts.len() < MOST_NOTED && !form.is_spelled_by(text) {
             self.texts.push(TextNote { place, text, form });
         }
     }
 
-    /// Notes a text that isn't of its key's form, if that is wanted.
-    pub fn look_at(&mut self, place: Place, text: &'a str, key: Key)
-        ensures { self.new.keys ≡ self.old.keys }
+    /// Why texts spell nothing, by the fault of one of them: each was looked at when it was read.
+    pub fn refusal(&self, fault: BenchFault) -> Refusal<'a>
+        ensures memory { fault ≡ NoMemory → fault_of_refusal result ≡ NoMemory }
+        ensures line { fault ≢ NoMemory → fault_of_refusal result ≡ Line }
     {
-        match key.form() {
-            Some(form) if self.is_whole && !form.is_spelled_by(text) => {
-                self.text(place, text, form);
-            }
-            _ => {}
+        match fault {
+            BenchFault::NoMemory => Refusal::NoMemory,
+            _ => match self.texts.first() {
+                Some(note) => Refusal::Text(*note),
+                None => Refusal::Text(TextNote::default()),
+            },
         }
     }
 }

@@ -7,17 +7,18 @@ ghost use Rattle.std.specs.BTreeMap.{keys};
 ghost use Rattle.toml.specs.Data.{Data, get_member, as_str, as_table};
 ghost use Rattle.toml.specs.View.{view, items_view, table_view};
 ghost use Rattle.agc_plan.specs.Ranges.{IsBetween};
-ghost use Rattle.agc_document.specs.Gives.{AreNoted, GivesOrKey};
+ghost use Rattle.agc_document.specs.Gives.{GivesOrKey};
+ghost use Rattle.agc_document.specs.declared.refusal.Refusal.TheVariants as refusal;
 ghost use Rattle.agc_document.specs.Rows.{row_of, names_of};
 ghost use Rattle.agc_document.specs.Keys.{is_among, has_only, known_to, value_of, number_of};
 ghost use Rattle.agc_document.specs.Keys.{least, most, read_at, read_or, given, each};
 ghost use Rattle.agc_document.specs.Keys.{items_of, some_texts};
 
-use crate::fault::BenchFault;
 use crate::key::{Key, Level};
 use crate::key_fault::KeyFault;
-use crate::notes::Notes;
+use crate::notes::{KeyNote, Notes};
 use crate::place::Place;
+use crate::refusal::Refusal;
 use crate::texts::Text;
 use std::alloc::Global;
 use toml::{Table, Value};
@@ -49,19 +50,21 @@ fn is_known(table: &Table, level: Level) -> bool
     all_among(table, level.keys())
 }
 
-/// Notes each key of a table that is none of its level's.
-fn note_unknown<'a>(table: &'a Table, level: Level, place: Place, notes: &mut Notes<'a>)
-    ensures { AreNoted notes.new.keys.items }
-{
+/// The first key of a table that is none of its level's; each is noted.
+fn first_unknown<'a>(
+    table: &'a Table,
+    level: Level,
+    place: Place,
+    notes: &mut Notes<'a>,
+) -> KeyNote<'a> {
+    let mut first: Option<KeyNote<'a>> = None;
     for name in table.keys() {
         if !is_among(level.keys(), name.as_str()) {
-            notes.key(place, name.as_str(), KeyFault::Unknown(level));
+            let note = notes.key(place, name.as_str(), KeyFault::Unknown(level));
+            first = first.or(Some(note));
         }
     }
-    // For the proof, which doesn't follow the names: there was one.
-    if notes.keys.is_empty() {
-        notes.key(place, "", KeyFault::Unknown(level));
-    }
+    first.unwrap_or(KeyNote::default())
 }
 
 /// Whether a table has its level's keys and no others.
@@ -70,16 +73,14 @@ pub fn has_only<'a>(
     level: Level,
     place: Place,
     notes: &mut Notes<'a>,
-) -> Result<(), BenchFault>
+) -> Result<(), Refusal<'a>>
     ensures value { GivesOrKey (λ _. table_view table.now) result
-        (known_to level (table_view table.now)) notes.new.keys.items }
-    ensures kept { AreNoted notes.old.keys.items → AreNoted notes.new.keys.items }
+        (known_to level (table_view table.now)) }
 {
     if is_known(table, level) {
         return Ok(());
     }
-    note_unknown(table, level, place, notes);
-    Err(BenchFault::Key)
+    Err(Refusal::Key(first_unknown(table, level, place, notes)))
 }
 
 /// The table that a value at a place is, an item of a key's array.
@@ -88,44 +89,42 @@ pub fn table_at<'a>(
     key: Key,
     place: Place,
     notes: &mut Notes<'a>,
-) -> Result<&'a Table, BenchFault>
-    ensures value { GivesOrKey (λ t. table_view t.now) result (as_table (view value.now))
-        notes.new.keys.items }
-    ensures kept { AreNoted notes.old.keys.items → AreNoted notes.new.keys.items }
+) -> Result<&'a Table, Refusal<'a>>
+    ensures value { GivesOrKey (λ t. table_view t.now) result (as_table (view value.now)) }
 {
     match value.as_table() {
         Some(table) => Ok(table),
-        None => Err(notes.key(place, "", KeyFault::Item(key))),
+        None => Err(Refusal::Key(notes.key(place, "", KeyFault::Item(key)))),
     }
 }
 
 /// The value of the key of this name.
-pub(crate) fn value_at<'a>(table: &'a Table, key: &str) -> Option<&'a Value>
+fn member<'a>(table: &'a Table, key: &str) -> Option<&'a Value>
     ensures { option_map (λ v. view v.now) result ≡ get_member key.now (table_view table.now) }
 {
     table.get(key)
 }
 
-/// The value of a key. Where it is missing and required, that is noted.
-pub fn value_of<'a>(
+/// The value of a key, if it is there.
+pub fn value_of<'a>(table: &'a Table, key: Key) -> Option<&'a Value>
+    ensures { option_map (λ v. view v.now) result ≡ value_of key (table_view table.now) }
+{
+    member(table, key.row().name)
+}
+
+/// The value of a required key.
+pub(crate) fn value_at<'a>(
     table: &'a Table,
     key: Key,
     place: Place,
     notes: &mut Notes<'a>,
-) -> Option<&'a Value>
-    ensures value { option_map (λ v. view v.now) result ≡ value_of key (table_view table.now) }
-    ensures noted { result ≡ None → (row_of key).is_required ≡ true
-        → AreNoted notes.new.keys.items }
-    ensures kept { AreNoted notes.old.keys.items → AreNoted notes.new.keys.items }
+) -> Result<&'a Value, Refusal<'a>>
+    requires { (row_of key).is_required ≡ true }
+    ensures { GivesOrKey (λ v. view v.now) result (value_of key (table_view table.now)) }
 {
-    let row = key.row();
-    match value_at(table, row.name) {
-        Some(value) => Some(value),
-        None if row.is_required => {
-            notes.key(place, "", KeyFault::Missing(key));
-            None
-        }
-        None => None,
+    match value_of(table, key) {
+        Some(value) => Ok(value),
+        None => Err(Refusal::Key(notes.key(place, "", KeyFault::Missing(key)))),
     }
 }
 
@@ -154,15 +153,13 @@ pub fn number_of<'a>(
     key: Key,
     place: Place,
     notes: &mut Notes<'a>,
-) -> Result<u64, BenchFault>
-    ensures value { GivesOrKey (λ n. n) result (number_of key (view value.now))
-        notes.new.keys.items }
+) -> Result<u64, Refusal<'a>>
+    ensures value { GivesOrKey (λ n. n) result (number_of key (view value.now)) }
     ensures range { IfOk result (λ n. (least key ≤ n) × (n ≤ most key)) }
-    ensures kept { AreNoted notes.old.keys.items → AreNoted notes.new.keys.items }
 {
     match number_in(value, key) {
         Some(number) => Ok(number),
-        None => Err(notes.key(place.of_value(key), "", KeyFault::Value(key))),
+        None => Err(Refusal::Key(notes.key(place.of_value(key), "", KeyFault::Value(key)))),
     }
 }
 
@@ -172,17 +169,14 @@ pub fn number_at<'a>(
     key: Key,
     place: Place,
     notes: &mut Notes<'a>,
-) -> Result<u64, BenchFault>
+) -> Result<u64, Refusal<'a>>
     requires { (row_of key).is_required ≡ true }
     ensures value { GivesOrKey (λ n. n) result
-        (read_at (number_of key) key (table_view table.now)) notes.new.keys.items }
+        (read_at (number_of key) key (table_view table.now)) }
     ensures range { IfOk result (λ n. (least key ≤ n) × (n ≤ most key)) }
-    ensures kept { AreNoted notes.old.keys.items → AreNoted notes.new.keys.items }
 {
-    match value_of(table, key, place, notes) {
-        Some(value) => number_of(value, key, place, notes),
-        None => Err(BenchFault::Key),
-    }
+    let value = value_at(table, key, place, notes)?;
+    number_of(value, key, place, notes)
 }
 
 /// The integer of a key of the bench, or `missing` where the key is missing.
@@ -191,16 +185,14 @@ pub fn number_or<'a>(
     key: Key,
     missing: u64,
     notes: &mut Notes<'a>,
-) -> Result<u64, BenchFault>
+) -> Result<u64, Refusal<'a>>
     requires low { least key ≤ missing }
     requires high { missing ≤ most key }
     ensures value { GivesOrKey (λ n. n) result
-        (read_or missing (number_of key) (value_of key (table_view table.now)))
-        notes.new.keys.items }
+        (read_or missing (number_of key) (value_of key (table_view table.now))) }
     ensures range { IfOk result (λ n. (least key ≤ n) × (n ≤ most key)) }
-    ensures kept { AreNoted notes.old.keys.items → AreNoted notes.new.keys.items }
 {
-    match value_of(table, key, Place::Whole, notes) {
+    match value_of(table, key) {
         Some(value) => number_of(value, key, Place::Whole, notes),
         None => Ok(missing),
     }
@@ -213,16 +205,15 @@ pub fn text_of<'a>(
     place: Place,
     fault: KeyFault,
     notes: &mut Notes<'a>,
-) -> Result<&'a str, BenchFault>
-    ensures value { GivesOrKey (λ s. s.now) result (as_str (view value.now)) notes.new.keys.items }
-    ensures kept { AreNoted notes.old.keys.items → AreNoted notes.new.keys.items }
+) -> Result<&'a str, Refusal<'a>>
+    ensures value { GivesOrKey (λ s. s.now) result (as_str (view value.now)) }
 {
     match value.as_str() {
         Some(text) => {
             notes.look_at(place, text, key);
             Ok(text)
         }
-        None => Err(notes.key(place, "", fault)),
+        None => Err(Refusal::Key(notes.key(place, "", fault))),
     }
 }
 
@@ -232,14 +223,12 @@ pub fn optional_number<'a>(
     key: Key,
     place: Place,
     notes: &mut Notes<'a>,
-) -> Result<Option<u64>, BenchFault>
+) -> Result<Option<u64>, Refusal<'a>>
     ensures value { GivesOrKey (λ o. o) result
-        (read_or None (given (number_of key)) (value_of key (table_view table.now)))
-        notes.new.keys.items }
+        (read_or None (given (number_of key)) (value_of key (table_view table.now))) }
     ensures range { IfOk result (λ o. IfSome o (λ n. (least key ≤ n) × (n ≤ most key))) }
-    ensures kept { AreNoted notes.old.keys.items → AreNoted notes.new.keys.items }
 {
-    match value_of(table, key, place, notes) {
+    match value_of(table, key) {
         None => Ok(None),
         Some(value) => match number_of(value, key, place, notes) {
             Ok(number) => Ok(Some(number)),
@@ -254,16 +243,12 @@ pub fn text_at<'a>(
     key: Key,
     place: Place,
     notes: &mut Notes<'a>,
-) -> Result<&'a str, BenchFault>
+) -> Result<&'a str, Refusal<'a>>
     requires { (row_of key).is_required ≡ true }
-    ensures value { GivesOrKey (λ s. s.now) result (read_at as_str key (table_view table.now))
-        notes.new.keys.items }
-    ensures kept { AreNoted notes.old.keys.items → AreNoted notes.new.keys.items }
+    ensures value { GivesOrKey (λ s. s.now) result (read_at as_str key (table_view table.now)) }
 {
-    match value_of(table, key, place, notes) {
-        Some(value) => text_of(value, key, place.of_value(key), KeyFault::Value(key), notes),
-        None => Err(BenchFault::Key),
-    }
+    let value = value_at(table, key, place, notes)?;
+    text_of(value, key, place.of_value(key), KeyFault::Value(key), notes)
 }
 
 /// The text of a key, if it is there.
@@ -272,12 +257,11 @@ pub fn optional_text<'a>(
     key: Key,
     place: Place,
     notes: &mut Notes<'a>,
-) -> Result<Option<&'a str>, BenchFault>
+) -> Result<Option<&'a str>, Refusal<'a>>
     ensures value { GivesOrKey (λ o. option_map (λ s. s.now) o) result
-        (read_or None (given as_str) (value_of key (table_view table.now))) notes.new.keys.items }
-    ensures kept { AreNoted notes.old.keys.items → AreNoted notes.new.keys.items }
+        (read_or None (given as_str) (value_of key (table_view table.now))) }
 {
-    match value_of(table, key, place, notes) {
+    match value_of(table, key) {
         None => Ok(None),
         Some(value) => {
             match text_of(value, key, place.of_value(key), KeyFault::Value(key), notes) {
@@ -300,9 +284,8 @@ pub trait FromData<'a>: Sized + Drop {
         key: Key,
         place: Place,
         notes: &mut Notes<'a>,
-    ) -> Result<Self, BenchFault>
-        ensures value { GivesOrKey (λ x. x) result (reads (view value.now)) notes.new.keys.items }
-        ensures kept { AreNoted notes.old.keys.items → AreNoted notes.new.keys.items };
+    ) -> Result<Self, Refusal<'a>>
+        ensures value { GivesOrKey (λ x. x) result (reads (view value.now)) };
 }
 
 impl<'a> FromData<'a> for Text<'a> {
@@ -314,7 +297,7 @@ impl<'a> FromData<'a> for Text<'a> {
         key: Key,
         place: Place,
         notes: &mut Notes<'a>,
-    ) -> Result<Text<'a>, BenchFault> {
+    ) -> Result<Text<'a>, Refusal<'a>> {
         match text_of(value, key, place, KeyFault::Item(key), notes) {
             Ok(text) => Ok(Text::new(text)),
             Err(fault) => Err(fault),
@@ -330,11 +313,9 @@ fn note_item<'a, T: FromData<'a>>(
     place: Place,
     is_wanted: bool,
     notes: &mut Notes<'a>,
-)
-    ensures { AreNoted notes.old.keys.items → AreNoted notes.new.keys.items }
-{
+) {
     if is_wanted {
-        let _item: Result<T, BenchFault> = T::from_value(alloc, value, key, place, notes);
+        let _item: Result<T, Refusal<'a>> = T::from_value(alloc, value, key, place, notes);
     }
 }
 
@@ -347,9 +328,7 @@ fn note_others<'a, T: FromData<'a>>(
     key: Key,
     place: Place,
     notes: &mut Notes<'a>,
-)
-    ensures { AreNoted notes.old.keys.items → AreNoted notes.new.keys.items }
-{
+) {
     for (k, value) in values.iter().enumerate() {
         let place = place.of_item(k as u64 + 1);
         note_item::<T>(alloc, value, key, place, first < k, notes);
@@ -362,10 +341,8 @@ fn items_in_order<'a, T: FromData<'a>>(
     key: Key,
     place: Place,
     notes: &mut Notes<'a>,
-) -> Result<Vec<T>, BenchFault>
-    ensures value { GivesOrKey (λ v. v.items) result (each T.reads (items_view values.now))
-        notes.new.keys.items }
-    ensures kept { AreNoted notes.old.keys.items → AreNoted notes.new.keys.items }
+) -> Result<Vec<T>, Refusal<'a>>
+    ensures value { GivesOrKey (λ v. v.items) result (each T.reads (items_view values.now)) }
 {
     let mut items = Vec::new(alloc);
     for (k, value) in values.iter().enumerate() {
@@ -387,20 +364,18 @@ pub fn items_of<'a, T: FromData<'a>>(
     key: Key,
     place: Place,
     notes: &mut Notes<'a>,
-) -> Result<Vec<T>, BenchFault>
-    ensures value { GivesOrKey (λ v. v.items) result (items_of T.reads key (view value.now))
-        notes.new.keys.items }
+) -> Result<Vec<T>, Refusal<'a>>
+    ensures value { GivesOrKey (λ v. v.items) result (items_of T.reads key (view value.now)) }
     ensures few { IfOk result (λ v. IsBetween (least key) (most key) (length v.items)) }
-    ensures kept { AreNoted notes.old.keys.items → AreNoted notes.new.keys.items }
 {
     let (low, high) = key.bounds();
     match value.as_array() {
-        None => Err(notes.key(place, "", KeyFault::Value(key))),
+        None => Err(Refusal::Key(notes.key(place, "", KeyFault::Value(key)))),
         Some(values) => {
             let items: Vec<T> = items_in_order(alloc, values.as_slice(), key, place, notes)?;
             let count = items.len() as u64;
             if count < low || high < count {
-                return Err(notes.key(place, "", KeyFault::Value(key)));
+                return Err(Refusal::Key(notes.key(place, "", KeyFault::Value(key))));
             }
             Ok(items)
         }
@@ -413,24 +388,22 @@ pub fn items_or_none<'a, T: FromData<'a>>(
     table: &'a Table,
     key: Key,
     notes: &mut Notes<'a>,
-) -> Result<Vec<T>, BenchFault>
+) -> Result<Vec<T>, Refusal<'a>>
     requires { least key ≡ 0 }
     ensures value { GivesOrKey (λ v. v.items) result
-        (read_or [] (items_of T.reads key) (value_of key (table_view table.now)))
-        notes.new.keys.items }
+        (read_or [] (items_of T.reads key) (value_of key (table_view table.now))) }
     ensures few { IfOk result (λ v. IsBetween (least key) (most key) (length v.items)) }
-    ensures kept { AreNoted notes.old.keys.items → AreNoted notes.new.keys.items }
 {
-    match value_of(table, key, Place::Whole, notes) {
+    match value_of(table, key) {
         None => Ok(Vec::new(alloc)),
         Some(value) => items_of(alloc, value, key, Place::Value(key), notes),
     }
 }
 
 /// This text alone.
-pub(crate) fn one_text<'a>(alloc: Global, text: &'a str) -> Result<Vec<Text<'a>>, BenchFault>
+pub(crate) fn one_text<'a>(alloc: Global, text: &'a str) -> Result<Vec<Text<'a>>, Refusal<'a>>
     ensures alone { IfOk result (λ v. v.items ≡ text.now ∷ []) }
-    ensures refused { IfErr result (λ fault. fault ≡ BenchFault.NoMemory) }
+    ensures refused { IfErr result (λ r. r ≡ refusal.NoMemory) }
 {
     let mut alone = Vec::new(alloc);
     alone.push(Text::new(text))?;
@@ -444,13 +417,11 @@ pub fn some_texts<'a>(
     key: Key,
     place: Place,
     notes: &mut Notes<'a>,
-) -> Result<Vec<Text<'a>>, BenchFault>
+) -> Result<Vec<Text<'a>>, Refusal<'a>>
     requires low { least key ≤ 1 }
     requires high { 1 ≤ most key }
-    ensures value { GivesOrKey (λ v. v.items) result (some_texts key (view value.now))
-        notes.new.keys.items }
+    ensures value { GivesOrKey (λ v. v.items) result (some_texts key (view value.now)) }
     ensures few { IfOk result (λ v. IsBetween (least key) (most key) (length v.items)) }
-    ensures kept { AreNoted notes.old.keys.items → AreNoted notes.new.keys.items }
 {
     match value.as_str() {
         Some(text) => {
@@ -468,17 +439,14 @@ pub fn some_texts_at<'a>(
     key: Key,
     place: Place,
     notes: &mut Notes<'a>,
-) -> Result<Vec<Text<'a>>, BenchFault>
+) -> Result<Vec<Text<'a>>, Refusal<'a>>
     requires required { (row_of key).is_required ≡ true }
     requires low { least key ≤ 1 }
     requires high { 1 ≤ most key }
     ensures value { GivesOrKey (λ v. v.items) result
-        (read_at (some_texts key) key (table_view table.now)) notes.new.keys.items }
+        (read_at (some_texts key) key (table_view table.now)) }
     ensures few { IfOk result (λ v. IsBetween (least key) (most key) (length v.items)) }
-    ensures kept { AreNoted notes.old.keys.items → AreNoted notes.new.keys.items }
 {
-    match value_of(table, key, place, notes) {
-        None => Err(BenchFault::Key),
-        Some(value) => some_texts(alloc, value, key, place.of_value(key), notes),
-    }
+    let value = value_at(table, key, place, notes)?;
+    some_texts(alloc, value, key, place.of_value(key), notes)
 }

@@ -1,8 +1,7 @@
 //! Where rows and entries make no plan.
-use crate::fault::BenchFault;
 use crate::key::Key;
 use crate::place::Place;
-use agc_plan::{Actions, PhaseEntry, Task};
+use agc_plan::{Actions, PhaseEntry, PlanFault, Task};
 use std::alloc::{AllocError, Global};
 
 /// The first table that has in common with an earlier one what two of them may not: two numbers,
@@ -32,19 +31,19 @@ fn place_of(key: Key, tables: &mut Vec<(u16, u16, u64)>) -> Result<Place, AllocE
 /// The place for which rows and entries are refused.
 pub(crate) fn refused_at(
     alloc: Global,
-    fault: BenchFault,
+    fault: PlanFault,
     rows: &[(Task, Actions)],
     entries: &[PhaseEntry],
 ) -> Result<Place, AllocError> {
     let mut tables: Vec<(u16, u16, u64)> = Vec::new(alloc);
     match fault {
-        BenchFault::TaskTwice => {
+        PlanFault::TaskTwice => {
             for (k, row) in rows.iter().enumerate() {
                 tables.push((row.0.at.get(), row.0.bank.bits(), k as u64 + 1))?;
             }
             place_of(Key::Tasks, &mut tables)
         }
-        BenchFault::PhaseTwice => {
+        PlanFault::PhaseTwice => {
             for (k, entry) in entries.iter().enumerate() {
                 let group = u16::from(entry.group().get());
                 let phase = u16::from(entry.phase().get());

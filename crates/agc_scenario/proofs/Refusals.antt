@@ -14,6 +14,7 @@ use Rattle.agc_document.specs.Benches.{Benched, bench_texts}
 use Rattle.agc_document.specs.Benches.{IsInRange as IsInRangeBench}
 use Rattle.agc_document.specs.Faults as bench
 use Rattle.agc_scenario.specs.Texts.{ScenarioTexts, TimingTexts}
+use Rattle.agc_scenario.specs.Keys.{scenario_in}
 use Rattle.agc_scenario.specs.Scenarios.{Scenarioed, Timed, IsInRange, IsScenario, IsTimed, can_be_shown, scenario_texts, timing_texts}
 use Rattle.agc_scenario.specs.Faults.{HasTexts, RefusesTexts, RefusesScenario}
 use Rattle.agc_findings.specs.Findings.{Found, AreFindings}
@@ -47,6 +48,16 @@ refused_bench texts t Line rows entries timed is h = λ s r e. h s.bench r.bench
 refused_bench texts t TaskTwice rows entries timed is h = spells texts t TaskTwice rows entries timed is h
 refused_bench texts t PhaseTwice rows entries timed is h = spells texts t PhaseTwice rows entries timed is h
 refused_bench texts t TooManyAreas rows entries timed is h = spells texts t TooManyAreas rows entries timed is h
+
+-- a document whose texts spell no scenario
+pub refused_texts : (ms : Members) (texts : ScenarioTexts) (fault : BenchFault) → scenario_in ms ≡ Some texts → RefusesTexts texts fault → RefusesScenario (Some ms) fault
+refused_texts ms texts NoMemory t h = tt
+refused_texts ms texts NotToml t h = absurd h
+refused_texts ms texts Key t h = absurd h
+refused_texts ms texts Line t h = (texts, (ms, refl, t), h)
+refused_texts ms texts TaskTwice t h = (texts, (ms, refl, t), h)
+refused_texts ms texts PhaseTwice t h = (texts, (ms, refl, t), h)
+refused_texts ms texts TooManyAreas t h = (texts, (ms, refl, t), h)
 
 pub no_document : (text : List ℕ) (fs : List Found) → parse_document text ≡ None → AreFindings text refusal.NotToml fs → ChecksAsScenario text None fs
 no_document text fs is h = (refusal.NotToml, is, h)

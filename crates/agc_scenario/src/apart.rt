@@ -1,13 +1,12 @@
 //! Rows of stolen time that overlap, and jobs of one address.
-ghost use Rattle.std.specs.Prelude.{◌≡◌, map, not, false};
+ghost use Rattle.std.specs.Prelude.{◌≡◌, map, not, true, false, IfSome, IfNone};
 ghost use Rattle.std.specs.List.{list_all};
-ghost use Rattle.agc_document.specs.Gives.{AreNoted};
 ghost use Rattle.agc_document.specs.Keys.{is_among};
 ghost use Rattle.agc_scenario.specs.Keys.{overlap, are_apart, are_distinct};
 
 use crate::texts::JobTexts;
 use agc_clock::Stolen;
-use agc_document::{Key, KeyFault, Notes, Place, ScenarioKey};
+use agc_document::{Key, KeyFault, KeyNote, Notes, Place, ScenarioKey};
 
 /// Whether two rows of stolen time hold at some time both.
 fn overlap(a: Stolen, b: Stolen) -> bool
@@ -23,43 +22,37 @@ fn overlaps_none(row: Stolen, others: &[Stolen]) -> bool
     others.iter().all(|other| !overlap(row, *other))
 }
 
-/// Whether no two of these rows of stolen time overlap, of which the first has this number. Else
-/// that is noted.
-pub(crate) fn are_apart<'a>(rows: &[Stolen], number: u64, notes: &mut Notes<'a>) -> bool
-    ensures value { result ≡ are_apart rows.now }
-    ensures noted { result ≡ false → AreNoted notes.new.keys.items }
-    ensures kept { AreNoted notes.old.keys.items → AreNoted notes.new.keys.items }
+/// What is wrong with the first row of stolen time that an earlier one overlaps, of rows of which
+/// the first has this number. None where all are apart.
+pub(crate) fn overlapping<'a>(
+    rows: &[Stolen],
+    number: u64,
+    notes: &mut Notes<'a>,
+) -> Option<KeyNote<'a>>
+    ensures apart { IfNone result (are_apart rows.now ≡ true) }
+    ensures refused { IfSome result (λ _. are_apart rows.now ≡ false) }
 {
     match rows {
-        [] => true,
+        [] => None,
         [row, others @ ..] => {
             if overlaps_none(*row, others) {
-                are_apart(others, number.saturating_add(1), notes)
+                overlapping(others, number.saturating_add(1), notes)
             } else {
                 let later = others
                     .iter()
                     .take_while(|other| !overlap(*row, **other))
                     .count();
-                note_later(number, later, ScenarioKey::Steal, KeyFault::Overlap, notes);
-                false
+                let place = later_place(ScenarioKey::Steal, number, later);
+                Some(notes.key(place, "", KeyFault::Overlap))
             }
         }
     }
 }
 
-/// Notes what is wrong with a table of a key's array, so many and one behind the one of this
-/// number.
-fn note_later<'a>(
-    number: u64,
-    later: usize,
-    key: ScenarioKey,
-    fault: KeyFault,
-    notes: &mut Notes<'a>,
-)
-    ensures { AreNoted notes.new.keys.items }
-{
+/// The place of a table of a key's array, so many and one behind the one of this number.
+fn later_place(key: ScenarioKey, number: u64, later: usize) -> Place {
     let number = number.saturating_add(later as u64).saturating_add(1);
-    notes.key(Place::Table(Key::Of(key), number), "", fault);
+    Place::Table(Key::Of(key), number)
 }
 
 /// Whether one of these jobs has this address.
@@ -72,22 +65,25 @@ fn is_listed(jobs: &[JobTexts<'_>], at: &str) -> bool
     }
 }
 
-/// Whether no two of these jobs have one address, of which the first has this number. Else that is
-/// noted.
-pub(crate) fn are_distinct<'a>(jobs: &[JobTexts<'a>], number: u64, notes: &mut Notes<'a>) -> bool
-    ensures value { result ≡ are_distinct (map (λ j. j.at) jobs.now) }
-    ensures noted { result ≡ false → AreNoted notes.new.keys.items }
-    ensures kept { AreNoted notes.old.keys.items → AreNoted notes.new.keys.items }
+/// What is wrong with a job whose address is that of an earlier one, of jobs of which the first has
+/// this number. None where all have different addresses.
+pub(crate) fn listed_twice<'a>(
+    jobs: &[JobTexts<'a>],
+    number: u64,
+    notes: &mut Notes<'a>,
+) -> Option<KeyNote<'a>>
+    ensures distinct { IfNone result (are_distinct (map (λ j. j.at) jobs.now) ≡ true) }
+    ensures refused { IfSome result (λ _. are_distinct (map (λ j. j.at) jobs.now) ≡ false) }
 {
     match jobs {
-        [] => true,
+        [] => None,
         [job, others @ ..] => {
             if is_listed(others, job.at) {
                 let later = others.iter().take_while(|other| other.at != job.at).count();
-                note_later(number, later, ScenarioKey::Jobs, KeyFault::JobTwice, notes);
-                false
+                let place = later_place(ScenarioKey::Jobs, number, later);
+                Some(notes.key(place, "", KeyFault::JobTwice))
             } else {
-                are_distinct(others, number.saturating_add(1), notes)
+                listed_twice(others, number.saturating_add(1), notes)
             }
         }
     }

@@ -29,8 +29,8 @@ fn checked_table(alloc: Global, text: &str, table: &Table) -> Result<CheckedScen
             scenario: Some(scenario),
             findings: Vec::new(alloc),
         }),
-        Err(fault) => {
-            let findings = found_in(alloc, text, &notes, fault)?;
+        Err(refusal) => {
+            let findings = found_in(alloc, text, &notes, refusal)?;
             Ok(CheckedScenario {
                 scenario: None,
                 findings,

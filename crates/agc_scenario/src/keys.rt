@@ -2,7 +2,7 @@
 ghost use Rattle.std.specs.Prelude.{◌≡◌, ◌≤◌, [], map, Some, None, IfOk, IfSome};
 ghost use Rattle.std.specs.Option.{option_map};
 ghost use Rattle.toml.specs.View.{view, table_view};
-ghost use Rattle.agc_document.specs.Gives.{AreNoted, GivesOrKey};
+ghost use Rattle.agc_document.specs.Gives.{GivesOrKey};
 ghost use Rattle.agc_document.specs.Keys.{least, most, read_or, value_of};
 ghost use Rattle.agc_document.specs.declared.key.Key.TheVariants as key_of;
 ghost use Rattle.agc_document.specs.declared.key.ScenarioKey.TheVariants as of_scenario;
@@ -11,14 +11,14 @@ ghost use Rattle.agc_scenario.specs.Keys.{named_row, named_entry, stolen_row, jo
 ghost use Rattle.agc_scenario.specs.Keys.{always, ample_settings_in, if_apart, timing_in};
 ghost use Rattle.agc_scenario.specs.Keys.{named_in, texts_with, scenario_in};
 
-use crate::apart::{are_apart, are_distinct};
+use crate::apart::{listed_twice, overlapping};
 use crate::texts::{
     EventTexts, JobTexts, NameText, NamedEntry, NamedRow, NamedTexts, ScenarioTexts, StolenRow,
     TimingTexts,
 };
 use agc_clock::Stolen;
 use agc_document::{
-    BenchFault, EntryTexts, FromData, Key, KeyFault, Level, Lists, Notes, Place, RowTexts,
+    EntryTexts, FromData, Key, KeyFault, Level, Lists, Notes, Place, Refusal, RowTexts,
     ScenarioKey, Settings, Text, Texts, entry_in, has_only, items_of, items_or_none, number_at,
     number_of, number_or, optional_number, optional_text, row_in, settings_in, some_texts_at,
     table_at, text_at, value_of,
@@ -31,10 +31,8 @@ fn name_in<'a>(
     table: &'a Table,
     place: Place,
     notes: &mut Notes<'a>,
-) -> Result<NameText<'a>, BenchFault>
-    ensures value { GivesOrKey (λ n. n) result (name_in (table_view table.now))
-        notes.new.keys.items }
-    ensures kept { AreNoted notes.old.keys.items → AreNoted notes.new.keys.items }
+) -> Result<NameText<'a>, Refusal<'a>>
+    ensures value { GivesOrKey (λ n. n) result (name_in (table_view table.now)) }
 {
     match optional_text(table, Key::Of(ScenarioKey::Name), place, notes) {
         Ok(text) => Ok(NameText { text }),
@@ -52,7 +50,7 @@ impl<'a> FromData<'a> for NamedRow<'a> {
         key: Key,
         place: Place,
         notes: &mut Notes<'a>,
-    ) -> Result<NamedRow<'a>, BenchFault> {
+    ) -> Result<NamedRow<'a>, Refusal<'a>> {
         let table = table_at(value, key, place, notes)?;
         let place = place.of_table();
         let known = has_only(table, Level::NamedTask, place, notes);
@@ -75,7 +73,7 @@ impl<'a> FromData<'a> for NamedEntry<'a> {
         key: Key,
         place: Place,
         notes: &mut Notes<'a>,
-    ) -> Result<NamedEntry<'a>, BenchFault> {
+    ) -> Result<NamedEntry<'a>, Refusal<'a>> {
         let table = table_at(value, key, place, notes)?;
         let place = place.of_table();
         let known = has_only(table, Level::NamedPhase, place, notes);
@@ -89,14 +87,13 @@ impl<'a> FromData<'a> for NamedEntry<'a> {
 }
 
 /// The row of stolen time, if it ends after it begins.
-fn forward<'a>(row: Stolen, place: Place, notes: &mut Notes<'a>) -> Result<StolenRow, BenchFault>
-    ensures value { GivesOrKey (λ r. r) result (forward row) notes.new.keys.items }
-    ensures kept { AreNoted notes.old.keys.items → AreNoted notes.new.keys.items }
+fn forward<'a>(row: Stolen, place: Place, notes: &mut Notes<'a>) -> Result<StolenRow, Refusal<'a>>
+    ensures value { GivesOrKey (λ r. r) result (forward row) }
 {
     if row.from < row.to {
         Ok(StolenRow { row })
     } else {
-        Err(notes.key(place, "", KeyFault::Backward))
+        Err(Refusal::Key(notes.key(place, "", KeyFault::Backward)))
     }
 }
 
@@ -110,7 +107,7 @@ impl<'a> FromData<'a> for StolenRow {
         key: Key,
         place: Place,
         notes: &mut Notes<'a>,
-    ) -> Result<StolenRow, BenchFault> {
+    ) -> Result<StolenRow, Refusal<'a>> {
         let table = table_at(value, key, place, notes)?;
         let place = place.of_table();
         let known = has_only(table, Level::Steal, place, notes);
@@ -151,7 +148,7 @@ impl<'a> FromData<'a> for JobTexts<'a> {
         key: Key,
         place: Place,
         notes: &mut Notes<'a>,
-    ) -> Result<JobTexts<'a>, BenchFault> {
+    ) -> Result<JobTexts<'a>, Refusal<'a>> {
         let table = table_at(value, key, place, notes)?;
         let place = place.of_table();
         let known = has_only(table, Level::Job, place, notes);
@@ -189,12 +186,10 @@ fn number_if<'a>(
     key: ScenarioKey,
     place: Place,
     notes: &mut Notes<'a>,
-) -> Result<Option<u32>, BenchFault>
+) -> Result<Option<u32>, Refusal<'a>>
     requires { most (key_of.Of key) ≤ 360000 }
-    ensures value { GivesOrKey (λ o. o) result (number_if (key_of.Of key) (table_view table.now))
-        notes.new.keys.items }
+    ensures value { GivesOrKey (λ o. o) result (number_if (key_of.Of key) (table_view table.now)) }
     ensures range { IfOk result (λ o. IfSome o (λ n. least (key_of.Of key) ≤ n)) }
-    ensures kept { AreNoted notes.old.keys.items → AreNoted notes.new.keys.items }
 {
     match optional_number(table, Key::Of(key), place, notes) {
         Ok(number) => Ok(small(number)),
@@ -212,7 +207,7 @@ impl<'a> FromData<'a> for EventTexts<'a> {
         key: Key,
         place: Place,
         notes: &mut Notes<'a>,
-    ) -> Result<EventTexts<'a>, BenchFault> {
+    ) -> Result<EventTexts<'a>, Refusal<'a>> {
         let table = table_at(value, key, place, notes)?;
         let place = place.of_table();
         let known = has_only(table, Level::Event, place, notes);
@@ -266,10 +261,8 @@ fn stolen_rows<'a>(
     alloc: Global,
     value: &'a Value,
     notes: &mut Notes<'a>,
-) -> Result<Vec<Stolen>, BenchFault>
-    ensures value { GivesOrKey (λ v. v.items) result (stolen_rows (view value.now))
-        notes.new.keys.items }
-    ensures kept { AreNoted notes.old.keys.items → AreNoted notes.new.keys.items }
+) -> Result<Vec<Stolen>, Refusal<'a>>
+    ensures value { GivesOrKey (λ v. v.items) result (stolen_rows (view value.now)) }
 {
     let key = Key::Of(ScenarioKey::Steal);
     match value.as_integer() {
@@ -291,13 +284,11 @@ fn stolen_in<'a>(
     alloc: Global,
     table: &'a Table,
     notes: &mut Notes<'a>,
-) -> Result<Vec<Stolen>, BenchFault>
+) -> Result<Vec<Stolen>, Refusal<'a>>
     ensures value { GivesOrKey (λ v. v.items) result
-        (read_or [] stolen_rows (value_of (key_of.Of of_scenario.Steal) (table_view table.now)))
-        notes.new.keys.items }
-    ensures kept { AreNoted notes.old.keys.items → AreNoted notes.new.keys.items }
+        (read_or [] stolen_rows (value_of (key_of.Of of_scenario.Steal) (table_view table.now))) }
 {
-    match value_of(table, Key::Of(ScenarioKey::Steal), Place::Whole, notes) {
+    match value_of(table, Key::Of(ScenarioKey::Steal)) {
         None => Ok(Vec::new(alloc)),
         Some(value) => stolen_rows(alloc, value, notes),
     }
@@ -307,16 +298,14 @@ fn stolen_in<'a>(
 fn if_apart<'a>(
     texts: TimingTexts<'a>,
     notes: &mut Notes<'a>,
-) -> Result<TimingTexts<'a>, BenchFault>
-    ensures value { GivesOrKey (λ t. t) result (if_apart texts.entry) notes.new.keys.items }
-    ensures kept { AreNoted notes.old.keys.items → AreNoted notes.new.keys.items }
+) -> Result<TimingTexts<'a>, Refusal<'a>>
+    ensures value { GivesOrKey (λ t. t) result (if_apart texts.entry) }
 {
-    let apart = are_apart(texts.stolen.as_slice(), 1, notes);
-    let distinct = are_distinct(texts.jobs.as_slice(), 1, notes);
-    if apart && distinct {
-        Ok(texts)
-    } else {
-        Err(BenchFault::Key)
+    let overlapping = overlapping(texts.stolen.as_slice(), 1, notes);
+    let listed_twice = listed_twice(texts.jobs.as_slice(), 1, notes);
+    match (overlapping, listed_twice) {
+        (None, None) => Ok(texts),
+        (Some(note), _) | (_, Some(note)) => Err(Refusal::Key(note)),
     }
 }
 
@@ -326,10 +315,8 @@ fn timing_in<'a>(
     alloc: Global,
     table: &'a Table,
     notes: &mut Notes<'a>,
-) -> Result<TimingTexts<'a>, BenchFault>
-    ensures value { GivesOrKey (λ t. t) result (timing_in (table_view table.now))
-        notes.new.keys.items }
-    ensures kept { AreNoted notes.old.keys.items → AreNoted notes.new.keys.items }
+) -> Result<TimingTexts<'a>, Refusal<'a>>
+    ensures value { GivesOrKey (λ t. t) result (timing_in (table_view table.now)) }
 {
     let seconds = number_at(table, Key::Of(ScenarioKey::Seconds), Place::Whole, notes);
     let title = optional_text(table, Key::Of(ScenarioKey::Title), Place::Whole, notes);
@@ -359,10 +346,8 @@ fn named_in<'a>(
     alloc: Global,
     table: &'a Table,
     notes: &mut Notes<'a>,
-) -> Result<NamedTexts<'a>, BenchFault>
-    ensures value { GivesOrKey (λ t. t) result (named_in (table_view table.now))
-        notes.new.keys.items }
-    ensures kept { AreNoted notes.old.keys.items → AreNoted notes.new.keys.items }
+) -> Result<NamedTexts<'a>, Refusal<'a>>
+    ensures value { GivesOrKey (λ t. t) result (named_in (table_view table.now)) }
 {
     let rows = items_or_none(alloc, table, Key::Of(ScenarioKey::NamedTasks), notes);
     let entries = items_or_none(alloc, table, Key::Of(ScenarioKey::NamedPhases), notes);
@@ -496,10 +481,8 @@ fn ample_settings_in<'a>(
     alloc: Global,
     table: &'a Table,
     notes: &mut Notes<'a>,
-) -> Result<Settings<'a>, BenchFault>
-    ensures value { GivesOrKey (λ s. s) result (ample_settings_in (table_view table.now))
-        notes.new.keys.items }
-    ensures kept { AreNoted notes.old.keys.items → AreNoted notes.new.keys.items }
+) -> Result<Settings<'a>, Refusal<'a>>
+    ensures value { GivesOrKey (λ s. s) result (ample_settings_in (table_view table.now)) }
 {
     let settings = settings_in(alloc, table, notes)?;
     let limit = number_or(table, Key::Limit, 1_000_000, notes);
@@ -526,9 +509,8 @@ pub(crate) fn scenario_in<'a>(
     alloc: Global,
     table: &'a Table,
     notes: &mut Notes<'a>,
-) -> Result<ScenarioTexts<'a>, BenchFault>
-    ensures { GivesOrKey (λ t. t) result (scenario_in (table_view table.now))
-        notes.new.keys.items }
+) -> Result<ScenarioTexts<'a>, Refusal<'a>>
+    ensures { GivesOrKey (λ t. t) result (scenario_in (table_view table.now)) }
 {
     let known = has_only(table, Level::Scenario, Place::Whole, notes);
     let settings = ample_settings_in(alloc, table, notes);

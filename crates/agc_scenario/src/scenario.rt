@@ -3,7 +3,8 @@ ghost use Rattle.std.specs.Prelude.{◌≡◌, ◌≢◌, true, Some, IfOk, IfEr
 ghost use Rattle.std.specs.List.{list_all};
 ghost use Rattle.toml.specs.Parse.{parse_document};
 ghost use Rattle.toml.specs.View.{table_view};
-ghost use Rattle.agc_document.specs.Gives.{AreNoted, IsNotedFor, RefusedLine};
+ghost use Rattle.agc_document.specs.Faults.{fault_of_refusal};
+ghost use Rattle.agc_document.specs.Gives.{RefusedLine};
 ghost use Rattle.agc_scenario.specs.Keys.{has_seconds};
 ghost use Rattle.agc_scenario.specs.Faults.{HasTexts, RefusesTexts, RefusesScenario};
 ghost use Rattle.agc_scenario.specs.Scenarios.{IsScenario, IsTimed, Timed, can_be_shown};
@@ -14,7 +15,7 @@ use crate::texts::{NameText, TimingTexts};
 use crate::timing::{Name, Timing};
 use crate::values::{all_copied, can_all_be_shown, timing_of};
 use agc_document::{
-    Bench, BenchFault, Form, Key, Notes, Place, ScenarioKey, Texts, bench_from, value_of,
+    Bench, BenchFault, Key, Notes, Refusal, ScenarioKey, Texts, bench_from, value_of,
 };
 use std::alloc::{AllocError, Global};
 use std::marker::Model;
@@ -86,28 +87,28 @@ fn names_of(alloc: Global, names: &[NameText<'_>]) -> Result<Vec<Name>, BenchFau
     Ok(copied)
 }
 
-/// The scenario that numbers and texts spell.
+/// The scenario that numbers and texts spell; each text was looked at when it was read.
 #[tactic(auto, using(crate::proofs::Refusals::refused_bench))]
-fn spelled(
+fn spelled<'a>(
     alloc: Global,
     bench: &Texts<'_>,
     row_names: &[NameText<'_>],
     entry_names: &[NameText<'_>],
     timing: TimingTexts<'_>,
-    notes: &mut Notes<'_>,
-) -> Result<Scenario, BenchFault>
+    notes: &Notes<'a>,
+) -> Result<Scenario, Refusal<'a>>
     ensures found { IfOk result (λ s. IsScenario s × (scenario_texts s ≡ record {
       bench = bench.now;
       row_names = row_names.now;
       entry_names = entry_names.now;
       timing = timing.entry;
     })) }
-    ensures refused { IfErr result (RefusesTexts (record {
+    ensures refused { IfErr result (λ r. RefusesTexts (record {
       bench = bench.now;
       row_names = row_names.now;
       entry_names = entry_names.now;
       timing = timing.entry;
-    })) }
+    }) (fault_of_refusal r)) }
 {
     let row_names = names_of(alloc, row_names);
     let entry_names = names_of(alloc, entry_names);
@@ -121,47 +122,34 @@ fn spelled(
                     entry_names,
                     timing,
                 }),
-                Err(fault) => Err(fault),
+                Err(refusal) => Err(refusal),
             }
         }
-        (Err(fault), _, _) | (_, Err(fault), _) | (_, _, Err(fault)) => Err(fault),
+        (Err(fault), _, _) | (_, Err(fault), _) | (_, _, Err(fault)) => Err(notes.refusal(fault)),
     }
 }
 
-/// The scenario that a document's table is. What is wrong is noted. Source: profile.
+/// The scenario that a document's table is. What is wrong is noted, if that is wanted. Source:
+/// profile.
 ///
 /// # Errors
 ///
 /// As those of [`read_scenario`], of a text that is a document.
+#[tactic(auto, using(crate::proofs::Refusals::refused_texts))]
 pub fn scenario_of<'a>(
     alloc: Global,
     table: &'a Table,
     notes: &mut Notes<'a>,
-) -> Result<Scenario, BenchFault>
+) -> Result<Scenario, Refusal<'a>>
     ensures found { IfOk result (λ s. IsScenario s
         × HasTexts (Some (table_view table.now)) (scenario_texts s)) }
-    ensures refused { IfErr result (RefusesScenario (Some (table_view table.now))) }
-    ensures noted { IfErr result (IsNotedFor notes.new.keys.items notes.new.texts.items) }
+    ensures refused { IfErr result (λ r.
+        RefusesScenario (Some (table_view table.now)) (fault_of_refusal r)) }
 {
     let texts = scenario_in(alloc, table, notes)?;
     let timing = texts.timing;
-    match spelled(
-        alloc,
-        &texts.bench,
-        texts.row_names.as_slice(),
-        texts.entry_names.as_slice(),
-        timing,
-        notes,
-    ) {
-        Ok(scenario) => Ok(scenario),
-        Err(fault) => {
-            // For the proof: each text was looked at when it was read.
-            if notes.texts.is_empty() {
-                notes.text(Place::Whole, "", Form::Name);
-            }
-            Err(fault)
-        }
-    }
+    let (row_names, entry_names) = (texts.row_names.as_slice(), texts.entry_names.as_slice());
+    spelled(alloc, &texts.bench, row_names, entry_names, timing, notes)
 }
 
 /// The scenario that a TOML document is: its values, and for each key that is missing the value
@@ -191,7 +179,7 @@ pub fn read_scenario(alloc: Global, text: &str) -> Result<Scenario, BenchFault>
     let mut notes = Notes::new(false);
     match scenario_of(alloc, &table, &mut notes) {
         Ok(scenario) => Ok(scenario),
-        Err(fault) => Err(fault),
+        Err(refusal) => Err(refusal.fault()),
     }
 }
 
@@ -199,16 +187,7 @@ pub fn read_scenario(alloc: Global, text: &str) -> Result<Scenario, BenchFault>
 fn has_seconds(table: &Table) -> bool
     ensures { result ≡ has_seconds (Some (table_view table.now)) }
 {
-    let mut notes = Notes::new(false);
-    match value_of(
-        table,
-        Key::Of(ScenarioKey::Seconds),
-        Place::Whole,
-        &mut notes,
-    ) {
-        Some(_seconds) => true,
-        None => false,
-    }
+    value_of(table, Key::Of(ScenarioKey::Seconds)).is_some()
 }
 
 /// Whether a text is a document that has the key `seconds`, and so should be a scenario. Source:
