@@ -1,21 +1,19 @@
 //! A bench, or what is wrong with the document that should be one.
 ghost use Rattle.std.specs.Prelude.{◌≡◌, ◌≤◌, [], ◌∷◌, ◌++◌, length, map, Some, IfOk};
 ghost use Rattle.std.specs.List.Sorted.{IsPermutation};
-ghost use Rattle.toml.specs.Parse.{parse_document};
-ghost use Rattle.toml.specs.View.{table_view};
 ghost use Rattle.agc_document.specs.Faults.{bench_fault, fault_of_refusal};
 ghost use Rattle.agc_findings.specs.Findings.{AreFindings, ChecksAs, refusal_of};
 ghost use Rattle.agc_findings.specs.Findings.{alone, say, said, of_key, of_text};
 ghost use Rattle.agc_findings.specs.Findings.{or_alone, say_plan, to_say};
 ghost use Rattle.agc_document.specs.declared.fault.BenchFault.TheVariants as refusal;
 
+use crate::document::{Document, NoDocument};
 use crate::finding::{Finding, key_findings, make_finding, text_findings};
 use crate::locate::places_in;
 use crate::wrong::Wrong;
 use agc_document::{Bench, KeyNote, Notes, Place, Refusal, TextNote, bench_of};
 use agc_plan::PlanFault;
 use std::alloc::{AllocError, Global};
-use toml::Table;
 use toml::de::Error;
 
 /// The bench that a text is, or else what is wrong with it.
@@ -71,12 +69,8 @@ fn is_octal_five(text: &str) -> bool {
             .all(|byte| b'0' <= *byte && *byte < b'8')
 }
 
-/// Why a text is no TOML document. Source: profile.
-///
-/// # Errors
-///
-/// Where there is no memory.
-pub fn found_no_document(
+/// Why a text is no TOML document.
+pub(crate) fn found_no_document(
     alloc: Global,
     text: &str,
     error: &Error,
@@ -204,20 +198,26 @@ pub fn found_in(
     }
 }
 
-/// The bench that the table of a text is, or why it is none.
+/// The bench that a document is, or why it is none: the same that `read_bench` says of it. Nothing
+/// is found in a bench. What is found first has the fault that `read_bench` returns; what is wrong
+/// with keys comes before what is wrong with texts, each in the order of the document, and of
+/// either at most twenty. Source: profile.
+///
+/// # Errors
+///
+/// Where there is no memory.
 #[tactic(auto, using(crate::proofs::Found::checks_refused, crate::proofs::Found::checks_bench))]
-fn checked_table(alloc: Global, text: &str, table: &Table) -> Result<Checked, AllocError>
-    requires { parse_document text.now ≡ Some (table_view table.now) }
-    ensures { IfOk result (λ c. ChecksAs text.now c.bench c.findings.items) }
+pub fn bench_findings(alloc: Global, document: &Document<'_>) -> Result<Checked, AllocError>
+    ensures { IfOk result (λ c. ChecksAs document.now c.bench c.findings.items) }
 {
     let mut notes = Notes::new(true);
-    match bench_of(alloc, table, &mut notes) {
+    match bench_of(alloc, document.table(), &mut notes) {
         Ok(bench) => Ok(Checked {
             bench: Some(bench),
             findings: Vec::new(alloc),
         }),
         Err(refusal) => {
-            let findings = found_in(alloc, text, &notes, refusal)?;
+            let findings = found_in(alloc, document.text(), &notes, refusal)?;
             Ok(Checked {
                 bench: None,
                 findings,
@@ -226,10 +226,8 @@ fn checked_table(alloc: Global, text: &str, table: &Table) -> Result<Checked, Al
     }
 }
 
-/// The bench that a text is, or why it is none: the same that `read_bench` says of it. Nothing is
-/// found in a bench. What is found first has the fault that `read_bench` returns; what is wrong
-/// with keys comes before what is wrong with texts, each in the order of the document, and of
-/// either at most twenty. Source: profile.
+/// The bench that a text is, or why it is none: what is found of the document that it is, or why it
+/// is no document. Source: profile.
 ///
 /// # Errors
 ///
@@ -238,18 +236,12 @@ fn checked_table(alloc: Global, text: &str, table: &Table) -> Result<Checked, Al
 pub fn findings(alloc: Global, text: &str) -> Result<Checked, AllocError>
     ensures { IfOk result (λ c. ChecksAs text.now c.bench c.findings.items) }
 {
-    let table = match toml::table_from_str(alloc, text) {
-        Ok(table) => table,
-        Err(error) => {
-            if error.is_memory() {
-                return Err(AllocError);
-            }
-            let findings = found_no_document(alloc, text, &error)?;
-            return Ok(Checked {
-                bench: None,
-                findings,
-            });
-        }
-    };
-    checked_table(alloc, text, &table)
+    match Document::parse(alloc, text) {
+        Ok(document) => bench_findings(alloc, &document),
+        Err(NoDocument::NoMemory) => Err(AllocError),
+        Err(NoDocument::NotToml(findings)) => Ok(Checked {
+            bench: None,
+            findings,
+        }),
+    }
 }

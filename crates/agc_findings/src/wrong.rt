@@ -1,5 +1,8 @@
 //! Why a document is no bench.
-use agc_document::{Form, KeyFault};
+ghost use Rattle.std.specs.Prelude.{◌≡◌};
+ghost use Rattle.agc_findings.specs.Findings.{refusal_of};
+
+use agc_document::{BenchFault, Form, KeyFault};
 
 /// Why a document is no bench, at one place. Source: profile.
 #[derive(Clone, Copy)]
@@ -20,4 +23,20 @@ pub enum Wrong {
     PhaseTwice,
     /// Each of the six groups has an entry whose job wants a VAC area.
     TooManyAreas,
+}
+
+impl Wrong {
+    /// The fault for which a bench is refused with which this is wrong. Source: profile.
+    pub fn fault(self) -> BenchFault
+        ensures { result ≡ refusal_of self }
+    {
+        match self {
+            Wrong::NotToml | Wrong::NoQuotes | Wrong::NoKeys => BenchFault::NotToml,
+            Wrong::Key(_fault) => BenchFault::Key,
+            Wrong::Text(_form) => BenchFault::Line,
+            Wrong::TaskTwice => BenchFault::TaskTwice,
+            Wrong::PhaseTwice => BenchFault::PhaseTwice,
+            Wrong::TooManyAreas => BenchFault::TooManyAreas,
+        }
+    }
 }

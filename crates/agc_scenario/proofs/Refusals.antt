@@ -1,5 +1,5 @@
--- What comes of a text as a scenario: it is no document, it is refused, or it is one. And why a
--- scenario is refused, from why its bench is.
+-- What comes of a text as a scenario: it is refused, or it is one. And why a scenario is refused,
+-- from why its bench is.
 use Rattle.std.proofs.Common.{◌≡◌, ℕ, List, [], true, Some, None, refl, ap, subst, sym}
 use Rattle.std.specs.List.{list_all}
 use Rattle.std.specs.Option.{option_map}
@@ -58,9 +58,6 @@ refused_texts ms texts Line t h = (texts, (ms, refl, t), h)
 refused_texts ms texts TaskTwice t h = (texts, (ms, refl, t), h)
 refused_texts ms texts PhaseTwice t h = (texts, (ms, refl, t), h)
 refused_texts ms texts TooManyAreas t h = (texts, (ms, refl, t), h)
-
-pub no_document : (text : List ℕ) (fs : List Found) → parse_document text ≡ None → AreFindings text refusal.NotToml fs → ChecksAsScenario text None fs
-no_document text fs is h = (refusal.NotToml, is, h)
 
 pub refused : (text : List ℕ) (ms : Members) (k : BenchFault) (fs : List Found) → parse_document text ≡ Some ms → RefusesScenario (Some ms) k → AreFindings text k fs → ChecksAsScenario text None fs
 refused text ms k fs is why h = (k, subst (λ d. RefusesScenario d k) (sym is) why, h)

@@ -17,7 +17,8 @@ use crate::values::{all_copied, can_all_be_shown, timing_of};
 use agc_document::{
     Bench, BenchFault, Key, Notes, Refusal, ScenarioKey, Texts, bench_from, value_of,
 };
-use std::alloc::{AllocError, Global};
+use agc_findings::Document;
+use std::alloc::Global;
 use std::marker::Model;
 use toml::Table;
 
@@ -183,29 +184,9 @@ pub fn read_scenario(alloc: Global, text: &str) -> Result<Scenario, BenchFault>
     }
 }
 
-/// Whether a document has the key `seconds`.
-fn has_seconds(table: &Table) -> bool
-    ensures { result ≡ has_seconds (Some (table_view table.now)) }
+/// Whether a document has the key `seconds`, and so should be a scenario. Source: profile.
+pub fn is_scenario(document: &Document<'_>) -> bool
+    ensures { result ≡ has_seconds (parse_document document.now) }
 {
-    value_of(table, Key::Of(ScenarioKey::Seconds)).is_some()
-}
-
-/// Whether a text is a document that has the key `seconds`, and so should be a scenario. Source:
-/// profile.
-///
-/// # Errors
-///
-/// Where there is no memory.
-pub fn is_scenario(alloc: Global, text: &str) -> Result<bool, AllocError>
-    ensures { IfOk result (λ b. b ≡ has_seconds (parse_document text.now)) }
-{
-    match toml::table_from_str(alloc, text) {
-        Ok(table) => Ok(has_seconds(&table)),
-        Err(error) => {
-            if error.is_memory() {
-                return Err(AllocError);
-            }
-            Ok(false)
-        }
-    }
+    value_of(document.table(), Key::Of(ScenarioKey::Seconds)).is_some()
 }

@@ -6,7 +6,7 @@ use agc_check::{
 };
 use agc_clock::{Then, Timetables};
 use agc_document::{Bench, Key, Place, ScenarioKey};
-use agc_findings::{findings, line_at, places_in};
+use agc_findings::{Document, NoDocument, bench_findings, line_at, places_in};
 use agc_plan::{Action, Actions, Address, JobStart, PhaseEntry, Request, Task, action_request};
 use agc_program::Fault;
 use agc_scenario::{CheckedScenario, Scenario, TimedJob, is_scenario, scenario_findings};
@@ -258,9 +258,9 @@ fn report_on(
 }
 
 /// Whether a document is a scenario, and the report on it.
-fn scenario_told(alloc: Global, text: &str) -> Result<(bool, String), AllocError> {
-    match scenario_findings(alloc, text) {
-        Ok(checked) => report_on(alloc, text, &checked),
+fn scenario_told(alloc: Global, document: &Document<'_>) -> Result<(bool, String), AllocError> {
+    match scenario_findings(alloc, document) {
+        Ok(checked) => report_on(alloc, document.text(), &checked),
         Err(error) => Err(error),
     }
 }
@@ -275,20 +275,29 @@ fn told_of_bench(alloc: Global, text: &str, bench: &Bench) -> Result<String, All
 }
 
 /// Whether a document is a bench, and the report on it.
-fn bench_report(alloc: Global, text: &str) -> Result<(bool, String), AllocError> {
-    let checked = findings(alloc, text)?;
+fn bench_report(alloc: Global, document: &Document<'_>) -> Result<(bool, String), AllocError> {
+    let checked = bench_findings(alloc, document)?;
     match &checked.bench {
-        Some(bench) => Ok((true, told_of_bench(alloc, text, bench)?)),
+        Some(bench) => Ok((true, told_of_bench(alloc, document.text(), bench)?)),
         None => Ok((false, bench_told(alloc, checked.findings.as_slice())?)),
     }
 }
 
 /// Whether a document is the scenario or the bench that it is to be, and the report on it.
-fn document_told(alloc: Global, text: &str) -> Result<(bool, String), AllocError> {
-    if is_scenario(alloc, text)? {
-        scenario_told(alloc, text)
+fn document_report(alloc: Global, document: &Document<'_>) -> Result<(bool, String), AllocError> {
+    if is_scenario(document) {
+        scenario_told(alloc, document)
     } else {
-        bench_report(alloc, text)
+        bench_report(alloc, document)
+    }
+}
+
+/// Whether a text is such a document, and the report on it.
+fn document_told(alloc: Global, text: &str) -> Result<(bool, String), AllocError> {
+    match Document::parse(alloc, text) {
+        Ok(document) => document_report(alloc, &document),
+        Err(NoDocument::NoMemory) => Err(AllocError),
+        Err(NoDocument::NotToml(found)) => Ok((false, bench_told(alloc, found.as_slice())?)),
     }
 }
 

@@ -1,78 +1,104 @@
 //! The document that a text is. Of one that is none it is said what is wrong with it.
 use crate::stops::Stop;
 use agc_check::bench_told;
-use agc_document::{Bench, BenchFault, read_bench};
-use agc_findings::{Finding, findings};
+use agc_document::{Bench, BenchFault};
+use agc_findings::{Checked, Document, Finding, NoDocument, bench_findings};
 use agc_program::Fault;
-use agc_scenario::{Scenario, is_scenario, read_scenario, scenario_findings};
+use agc_scenario::{CheckedScenario, Scenario, is_scenario, scenario_findings};
 use std::alloc::{AllocError, Global};
 
-/// A document that is shown.
+/// What a document is that is shown.
 #[derive(Drop)]
-pub(crate) enum Document {
+pub(crate) enum Shown {
     Bench(Bench),
     Scenario(Scenario),
 }
 
-/// A document that is refused for this fault, in which this was found.
-fn wrong(alloc: Global, fault: BenchFault, found: &[Finding]) -> Stop {
+/// A document that is refused, in which this was found: for the fault of what was found first.
+fn wrong(alloc: Global, found: &[Finding]) -> Stop {
+    let fault = match found {
+        [first, ..] => first.wrong.fault(),
+        [] => BenchFault::NotToml,
+    };
     match bench_told(alloc, found) {
         Ok(told) => Stop::Wrong(fault, told),
         Err(_no_memory) => Stop::Fault(Fault::NoMemory),
     }
 }
 
-/// Why a text is no bench, which is refused for this fault.
-fn no_bench(alloc: Global, text: &str, fault: BenchFault) -> Result<Stop, AllocError> {
-    if fault == BenchFault::NoMemory {
-        return Err(AllocError);
+/// The document that a text is.
+fn parsed<'a>(alloc: Global, text: &'a str) -> Result<Document<'a>, Stop> {
+    match Document::parse(alloc, text) {
+        Ok(document) => Ok(document),
+        Err(NoDocument::NoMemory) => Err(Stop::Fault(Fault::NoMemory)),
+        Err(NoDocument::NotToml(found)) => Err(wrong(alloc, found.as_slice())),
     }
-    if is_scenario(alloc, text)? {
-        return Ok(Stop::IsScenario);
+}
+
+/// The bench that a document is.
+fn bench_of(alloc: Global, document: &Document<'_>) -> Result<Bench, Stop> {
+    let Checked { bench, findings } = bench_findings(alloc, document)?;
+    match bench {
+        Some(bench) => Ok(bench),
+        None => Err(no_bench(alloc, document, findings.as_slice())),
     }
-    let checked = findings(alloc, text)?;
-    Ok(wrong(alloc, fault, checked.findings.as_slice()))
+}
+
+/// Why a document is no bench, in which this was found.
+fn no_bench(alloc: Global, document: &Document<'_>, found: &[Finding]) -> Stop {
+    if is_scenario(document) {
+        Stop::IsScenario
+    } else {
+        wrong(alloc, found)
+    }
+}
+
+/// The scenario that a document is.
+fn scenario_of(alloc: Global, document: &Document<'_>) -> Result<Scenario, Stop> {
+    let CheckedScenario { scenario, findings } = scenario_findings(alloc, document)?;
+    match scenario {
+        Some(scenario) => Ok(scenario),
+        None => Err(no_scenario(alloc, document, findings.as_slice())?),
+    }
+}
+
+/// Why a document is no scenario, in which this was found. It is told whether it is a bench.
+fn no_scenario(
+    alloc: Global,
+    document: &Document<'_>,
+    found: &[Finding],
+) -> Result<Stop, AllocError> {
+    let checked = bench_findings(alloc, document)?;
+    if checked.bench.is_some() {
+        Ok(Stop::IsBench)
+    } else {
+        Ok(wrong(alloc, found))
+    }
 }
 
 /// The bench that a text is.
 pub(crate) fn bench_in(alloc: Global, text: &str) -> Result<Bench, Stop> {
-    match read_bench(alloc, text) {
-        Ok(bench) => Ok(bench),
-        Err(fault) => Err(no_bench(alloc, text, fault)?),
-    }
-}
-
-/// Why a text is no scenario, which is refused for this fault. Of a document without the key
-/// `seconds` it is told whether it is a bench.
-fn no_scenario(alloc: Global, text: &str, fault: BenchFault) -> Result<Stop, AllocError> {
-    match (fault, read_bench(alloc, text)) {
-        (BenchFault::NoMemory, _) | (_, Err(BenchFault::NoMemory)) => Err(AllocError),
-        (_, Ok(_bench)) => Ok(Stop::IsBench),
-        _ => {
-            let checked = scenario_findings(alloc, text)?;
-            Ok(wrong(alloc, fault, checked.findings.as_slice()))
-        }
-    }
+    let document = parsed(alloc, text)?;
+    bench_of(alloc, &document)
 }
 
 /// The scenario that a text is.
 pub(crate) fn scenario_in(alloc: Global, text: &str) -> Result<Scenario, Stop> {
-    match read_scenario(alloc, text) {
-        Ok(scenario) => Ok(scenario),
-        Err(fault) => Err(no_scenario(alloc, text, fault)?),
-    }
+    let document = parsed(alloc, text)?;
+    scenario_of(alloc, &document)
 }
 
 /// The bench or the scenario that a text is.
-pub(crate) fn document_in(alloc: Global, text: &str) -> Result<Document, Stop> {
-    if is_scenario(alloc, text)? {
-        match scenario_in(alloc, text) {
-            Ok(scenario) => Ok(Document::Scenario(scenario)),
+pub(crate) fn document_in(alloc: Global, text: &str) -> Result<Shown, Stop> {
+    let document = parsed(alloc, text)?;
+    if is_scenario(&document) {
+        match scenario_of(alloc, &document) {
+            Ok(scenario) => Ok(Shown::Scenario(scenario)),
             Err(stop) => Err(stop),
         }
     } else {
-        match bench_in(alloc, text) {
-            Ok(bench) => Ok(Document::Bench(bench)),
+        match bench_of(alloc, &document) {
+            Ok(bench) => Ok(Shown::Bench(bench)),
             Err(stop) => Err(stop),
         }
     }

@@ -1,6 +1,6 @@
 //! What each command does with its input, which is a text.
 use crate::checking::{check_document, check_script};
-use crate::documents::{Document, bench_in, document_in, scenario_in};
+use crate::documents::{Shown, bench_in, document_in, scenario_in};
 use crate::naming::columns_of;
 use crate::page::put_page;
 use crate::progress::Teller;
@@ -115,8 +115,8 @@ fn show_document<W: Write>(
     writer: &mut W,
 ) -> Result<u8, Stop> {
     let shown = match document_in(rt.alloc(), text)? {
-        Document::Bench(bench) => show_bench(rt, show, text, &bench, progress, writer),
-        Document::Scenario(scenario) => show_scenario(rt, show, text, &scenario, progress, writer),
+        Shown::Bench(bench) => show_bench(rt, show, text, &bench, progress, writer),
+        Shown::Scenario(scenario) => show_scenario(rt, show, text, &scenario, progress, writer),
     };
     match shown {
         Ok(()) => Ok(0),

@@ -1,0 +1,86 @@
+//! A document, parsed once.
+ghost use Rattle.std.specs.Prelude.{◌≡◌, Some, IfOk, IfErr};
+ghost use Rattle.toml.specs.Parse.{parse_document};
+ghost use Rattle.toml.specs.View.{table_view};
+ghost use Rattle.agc_findings.specs.Documents.{IsNoDocument};
+
+use crate::finding::Finding;
+use crate::reading::found_no_document;
+use std::alloc::{AllocError, Global};
+use std::marker::Model;
+use toml::Table;
+
+/// A TOML document: its text, and its table. Contracts see its text. Source: profile.
+#[derive(Drop)]
+pub struct Document<'a> {
+    text: &'a str,
+    table: Table,
+}
+
+impl<'a> Model for Document<'a> {
+    ghost use Rattle.std.specs.Prelude.{◌≡◌, ℕ, List, Some};
+    ghost use Rattle.toml.specs.Parse.{parse_document};
+    ghost use Rattle.toml.specs.View.{table_view};
+
+    ghost Value = { List ℕ };
+
+    ghost view = { λ d. d.text.now };
+
+    ghost invariant = { λ d. parse_document d.text.now ≡ Some (table_view d.table) };
+}
+
+/// Why a text is no document.
+#[derive(Drop)]
+pub enum NoDocument {
+    NoMemory,
+    /// It is no TOML, and this is found in it.
+    NotToml(Vec<Finding>),
+}
+
+impl From<AllocError> for NoDocument {
+    ghost use Rattle.std.specs.Prelude.{◌≡◌};
+    ghost use Rattle.agc_findings.specs.declared.document.NoDocument.TheVariants.{NoMemory as OutOfMemory};
+
+    ghost from_gives = { λ _ e. e ≡ OutOfMemory };
+
+    fn from(_error: AllocError) -> NoDocument {
+        NoDocument::NoMemory
+    }
+}
+
+impl<'a> Document<'a> {
+    /// The document that a text is. Source: profile.
+    ///
+    /// # Errors
+    ///
+    /// `NotToml`, or `NoMemory`.
+    pub fn parse(alloc: Global, text: &'a str) -> Result<Document<'a>, NoDocument>
+        ensures found { IfOk result (λ d. d ≡ text.entry.now) }
+        ensures refused { IfErr result (IsNoDocument text.entry.now) }
+    {
+        match toml::table_from_str(alloc, text) {
+            Ok(table) => Ok(Document { text, table }),
+            Err(error) => {
+                if error.is_memory() {
+                    return Err(NoDocument::NoMemory);
+                }
+                let found = found_no_document(alloc, text, &error)?;
+                Err(NoDocument::NotToml(found))
+            }
+        }
+    }
+
+    /// Its text. Source: profile.
+    pub fn text(&self) -> &'a str
+        ensures { result.now ≡ self.now }
+    {
+        self.text
+    }
+
+    /// Its table. Source: profile.
+    pub fn table(&self) -> &Table
+        ensures { parse_document self.now ≡ Some (table_view result.now) }
+    {
+        &self.table
+    }
+}
