@@ -32,10 +32,18 @@ export function forgiven(given) {
   return { line, told };
 }
 
+/** What parts requests that stand in one line: as an array of a document has them, or semicolons. */
+const BETWEEN = /;|(?<=")\s*,\s*(?=")/;
+
+/** @param {string} text */
+export function areSeveral(text) {
+  return text.trim().split(BETWEEN).length > 1;
+}
+
 /** @param {string} text */
 function linesOf(text) {
-  return text.split(/\r?\n/).map((it, k) => ({ text: it.replace(/#.*$/, "").trim(), number: k + 1 }))
-    .filter((it) => it.text !== "");
+  return text.split(/\r?\n/).flatMap((line, k) => line.replace(/#.*$/, "").split(BETWEEN)
+    .map((it) => ({ text: it.trim(), number: k + 1 }))).filter((it) => it.text !== "");
 }
 
 /**

@@ -801,7 +801,12 @@ class Workbench {
       this.stage.scale.see(see[0], see[1]);
       this.stage.drawSeen();
     }
-    if (at !== null) this.go(at);
+    if (at === null) return;
+    const { count } = this.view;
+    this.go(at);
+    if (at <= count) return;
+    this.noteOf(`The link names request ${at}, and this run has ${counted(count, "request")}: this is the last one.`);
+    this.drawNote();
   }
 
   /** The address says what is shown, a moment after nothing more happens. */

@@ -2,7 +2,7 @@
  * The line in which a request is typed: what may come next, history, and what is wrong.
  */
 import { by, fill, make } from "./dom.js";
-import { forgiven, requestsIn } from "./forgive.js";
+import { areSeveral, forgiven, requestsIn } from "./forgive.js";
 import { FORMS, MEANINGS, PARTS, REQUESTS, formOf, lineFault, octal } from "./words.js";
 
 /** How many completions are offered. */
@@ -151,6 +151,11 @@ export class Prompt {
   }
 
   enter() {
+    if (areSeveral(this.field.value)) {
+      this.close();
+      this.askAll(this.field.value);
+      return;
+    }
     const { line, told } = forgiven(this.field.value);
     const fault = lineFault(line);
     this.close();
@@ -171,11 +176,20 @@ export class Prompt {
    */
   paste(event) {
     const text = event.clipboardData?.getData("text/plain").trim() ?? "";
-    if (!text.includes("\n")) return;
+    if (!text.includes("\n") && !areSeveral(text)) return;
     event.preventDefault();
+    this.askAll(text);
+  }
+
+  /**
+   * Asks several lines; none of them, if one spells no request.
+   * @param {string} text
+   */
+  askAll(text) {
     try {
       const lines = requestsIn(text);
       for (const line of lines) this.ask(line);
+      this.field.value = "";
       this.hint(`${lines.length} lines were asked.`, false);
     } catch (fault) {
       this.hint(`Nothing was asked: ${/** @type {Error} */ (fault).message}`, true);

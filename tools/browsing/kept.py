@@ -82,6 +82,7 @@ def try_links(browser, trial, path):
     for mark, wanted in (("#exercise-99", "There is no example or exercise named “exercise-99”."),
                          ("#bench=abc", "can't be read (its document is damaged or cut)"),
                          ("#landing&do=xyz", "can't be read (what was done can't be read: it may be cut)"),
+                         ("#landing&at=99999999", "The link names request 99999999, and this run has 6"),
                          ("#landing&at=q", "can't be read (\"at=q\" has no meaning here)")):
         browser.show(path, mark)
         trial.expect(f"{mark}: {texts(browser, '#note')}", wanted in texts(browser, "#note"))
