@@ -87,6 +87,10 @@ enum { AGC_WORDS = 144, AGC_PHASE_WORDS = 12, AGC_PHASE_PLACE = 117 };
 /* How many tasks fire in a step at most, and how many actions a row of a plan has. */
 enum { AGC_FIRED = 9, AGC_ACTIONS = 4 };
 
+/* How many tasks wait at most, how many VAC areas, restart groups and words of FAILREG there are, and how
+   many work words a job has. */
+enum { AGC_TASKS = 9, AGC_AREAS = 5, AGC_GROUPS = 6, AGC_CODES = 3, AGC_WORK = 6 };
+
 /* Room for each line of agc_write_reply, and for each report of agc_write_report. */
 enum { AGC_LINE = 128, AGC_REPORT = 2048 };
 
@@ -228,7 +232,7 @@ typedef struct { uint32_t code, at, bank; } AgcTask;
 /* A job in a core set: its number, 0 where the set is free; its priority; where it begins, or at which
    address it sleeps; the word for its bank; its VAC area, 1 to 5, or 0; whether it sleeps; and its six
    work words. */
-AGC_TYPE struct { uint32_t code, number, priority, at, bank, area; bool asleep; uint16_t work[6]; } AgcJob;
+AGC_TYPE struct { uint32_t code, number, priority, at, bank, area; bool asleep; uint16_t work[AGC_WORK]; } AgcJob;
 
 /* A task that waits, and the centiseconds that are left to it. Its address is 0 where there is none. */
 typedef struct { uint32_t code, at, bank, left; } AgcWaiting;
@@ -570,7 +574,7 @@ AGC_USED AgcJob agc_job_at(const uint16_t words[AGC_WORDS], uint32_t sets, uint3
 /* The number of the job that NEWJOB names, which a change of job would let run; 0 for none. */
 AGC_USED AgcNumber agc_next(const uint16_t words[AGC_WORDS], uint32_t sets);
 
-/* The task that comes due first (place 0), second, .. of those that wait, up to place 8. */
+/* The task that comes due first (place 0), second, .. of those that wait, up to place AGC_TASKS - 1. */
 AGC_USED AgcWaiting agc_task_at(const uint16_t words[AGC_WORDS], uint32_t sets, uint32_t place);
 
 /* The phase, 0 to 127, of a restart group, 1 to 6. */
@@ -586,7 +590,7 @@ AGC_INLINE AGC_USED AgcNumber agc_area_at(const uint16_t words[AGC_WORDS], uint3
     for (set = 0; set == 0 || set < sets; set++) {
         AgcJob job = agc_job_at(words, sets, set);
         found.code = job.code;
-        if (found.code == AGC_OK && (area < 1 || area > 5)) found.code = AGC_OUT_OF_RANGE;
+        if (found.code == AGC_OK && (area < 1 || area > AGC_AREAS)) found.code = AGC_OUT_OF_RANGE;
         if (found.code != AGC_OK) break;
         if (job.area == area) found.number = job.number;
     }
