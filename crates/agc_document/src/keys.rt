@@ -37,10 +37,11 @@ pub fn row_in<'a>(
     let at = text_at(table, Key::At, place, notes);
     let bank = text_at(table, Key::Bank, place, notes);
     let actions = some_texts_at(alloc, table, Key::Action, place, notes);
-    match (at, bank, actions) {
-        (Ok(at), Ok(bank), Ok(actions)) => Ok(RowTexts { at, bank, actions }),
-        (Err(fault), _, _) | (_, Err(fault), _) | (_, _, Err(fault)) => Err(fault),
-    }
+    Ok(RowTexts {
+        at: at?,
+        bank: bank?,
+        actions: actions?,
+    })
 }
 
 impl<'a> FromData<'a> for RowTexts<'a> {
@@ -74,18 +75,12 @@ pub fn entry_in<'a>(
     let phase = number_at(table, Key::Phase, place, notes);
     let job = optional_text(table, Key::Job, place, notes);
     let task = optional_text(table, Key::Listing, place, notes);
-    match (group, phase, job, task) {
-        (Ok(group), Ok(phase), Ok(job), Ok(task)) => Ok(EntryTexts {
-            group: group as u8,
-            phase: phase as u8,
-            job,
-            task,
-        }),
-        (Err(fault), _, _, _) => Err(fault),
-        (_, Err(fault), _, _) => Err(fault),
-        (_, _, Err(fault), _) => Err(fault),
-        (_, _, _, Err(fault)) => Err(fault),
-    }
+    Ok(EntryTexts {
+        group: group? as u8,
+        phase: phase? as u8,
+        job: job?,
+        task: task?,
+    })
 }
 
 impl<'a> FromData<'a> for EntryTexts<'a> {
@@ -141,13 +136,10 @@ impl<'a> FromData<'a> for DeviceTexts<'a> {
         let known = has_only(table, Level::Device, place, notes);
         let line = known.and(text_at(table, Key::Line, place, notes));
         let pulses = number_at(table, Key::Pulses, place, notes);
-        match (line, pulses) {
-            (Ok(line), Ok(pulses)) => Ok(DeviceTexts {
-                line,
-                pulses: pulses as u32,
-            }),
-            (Err(fault), _) | (_, Err(fault)) => Err(fault),
-        }
+        Ok(DeviceTexts {
+            line: line?,
+            pulses: pulses? as u32,
+        })
     }
 }
 
@@ -238,15 +230,7 @@ fn numbers_in<'a>(
     let limit = number_or(table, Key::Limit, 1000, notes);
     let allowance = number_or(table, Key::Allowance, 1_000_000, notes);
     let attends = number_or(table, Key::Attends, 16, notes);
-    match (sets, limit, allowance, attends) {
-        (Ok(sets), Ok(limit), Ok(allowance), Ok(attends)) => {
-            Ok((sets_for(sets), limit as u32, allowance, attends as u32))
-        }
-        (Err(fault), _, _, _) => Err(fault),
-        (_, Err(fault), _, _) => Err(fault),
-        (_, _, Err(fault), _) => Err(fault),
-        (_, _, _, Err(fault)) => Err(fault),
-    }
+    Ok((sets_for(sets?), limit? as u32, allowance?, attends? as u32))
 }
 
 /// What a bench has once, of the table of a document.
@@ -262,22 +246,17 @@ pub fn settings_in<'a>(
     let key = pulse_at(alloc, table, Key::Key, notes);
     let radar = pulse_at(alloc, table, Key::Radar, notes);
     let power = power_at(alloc, table, notes);
-    match (numbers, key, radar, power) {
-        (Ok((sets, limit, allowance, attends)), Ok(key), Ok(radar), Ok(power)) => Ok(Settings {
-            sets,
-            names_sets: names_sets(table),
-            limit,
-            allowance,
-            attends,
-            key,
-            radar,
-            power,
-        }),
-        (Err(fault), _, _, _) => Err(fault),
-        (_, Err(fault), _, _) => Err(fault),
-        (_, _, Err(fault), _) => Err(fault),
-        (_, _, _, Err(fault)) => Err(fault),
-    }
+    let (sets, limit, allowance, attends) = numbers?;
+    Ok(Settings {
+        sets,
+        names_sets: names_sets(table),
+        limit,
+        allowance,
+        attends,
+        key: key?,
+        radar: radar?,
+        power: power?,
+    })
 }
 
 #[tactic(auto, unfolding(crate::specs::Keys::lists_in))]
@@ -293,18 +272,13 @@ fn lists_in<'a>(
     let entries = items_or_none(alloc, table, Key::Phases, notes);
     let workers = items_or_none(alloc, table, Key::Workers, notes);
     let devices = items_or_none(alloc, table, Key::Devices, notes);
-    match (script, rows, entries, workers, devices) {
-        (Ok(script), Ok(rows), Ok(entries), Ok(workers), Ok(devices)) => Ok(Lists {
-            script,
-            rows,
-            entries,
-            workers,
-            devices,
-        }),
-        (Err(fault), _, _, _, _) | (_, Err(fault), _, _, _) => Err(fault),
-        (_, _, Err(fault), _, _) | (_, _, _, Err(fault), _) => Err(fault),
-        (_, _, _, _, Err(fault)) => Err(fault),
-    }
+    Ok(Lists {
+        script: script?,
+        rows: rows?,
+        entries: entries?,
+        workers: workers?,
+        devices: devices?,
+    })
 }
 
 /// The numbers and texts of a document. A fault `Key` where a key or the kind, range or length of
@@ -320,8 +294,9 @@ pub(crate) fn texts_in<'a>(
     let known = has_only(table, Level::Bench, Place::Whole, notes);
     let settings = settings_in(alloc, table, notes);
     let lists = lists_in(alloc, table, notes);
-    match (known.and(settings), lists) {
-        (Ok(settings), Ok(lists)) => Ok(Texts { settings, lists }),
-        (Err(fault), _) | (_, Err(fault)) => Err(fault),
-    }
+    known?;
+    Ok(Texts {
+        settings: settings?,
+        lists: lists?,
+    })
 }

@@ -230,10 +230,7 @@ pub fn optional_number<'a>(
 {
     match value_of(table, key) {
         None => Ok(None),
-        Some(value) => match number_of(value, key, place, notes) {
-            Ok(number) => Ok(Some(number)),
-            Err(fault) => Err(fault),
-        },
+        Some(value) => Ok(Some(number_of(value, key, place, notes)?)),
     }
 }
 
@@ -264,10 +261,8 @@ pub fn optional_text<'a>(
     match value_of(table, key) {
         None => Ok(None),
         Some(value) => {
-            match text_of(value, key, place.of_value(key), KeyFault::Value(key), notes) {
-                Ok(text) => Ok(Some(text)),
-                Err(fault) => Err(fault),
-            }
+            let text = text_of(value, key, place.of_value(key), KeyFault::Value(key), notes)?;
+            Ok(Some(text))
         }
     }
 }
@@ -298,10 +293,8 @@ impl<'a> FromData<'a> for Text<'a> {
         place: Place,
         notes: &mut Notes<'a>,
     ) -> Result<Text<'a>, Refusal<'a>> {
-        match text_of(value, key, place, KeyFault::Item(key), notes) {
-            Ok(text) => Ok(Text::new(text)),
-            Err(fault) => Err(fault),
-        }
+        let text = text_of(value, key, place, KeyFault::Item(key), notes)?;
+        Ok(Text::new(text))
     }
 }
 

@@ -34,10 +34,8 @@ fn name_in<'a>(
 ) -> Result<NameText<'a>, Refusal<'a>>
     ensures value { GivesOrKey (λ n. n) result (name_in (table_view table.now)) }
 {
-    match optional_text(table, Key::Of(ScenarioKey::Name), place, notes) {
-        Ok(text) => Ok(NameText { text }),
-        Err(fault) => Err(fault),
-    }
+    let text = optional_text(table, Key::Of(ScenarioKey::Name), place, notes)?;
+    Ok(NameText { text })
 }
 
 impl<'a> FromData<'a> for NamedRow<'a> {
@@ -56,10 +54,10 @@ impl<'a> FromData<'a> for NamedRow<'a> {
         let known = has_only(table, Level::NamedTask, place, notes);
         let row = known.and(row_in(alloc, table, place, notes));
         let name = name_in(table, place, notes);
-        match (row, name) {
-            (Ok(row), Ok(name)) => Ok(NamedRow { row, name }),
-            (Err(fault), _) | (_, Err(fault)) => Err(fault),
-        }
+        Ok(NamedRow {
+            row: row?,
+            name: name?,
+        })
     }
 }
 
@@ -79,10 +77,10 @@ impl<'a> FromData<'a> for NamedEntry<'a> {
         let known = has_only(table, Level::NamedPhase, place, notes);
         let entry = known.and(entry_in(table, place, notes));
         let name = name_in(table, place, notes);
-        match (entry, name) {
-            (Ok(entry), Ok(name)) => Ok(NamedEntry { entry, name }),
-            (Err(fault), _) | (_, Err(fault)) => Err(fault),
-        }
+        Ok(NamedEntry {
+            entry: entry?,
+            name: name?,
+        })
     }
 }
 
@@ -114,17 +112,12 @@ impl<'a> FromData<'a> for StolenRow {
         let from = known.and(number_at(table, Key::Of(ScenarioKey::From), place, notes));
         let to = number_at(table, Key::Of(ScenarioKey::To), place, notes);
         let percent = number_at(table, Key::Of(ScenarioKey::Percent), place, notes);
-        match (from, to, percent) {
-            (Ok(from), Ok(to), Ok(percent)) => {
-                let row = Stolen {
-                    from: from as u32,
-                    to: to as u32,
-                    percent: percent as u32,
-                };
-                forward(row, place, notes)
-            }
-            (Err(fault), _, _) | (_, Err(fault), _) | (_, _, Err(fault)) => Err(fault),
-        }
+        let row = Stolen {
+            from: from? as u32,
+            to: to? as u32,
+            percent: percent? as u32,
+        };
+        forward(row, place, notes)
     }
 }
 
@@ -156,16 +149,12 @@ impl<'a> FromData<'a> for JobTexts<'a> {
         let cost = number_at(table, Key::Of(ScenarioKey::Cost), place, notes);
         let leaving = optional_text(table, Key::Of(ScenarioKey::Then), place, notes);
         let name = name_in(table, place, notes);
-        match (at, cost, leaving, name) {
-            (Ok(at), Ok(cost), Ok(leaving), Ok(name)) => Ok(JobTexts {
-                at,
-                cost: cost as u32,
-                leaving: text_or_end(leaving),
-                name,
-            }),
-            (Err(fault), _, _, _) | (_, Err(fault), _, _) => Err(fault),
-            (_, _, Err(fault), _) | (_, _, _, Err(fault)) => Err(fault),
-        }
+        Ok(JobTexts {
+            at: at?,
+            cost: cost? as u32,
+            leaving: text_or_end(leaving?),
+            name: name?,
+        })
     }
 }
 
@@ -191,10 +180,8 @@ fn number_if<'a>(
     ensures value { GivesOrKey (λ o. o) result (number_if (key_of.Of key) (table_view table.now)) }
     ensures range { IfOk result (λ o. IfSome o (λ n. least (key_of.Of key) ≤ n)) }
 {
-    match optional_number(table, Key::Of(key), place, notes) {
-        Ok(number) => Ok(small(number)),
-        Err(fault) => Err(fault),
-    }
+    let number = optional_number(table, Key::Of(key), place, notes)?;
+    Ok(small(number))
 }
 
 impl<'a> FromData<'a> for EventTexts<'a> {
@@ -216,18 +203,13 @@ impl<'a> FromData<'a> for EventTexts<'a> {
         let every = number_if(table, ScenarioKey::Every, place, notes);
         let until = number_if(table, ScenarioKey::Until, place, notes);
         let name = name_in(table, place, notes);
-        match (at, requests, every, until, name) {
-            (Ok(at), Ok(requests), Ok(every), Ok(until), Ok(name)) => Ok(EventTexts {
-                at: at as u32,
-                requests,
-                every,
-                until,
-                name,
-            }),
-            (Err(fault), _, _, _, _) | (_, Err(fault), _, _, _) => Err(fault),
-            (_, _, Err(fault), _, _) | (_, _, _, Err(fault), _) => Err(fault),
-            (_, _, _, _, Err(fault)) => Err(fault),
-        }
+        Ok(EventTexts {
+            at: at? as u32,
+            requests: requests?,
+            every: every?,
+            until: until?,
+            name: name?,
+        })
     }
 }
 
@@ -323,21 +305,14 @@ fn timing_in<'a>(
     let stolen = stolen_in(alloc, table, notes);
     let jobs = items_or_none(alloc, table, Key::Of(ScenarioKey::Jobs), notes);
     let events = items_or_none(alloc, table, Key::Of(ScenarioKey::Events), notes);
-    match (seconds, title, stolen, jobs, events) {
-        (Ok(seconds), Ok(title), Ok(stolen), Ok(jobs), Ok(events)) => {
-            let texts = TimingTexts {
-                seconds: seconds as u32,
-                title: NameText { text: title },
-                stolen,
-                jobs,
-                events,
-            };
-            if_apart(texts, notes)
-        }
-        (Err(fault), _, _, _, _) | (_, Err(fault), _, _, _) => Err(fault),
-        (_, _, Err(fault), _, _) | (_, _, _, Err(fault), _) => Err(fault),
-        (_, _, _, _, Err(fault)) => Err(fault),
-    }
+    let texts = TimingTexts {
+        seconds: seconds? as u32,
+        title: NameText { text: title? },
+        stolen: stolen?,
+        jobs: jobs?,
+        events: events?,
+    };
+    if_apart(texts, notes)
 }
 
 /// The tasks and phases.
@@ -351,10 +326,10 @@ fn named_in<'a>(
 {
     let rows = items_or_none(alloc, table, Key::Of(ScenarioKey::NamedTasks), notes);
     let entries = items_or_none(alloc, table, Key::Of(ScenarioKey::NamedPhases), notes);
-    match (rows, entries) {
-        (Ok(rows), Ok(entries)) => Ok(NamedTexts { rows, entries }),
-        (Err(fault), _) | (_, Err(fault)) => Err(fault),
-    }
+    Ok(NamedTexts {
+        rows: rows?,
+        entries: entries?,
+    })
 }
 
 /// These texts, in a list of their own.
@@ -372,14 +347,11 @@ fn same_texts<'a>(alloc: Global, texts: &[Text<'a>]) -> Result<Vec<Text<'a>>, Al
 fn same_row<'a>(alloc: Global, row: &RowTexts<'a>) -> Result<RowTexts<'a>, AllocError>
     ensures { IfOk result (λ r. r ≡ row.now) }
 {
-    match same_texts(alloc, row.actions.as_slice()) {
-        Ok(actions) => Ok(RowTexts {
-            at: row.at,
-            bank: row.bank,
-            actions,
-        }),
-        Err(error) => Err(error),
-    }
+    Ok(RowTexts {
+        at: row.at,
+        bank: row.bank,
+        actions: same_texts(alloc, row.actions.as_slice())?,
+    })
 }
 
 /// The rows, without their names.
@@ -388,10 +360,7 @@ fn rows_in<'a>(alloc: Global, named: &[NamedRow<'a>]) -> Result<Vec<RowTexts<'a>
 {
     let mut rows = Vec::new(alloc);
     for one in named {
-        match same_row(alloc, &one.row) {
-            Ok(row) => rows.push(row)?,
-            Err(error) => return Err(error),
-        }
+        rows.push(same_row(alloc, &one.row)?)?;
     }
     Ok(rows)
 }
@@ -450,28 +419,19 @@ fn texts_with<'a>(
 ) -> Result<ScenarioTexts<'a>, AllocError>
     ensures { IfOk result (λ t. t ≡ texts_with settings.entry named.entry timing.entry) }
 {
-    let rows = rows_in(alloc, named.rows.as_slice());
-    let entries = entries_in(alloc, named.entries.as_slice());
-    let row_names = row_names(alloc, named.rows.as_slice());
-    let entry_names = entry_names(alloc, named.entries.as_slice());
-    match (rows, entries, row_names, entry_names) {
-        (Ok(rows), Ok(entries), Ok(row_names), Ok(entry_names)) => {
-            let lists = Lists {
-                script: Vec::new(alloc),
-                rows,
-                entries,
-                workers: Vec::new(alloc),
-                devices: Vec::new(alloc),
-            };
-            Ok(ScenarioTexts {
-                bench: Texts { settings, lists },
-                row_names,
-                entry_names,
-                timing,
-            })
-        }
-        _ => Err(AllocError),
-    }
+    let lists = Lists {
+        script: Vec::new(alloc),
+        rows: rows_in(alloc, named.rows.as_slice())?,
+        entries: entries_in(alloc, named.entries.as_slice())?,
+        workers: Vec::new(alloc),
+        devices: Vec::new(alloc),
+    };
+    Ok(ScenarioTexts {
+        bench: Texts { settings, lists },
+        row_names: row_names(alloc, named.rows.as_slice())?,
+        entry_names: entry_names(alloc, named.entries.as_slice())?,
+        timing,
+    })
 }
 
 /// What a scenario has once, as a bench has it; without a limit or an allowance there are the
@@ -487,19 +447,16 @@ fn ample_settings_in<'a>(
     let settings = settings_in(alloc, table, notes)?;
     let limit = number_or(table, Key::Limit, 1_000_000, notes);
     let allowance = number_or(table, Key::Allowance, 9_223_372_036_854_775_807, notes);
-    match (limit, allowance) {
-        (Ok(limit), Ok(allowance)) => Ok(Settings {
-            sets: settings.sets,
-            names_sets: settings.names_sets,
-            limit: limit as u32,
-            allowance,
-            attends: settings.attends,
-            key: settings.key,
-            radar: settings.radar,
-            power: settings.power,
-        }),
-        (Err(fault), _) | (_, Err(fault)) => Err(fault),
-    }
+    Ok(Settings {
+        sets: settings.sets,
+        names_sets: settings.names_sets,
+        limit: limit? as u32,
+        allowance: allowance?,
+        attends: settings.attends,
+        key: settings.key,
+        radar: settings.radar,
+        power: settings.power,
+    })
 }
 
 /// The numbers and texts of a document. A fault `Key` where a key or the kind, range or length of
@@ -516,14 +473,7 @@ pub(crate) fn scenario_in<'a>(
     let settings = ample_settings_in(alloc, table, notes);
     let named = named_in(alloc, table, notes);
     let timing = timing_in(alloc, table, notes);
-    match (known, settings, named, timing) {
-        (Ok(()), Ok(settings), Ok(named), Ok(timing)) => {
-            let texts = texts_with(alloc, settings, named, timing)?;
-            Ok(texts)
-        }
-        (Err(fault), _, _, _) => Err(fault),
-        (_, Err(fault), _, _) => Err(fault),
-        (_, _, Err(fault), _) => Err(fault),
-        (_, _, _, Err(fault)) => Err(fault),
-    }
+    known?;
+    let texts = texts_with(alloc, settings?, named?, timing?)?;
+    Ok(texts)
 }

@@ -120,16 +120,13 @@ impl<'a> Spelled<EventTexts<'a>> for TimedEvent {
             texts.requests.as_slice(),
         );
         let name = name_of(alloc, &texts.name);
-        match (requests, name) {
-            (Ok(requests), Ok(name)) => Ok(TimedEvent {
-                at: texts.at,
-                requests,
-                every: texts.every,
-                until: texts.until,
-                name,
-            }),
-            (Err(fault), _) | (_, Err(fault)) => Err(fault),
-        }
+        Ok(TimedEvent {
+            at: texts.at,
+            requests: requests?,
+            every: texts.every,
+            until: texts.until,
+            name: name?,
+        })
     }
 }
 
@@ -142,14 +139,11 @@ pub(crate) fn timing_of(alloc: Global, texts: TimingTexts<'_>) -> Result<Timing,
     let title = name_of(alloc, &texts.title);
     let jobs = all_spelled(alloc, texts.jobs.as_slice());
     let events = all_spelled(alloc, texts.events.as_slice());
-    match (title, jobs, events) {
-        (Ok(title), Ok(jobs), Ok(events)) => Ok(Timing {
-            seconds: texts.seconds,
-            title,
-            stolen: texts.stolen,
-            jobs,
-            events,
-        }),
-        (Err(fault), _, _) | (_, Err(fault), _) | (_, _, Err(fault)) => Err(fault),
-    }
+    Ok(Timing {
+        seconds: texts.seconds,
+        title: title?,
+        stolen: texts.stolen,
+        jobs: jobs?,
+        events: events?,
+    })
 }
