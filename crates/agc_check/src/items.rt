@@ -1,6 +1,7 @@
 //! What a bench lists and sets, place by place.
-use agc_document::{Bench, Key, Place};
+use agc_document::{Bench, Key, Place, ScenarioKey};
 use agc_plan::{Action, Group, Line, Phase, Request, Task};
+use agc_scenario::Scenario;
 use std::alloc::{AllocError, Global};
 
 /// What a bench says at one place.
@@ -28,6 +29,15 @@ impl Items {
     fn add(&mut self, place: Place, item: Item) {
         if self.list.push((place, item)).is_err() {
             self.failed = true;
+        }
+    }
+
+    /// All of them.
+    fn ended(self) -> Result<Vec<(Place, Item)>, AllocError> {
+        if self.failed {
+            Err(AllocError)
+        } else {
+            Ok(self.list)
         }
     }
 
@@ -95,9 +105,23 @@ pub(crate) fn items_of(alloc: Global, bench: &Bench) -> Result<Vec<(Place, Item)
         let place = Place::Field(Key::Devices, number, Key::Line);
         items.add(place, Item::Device(*line));
     }
-    if items.failed {
-        Err(AllocError)
-    } else {
-        Ok(items.list)
+    items.ended()
+}
+
+/// The items of a scenario: those of its bench, and then those of its events.
+pub(crate) fn scenario_items(
+    alloc: Global,
+    scenario: &Scenario,
+) -> Result<Vec<(Place, Item)>, AllocError> {
+    let mut items = Items {
+        list: items_of(alloc, scenario.bench())?,
+        failed: false,
+    };
+    for (k, event) in scenario.timing().all_events().iter().enumerate() {
+        let number = (k as u64).saturating_add(1);
+        let events = Key::Of(ScenarioKey::Events);
+        let at = Place::Field(events, number, Key::Of(ScenarioKey::Do));
+        items.add_requests(at, event.requests());
     }
+    items.ended()
 }

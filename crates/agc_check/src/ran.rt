@@ -7,7 +7,7 @@ ghost use Rattle.agc_session.specs.Runs.{bench_machine, bench_requests, script_m
 
 use agc_document::Bench;
 use agc_machine::{Machine, Refusal};
-use agc_plan::{Fired, Reply, Request};
+use agc_plan::{Alarm, Fired, Reply, Request};
 use agc_run::{Asks, Run};
 use agc_scenario::Scenario;
 use agc_session::{machine_of, script_machine};
@@ -23,8 +23,8 @@ pub struct Ran {
     pub requests: u64,
     /// How many tasks fired.
     pub fired: u64,
-    /// How many alarms came.
-    pub alarms: u64,
+    /// How many alarms 1201, 1202 and 1203 came.
+    pub alarms: [u64; 3],
     /// The number, from 1, of the first that was refused as the log was full.
     pub log_full: Option<u64>,
     /// And of the first that was refused as all of the allowance was served.
@@ -34,6 +34,16 @@ pub struct Ran {
 }
 
 impl Ran {
+    /// Counts one more alarm.
+    fn count_alarm(&mut self, alarm: Alarm) {
+        let place = match alarm {
+            Alarm::A1201 => 0,
+            Alarm::A1202 => 1,
+            Alarm::A1203 => 2,
+        };
+        self.alarms[place] = self.alarms[place].saturating_add(1);
+    }
+
     /// Counts one more request, which was answered so, and in which so many tasks fired.
     fn count(&mut self, answer: &Result<Reply, Refusal>, fired: usize) {
         self.requests = self.requests.saturating_add(1);
@@ -42,8 +52,11 @@ impl Ran {
         match answer {
             Err(Refusal::LogFull) => self.log_full = self.log_full.or(number),
             Err(Refusal::Spent) => self.spent = self.spent.or(number),
-            Ok(reply) if reply.alarm().is_some() => self.alarms = self.alarms.saturating_add(1),
-            Ok(_reply) => {}
+            Ok(reply) => {
+                if let Some(alarm) = reply.alarm() {
+                    self.count_alarm(alarm);
+                }
+            }
         }
     }
 }

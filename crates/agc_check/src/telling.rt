@@ -1,7 +1,7 @@
 //! The lines that tell of warnings, and what a run comes to, in one line.
 use crate::bench::add_where;
 use crate::ran::{Ran, run_requests};
-use crate::saying::{Piece, Said, put};
+use crate::saying::{Piece, Said, add_decimal, put};
 use crate::warning::{LOG_FULL, Warned};
 use agc_document::Place;
 use agc_findings::{line_at, places_in};
@@ -67,8 +67,28 @@ fn amount(number: u64) -> (Piece<'static>, Piece<'static>) {
     }
 }
 
-/// Appends how many requests were asked, how many tasks fired, and how many alarms came; of a run
-/// that was cut the line says so. Source: profile.
+/// Appends how many alarms came, and which.
+fn add_alarms(told: &mut String, alarms: &[u64; 3]) -> Result<(), AllocError> {
+    let all = alarms
+        .iter()
+        .fold(0_u64, |sum, count| sum.saturating_add(*count));
+    let (number, end) = amount(all);
+    put(told, ", {} alarm{}", &[number, end])?;
+    let mut is_first = true;
+    for (code, count) in ["1201", "1202", "1203"].iter().zip(alarms.iter()) {
+        if *count > 0 {
+            told.push_str(if is_first { " (" } else { ", " })?;
+            told.push_str(code)?;
+            told.push_str(": ")?;
+            add_decimal(told, *count)?;
+            is_first = false;
+        }
+    }
+    told.push_str(if all == 0 { "\n" } else { ")\n" })
+}
+
+/// Appends how many requests were asked, how many tasks fired, and how many alarms of each code
+/// came; of a run that was cut the line says so. Source: profile.
 ///
 /// # Errors
 ///
@@ -77,21 +97,9 @@ pub fn add_summary(told: &mut String, ran: &Ran) -> Result<(), AllocError> {
     let first = Piece::Text(if ran.is_cut { "the first " } else { "" });
     let (requests, of_requests) = amount(ran.requests);
     let (tasks, of_tasks) = amount(ran.fired);
-    let (alarms, of_alarms) = amount(ran.alarms);
-    let pieces = [
-        first,
-        requests,
-        of_requests,
-        tasks,
-        of_tasks,
-        alarms,
-        of_alarms,
-    ];
-    put(
-        told,
-        "ok: {}{} request{}, {} task{} fired, {} alarm{}\n",
-        &pieces,
-    )
+    let pieces = [first, requests, of_requests, tasks, of_tasks];
+    put(told, "ok: {}{} request{}, {} task{} fired", &pieces)?;
+    add_alarms(told, &ran.alarms)
 }
 
 /// Appends what the requests of a script come to, and before that a warning where its log is too

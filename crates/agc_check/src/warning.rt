@@ -34,3 +34,18 @@ pub(crate) const SPENT: &str =
 
 pub(crate) const CUT: &str =
     "only the first 200000 requests were run, so a later one may be refused too";
+
+pub(crate) const NOT_BEGUN: &str = "nothing begins a job at this address";
+
+pub(crate) const NOTHING_LEFT: &str =
+    "it costs {} of each {} centiseconds, of which {} percent are stolen: nothing is left";
+
+pub(crate) const AS_LONG_AS_IT_COMES: &str = "it costs {} of each {} centiseconds: nothing is left";
+
+pub(crate) const LATE: &str = "it comes after the end";
+
+pub(crate) const NEVER: &str = "until is before at, so it never comes";
+
+pub(crate) const NOT_AGAIN: &str = "without every, until says nothing: it comes once";
+
+pub(crate) const TWIN: &str = "an earlier {} has the same name";

@@ -21,10 +21,10 @@ fn numbers_of(task: &Task) -> (u16, u16) {
 }
 
 /// What is warned of, and the numbers of what it isn't said of twice.
-type Warning = (Said<'static>, Option<(u16, u16)>);
+pub(crate) type Warning = (Said<'static>, Option<(u16, u16)>);
 
 /// What is said without a number.
-fn plain(text: &'static str) -> Said<'static> {
+pub(crate) fn plain(text: &'static str) -> Said<'static> {
     said(text, Piece::Text(""), Piece::Text(""))
 }
 
@@ -132,14 +132,14 @@ fn warning_of(bench: &Bench, tasks: &Tasks, item: Item) -> Option<Warning> {
 
 /// What is warned of, and whether memory ran out for a warning.
 #[derive(Drop)]
-struct Found {
+pub(crate) struct Found {
     list: Vec<Warned>,
     failed: bool,
 }
 
 impl Found {
     /// Nothing is found yet.
-    fn new(alloc: Global) -> Found {
+    pub(crate) fn new(alloc: Global) -> Found {
         Found {
             list: Vec::new(alloc),
             failed: false,
@@ -157,7 +157,7 @@ impl Found {
     }
 
     /// Notes a warning, unless it was said before, or as many are noted as may be.
-    fn note(&mut self, place: Place, warning: Warning) {
+    pub(crate) fn note(&mut self, place: Place, warning: Warning) {
         if self.list.len() < MOST_TOLD && !self.is_said(&warning) {
             let (warning, once) = warning;
             let warned = Warned {
@@ -171,8 +171,24 @@ impl Found {
         }
     }
 
+    /// Notes what is warned of at these items of a bench.
+    pub(crate) fn note_items(
+        &mut self,
+        alloc: Global,
+        bench: &Bench,
+        items: &[(Place, Item)],
+    ) -> Result<(), AllocError> {
+        let tasks = Tasks::of(alloc, items)?;
+        for (place, item) in items {
+            if let Some(warning) = warning_of(bench, &tasks, *item) {
+                self.note(*place, warning);
+            }
+        }
+        Ok(())
+    }
+
     /// Notes which requests of a run are the first that were refused.
-    fn note_run(&mut self, bench: &Bench, ran: &Ran) {
+    pub(crate) fn note_run(&mut self, bench: &Bench, ran: &Ran) {
         if let Some(first) = ran.log_full {
             let limit = Piece::Number(u64::from(bench.limit().get()));
             let warning = said(LOG_FULL, Piece::Number(first), limit);
@@ -186,25 +202,13 @@ impl Found {
     }
 
     /// All that was found.
-    fn ended(self) -> Result<Vec<Warned>, AllocError> {
+    pub(crate) fn ended(self) -> Result<Vec<Warned>, AllocError> {
         if self.failed {
             Err(AllocError)
         } else {
             Ok(self.list)
         }
     }
-}
-
-/// What is warned of a run of this bench, or of a scenario that has it: the first requests that
-/// were refused. Source: profile.
-///
-/// # Errors
-///
-/// Where there is no memory.
-pub fn run_warnings(alloc: Global, bench: &Bench, ran: &Ran) -> Result<Vec<Warned>, AllocError> {
-    let mut found = Found::new(alloc);
-    found.note_run(bench, ran);
-    found.ended()
 }
 
 /// What is warned of in a bench that comes to this run, at most twenty times: first what has no
@@ -215,13 +219,8 @@ pub fn run_warnings(alloc: Global, bench: &Bench, ran: &Ran) -> Result<Vec<Warne
 /// Where there is no memory.
 pub fn bench_warnings(alloc: Global, bench: &Bench, ran: &Ran) -> Result<Vec<Warned>, AllocError> {
     let items = items_of(alloc, bench)?;
-    let tasks = Tasks::of(alloc, items.as_slice())?;
     let mut found = Found::new(alloc);
-    for (place, item) in items.iter() {
-        if let Some(warning) = warning_of(bench, &tasks, *item) {
-            found.note(*place, warning);
-        }
-    }
+    found.note_items(alloc, bench, items.as_slice())?;
     found.note_run(bench, ran);
     if ran.is_cut {
         found.note(Place::Whole, (plain(CUT), None));

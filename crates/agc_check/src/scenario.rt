@@ -1,0 +1,242 @@
+//! What is warned of in a scenario.
+use crate::items::scenario_items;
+use crate::ran::Ran;
+use crate::saying::{Piece, Said, said};
+use crate::warning::{
+    AS_LONG_AS_IT_COMES, LATE, NEVER, NOT_AGAIN, NOT_BEGUN, NOTHING_LEFT, TWIN, Warned,
+};
+use crate::warnings::{Found, plain};
+use agc_clock::{Then, Timetables};
+use agc_document::{Key, Place, ScenarioKey};
+use agc_plan::{Action, Actions, Address, JobStart, PhaseEntry, Request, Task, action_request};
+use agc_scenario::{Scenario, TimedEvent, TimedJob, Timing};
+use std::alloc::{AllocError, Global};
+use std::collections::BTreeSet;
+
+/// The place of a row, which is numbered from 0.
+fn row_at(key: ScenarioKey, row: usize) -> Place {
+    Place::Table(Key::Of(key), (row as u64).saturating_add(1))
+}
+
+/// Whether a job may begin at an address by this request, or be awakened there.
+fn begins(request: &Request, at: Address) -> bool {
+    match *request {
+        Request::Novac(_priority, entry) | Request::Findvac(_priority, entry) => entry.at == at,
+        Request::Sleep(awakened) => awakened == at,
+        _ => false,
+    }
+}
+
+/// Whether a job may begin at an address by one of these actions.
+fn is_begun_by(actions: &Actions, at: Address) -> bool {
+    for action in actions.as_slice() {
+        if let Some(request) = action_request(*action) {
+            if begins(&request, at) {
+                return true;
+            }
+        }
+    }
+    false
+}
+
+/// Whether a job begins at an address with an era in which this entry holds.
+fn begins_again(phase: &PhaseEntry, at: Address) -> bool {
+    let Some(job) = phase.job() else {
+        return false;
+    };
+    match job {
+        JobStart::Novac(_priority, entry) | JobStart::Findvac(_priority, entry) => entry.at == at,
+    }
+}
+
+/// Whether anything of a scenario begins a job at an address.
+fn is_begun(scenario: &Scenario, at: Address) -> bool {
+    let bench = scenario.bench();
+    let timing = scenario.timing();
+    let by_event = timing.all_events().iter().any(|event| event
+        .requests()
+        .iter()
+        .any(|request| begins(request, at)));
+    by_event
+        || bench.rows().iter().any(|row| is_begun_by(&row.1, at))
+        || bench.entries().iter().any(|entry| begins_again(entry, at))
+        || timing
+            .jobs()
+            .iter()
+            .any(|job| job.leaves() == Then::Sleep(at))
+}
+
+/// How many percent are stolen in every centisecond, at least.
+fn stolen_always(timing: &Timing) -> u64 {
+    let end = u64::from(timing.lasts()).saturating_add(1);
+    let mut free = end;
+    let mut least = 100;
+    for row in timing.stolen() {
+        let (from, to) = (u64::from(row.from).min(end), u64::from(row.to).min(end));
+        if from < to {
+            free = free.saturating_sub(to.saturating_sub(from));
+            least = least.min(u64::from(row.percent));
+        }
+    }
+    if free == 0 { least } else { 0 }
+}
+
+/// The lesser of two numbers, if the first is there.
+fn lesser(first: Option<u64>, second: u64) -> Option<u64> {
+    match first {
+        None => Some(second),
+        Some(first) => Some(first.min(second)),
+    }
+}
+
+/// After how many centiseconds a task lists itself again by one of these actions.
+fn period_of(task: Task, actions: &Actions) -> Option<u64> {
+    let mut least = None;
+    for action in actions.as_slice() {
+        match *action {
+            Action::List(delay, listed) if listed == task => {
+                least = lesser(least, u64::from(delay.get()));
+            }
+            _ => {}
+        }
+    }
+    least
+}
+
+/// After how many centiseconds a job begins again at an address by an event.
+fn period_by_events(timing: &Timing, at: Address) -> Option<u64> {
+    let mut least = None;
+    for event in timing.all_events() {
+        if let Some(every) = event.every() {
+            if event.requests().iter().any(|request| begins(request, at)) {
+                least = lesser(least, u64::from(every));
+            }
+        }
+    }
+    least
+}
+
+/// After how many centiseconds a job begins again at an address: the least such number of an event
+/// or a task.
+fn period_at(scenario: &Scenario, at: Address) -> Option<u64> {
+    let mut least = period_by_events(scenario.timing(), at);
+    for (task, actions) in scenario.bench().rows() {
+        if is_begun_by(actions, at) {
+            if let Some(period) = period_of(*task, actions) {
+                least = lesser(least, period);
+            }
+        }
+    }
+    least
+}
+
+/// What is said of a job for which nothing is left.
+fn nothing_left(cost: u64, period: u64, stolen: u64) -> Said<'static> {
+    let (cost, period) = (Piece::Number(cost), Piece::Number(period));
+    if stolen == 0 {
+        return said(AS_LONG_AS_IT_COMES, cost, period);
+    }
+    let stolen = Piece::Number(stolen);
+    (NOTHING_LEFT, [cost, period, stolen, stolen, stolen])
+}
+
+/// What is warned of a job.
+fn job_warning(scenario: &Scenario, job: &TimedJob) -> Option<Said<'static>> {
+    if !is_begun(scenario, job.at()) {
+        return Some(plain(NOT_BEGUN));
+    }
+    let period = period_at(scenario, job.at())?;
+    let stolen = stolen_always(scenario.timing());
+    let cost = u64::from(job.cost());
+    let left = period.saturating_mul(100_u64.saturating_sub(stolen));
+    if cost.saturating_mul(100) >= left {
+        Some(nothing_left(cost, period, stolen))
+    } else {
+        None
+    }
+}
+
+/// What is warned of an event.
+fn event_warning(timing: &Timing, event: &TimedEvent) -> Option<Said<'static>> {
+    if event.at() > timing.lasts() {
+        return Some(plain(LATE));
+    }
+    let until = event.until()?;
+    if event.every().is_none() {
+        Some(plain(NOT_AGAIN))
+    } else if until < event.at() {
+        Some(plain(NEVER))
+    } else {
+        None
+    }
+}
+
+/// Whether a name is there, and was there before.
+fn is_twin<'a>(names: &mut BTreeSet<&'a str>, name: Option<&'a str>) -> Result<bool, AllocError> {
+    match name {
+        None => Ok(false),
+        Some(name) => Ok(!names.insert(name)?),
+    }
+}
+
+/// Notes what is warned of the jobs of a scenario.
+fn note_jobs(alloc: Global, found: &mut Found, scenario: &Scenario) -> Result<(), AllocError> {
+    let mut names = BTreeSet::new(alloc);
+    for (k, job) in scenario.timing().jobs().iter().enumerate() {
+        let place = row_at(ScenarioKey::Jobs, k);
+        if is_twin(&mut names, job.name())? {
+            found.note(
+                place,
+                (said(TWIN, Piece::Text("job"), Piece::Text("")), None),
+            );
+        }
+        if let Some(warning) = job_warning(scenario, job) {
+            found.note(place, (warning, None));
+        }
+    }
+    Ok(())
+}
+
+/// Notes what is warned of the events of a scenario.
+fn note_events(alloc: Global, found: &mut Found, timing: &Timing) -> Result<(), AllocError> {
+    let mut names = BTreeSet::new(alloc);
+    for (k, event) in timing.all_events().iter().enumerate() {
+        let place = row_at(ScenarioKey::Events, k);
+        if is_twin(&mut names, event.name())? {
+            found.note(
+                place,
+                (said(TWIN, Piece::Text("event"), Piece::Text("")), None),
+            );
+        }
+        if let Some(warning) = event_warning(timing, event) {
+            found.note(place, (warning, None));
+        }
+    }
+    Ok(())
+}
+
+/// What is warned of in a scenario that comes to this run: at most twenty times first its jobs and
+/// events, then what has no effect; and then what is warned of the run. Source: profile.
+///
+/// # Errors
+///
+/// Where there is no memory.
+pub fn scenario_warnings(
+    alloc: Global,
+    scenario: &Scenario,
+    ran: &Ran,
+) -> Result<Vec<Warned>, AllocError> {
+    let mut found = Found::new(alloc);
+    note_jobs(alloc, &mut found, scenario)?;
+    note_events(alloc, &mut found, scenario.timing())?;
+    let items = scenario_items(alloc, scenario)?;
+    found.note_items(alloc, scenario.bench(), items.as_slice())?;
+    let mut warned = found.ended()?;
+    let mut of_run = Found::new(alloc);
+    of_run.note_run(scenario.bench(), ran);
+    let last = of_run.ended()?;
+    for one in last.iter() {
+        warned.push(*one)?;
+    }
+    Ok(warned)
+}
