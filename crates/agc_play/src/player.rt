@@ -14,7 +14,7 @@ use agc_scene::{Event, Scene, Watched};
 use agc_session::{RunFault, machine_of};
 use agc_text::Filling::{Number, Octal, Priority, Text};
 use agc_text::{Output, Pen};
-use agc_trace::{Choice, Columns, Rows};
+use agc_trace::{Choice, Columns, Form, Rows};
 use std::alloc::Global;
 use std::io::Write;
 use std::marker::Model;
@@ -178,6 +178,7 @@ fn put_rest<W: Write>(pen: &mut Pen<W>, scene: &Scene) {
 /// The rows of all that is asked, as they are written in this manner.
 fn rows_of(alloc: Global) -> Rows {
     let choice = Choice {
+        form: Form::Lines,
         alarms: false,
         from: None,
         to: None,

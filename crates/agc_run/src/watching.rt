@@ -1,10 +1,11 @@
 // A run whose machine is watched: what is pulled is events.
-ghost use Rattle.std.specs.Prelude.{◌≡◌};
+ghost use Rattle.std.specs.Prelude.{◌≡◌, option_map};
 ghost use Rattle.agc_clock.specs.Runs.{begins_with};
 ghost use Rattle.agc_scene.specs.Events.{watching_from};
 ghost use Rattle.agc_run.specs.Runs.{Comes};
 
 use crate::asks::{Asks, Source};
+use agc_clock::Clock;
 use agc_machine::Machine;
 use agc_scene::{Event, Watched};
 use std::marker::Model;
@@ -51,6 +52,14 @@ impl<'a> WatchedRun<'a> {
         ensures { result.now ≡ self.now.watching }
     {
         &self.watched
+    }
+
+    /// The clock as it is, if time passes by itself. Source: profile.
+    pub fn clock(&self) -> Option<&Clock>
+        ensures { option_map (λ clock. clock.now) result
+            ≡ option_map (λ _. self.now.asks.clock) self.now.asks.table }
+    {
+        self.asks.clock()
     }
 
     /// The machine, after what was asked of it. Source: profile.

@@ -79,6 +79,34 @@ impl Columns {
         }
     }
 
+    /// What a job at this address is called.
+    pub(crate) fn job(&self, at: u16) -> Option<&str> {
+        self.names.job(at)
+    }
+
+    /// What a task is called.
+    pub(crate) fn task(&self, task: &Task) -> Option<&str> {
+        self.names.task(task)
+    }
+
+    /// What a task at this address in this bank is called.
+    pub(crate) fn task_at(&self, at: u16, bank: u16) -> Option<&str> {
+        self.names.task_at(at, bank)
+    }
+
+    /// What a phase of the group of this number, 1 to 6, is called.
+    pub(crate) fn phase(&self, group: usize, phase: Phase) -> Option<&str> {
+        self.names.phase(group, phase)
+    }
+
+    /// What the event that asks is called.
+    pub(crate) fn event(&self, source: Source) -> Option<&str> {
+        match source {
+            Source::Time(agc_clock::Source::Event(event)) => self.names.event(event),
+            _ => None,
+        }
+    }
+
     /// Writes who asks: an event by its name, or else by its number from 1.
     pub(crate) fn put_source<W: Write>(&self, pen: &mut Pen<W>, source: Source) {
         match source {

@@ -38,6 +38,15 @@ fn put_broken<W: Write>(pen: &mut Pen<W>, words: &[Word; 12]) {
     }
 }
 
+/// What is answered to power-up with these phase words.
+pub(crate) fn power_reply(words: &[Word; 12]) -> &'static str {
+    if recover(words).is_some() {
+        "restarted"
+    } else {
+        "alarm 1107"
+    }
+}
+
 /// Writes what came of power-up with these phase words: the scene with which the first era begins.
 pub(crate) fn put_power<W: Write>(
     pen: &mut Pen<W>,
@@ -45,10 +54,8 @@ pub(crate) fn put_power<W: Write>(
     words: &[Word; 12],
     scene: &Scene,
 ) {
-    if recover(words).is_some() {
-        put_power_row(pen, columns, "restarted", scene);
-    } else {
-        put_power_row(pen, columns, "alarm 1107", scene);
+    put_power_row(pen, columns, power_reply(words), scene);
+    if recover(words).is_none() {
         put_broken(pen, words);
     }
     put_phases(pen, columns, &scene.phases());

@@ -4,11 +4,16 @@
 
 mod alarms;
 mod brief;
+mod chart;
 mod columns;
+mod csv;
 mod ends;
+mod json;
+mod lanes;
 mod laws;
 mod line;
 mod names;
+mod quoting;
 mod rows;
 mod tables;
 mod telling;
@@ -17,5 +22,5 @@ mod tracer;
 pub use columns::Columns;
 pub use laws::quiet_request_changes_the_time_alone;
 pub use names::Names;
-pub use telling::{Choice, Rows};
+pub use telling::{Choice, Form, Rows};
 pub use tracer::{trace, trace_script, trace_timetable};

@@ -129,6 +129,17 @@ impl Names {
         found(self.tasks.as_slice(), *task)
     }
 
+    /// What a task at this address in this bank is called.
+    pub(crate) fn task_at(&self, at: u16, bank: u16) -> Option<&str> {
+        for named in self.tasks.iter() {
+            let task = named.what;
+            if task.at.get() == at && task.bank.bits() == bank {
+                return Some(named.name.as_str());
+            }
+        }
+        None
+    }
+
     /// What a phase of the group of this number, 1 to 6, is called.
     pub(crate) fn phase(&self, group: usize, phase: Phase) -> Option<&str> {
         found(self.phases.as_slice(), (group, phase))

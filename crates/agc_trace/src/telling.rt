@@ -1,11 +1,14 @@
 // What is told of a run, row by row.
 use crate::alarms::put_account;
 use crate::brief::{Quiet, quiet_of};
+use crate::chart::Chart;
 use crate::columns::Columns;
-use crate::ends::{Refused, put_power, put_refused};
+use crate::ends::{Refused, power_reply, put_power, put_refused};
 use crate::rows::{put_heading, put_row};
+use crate::{csv, json};
+use agc_clock::Clock;
 use agc_machine::Refusal;
-use agc_plan::Reply;
+use agc_plan::{Reply, Request};
 use agc_run::Source;
 use agc_scene::{Event, Scene, Watched};
 use agc_text::Filling::{Number, Text};
@@ -13,9 +16,24 @@ use agc_text::{Output, Pen};
 use agc_word::Word;
 use std::io::Write;
 
-/// Which requests a trace shows: those that meet all of these conditions. Source: profile.
+/// How a trace is written. Source: profile.
+#[derive(Clone, Copy, PartialEq, Eq)]
+pub enum Form {
+    /// A line of columns for each request, and accounts of alarms.
+    Lines,
+    /// A row of comma-separated values for each request.
+    Csv,
+    /// An object of JSON for each request, in a line each.
+    Json,
+    /// One object of JSON, whose events are a chart.
+    Chart,
+}
+
+/// How a trace is written, and which requests it shows: those that meet all of these conditions.
+/// Source: profile.
 #[derive(Clone, Copy)]
 pub struct Choice {
+    pub form: Form,
     /// Only those that raised an alarm.
     pub alarms: bool,
     /// Only those from this number on.
@@ -23,7 +41,7 @@ pub struct Choice {
     /// Only those up to this number.
     pub to: Option<u64>,
     /// Neighbours that are quiet in the same way are counted: nothing changed with them but the
-    /// time.
+    /// time. They are left out where there are no lines.
     pub brief: bool,
 }
 
@@ -43,13 +61,14 @@ struct Left {
     count: u64,
 }
 
-/// The rows of a run: which requests have one, in which columns; the scene before the next request,
-/// which is kept only in brief; the quiet requests that were not told yet, and how many were
-/// refused. Source: profile.
+/// The rows of a run: which requests have one, in which columns; what is charted of them; the scene
+/// before the next request, which is kept only in brief; the quiet requests that were not told yet,
+/// and how many were refused. Source: profile.
 #[derive(Drop)]
 pub struct Rows {
     choice: Choice,
     columns: Columns,
+    chart: Chart,
     before: Option<Scene>,
     left: Option<Left>,
     refused: Refused,
@@ -69,6 +88,7 @@ impl Rows {
         Rows {
             choice,
             columns,
+            chart: Chart::new(),
             before: None,
             left: None,
             refused: Refused::default(),
@@ -77,8 +97,11 @@ impl Rows {
 
     /// Writes how many quiet requests were left out since the last row, if there are any.
     fn put_left<W: Write>(&mut self, pen: &mut Pen<W>) {
-        if let Some(Left { quiet, count }) = self.left {
-            pen.put("        {} x {}\n", &[Text(quiet.words()), Number(count)]);
+        match self.left {
+            Some(Left { quiet, count }) if self.choice.form == Form::Lines => {
+                pen.put("        {} x {}\n", &[Text(quiet.words()), Number(count)]);
+            }
+            _ => {}
         }
         self.left = None;
     }
@@ -110,6 +133,32 @@ impl Rows {
     }
 
     /// Writes the heading, and what came of power-up with these phase words, if there are any.
+    fn put_first<W: Write>(&mut self, pen: &mut Pen<W>, power: Option<[Word; 12]>, scene: &Scene) {
+        let columns = &self.columns;
+        match (self.choice.form, power) {
+            (Form::Lines, None) => put_heading(pen, columns),
+            (Form::Lines, Some(words)) => {
+                put_heading(pen, columns);
+                put_power(pen, columns, &words, scene);
+            }
+            (Form::Csv, None) => csv::put_names(pen),
+            (Form::Csv, Some(words)) => {
+                csv::put_names(pen);
+                csv::put_power_row(pen, columns, power_reply(&words), scene);
+            }
+            (Form::Json, None) => {}
+            (Form::Json, Some(words)) => {
+                json::put_power_object(pen, columns, power_reply(&words), scene);
+            }
+            (Form::Chart, _) => {
+                let is_whole = self.choice.from.is_none();
+                self.chart
+                    .begin(pen, columns, if is_whole { Some(scene) } else { None });
+            }
+        }
+    }
+
+    /// Writes the heading, and what came of power-up with these phase words, if there are any.
     /// Source: profile.
     ///
     /// # Errors
@@ -123,11 +172,15 @@ impl Rows {
     ) -> Result<(), Output> {
         self.keep_scene(watched);
         let mut pen = Pen::new(writer);
-        put_heading(&mut pen, &self.columns);
-        if let Some(words) = power {
-            put_power(&mut pen, &self.columns, &words, &watched.scene());
-        }
+        self.put_first(&mut pen, power, &watched.scene());
         pen.end()
+    }
+
+    /// Takes note of where a clock is after a request.
+    pub(crate) fn pass(&mut self, request: &Request, clock: Option<&Clock>) {
+        if let Some(clock) = clock {
+            self.chart.pass(request, clock);
+        }
     }
 
     /// How an event that is told is quiet: that is looked for only in brief.
@@ -135,6 +188,26 @@ impl Rows {
         match &self.before {
             None => None,
             Some(before) => quiet_of(before, event),
+        }
+    }
+
+    /// Writes what is told of an event.
+    fn put_told<W: Write>(
+        &mut self,
+        watched: &Watched,
+        source: Source,
+        event: &Event,
+        pen: &mut Pen<W>,
+    ) {
+        let columns = &self.columns;
+        match self.choice.form {
+            Form::Lines => {
+                put_row(pen, columns, source, event);
+                put_account(pen, watched.machine().plan(), columns, event);
+            }
+            Form::Csv => csv::put_row(pen, columns, source, event),
+            Form::Json => json::put_object(pen, columns, source, event),
+            Form::Chart => self.chart.tell(pen, columns, source, event),
         }
     }
 
@@ -150,8 +223,7 @@ impl Rows {
             Some(quiet) => self.put_quiet(pen, quiet),
             None => {
                 self.put_left(pen);
-                put_row(pen, &self.columns, source, event);
-                put_account(pen, watched.machine().plan(), &self.columns, event);
+                self.put_told(watched, source, event, pen);
             }
         }
     }
@@ -192,7 +264,11 @@ impl Rows {
     ) -> Result<(), Output> {
         let mut pen = Pen::new(writer);
         self.put_left(&mut pen);
-        put_refused(&mut pen, self.refused, limit, allowance);
+        match self.choice.form {
+            Form::Lines => put_refused(&mut pen, self.refused, limit, allowance),
+            Form::Csv | Form::Json => {}
+            Form::Chart => self.chart.end(&mut pen, &self.columns),
+        }
         pen.end()
     }
 }

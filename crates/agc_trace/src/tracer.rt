@@ -9,7 +9,7 @@ ghost use Rattle.agc_session.specs.Shown.{EndsIn};
 
 use crate::columns::Columns;
 use crate::ends::put_idle;
-use crate::telling::{Choice, Rows};
+use crate::telling::{Choice, Form, Rows};
 use agc_document::Bench;
 use agc_plan::Request;
 use agc_run::{Asks, WatchedRun};
@@ -31,6 +31,7 @@ fn trace_all<P: Progress, W: Write>(
         ≡ fold watched run.old.watching (to_ask run.old.watching.machine run.old.asks)) }
 {
     while let Some((source, event)) = run.next() {
+        rows.pass(&event.request, run.clock());
         rows.tell(run.watched(), source, &event, writer)?;
         progress.asked();
     }
@@ -53,10 +54,12 @@ fn trace_whole<P: Progress, W: Write>(
     rows.end(bench.limit().get(), bench.allowance(), writer)
 }
 
-/// Writes the devices of a bench whose pulses asked for nothing.
-fn tell_idle<W: Write>(bench: &Bench, writer: &mut W) -> Result<(), Output> {
+/// Writes the devices of a bench whose pulses asked for nothing, where there are lines.
+fn tell_idle<W: Write>(bench: &Bench, form: Form, writer: &mut W) -> Result<(), Output> {
     let mut pen = Pen::new(writer);
-    put_idle(&mut pen, bench);
+    if form == Form::Lines {
+        put_idle(&mut pen, bench);
+    }
     pen.end()
 }
 
@@ -87,7 +90,7 @@ pub fn trace<P: Progress, W: Write>(
     let mut rows = Rows::new(choice, Columns::of_bench(alloc, counts.is_shared));
     let mut run = WatchedRun::new(machine, Asks::of_bench(bench));
     trace_whole(&mut run, &mut rows, bench, progress, writer)?;
-    tell_idle(bench, writer)?;
+    tell_idle(bench, choice.form, writer)?;
     Ok(run.into_watched())
 }
 

@@ -76,6 +76,17 @@ const TRACE: Row = Row {
             Form::Option("N"),
             "Shows only the requests up to number N",
         ),
+        CSV,
+        (
+            "json",
+            Form::Flag,
+            "Writes an object of JSON for each request",
+        ),
+        (
+            "perfetto",
+            Form::Flag,
+            "Writes a chart that Perfetto and Chrome's tracing open",
+        ),
         PROGRESS,
     ],
 };

@@ -5,7 +5,7 @@ use agc_orders::Options;
 use agc_picture::Span;
 use agc_plan::Alarm;
 use agc_program::Fault;
-use agc_trace::Choice;
+use agc_trace::{Choice, Form};
 use clap::error::ErrorKind;
 use clap::{ArgMatches, Command, Error};
 use std::alloc::Global;
@@ -172,6 +172,22 @@ impl<'a, 'b> Words<'a, 'b> {
         alarm
     }
 
+    /// In which form a trace is written.
+    fn form(&mut self) -> Form {
+        let csv = self.given.get_flag("csv");
+        let json = self.given.get_flag("json");
+        match (csv, json, self.given.get_flag("perfetto")) {
+            (false, false, false) => Form::Lines,
+            (true, false, false) => Form::Csv,
+            (false, true, false) => Form::Json,
+            (false, false, true) => Form::Chart,
+            _ => {
+                self.check(false, "a trace has one form");
+                Form::Lines
+            }
+        }
+    }
+
     /// What the words after `trace` ask for.
     fn trace(&mut self) -> Task<'a> {
         let from = self.number("from", "--from wants a number");
@@ -179,11 +195,15 @@ impl<'a, 'b> Words<'a, 'b> {
         let is_right = from.unwrap_or(0) <= to.unwrap_or(u64::MAX);
         self.check(is_right, "--from is beyond --to");
         let choice = Choice {
+            form: self.form(),
             alarms: self.given.get_flag("alarms"),
             from,
             to,
             brief: self.given.get_flag("brief"),
         };
+        let is_chosen = choice.alarms || choice.brief;
+        let is_right = choice.form != Form::Chart || !is_chosen;
+        self.check(is_right, "--perfetto goes without --alarms and --brief");
         if self.given.get_flag("script") {
             Task::TraceScript(choice)
         } else {
