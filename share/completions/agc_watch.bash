@@ -7,7 +7,7 @@ _agc_watch() {
         2:help) mapfile -t COMPREPLY < <(compgen -W "$commands" -- "$2") ;;
         2:check) mapfile -t COMPREPLY < <(compgen -W '--script --progress --help' -- "$2") ;;
         *:trace) mapfile -t COMPREPLY < <(compgen -W '--script --alarms --brief --from --to --csv --json --perfetto --progress --help' -- "$2") ;;
-        *:explore) mapfile -t COMPREPLY < <(compgen -W '--states --alarm --through --peaks --bench --help' -- "$2") ;;
+        *:explore) mapfile -t COMPREPLY < <(compgen -W '--states --alarm --through --peaks --bench --csv --help' -- "$2") ;;
         2:sweep) mapfile -t COMPREPLY < <(compgen -W 'steal sets seconds --csv --help' -- "$2") ;;
         *:sweep) mapfile -t COMPREPLY < <(compgen -W '--csv --help' -- "$2") ;;
         2:peaks | 2:jobs) mapfile -t COMPREPLY < <(compgen -W '--csv --help' -- "$2") ;;

@@ -162,6 +162,7 @@ const EXPLORE: Row = Row {
             Form::Option("ALARM"),
             "Writes a shortest order that raises this alarm, as a bench",
         ),
+        CSV,
     ],
 };
 

@@ -232,12 +232,15 @@ impl<'a, 'b> Words<'a, 'b> {
     /// What the words after `explore` ask for.
     fn explore(&mut self) -> Options {
         let states = self.number("states", "--states wants a number");
+        let (bench, csv) = (self.alarm("bench"), self.given.get_flag("csv"));
+        self.check(bench.is_none() || !csv, "--bench and --csv are two outputs");
         Options {
             states: states.unwrap_or(STATES),
             alarm: self.alarm("alarm"),
             through: self.given.get_flag("through"),
             peaks: self.given.get_flag("peaks"),
-            bench: self.alarm("bench"),
+            bench,
+            csv,
         }
     }
 
