@@ -12,6 +12,9 @@ export const BRIGHT = ["#0072b2", "#e69f00", "#009e73", "#cc79a7", "#56b4e9", "#
   "#6b6b6b"];
 export const PALE = ["#a6cee4", "#f6dda6", "#a6ddce", "#edd0e0", "#c4e5f7", "#f0c7a6", "#faf6bd",
   "#c9c9c9"];
+/** The paler ones on dark ground, where pale would shine out. */
+export const DIM = ["#084a6f", "#8d6408", "#08634a", "#7e4e68", "#39708f", "#833e08", "#767128",
+  "#464646"];
 export const INK = ["#fff", "#000", "#000", "#000", "#000", "#000", "#000", "#fff"];
 
 /** How many names are told apart at most. */

@@ -10,7 +10,7 @@
  */
 import { sinceOf } from "./account.js";
 import { marksOf } from "./chart.js";
-import { BRIGHT, INK, PALE } from "./colours.js";
+import { BRIGHT, DIM, INK, PALE } from "./colours.js";
 import { State, lastUpTo } from "./lanes.js";
 import { octal, seconds, visible } from "./words.js";
 
@@ -169,6 +169,7 @@ class Picture {
     this.parts = parts;
     this.isBrief = isBrief;
     this.ground = groundOf(isDark);
+    [this.pale, this.inkOnPale] = isDark ? [DIM, "#fff"] : [PALE, "#000"];
     this.first = scale.isTime ? Math.max(0, scale.rowAt(scale.from) - 1) : Math.floor(scale.from);
   }
 
@@ -183,8 +184,8 @@ class Picture {
     const made = document.createElement("canvas");
     [made.width, made.height] = [6, 6];
     const pen = made.getContext("2d");
-    if (pen === null) return PALE[k];
-    pen.fillStyle = PALE[k];
+    if (pen === null) return this.pale[k];
+    pen.fillStyle = this.pale[k];
     pen.fillRect(0, 0, 6, 6);
     pen.strokeStyle = BRIGHT[k];
     pen.lineWidth = 1.4;
@@ -193,7 +194,7 @@ class Picture {
       pen.lineTo(x + 6, 0);
     }
     pen.stroke();
-    return this.pen.createPattern(made, "repeat") ?? PALE[k];
+    return this.pen.createPattern(made, "repeat") ?? this.pale[k];
   }
 
   drawSets() {
@@ -248,7 +249,7 @@ class Picture {
     const [left, right] = [Math.max(0, x), Math.min(this.wide, end)];
     const isBright = block.state === State.RUNS;
     pen.fillStyle = isBright ? BRIGHT[colour]
-      : block.state === State.SLEEPS ? this.hatched[colour] ??= this.hatch(colour) : PALE[colour];
+      : block.state === State.SLEEPS ? this.hatched[colour] ??= this.hatch(colour) : this.pale[colour];
     const gap = right - left > 3 ? 0.7 : 0;
     pen.fillRect(left, y + 1, right - left - gap, parts.high - 3);
     if (this.isBrief || right - left < LEAST_NAMED || parts.high < 11) return;
@@ -259,10 +260,10 @@ class Picture {
       : pen.measureText(name).width <= room ? name : "";
     if (shown === "") return;
     if (block.state === State.SLEEPS) {
-      pen.fillStyle = PALE[colour];
+      pen.fillStyle = this.pale[colour];
       pen.fillRect(left + 1, y + 1, pen.measureText(shown).width + 4, parts.high - 3);
     }
-    pen.fillStyle = isBright ? INK[colour] : "#000";
+    pen.fillStyle = isBright ? INK[colour] : this.inkOnPale;
     pen.fillText(shown, left + 3, y + parts.high - 5);
   }
 

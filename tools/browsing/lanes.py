@@ -1,9 +1,10 @@
 """The lanes of the chart: blocks, what is told of them, and zoom."""
+import json
 import re
 import time
 
 from browsing.browser import LAPTOP, PHONE, SIZES
-from browsing.pages import PROGRAM, Trial, go_to, open_text, says, save, table, written
+from browsing.pages import DRAWN, PROGRAM, Trial, go_to, open_text, says, save, table, written
 
 # Two jobs of different names in turn, one that sleeps, an event with a name, and an alarm at the end.
 LANED = "seconds = 20\nsteal = 20\n" + "".join((
@@ -40,6 +41,17 @@ def pointer(browser, kind, at, core_set, **more):
     browser.call("Input.dispatchMouseEvent", type=kind, x=left + at * wide, y=top + y, **more)
 
 
+# How light the blocks of core sets 0 and 1 are on the right, and the ground in core set 2.
+APART = """(() => {
+  const it = document.getElementById('lanes-chart');
+  const ys = Array.from(document.querySelectorAll('#lane-names li'), (one) => parseFloat(one.style.top)).slice(0, 3);
+  const ground = getComputedStyle(document.querySelector('.bar')).backgroundColor.match(/[0-9]+/g).map(Number);
+  const seen = ys.map((y) => Array.from(it.getContext('2d').getImageData(Math.round(0.9 * it.width), Math.round(y), 1, 1).data));
+  const light = ([r, g, b]) => 0.3 * r + 0.6 * g + 0.1 * b;
+  return [light(seen[0]), light(seen[1]), light(seen[2][3] === 0 ? ground : seen[2])];
+})()"""
+
+
 def lanes(browser, folder):
     """A lane for each core set with its jobs as blocks over time: bright while they run, pale while they wait, hatched while they
     sleep, coloured by name. What is pointed at is told, a click goes there. Wheel, pinch, keys, a drawn range and buttons zoom."""
@@ -73,6 +85,12 @@ def lanes(browser, folder):
     open_text(browser, 'script = ["novac 20 04000 00005", "end"]\n')
     names = browser.value("Array.from(document.querySelectorAll('#lane-names li'), (it) => it.textContent).join(' ')")
     trial.expect(f"without a clock: {names}", names == "set 0 set 1 set 2 set 3 set 4 set 5 set 6 areas tasks")
+    for scheme in "light", "dark":
+        browser.scheme(scheme)
+        open_text(browser, f'script = {json.dumps(2 * ["novac 20 04000 00005"] + 8 * ["phase 1 1"])}\n')
+        runs, waits, ground = browser.value(f"{DRAWN}.then(() => {APART})", True)
+        trial.expect(f"{scheme}: runs {runs}, waits {waits}, ground {ground}", abs(runs - ground) > 1.4 * abs(waits - ground) > 20)
+    browser.scheme("light")
     trial.expect(f"{browser.shown()['broken']}", not browser.shown()["broken"])
     return trial.faults
 

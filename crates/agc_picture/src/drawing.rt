@@ -4,7 +4,7 @@ ghost use Rattle.std.specs.List.{fold};
 ghost use Rattle.agc_run.specs.Runs.{to_ask};
 ghost use Rattle.agc_scene.specs.Events.{watched};
 
-use agc_run::WatchedRun;
+use agc_run::{Source, WatchedRun};
 use agc_scene::{Event, Scene};
 use agc_session::Progress;
 use agc_text::{Output, Pen};
@@ -15,8 +15,8 @@ pub(crate) trait Draws {
     /// Writes what comes before the first event, in this scene.
     fn begin<W: Write>(&mut self, pen: &mut Pen<W>, scene: Scene);
 
-    /// Draws an event.
-    fn draw<W: Write>(&mut self, pen: &mut Pen<W>, event: Event);
+    /// Draws an event, and who asked for it.
+    fn draw<W: Write>(&mut self, pen: &mut Pen<W>, source: Source, event: Event);
 
     /// Writes what comes after the last event.
     fn finish<W: Write>(&mut self, pen: &mut Pen<W>);
@@ -29,10 +29,15 @@ fn begin<D: Draws, W: Write>(form: &mut D, scene: Scene, writer: &mut W) -> Resu
     pen.end()
 }
 
-/// Draws an event.
-fn draw_one<D: Draws, W: Write>(form: &mut D, event: Event, writer: &mut W) -> Result<(), Output> {
+/// Draws an event, and who asked for it.
+fn draw_one<D: Draws, W: Write>(
+    form: &mut D,
+    source: Source,
+    event: Event,
+    writer: &mut W,
+) -> Result<(), Output> {
     let mut pen = Pen::new(writer);
-    form.draw(&mut pen, event);
+    form.draw(&mut pen, source, event);
     pen.end()
 }
 
@@ -53,8 +58,8 @@ fn draw_all<D: Draws, P: Progress, W: Write>(
     ensures { OnOk result (run.new.watching
         ≡ fold watched run.old.watching (to_ask run.old.watching.machine run.old.asks)) }
 {
-    while let Some((_source, event)) = run.next() {
-        draw_one(form, event, writer)?;
+    while let Some((source, event)) = run.next() {
+        draw_one(form, source, event, writer)?;
         progress.asked();
     }
     Ok(())

@@ -7,13 +7,17 @@ use agc_text::Filling::{Number, Priority};
 use agc_text::Pen;
 use std::io::Write;
 
-/// What a lane is of: the running job, a core set, a VAC area, or the tasks that wait.
+/// What a lane is of: the running job, a core set, a VAC area, or the tasks that wait; over time
+/// also the events of a scenario, the time that is stolen, and the time in which no job runs.
 #[derive(Clone, Copy)]
 pub(crate) enum Place {
     Runs,
     Set(u64),
     Area(u16),
     Tasks,
+    Events,
+    Stolen,
+    Idle,
 }
 
 /// What lanes are of, in a machine of eight core sets.
@@ -82,8 +86,8 @@ impl Held {
         match place {
             Place::Runs if self.number > 0 => "r",
             Place::Tasks if self.number > 0 => "t",
-            Place::Runs | Place::Tasks => "f",
             Place::Set(_) | Place::Area(_) => self.job_class(),
+            _ => "f",
         }
     }
 }
@@ -117,6 +121,8 @@ pub(crate) fn held_in(scene: &Scene, place: Place) -> Held {
         Place::Runs => runner(scene),
         Place::Area(area) => scene.owner(area).unwrap_or(0) as u64,
         Place::Tasks => scene.waits().len() as u64,
+        Place::Idle if runner(scene) == 0 => 1,
+        Place::Events | Place::Stolen | Place::Idle => 0,
     };
     Held { number, seat: None }
 }
@@ -128,6 +134,9 @@ pub(crate) fn put_name<W: Write>(pen: &mut Pen<W>, place: Place) {
         Place::Set(k) => pen.put("set {}", &[Number(k)]),
         Place::Area(area) => pen.put("area {}", &[Number(area as u64)]),
         Place::Tasks => pen.text("tasks"),
+        Place::Events => pen.text("events"),
+        Place::Stolen => pen.text("stolen"),
+        Place::Idle => pen.text("idle"),
     }
 }
 

@@ -1,4 +1,4 @@
-// What a scenario calls itself and its jobs, as it is in markup.
+// What a scenario calls itself, its jobs and its events, as it is in markup.
 ghost use Rattle.std.specs.Prelude.{◌≡◌, IfErr};
 
 use crate::escaping::escaped;
@@ -22,11 +22,13 @@ struct Label {
     name: Told,
 }
 
-/// The title of a scenario, and what its jobs are called, as they are in markup.
+/// The title of a scenario, what its jobs are called, and its events, by their numbers, as they are
+/// in markup.
 #[derive(Drop)]
 pub(crate) struct Labels {
     title: Option<Told>,
     jobs: Vec<Label>,
+    events: Vec<Option<Told>>,
 }
 
 /// A text in markup.
@@ -37,15 +39,15 @@ fn told_of(alloc: Global, text: &str) -> Result<Told, AllocError> {
     })
 }
 
-/// A title in markup.
-fn title_of(alloc: Global, title: Option<&str>) -> Result<Option<Told>, AllocError> {
-    match title {
+/// A text in markup, if it is there.
+fn told_if(alloc: Global, text: Option<&str>) -> Result<Option<Told>, AllocError> {
+    match text {
         None => Ok(None),
-        Some(title) => Ok(Some(told_of(alloc, title)?)),
+        Some(text) => Ok(Some(told_of(alloc, text)?)),
     }
 }
 
-/// What a scenario calls itself and its jobs.
+/// What a scenario calls itself, its jobs and its events.
 fn read(alloc: Global, scenario: &Scenario) -> Result<Labels, AllocError> {
     let timing = scenario.timing();
     let mut jobs = Vec::new(alloc);
@@ -57,9 +59,14 @@ fn read(alloc: Global, scenario: &Scenario) -> Result<Labels, AllocError> {
             })?;
         }
     }
+    let mut events = Vec::new(alloc);
+    for event in timing.all_events() {
+        events.push(told_if(alloc, event.name())?)?;
+    }
     Ok(Labels {
-        title: title_of(alloc, timing.title())?,
+        title: told_if(alloc, timing.title())?,
         jobs,
+        events,
     })
 }
 
@@ -69,10 +76,11 @@ impl Labels {
         Labels {
             title: None,
             jobs: Vec::new(alloc),
+            events: Vec::new(alloc),
         }
     }
 
-    /// What a scenario calls itself and its jobs.
+    /// What a scenario calls itself, its jobs and its events.
     pub(crate) fn of(alloc: Global, scenario: &Scenario) -> Result<Labels, RunFault>
         ensures { IfErr result (λ e. e ≡ RunFault.NoMemory) }
     {
@@ -121,9 +129,44 @@ impl Labels {
         self.jobs.iter().find(|label| label.at == at)
     }
 
-    /// How many letters the name of a job at this address has, if it has one.
-    pub(crate) fn letters(&self, at: u16) -> Option<u64> {
-        self.job(at).map(|label| label.name.letters)
+    /// How many letters the name of a job at this address has, or the address itself.
+    pub(crate) fn letters(&self, at: u16) -> u64 {
+        match self.job(at) {
+            None => 5,
+            Some(label) => label.name.letters,
+        }
+    }
+
+    /// The first address at which a job is called as one at this address is.
+    pub(crate) fn first_of(&self, at: u16) -> u16 {
+        let name = match self.job(at) {
+            None => return at,
+            Some(label) => label.name.markup.as_slice(),
+        };
+        match self
+            .jobs
+            .iter()
+            .find(|it| it.name.markup.as_slice() == name)
+        {
+            None => at,
+            Some(first) => first.at,
+        }
+    }
+
+    /// What the event of this number is called, if it has a name, and how many letters that has.
+    pub(crate) fn event(&self, number: usize) -> Option<(&[u8], u64)> {
+        match self.events.get(number) {
+            Some(Some(name)) => Some((name.markup.as_slice(), name.letters)),
+            _ => None,
+        }
+    }
+
+    /// The name of a job at this address, or the address.
+    pub(crate) fn name(&self, at: u16) -> Filling<'_> {
+        match self.job(at) {
+            None => Filling::Octal(at),
+            Some(label) => Filling::Bytes(label.name.markup.as_slice()),
+        }
     }
 
     /// The name of a job at this address, or its number.

@@ -1,6 +1,7 @@
 // A lane of a picture over time: what is in it, column by column.
 use crate::held::{Held, Place, put_job, put_name};
 use crate::labels::Labels;
+use crate::palette::Origin;
 use crate::scale::{COLUMN, Scale};
 use agc_text::Filling::{Number, Seconds, Text};
 use agc_text::Pen;
@@ -17,12 +18,11 @@ pub(crate) struct Strip {
     pub(crate) height: u64,
 }
 
-/// One thing that is in a lane, where its job was when it came, if it is one, and since when it is
-/// there.
+/// One thing that is in a lane, where its job began, if it is one, and since when it is there.
 #[derive(Clone, Copy)]
 struct Block {
     held: Held,
-    at: Option<u16>,
+    origin: Option<Origin>,
     since: u64,
 }
 
@@ -47,7 +47,7 @@ impl Run {
                 && self.has_gap == other.has_gap
                 && self.most == other.most
         } else {
-            block.held.is_same(its.held) && block.at == its.at && block.since == its.since
+            block.held.is_same(its.held) && block.origin == its.origin && block.since == its.since
         }
     }
 
@@ -57,8 +57,8 @@ impl Run {
     }
 }
 
-/// A lane: what is in it now, where its job was when it came, and since when; the column that time
-/// has reached, what was there in it, and the columns that are not written yet.
+/// A lane: what is in it now, where its job began, and since when; the column that time has
+/// reached, what was there in it, and the columns that are not written yet.
 #[derive(Clone, Copy)]
 pub(crate) struct Lane {
     pub(crate) strip: Strip,
@@ -71,12 +71,41 @@ pub(crate) struct Lane {
     run: Run,
 }
 
-/// Whether there is room in these columns for the name of a job at this address.
+/// Whether there is room in these columns for the name of a job at this address, or the address.
 fn has_room(labels: &Labels, at: u16, run: Run) -> bool {
     let width = run.length().saturating_mul(COLUMN);
-    match labels.letters(at) {
-        None => false,
-        Some(letters) => letters.saturating_mul(LETTER).saturating_add(6) <= width,
+    labels.letters(at).saturating_mul(LETTER).saturating_add(6) <= width
+}
+
+/// The classes of jobs that run, that wait and that sleep, by their colours.
+const RUNS: [&str; 8] = ["j1", "j2", "j3", "j4", "j5", "j6", "j7", "j8"];
+
+const WAITS: [&str; 8] = ["s1", "s2", "s3", "s4", "s5", "s6", "s7", "s8"];
+
+const SLEEPS: [&str; 8] = ["h1", "h2", "h3", "h4", "h5", "h6", "h7", "h8"];
+
+/// The class of a job in a core set, or of the owner of an area.
+fn job_class(place: Place, held: Held, origin: Origin) -> &'static str {
+    let classes = match (place, held.seat) {
+        (_, Some(seat)) if seat.asleep => SLEEPS,
+        (Place::Set(0), _) | (Place::Area(_), _) => RUNS,
+        _ => WAITS,
+    };
+    match classes.get(origin.colour) {
+        None => "f",
+        Some(class) => *class,
+    }
+}
+
+impl Block {
+    /// The class by which the style sheet colours it.
+    fn class(self, place: Place) -> &'static str {
+        match (place, self.origin) {
+            (_, Some(origin)) => job_class(place, self.held, origin),
+            (Place::Tasks, None) => "t",
+            (Place::Idle, None) => "i",
+            _ => "f",
+        }
     }
 }
 
@@ -114,31 +143,29 @@ impl Strip {
         );
     }
 
-    /// Writes the number of a block, that of tasks above the bar; in its place the name of the job,
-    /// if it has one, and these columns have room for it.
+    /// Writes how many tasks wait, above their bar, and the name of a job, or its address, in its
+    /// block, if these columns have room for it.
     fn put_label<W: Write>(self, pen: &mut Pen<W>, labels: &Labels, run: Run) {
-        let Block { held, at, .. } = run.block;
-        let x = Number(Scale::x(run.from).saturating_add(3));
-        let name = match at {
-            Some(at) if has_room(labels, at, run) => labels.job_name(held.number, at),
-            _ => Number(held.number),
-        };
-        match self.place {
-            Place::Runs => {}
-            Place::Tasks => {
+        let Block { held, origin, .. } = run.block;
+        let x = Scale::x(run.from).saturating_add(3);
+        match origin {
+            Some(Origin { at, .. }) if has_room(labels, at, run) => {
+                let base = self.y.saturating_add(self.height / 2 + 9);
+                let class = run.block.class(self.place);
+                let name = labels.name(at);
+                pen.put(
+                    "<text class=\"on-{}\" x=\"{}\" y=\"{}\">{}</text>\n",
+                    &[Text(class), Number(x), Number(base), name],
+                );
+            }
+            None if self.tasks(held) > 0 => {
                 let base = self.part(held.number).y.saturating_sub(4);
                 pen.put(
                     "<text x=\"{}\" y=\"{}\">{}</text>\n",
-                    &[x, Number(base), name],
+                    &[Number(x), Number(base), Number(held.number)],
                 );
             }
-            Place::Set(_) | Place::Area(_) => {
-                let base = self.y.saturating_add(self.height / 2 + 9);
-                pen.put(
-                    "<text class=\"on-{}\" x=\"{}\" y=\"{}\">{}</text>\n",
-                    &[Text(held.class(self.place)), x, Number(base), name],
-                );
-            }
+            _ => {}
         }
     }
 
@@ -147,6 +174,7 @@ impl Strip {
         pen.text("><title>");
         put_name(pen, self.place);
         match self.place {
+            Place::Idle => {}
             Place::Tasks => pen.put(": {}", &[Number(run.block.held.number)]),
             _ => {
                 pen.text(": ");
@@ -166,7 +194,7 @@ impl Strip {
             return;
         }
         let (class, tasks) = match (run.is_joined, run.has_gap) {
-            (false, _) => (held.class(self.place), self.tasks(held)),
+            (false, _) => (run.block.class(self.place), self.tasks(held)),
             (true, true) => ("y", run.most),
             (true, false) => ("x", run.most),
         };
@@ -187,7 +215,7 @@ impl Lane {
                 number: 0,
                 seat: None,
             },
-            at: None,
+            origin: None,
             since: 0,
         };
         Lane {
@@ -261,9 +289,9 @@ impl Lane {
         self.begin();
     }
 
-    /// From this time on this is in it, a job of this address, if it is one. Where an era begins,
-    /// what is there is another.
-    pub(crate) fn change(&mut self, held: Held, at: Option<u16>, time: u64, is_era: bool) {
+    /// From this time on this is in it, a job that began so, if it is one. Where an era begins,
+    /// what is there is another one.
+    pub(crate) fn change(&mut self, held: Held, origin: Option<Origin>, time: u64, is_era: bool) {
         if held.is_same(self.block.held) && (!is_era || held.number == 0) {
             return;
         }
@@ -273,7 +301,7 @@ impl Lane {
         self.most = self.most.max(self.strip.tasks(held));
         self.block = Block {
             held,
-            at,
+            origin,
             since: time,
         };
     }

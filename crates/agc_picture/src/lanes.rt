@@ -3,6 +3,7 @@ use crate::drawing::Draws;
 use crate::frame::{Column, column_at, put_head, width_of};
 use crate::held::{Held, PLACES, Place, full_table, held_in, put_job, put_name};
 use crate::labels::Labels;
+use agc_run::Source;
 use agc_scene::{Event, Scene};
 use agc_text::Filling::{Number, Text};
 use agc_text::{Pen, alarm_code};
@@ -56,6 +57,7 @@ fn spot(place: Place, sets: u64) -> (u64, u64) {
         Place::Runs => (76, 4),
         Place::Area(area) => (below + 50 + 12 * u64::from(area).min(5), 10),
         Place::Tasks => (below + 130, 36),
+        Place::Events | Place::Stolen | Place::Idle => (0, 0),
     }
 }
 
@@ -66,6 +68,7 @@ fn put_title<W: Write>(pen: &mut Pen<W>, labels: &Labels, place: Place, held: He
         Place::Runs => pen.put("job {} runs", &[Number(held.number)]),
         Place::Tasks if held.number == 1 => pen.text("1 task waits"),
         Place::Tasks => pen.put("{} tasks wait", &[Number(held.number)]),
+        Place::Events | Place::Stolen | Place::Idle => put_name(pen, place),
         Place::Set(_) | Place::Area(_) => {
             put_name(pen, place);
             pen.text(": ");
@@ -223,7 +226,7 @@ impl Draws for Columns {
 
     /// Writes the column of an event: in it what has changed. Where an era begins, its mark stands
     /// at the end of the column, and in the next what began.
-    fn draw<W: Write>(&mut self, pen: &mut Pen<W>, event: Event) {
+    fn draw<W: Write>(&mut self, pen: &mut Pen<W>, _source: Source, event: Event) {
         let width = width_of(self.count);
         let column = column_at(width, event.number);
         put_axis(pen, column, event.time);

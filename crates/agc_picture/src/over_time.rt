@@ -15,7 +15,7 @@ use crate::timed::OverTime;
 use agc_clock::Timetables;
 use agc_document::Bench;
 use agc_run::{Asks, WatchedRun};
-use agc_scenario::Scenario;
+use agc_scenario::{Scenario, Timing};
 use agc_scene::Watched;
 use agc_session::{Progress, RunFault, count_requests, machine_of};
 use std::alloc::Global;
@@ -31,11 +31,17 @@ fn end_of(alloc: Global, bench: &Bench, span: Span) -> Result<u64, RunFault>
     }
 }
 
-/// How a bench's run is drawn, of which nothing was drawn yet.
-fn begun(alloc: Global, bench: &Bench, labels: Labels, scale: Scale) -> Result<OverTime, RunFault>
+/// How a run is drawn, of which nothing was drawn yet: that of a bench, in which time passes so, if
+/// a clock runs.
+fn begun<'a>(
+    alloc: Global,
+    run: (&Bench, Option<&'a Timing>),
+    labels: Labels,
+    scale: Scale,
+) -> Result<OverTime<'a>, RunFault>
     ensures { IfErr result (λ e. e ≡ RunFault.NoMemory) }
 {
-    match OverTime::new(alloc, bench.sets().count() as u64, scale, labels) {
+    match OverTime::new(alloc, run, scale, labels) {
         Ok(form) => Ok(form),
         Err(_no_memory) => Err(RunFault::NoMemory),
     }
@@ -44,10 +50,11 @@ fn begun(alloc: Global, bench: &Bench, labels: Labels, scale: Scale) -> Result<O
 /// Writes the picture of a bench over time, an SVG as wide as the span says: its machine is asked
 /// for the requests in the order of `serial`, and each lane is drawn in columns of 2 points, whose
 /// number doesn't depend on how long the run is. A block begins in the column of the time at which
-/// it came. What fills no column is not drawn: its column is grey, and dark where something was
-/// there all the time. Where an era begins, each block ends. Without an end the run is run twice,
-/// first for its length. Returns the machine after the last request. The writer is not flushed.
-/// Source: profile.
+/// it came, and has the colour of its job's name or address: bright if the job runs, pale if it
+/// waits, hatched if it sleeps. What fills no column is not drawn: its column is grey, and dark
+/// where something was there all the time. Where an era begins, each block ends. Without an end the
+/// run is run twice, first for its length. Returns the machine after the last request. The writer
+/// is not flushed. Source: profile.
 ///
 /// # Errors
 ///
@@ -66,7 +73,7 @@ pub fn time_picture<P: Progress, W: Write>(
 {
     let end = end_of(alloc, bench, span)?;
     let scale = Scale::new(span, end);
-    let mut form = begun(alloc, bench, Labels::none(alloc), scale)?;
+    let mut form = begun(alloc, (bench, None), Labels::none(alloc), scale)?;
     let machine = machine_of(alloc, bench)?;
     let mut run = WatchedRun::new(machine, Asks::of_bench(bench));
     progress.expect(count_requests(bench).requests);
@@ -75,9 +82,9 @@ pub fn time_picture<P: Progress, W: Write>(
 }
 
 /// Writes the picture of a scenario over time, as [`time_picture`] does a bench's, with its title,
-/// and with names of jobs in place of their numbers where there is room: a machine is asked for the
-/// requests for which the scenario's clock asks. Without an end it ends with the scenario. Source:
-/// profile.
+/// with names of jobs in place of their addresses where there is room, and with lanes of its
+/// events, of stolen and of idle time: a machine is asked for the requests for which the scenario's
+/// clock asks. Without an end it ends with the scenario. Source: profile.
 ///
 /// # Errors
 ///
@@ -98,7 +105,7 @@ pub fn scenario_time_picture<P: Progress, W: Write>(
     let timing = scenario.timing();
     let labels = Labels::of(alloc, scenario)?;
     let scale = Scale::new(span, u64::from(timing.lasts()));
-    let mut form = begun(alloc, scenario.bench(), labels, scale)?;
+    let mut form = begun(alloc, (scenario.bench(), Some(timing)), labels, scale)?;
     let machine = machine_of(alloc, scenario.bench())?;
     let mut run = WatchedRun::new(machine, Asks::of_scenario(timing));
     draw(&mut run, &mut form, progress, writer)?;

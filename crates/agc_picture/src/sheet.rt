@@ -4,37 +4,49 @@ use crate::held::{Place, put_name};
 use crate::labels::Labels;
 use crate::lane::Strip;
 use crate::scale::{LEFT, Scale, short};
+use agc_clock::Stolen;
 use agc_text::Filling::{Bytes, Number, Seconds, Text};
 use agc_text::Pen;
 use std::io::Write;
 
 /// The fonts, the marks, and the colours: on light ground, and then those that are others on dark.
+/// The workbench's lanes have the same.
 const STYLE: &str = "<style>
 text{font:25px sans-serif;fill:#111}.h{font-size:36px;font-weight:bold}.p{fill:#fff}
 .a,.m text{text-anchor:middle}.g{stroke:#111;stroke-opacity:.3}
 .m text{fill:#c00;font-weight:bold}.m path{stroke:#c00;stroke-width:3}
 .n path{stroke:#111;stroke-width:3;stroke-dasharray:8 6}
-.f{fill:#e9e9e9}.r{fill:#111}.t{fill:#8c564b}.x{fill:#666}.y{fill:#aaa}
+.f{fill:#e9e9e9}.t{fill:#8c564b}.x{fill:#666}.y{fill:#aaa}
+.e{fill:#0645ad}.v{fill:#767676}.i{fill:#5f87a5}
 .j1{fill:#0072b2}.j2{fill:#e69f00}.j3{fill:#009e73}.j4{fill:#cc79a7}
-.j5{fill:#56b4e9}.j6{fill:#d55e00}.j7{fill:#f0e442}.j8{fill:#000}
+.j5{fill:#56b4e9}.j6{fill:#d55e00}.j7{fill:#f0e442}.j8{fill:#6b6b6b}
 .s1{fill:#a6cee4}.s2{fill:#f6dda6}.s3{fill:#a6ddce}.s4{fill:#edd0e0}
-.s5{fill:#c4e5f7}.s6{fill:#f0c7a6}.s7{fill:#faf6bd}.s8{fill:#a6a6a6}
-.on-j1,.on-j6,.on-j8{fill:#fff}
+.s5{fill:#c4e5f7}.s6{fill:#f0c7a6}.s7{fill:#faf6bd}.s8{fill:#c9c9c9}
+.h1{fill:url(#h1)}.h2{fill:url(#h2)}.h3{fill:url(#h3)}.h4{fill:url(#h4)}
+.h5{fill:url(#h5)}.h6{fill:url(#h6)}.h7{fill:url(#h7)}.h8{fill:url(#h8)}
+[class^=on]{fill:#000}.on-j1,.on-j8{fill:#fff}
+[class^=on-h]{stroke:#fff;stroke-width:8px;paint-order:stroke}
 @media(prefers-color-scheme:dark){
-text{fill:#eee}.p{fill:#121212}.f{fill:#2b2b2b}.r{fill:#eee}.j8{fill:#fff}.g{stroke:#fff}
+text{fill:#eee}.p{fill:#121212}.f{fill:#2b2b2b}.g{stroke:#fff}
 .x{fill:#999}.y{fill:#5c5c5c}.m text{fill:#ff8a7a}.m path{stroke:#ff5b4b}
-.n path{stroke:#eee}.t{fill:#c49c94}.s8{fill:#777}
-.on-j1,.on-j6,.on-s8{fill:#fff}
-.on-j2,.on-j3,.on-j4,.on-j5,.on-j7,.on-j8{fill:#111}
-.on-s1,.on-s2,.on-s3,.on-s4,.on-s5,.on-s6,.on-s7{fill:#111}
+.n path{stroke:#eee}.t{fill:#c49c94}.e{fill:#8ab4ff}.v{fill:#8c8c8c}.i{fill:#7f9ab0}
+.s1{fill:#084a6f}.s2{fill:#8d6408}.s3{fill:#08634a}.s4{fill:#7e4e68}
+.s5{fill:#39708f}.s6{fill:#833e08}.s7{fill:#767128}.s8{fill:#464646}
+[class^=on-s],[class^=on-h]{fill:#fff}[class^=on-h]{stroke:#000}
 }
 </style>
 <rect class=\"p\" width=\"100%\" height=\"100%\"/>
 ";
 
+/// What is drawn of a job that sleeps: its pale colour, and lines of its own.
+const HATCH: &str = "<pattern id=\"h{}\" width=\"12\" height=\"12\" patternUnits=\"userSpaceOnUse\">
+<path class=\"s{}\" d=\"M0 0h12v12h-12z\"/>
+<path class=\"j{}\" d=\"M0 8l8 -8h4l-12 12zM12 8v4h-4z\"/></pattern>
+";
+
 /// What blocks and colours mean.
 const LEGEND: &str =
-    "<text x=\"8\" y=\"{}\">Each block shows its job's {}; pale means asleep.</text>
+    "<text x=\"8\" y=\"{}\">Bright: the job runs; pale: it waits; hatched: it sleeps.</text>
 <path class=\"x\" d=\"M8 {}h20v20h-20z\"/>
 <text x=\"36\" y=\"{}\">too brief to draw: several blocks in one column ({} s)</text>
 <path class=\"y\" d=\"M790 {}h20v20h-20z\"/>
@@ -53,21 +65,56 @@ const TITLE: u64 = 36;
 /// How far down the lanes begin, in points.
 const TOP: u64 = 142;
 
-/// How far down the lanes are: of the running job, of core sets, of areas and of tasks.
-pub(crate) fn strip_of(place: Place, sets: u64) -> Strip {
-    let areas = 180 + 42 * sets.min(8);
-    let (y, height) = match place {
-        Place::Runs => (TOP, 24),
-        Place::Set(k) => (172 + 42 * k.min(7), 36),
-        Place::Area(area) => (areas + 30 * u64::from(area).min(5) - 30, 26),
-        Place::Tasks => (areas + 158, 84),
-    };
-    Strip { place, y, height }
+/// How high the lanes of events, of stolen and of idle time are.
+const LOW: u64 = 24;
+
+/// Which lanes there are: so many core sets; and if a clock runs, events, stolen and idle time.
+#[derive(Clone, Copy)]
+pub(crate) struct Sheet {
+    pub(crate) sets: u64,
+    pub(crate) is_timed: bool,
 }
 
-/// Where the lanes end.
-fn bottom(sets: u64) -> u64 {
-    422 + 42 * sets.min(8)
+impl Sheet {
+    /// How far down the core sets begin, and how far down the areas.
+    fn tops(self) -> (u64, u64) {
+        let sets = if self.is_timed { TOP + 30 } else { TOP };
+        (sets, sets + 8 + 42 * self.sets.min(8))
+    }
+
+    /// Where the lanes end.
+    pub(crate) fn bottom(self) -> u64 {
+        let (_sets, areas) = self.tops();
+        areas.saturating_add(if self.is_timed { 304 } else { 242 })
+    }
+
+    /// The lane of events.
+    pub(crate) fn events() -> Strip {
+        Strip {
+            place: Place::Events,
+            y: TOP,
+            height: LOW,
+        }
+    }
+
+    /// How far down a lane is, and how high.
+    pub(crate) fn strip_of(self, place: Place) -> Strip {
+        let (sets, areas) = self.tops();
+        let (y, height) = match place {
+            Place::Runs | Place::Events => return Sheet::events(),
+            Place::Set(k) => (sets.saturating_add(42 * k.min(7)), 36),
+            Place::Area(area) => (
+                areas
+                    .saturating_add(30 * u64::from(area).min(5))
+                    .saturating_sub(30),
+                26,
+            ),
+            Place::Tasks => (areas.saturating_add(158), 84),
+            Place::Stolen => (areas.saturating_add(250), LOW),
+            Place::Idle => (areas.saturating_add(280), LOW),
+        };
+        Strip { place, y, height }
+    }
 }
 
 /// Writes the title, or else the times.
@@ -94,13 +141,17 @@ fn put_heading<W: Write>(pen: &mut Pen<W>, labels: &Labels, scale: Scale) {
     pen.text("</text>\n<text x=\"8\" y=\"84\">seconds</text>\n");
 }
 
-/// Writes the head of a picture of so many core sets, up to the names of its lanes.
-pub(crate) fn put_head<W: Write>(pen: &mut Pen<W>, labels: &Labels, sets: u64, scale: Scale) {
-    begin_svg(pen, scale.width, bottom(sets).saturating_add(122));
+/// Writes the head of a picture of these lanes, up to their names.
+pub(crate) fn put_head<W: Write>(pen: &mut Pen<W>, labels: &Labels, sheet: Sheet, scale: Scale) {
+    begin_svg(pen, scale.width, sheet.bottom().saturating_add(122));
     pen.text("<title>");
     put_title(pen, labels, scale);
     pen.text("</title>\n");
     pen.text(STYLE);
+    for colour in 1..9u64 {
+        let colour = Number(colour);
+        pen.put(HATCH, &[colour, colour, colour]);
+    }
     put_heading(pen, labels, scale);
 }
 
@@ -113,6 +164,36 @@ pub(crate) fn put_ground<W: Write>(pen: &mut Pen<W>, strip: Strip, scale: Scale)
     pen.text("</text>");
     strip.put_path(pen, "f", 0, scale.columns);
     pen.text("/>\n");
+}
+
+/// Writes the rows of stolen time: the more is stolen, the higher, and how much, where there is
+/// room for it.
+pub(crate) fn put_stolen<W: Write>(pen: &mut Pen<W>, sheet: Sheet, scale: Scale, rows: &[Stolen]) {
+    let lane = sheet.strip_of(Place::Stolen);
+    for row in rows {
+        let percent = u64::from(row.percent).min(100);
+        let (from, to) = (
+            scale.column(u64::from(row.from)),
+            scale.column(u64::from(row.to)),
+        );
+        let height = (percent * LOW + 99) / 100;
+        let y = lane.y.saturating_add(LOW - height.min(LOW));
+        if from < to && 0 < percent {
+            Strip { y, height, ..lane }.put_path(pen, "v", from, to);
+            pen.put(
+                "><title>stolen: {} %, from {} s</title></path>\n",
+                &[Number(percent), Seconds(u64::from(row.from))],
+            );
+        }
+        if from.saturating_add(45) <= to {
+            let x = Number(Scale::x(from).saturating_add(3));
+            let base = Number(lane.y.saturating_add(21));
+            pen.put(
+                "<text x=\"{}\" y=\"{}\">{} %</text>\n",
+                &[x, base, Number(percent)],
+            );
+        }
+    }
 }
 
 /// Where the middle of a number of the axis is, whose line is here: a long one is never cut, nor
@@ -141,7 +222,7 @@ fn put_number<W: Write>(pen: &mut Pen<W>, scale: Scale, time: u64, end: u64) {
 }
 
 /// Writes the axis: whole steps of time.
-fn put_axis<W: Write>(pen: &mut Pen<W>, sets: u64, scale: Scale) {
+fn put_axis<W: Write>(pen: &mut Pen<W>, sheet: Sheet, scale: Scale) {
     let step = scale.step().max(1);
     let before = scale.from.saturating_add(step - 1) / step;
     let first = before.saturating_mul(step);
@@ -150,35 +231,28 @@ fn put_axis<W: Write>(pen: &mut Pen<W>, sets: u64, scale: Scale) {
         if time > scale.to {
             return;
         }
-        put_number(pen, scale, time, bottom(sets));
+        put_number(pen, scale, time, sheet.bottom());
     }
 }
 
 /// Writes what blocks and colours mean, and closes the picture.
-fn put_legend<W: Write>(pen: &mut Pen<W>, labels: &Labels, y: u64, scale: Scale) {
+fn put_legend<W: Write>(pen: &mut Pen<W>, y: u64, scale: Scale) {
     let (one, two) = (Number(y.saturating_add(36)), Number(y.saturating_add(70)));
     let (three, low) = (Number(y.saturating_add(104)), Number(y.saturating_add(85)));
     let high = Number(y.saturating_add(51));
-    let told = Text(labels.told());
     let length = Seconds(scale.column_length());
     pen.put(
         LEGEND,
         &[
-            one, told, high, two, length, high, two, low, three, low, three, three,
+            one, high, two, length, high, two, low, three, low, three, three,
         ],
     );
 }
 
 /// Writes what is to the right of the lanes and below them, for a run that ends in this column, and
 /// closes the picture.
-pub(crate) fn put_foot<W: Write>(
-    pen: &mut Pen<W>,
-    labels: &Labels,
-    sets: u64,
-    scale: Scale,
-    end: u64,
-) {
-    let low = bottom(sets);
+pub(crate) fn put_foot<W: Write>(pen: &mut Pen<W>, sheet: Sheet, scale: Scale, end: u64) {
+    let low = sheet.bottom();
     if end < scale.columns {
         let (x, width) = (
             Scale::x(end),
@@ -195,6 +269,6 @@ pub(crate) fn put_foot<W: Write>(
             ],
         );
     }
-    put_axis(pen, sets, scale);
-    put_legend(pen, labels, low, scale);
+    put_axis(pen, sheet, scale);
+    put_legend(pen, low, scale);
 }

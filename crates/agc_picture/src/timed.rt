@@ -1,150 +1,95 @@
 // How a run is drawn over time.
 use crate::drawing::Draws;
-use crate::held::{Held, PLACES, Place, full_table, held_in};
+use crate::held::{PLACES, Place, held_in};
 use crate::labels::Labels;
 use crate::lane::Lane;
+use crate::marks::{Room, put_code, put_event, put_line};
+use crate::palette::Palette;
 use crate::scale::Scale;
-use crate::sheet::{put_foot, put_ground, put_head, strip_of};
+use crate::sheet::{Sheet, put_foot, put_ground, put_head, put_stolen};
+use agc_clock::Timetables;
+use agc_document::Bench;
+use agc_run::Source;
+use agc_scenario::Timing;
 use agc_scene::{Event, Scene};
-use agc_text::Filling::{Number, Seconds, Text};
-use agc_text::{Pen, alarm_code};
+use agc_text::Pen;
 use std::alloc::{AllocError, Global};
 use std::io::Write;
 
-/// From where on the next marks have room: an alarm's line, a restart's line, and an alarm's code
-/// in the lower and in the upper row.
-#[derive(Clone, Copy)]
-struct Room {
-    alarm: u64,
-    restart: u64,
-    low: u64,
-    high: u64,
-}
-
-/// How a run is drawn over time: the time that has passed, what jobs are called, the lanes, and
-/// where marks have room.
+/// How a run is drawn over time: the time that has passed, what is timed, if a clock runs, what
+/// jobs are called and their colours, the lanes, and where marks have room.
 #[derive(Drop)]
-pub(crate) struct OverTime {
+pub(crate) struct OverTime<'a> {
     time: u64,
     scale: Scale,
-    sets: u64,
+    sheet: Sheet,
+    timing: Option<&'a Timing>,
     labels: Labels,
+    palette: Palette,
     lanes: Vec<Lane>,
     room: Room,
 }
 
-/// Where the job is that is in a lane, in a scene.
-fn address_of(scene: &Scene, place: Place, held: Held) -> Option<u16> {
-    match (place, held.seat) {
-        (_, Some(seat)) => Some(seat.at),
-        (Place::Area(_), None) => address_of_job(scene, held.number),
-        (_, None) => None,
-    }
-}
-
-/// Where the job of this number is, in a scene.
-fn address_of_job(scene: &Scene, number: u64) -> Option<u16> {
-    for seat in scene.seats() {
-        match *seat {
-            Some(seat) if seat.number as u64 == number => return Some(seat.at),
-            _ => {}
-        }
-    }
-    None
-}
-
-/// The lanes of a machine of so many core sets, that of the running job first.
-fn lanes_of(alloc: Global, sets: u64) -> Result<Vec<Lane>, AllocError> {
+/// The lanes in which something comes and goes.
+fn lanes_of(alloc: Global, sheet: Sheet) -> Result<Vec<Lane>, AllocError> {
     let mut lanes = Vec::new(alloc);
-    lanes.push(Lane::new(strip_of(Place::Runs, sets)))?;
     for place in PLACES {
         match place {
             Place::Runs => {}
-            _ if place.is_of(sets) => lanes.push(Lane::new(strip_of(place, sets)))?,
+            _ if place.is_of(sheet.sets) => lanes.push(Lane::new(sheet.strip_of(place)))?,
             _ => {}
         }
+    }
+    if sheet.is_timed {
+        lanes.push(Lane::new(sheet.strip_of(Place::Idle)))?;
     }
     Ok(lanes)
 }
 
-/// Writes the line of an alarm or restart, left of this place, and what it is as its title.
-fn put_line<W: Write>(pen: &mut Pen<W>, event: &Event, x: u64, end: u64) {
-    let (class, title) = match event.alarm() {
-        None => ("n", "restart"),
-        Some(alarm) => ("m", full_table(alarm, &event.scene)),
-    };
-    pen.put(
-        "<g class=\"{}\"><title>{}, at {} s</title><path d=\"M{} 140V{}\"/></g>\n",
-        &[
-            Text(class),
-            Text(title),
-            Seconds(event.total),
-            Number(x.saturating_sub(1)),
-            Number(end),
-        ],
-    );
-}
-
-impl Room {
-    /// Takes the room of a line in this column. False where one is there.
-    fn takes_line(&mut self, is_alarm: bool, column: u64) -> bool {
-        if is_alarm {
-            let has_room = self.alarm <= column;
-            self.alarm = column.saturating_add(1);
-            has_room
-        } else {
-            let has_room = self.restart <= column;
-            self.restart = column.saturating_add(1);
-            has_room
-        }
-    }
-
-    /// Takes the room of a code in the middle of which is this place, and returns how far down its
-    /// row is, if there is one.
-    fn takes_code(&mut self, x: u64) -> Option<u64> {
-        let next = x.saturating_add(78);
-        if self.low <= x {
-            self.low = next;
-            Some(136)
-        } else if self.high <= x {
-            self.high = next;
-            Some(111)
-        } else {
-            None
-        }
+/// The number of the event of a scenario that asked, if one did.
+fn event_of(source: Source) -> Option<usize> {
+    match source {
+        Source::Time(agc_clock::Source::Event(number)) => Some(number),
+        _ => None,
     }
 }
 
-impl OverTime {
-    /// A run of a machine of so many core sets is to be drawn on this scale, with these names.
+impl<'a> OverTime<'a> {
+    /// A run of a bench, in which time passes so, if a clock runs, is to be drawn on this scale,
+    /// with these names.
     pub(crate) fn new(
         alloc: Global,
-        sets: u64,
+        (bench, timing): (&Bench, Option<&'a Timing>),
         scale: Scale,
         labels: Labels,
-    ) -> Result<OverTime, AllocError> {
+    ) -> Result<OverTime<'a>, AllocError> {
+        let sheet = Sheet {
+            sets: bench.sets().count() as u64,
+            is_timed: timing.is_some(),
+        };
         Ok(OverTime {
             time: 0,
             scale,
-            sets,
+            sheet,
+            timing,
+            palette: Palette::of(&labels, bench, timing),
             labels,
-            lanes: lanes_of(alloc, sets)?,
-            room: Room {
-                alarm: 0,
-                restart: 0,
-                low: 0,
-                high: 0,
-            },
+            lanes: lanes_of(alloc, sheet)?,
+            room: Room::new(),
         })
     }
 
     /// This is in the lanes from now on.
     fn show(&mut self, scene: &Scene, is_era: bool) {
         let time = self.time;
+        self.palette.see(&self.labels, scene, is_era);
         for lane in self.lanes.iter_mut() {
-            let place = lane.strip.place;
-            let held = held_in(scene, place);
-            lane.change(held, address_of(scene, place, held), time, is_era);
+            let held = held_in(scene, lane.strip.place);
+            let origin = match lane.strip.place {
+                Place::Set(_) | Place::Area(_) => self.palette.origin(held.number),
+                _ => None,
+            };
+            lane.change(held, origin, time, is_era);
         }
     }
 
@@ -178,43 +123,50 @@ impl OverTime {
             return;
         }
         self.flush(pen);
-        let last = strip_of(Place::Tasks, self.sets);
-        put_line(pen, event, x, last.y.saturating_add(last.height));
-        if let Some(alarm) = event.alarm() {
-            if let Some(y) = self.room.takes_code(x) {
-                pen.put(
-                    "<g class=\"m\"><text x=\"{}\" y=\"{}\">{}</text></g>\n",
-                    &[Number(x), Number(y), Text(alarm_code(alarm))],
-                );
-            }
-        }
+        put_line(pen, event, x, self.sheet.bottom());
+        put_code(pen, &mut self.room, event, x);
+    }
+
+    /// Whether a time is shown.
+    fn shows(&self, time: u64) -> bool {
+        self.scale.from <= time && time <= self.scale.to
     }
 }
 
-impl Draws for OverTime {
-    /// Writes the head, and the grounds of all lanes.
+impl<'a> Draws for OverTime<'a> {
+    /// Writes the head, the grounds of all lanes, and the stolen time.
     fn begin<W: Write>(&mut self, pen: &mut Pen<W>, scene: Scene) {
         self.show(&scene, false);
         self.settle();
-        put_head(pen, &self.labels, self.sets, self.scale);
+        put_head(pen, &self.labels, self.sheet, self.scale);
+        if let Some(timing) = self.timing {
+            put_ground(pen, Sheet::events(), self.scale);
+            put_ground(pen, self.sheet.strip_of(Place::Stolen), self.scale);
+            put_stolen(pen, self.sheet, self.scale, timing.stolen());
+        }
         for lane in self.lanes.iter() {
             put_ground(pen, lane.strip, self.scale);
         }
     }
 
     /// Draws an event: time passes, then comes what it left, then the era that begins with it.
-    fn draw<W: Write>(&mut self, pen: &mut Pen<W>, event: Event) {
-        let (from, to) = (self.scale.from, self.scale.to);
+    fn draw<W: Write>(&mut self, pen: &mut Pen<W>, source: Source, event: Event) {
         self.time = event.total;
         self.pass(pen, self.scale.column(event.total));
         self.show(&event.scene, false);
+        if self.shows(event.total) {
+            if let Some(number) = event_of(source) {
+                let drawn = (&self.labels, self.scale);
+                put_event(pen, drawn, &mut self.room, (number, event.total));
+            }
+        }
         if let Some(era) = &event.era {
-            if from <= event.total && event.total <= to {
+            if self.shows(event.total) {
                 self.mark(pen, &event);
             }
             self.show(era, true);
         }
-        if event.total < from {
+        if event.total < self.scale.from {
             self.settle();
         }
     }
@@ -228,6 +180,6 @@ impl Draws for OverTime {
         };
         self.pass(pen, end);
         self.flush(pen);
-        put_foot(pen, &self.labels, self.sets, self.scale, end);
+        put_foot(pen, self.sheet, self.scale, end);
     }
 }

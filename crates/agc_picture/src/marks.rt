@@ -1,0 +1,149 @@
+// The marks of a picture over time: alarms, restarts, and events by name.
+use crate::held::full_table;
+use crate::labels::Labels;
+use crate::lane::Strip;
+use crate::scale::Scale;
+use crate::sheet::Sheet;
+use agc_scene::Event;
+use agc_text::Filling::{Bytes, Number, Seconds, Text};
+use agc_text::{Pen, alarm_code};
+use std::io::Write;
+
+/// How wide a letter of a name may be, in points.
+const LETTER: u64 = 18;
+
+/// From where on the next marks have room: an alarm's line, a restart's line, an alarm's code in
+/// the lower and in the upper row, an event's mark and its name. Which event was named last.
+#[derive(Clone, Copy)]
+pub(crate) struct Room {
+    alarm: u64,
+    restart: u64,
+    low: u64,
+    high: u64,
+    event: u64,
+    name: u64,
+    named: Option<usize>,
+}
+
+impl Room {
+    /// All is free.
+    pub(crate) fn new() -> Room {
+        Room {
+            alarm: 0,
+            restart: 0,
+            low: 0,
+            high: 0,
+            event: 0,
+            name: 0,
+            named: None,
+        }
+    }
+
+    /// Takes the room of a line in this column. False where one is there.
+    pub(crate) fn takes_line(&mut self, is_alarm: bool, column: u64) -> bool {
+        if is_alarm {
+            let has_room = self.alarm <= column;
+            self.alarm = column.saturating_add(1);
+            has_room
+        } else {
+            let has_room = self.restart <= column;
+            self.restart = column.saturating_add(1);
+            has_room
+        }
+    }
+
+    /// Takes the room of a code in the middle of which is this place, and returns how far down its
+    /// row is, if there is one.
+    fn takes_code(&mut self, x: u64) -> Option<u64> {
+        let next = x.saturating_add(78);
+        if self.low <= x {
+            self.low = next;
+            Some(136)
+        } else if self.high <= x {
+            self.high = next;
+            Some(111)
+        } else {
+            None
+        }
+    }
+
+    /// Takes the room of an event's mark in this column. False where one is there.
+    fn takes_mark(&mut self, column: u64) -> bool {
+        let has_room = self.event <= column;
+        self.event = self.event.max(column.saturating_add(2));
+        has_room
+    }
+
+    /// Takes the room of a name of so many letters, from this place on, up to the picture's end.
+    /// False where there is none, or where this event was named last.
+    fn takes_name(&mut self, event: usize, letters: u64, x: u64, end: u64) -> bool {
+        let next = letters.saturating_mul(LETTER).saturating_add(x);
+        let has_room = self.name <= x && next <= end && self.named != Some(event);
+        if has_room {
+            self.name = next;
+            self.named = Some(event);
+        }
+        has_room
+    }
+}
+
+/// Writes the line of an alarm or restart, left of this place, and what it is as its title.
+pub(crate) fn put_line<W: Write>(pen: &mut Pen<W>, event: &Event, x: u64, end: u64) {
+    let (class, title) = match event.alarm() {
+        None => ("n", "restart"),
+        Some(alarm) => ("m", full_table(alarm, &event.scene)),
+    };
+    pen.put(
+        "<g class=\"{}\"><title>{}, at {} s</title><path d=\"M{} 140V{}\"/></g>\n",
+        &[
+            Text(class),
+            Text(title),
+            Seconds(event.total),
+            Number(x.saturating_sub(1)),
+            Number(end),
+        ],
+    );
+}
+
+/// Writes an alarm's code above its line, where there is room.
+pub(crate) fn put_code<W: Write>(pen: &mut Pen<W>, room: &mut Room, event: &Event, x: u64) {
+    if let Some(alarm) = event.alarm() {
+        if let Some(y) = room.takes_code(x) {
+            pen.put(
+                "<g class=\"m\"><text x=\"{}\" y=\"{}\">{}</text></g>\n",
+                &[Number(x), Number(y), Text(alarm_code(alarm))],
+            );
+        }
+    }
+}
+
+/// Writes the mark of an event of a scenario, by its number, at the bottom of the lane, and its
+/// name above, where there is room: one that comes again and again is named once.
+pub(crate) fn put_event<W: Write>(
+    pen: &mut Pen<W>,
+    (labels, scale): (&Labels, Scale),
+    room: &mut Room,
+    (number, time): (usize, u64),
+) {
+    let column = scale.column(time);
+    let lane = Sheet::events();
+    if room.takes_mark(column) {
+        let mark = Strip {
+            y: lane.y.saturating_add(18),
+            height: 6,
+            ..lane
+        };
+        mark.put_path(pen, "e", column, column.saturating_add(2));
+        pen.text("/>\n");
+    }
+    let x = Scale::x(column).saturating_add(8);
+    if let Some((name, letters)) = labels.event(number) {
+        if room.takes_name(number, letters, x, scale.width) {
+            let base = Number(lane.y.saturating_add(16));
+            pen.put(
+                "<text class=\"e\" x=\"{}\" y=\"{}\">{}</text>\n",
+                &[Number(x), base, Bytes(name)],
+            );
+        }
+    }
+}
