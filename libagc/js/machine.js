@@ -1345,7 +1345,7 @@ function ofCore(call, count, number) {
  */
 export function readCore(memory, map) {
   known("a map", map, [...MAP, "endtask", "skip"], MAP);
-  const skipped = Array.from(memory).slice(map.skip ?? 0);
+  const skipped = Array.from(memory).slice(whole(map.skip ?? 0));
   const words = counted(skipped, skipped.length);
   leave();
   reach(at.plan + 2 * words.length);

@@ -222,6 +222,29 @@ Example: agc_watch sweep steal 0 20 5 scenario.toml",
     ],
 };
 
+const CORE: Row = Row {
+    name: "core",
+    called: "agc_watch core",
+    about: "Says what the tables in the memory of a real computer hold",
+    example: "\
+MAP is a TOML file that says where the tables are. FILE has the memory's words, an
+octal number in each line, as yaAGC writes its core dump.
+
+Example: agc_watch core share/maps/luminary099.toml LM.core",
+    arguments: &[
+        (
+            "map",
+            Form::Word("MAP", true),
+            "Where the tables are: a TOML file",
+        ),
+        (
+            "file",
+            Form::Word("FILE", false),
+            "The memory to read; standard input if none is named, or -",
+        ),
+    ],
+};
+
 const PLAY: Row = Row {
     name: "play",
     called: "agc_watch play",
@@ -235,8 +258,8 @@ const PLAY: Row = Row {
 };
 
 /// The commands, in the order of the help.
-const COMMANDS: [Row; 10] = [
-    TRACE, PICTURE, PAGE, CHECK, EXPLORE, BENCH, PEAKS, JOBS, SWEEP, PLAY,
+const COMMANDS: [Row; 11] = [
+    TRACE, PICTURE, PAGE, CHECK, EXPLORE, BENCH, PEAKS, JOBS, SWEEP, CORE, PLAY,
 ];
 
 /// A word or an option of a command, as `clap` reads it.

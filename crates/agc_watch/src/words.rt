@@ -58,6 +58,8 @@ pub(crate) enum Task<'a> {
     Bench,
     /// To say what comes of a scenario for each of these values of a number.
     Sweep(Values<'a>),
+    /// To say what the memory of a real computer holds, by the map in this file.
+    Core(&'a str),
 }
 
 /// Where the input is.
@@ -287,6 +289,7 @@ impl<'a, 'b> Words<'a, 'b> {
             "peaks" => Task::Show(Show::Peaks(self.given.get_flag("csv"))),
             "jobs" => Task::Show(Show::Jobs(self.given.get_flag("csv"))),
             "sweep" => Task::Sweep(self.sweep()),
+            "core" => Task::Core(self.given.get_str("map").unwrap_or("")),
             _ => Task::Play,
         }
     }

@@ -1,5 +1,6 @@
 //! What each command does with its input, which is a text.
 use crate::checking::{check_document, check_script};
+use crate::cores::write_core;
 use crate::documents::{Shown, bench_in, document_in, scenario_in};
 use crate::naming::columns_of;
 use crate::page::put_page;
@@ -243,6 +244,7 @@ pub(crate) fn work<W: Write>(
         Task::Play => play_bench(rt, manner, text, writer),
         Task::Bench => write_bench(alloc, text, writer),
         Task::Sweep(values) => write_sweep(alloc, values, text, &mut progress, writer),
+        Task::Core(map) => write_core(rt, map, text, writer),
         Task::TraceScript(choice) => trace_requests(alloc, choice, text, &mut progress, writer),
         Task::CheckScript => check_script(alloc, text, writer),
     }

@@ -1,0 +1,328 @@
+//! What the memory of a real computer says, by a map of its addresses.
+ghost use Rattle.std.specs.Prelude.{◌≡◌, ◌⊎◌, ◌+◌, ◌*◌, ◌<◌, length};
+ghost use Rattle.agc_core.specs.Map.{HasPlace, HasSet, IsSets, IsWithin};
+
+use crate::files::{read_file, unread};
+use crate::stops::Stop;
+use agc_check::add;
+use agc_core::{AgcMap, address_in, is_within, job_in, rule_in, task_in, word_in};
+use agc_program::Fault;
+use agc_text::Filling::{Number, Octal, Priority, Seconds, Text};
+use agc_text::{Pen, parse_word, read_all};
+use std::alloc::Global;
+use std::io::Write;
+use toml::Table;
+
+/// The addresses that a map has to have.
+const KEYS: [&str; 8] = [
+    "mpac", "vac1use", "newjob", "time3", "lst1", "lst2", "phase1", "failreg",
+];
+
+/// What the words of a core set are called.
+const SET_WORDS: [&str; 12] = [
+    "MPAC", "MPAC+1", "MPAC+2", "MPAC+3", "MPAC+4", "MPAC+5", "MPAC+6", "MODE", "LOC", "BANKSET",
+    "PUSHLOC", "PRIORITY",
+];
+
+/// What of a table is where, and how many numbers come before the memory.
+#[derive(Clone, Copy)]
+struct Read {
+    map: AgcMap,
+    skip: usize,
+}
+
+/// Why a map or a memory is refused.
+fn refused(alloc: Global, parts: &[&str]) -> Stop {
+    let mut told = String::new(alloc);
+    match add(&mut told, parts) {
+        Ok(()) => Stop::Said(1, told),
+        Err(error) => Stop::from(error),
+    }
+}
+
+/// The number that octal digits are.
+fn octal_of(digits: &str) -> Option<u32> {
+    let mut number = 0u32;
+    for byte in digits.as_bytes() {
+        let digit = match *byte {
+            b'0'..=b'7' => u32::from(*byte) - 48,
+            _ => return None,
+        };
+        number = number.saturating_mul(8).saturating_add(digit);
+    }
+    if digits.is_empty() {
+        None
+    } else {
+        Some(number)
+    }
+}
+
+/// The address that a map has under a key.
+fn address_at(table: &Table, key: &str) -> Option<u32> {
+    let value = table.get(key)?;
+    let word = parse_word(value.as_str()?)?;
+    Some(u32::from(word.bits()))
+}
+
+/// The address under this key of a map in a file of this name.
+fn wanted_at(alloc: Global, name: &str, table: &Table, key: &str) -> Result<u32, Stop> {
+    match address_at(table, key) {
+        Some(address) => Ok(address),
+        None => Err(refused(alloc, &[name, ": ", key, " has to be five octal digits"])),
+    }
+}
+
+/// The number under this key of a map, from the first of these up to the second.
+fn number_at(table: &Table, key: &str, least: i64, most: i64) -> Option<i64> {
+    let value = table.get(key)?;
+    let number = value.as_integer()?;
+    if least <= number && number <= most {
+        Some(number)
+    } else {
+        None
+    }
+}
+
+/// Whether a map may have this key.
+fn is_key(name: &str) -> bool {
+    let is_address = KEYS.iter().any(|key| *key == name);
+    is_address || name == "sets" || name == "endtask" || name == "skip"
+}
+
+/// The map that a table is.
+fn map_of(alloc: Global, name: &str, table: &Table) -> Result<Read, Stop> {
+    for key in table.keys() {
+        if !is_key(key.as_str()) {
+            return Err(refused(alloc, &[name, ": there is no key '", key.as_str(), "'"]));
+        }
+    }
+    let Some(sets) = number_at(table, "sets", 7, 8) else {
+        return Err(refused(alloc, &[name, ": sets has to be 7 or 8"]));
+    };
+    let skip = match table.get("skip") {
+        None => 0,
+        Some(_given) => match number_at(table, "skip", 0, 65535) {
+            Some(number) => number,
+            None => return Err(refused(alloc, &[name, ": skip has to be 0 to 65535"])),
+        },
+    };
+    let endtask = match table.get("endtask") {
+        None => 0,
+        Some(_given) => wanted_at(alloc, name, table, "endtask")?,
+    };
+    let map = AgcMap {
+        sets: if sets == 8 { 8 } else { 7 },
+        mpac: wanted_at(alloc, name, table, "mpac")?,
+        vac1use: wanted_at(alloc, name, table, "vac1use")?,
+        newjob: wanted_at(alloc, name, table, "newjob")?,
+        time3: wanted_at(alloc, name, table, "time3")?,
+        lst1: wanted_at(alloc, name, table, "lst1")?,
+        lst2: wanted_at(alloc, name, table, "lst2")?,
+        phase1: wanted_at(alloc, name, table, "phase1")?,
+        failreg: wanted_at(alloc, name, table, "failreg")?,
+        endtask,
+    };
+    let skip = if 0 <= skip { skip as usize } else { 0 };
+    Ok(Read { map, skip })
+}
+
+/// The map in a file.
+fn read_map(rt: &HostRuntime, name: &str) -> Result<Read, Stop> {
+    let alloc = rt.alloc();
+    let bytes = match read_file(rt, name) {
+        Ok(bytes) => bytes,
+        Err(error) => return Err(unread(alloc, name, &error)),
+    };
+    let text = match read_all(alloc, &mut bytes.as_slice()) {
+        Ok(text) => text,
+        Err(fault) => return Err(Stop::Fault(Fault::Read(fault))),
+    };
+    match toml::table_from_str(alloc, text.as_str()) {
+        Ok(table) => map_of(alloc, name, &table),
+        Err(error) if error.is_memory() => Err(Stop::Fault(Fault::NoMemory)),
+        Err(_error) => Err(refused(alloc, &[name, ": this is no TOML document"])),
+    }
+}
+
+/// The words of a memory, an octal number in each line.
+fn words_of(alloc: Global, text: &str) -> Result<Vec<u16>, Stop> {
+    let mut words = Vec::new(alloc);
+    for line in text.lines() {
+        let digits = line.trim();
+        if digits.is_empty() {
+            continue;
+        }
+        match octal_of(digits) {
+            Some(number) if number <= 65535 => match words.push(number as u16) {
+                Ok(()) => {}
+                Err(_failed) => return Err(Stop::Fault(Fault::NoMemory)),
+            },
+            _ => return Err(refused(
+                alloc,
+                &["'", digits, "' is no octal number of sixteen bits"],
+            )),
+        }
+    }
+    Ok(words)
+}
+
+/// Writes what a place of the words is called.
+fn put_place<W: Write>(pen: &mut Pen<W>, place: usize) {
+    let set = |set: usize| [Text(SET_WORDS[place % 12]), Number(set as u64)];
+    match place {
+        0..=83 => pen.put("{} of core set {}", &set(place / 12)),
+        84..=88 => pen.put("VAC{}USE", &[Number(place as u64 - 83)]),
+        89 => pen.text("NEWJOB"),
+        90 => pen.text("TIME3"),
+        91..=98 => pen.put("LST1+{}", &[Number(place as u64 - 91)]),
+        99..=116 => pen.put("LST2+{}", &[Number(place as u64 - 99)]),
+        117..=128 if place % 2 == 1 => pen.put("-PHASE{}", &[Number((place as u64 - 115) / 2)]),
+        117..=128 => pen.put("PHASE{}", &[Number((place as u64 - 116) / 2)]),
+        129..=131 => pen.put("FAILREG+{}", &[Number(place as u64 - 129)]),
+        _ => pen.put("{} of core set {}", &set(7)),
+    }
+}
+
+/// What a rule says.
+fn rule_text(rule: u32) -> &'static str {
+    match rule {
+        1 => "a word has at most fifteen bits",
+        4 => "LOC of a job is an address, 1 to 37777",
+        5 => "PRIORITY of a job has a priority, 1 to 31",
+        6 => "PRIORITY of a job ends with a VAC area's address, or 0",
+        9 => "a use word is 0 where a job owns the area, else its address",
+        10 => "NEWJOB is a zero, or names a core set with an awake job",
+        11 => "TIME3 isn't negative",
+        13 => "a task's address is 1 to 37777",
+        14 => "LST1 between two tasks is 1 or 0, or negative",
+        15 => "LST1 behind the last task is 57777",
+        16 => "tasks stand before empty places",
+        17 => "a phase is at most 127",
+        18 => "-PHASE is the complement of PHASE",
+        19 => "FAILREG has 0, 1107, 1201, 1202 or 1203",
+        _ => "where no task waits, LST2 has 0, and not ENDTASK",
+    }
+}
+
+/// Writes who holds a core set.
+fn put_set<W: Write>(pen: &mut Pen<W>, memory: &[u16], map: &AgcMap, set: usize)
+    requires within { IsWithin map.now (length memory.now) }
+    requires set { HasSet map.now set }
+{
+    pen.fill("core set ", Number(set as u64));
+    let Some(job) = job_in(memory, map, set) else {
+        return pen.text(": free\n");
+    };
+    pen.fill(": priority ", Priority(job.priority));
+    pen.text(if job.asleep { ", asleep" } else { "" });
+    pen.put(", LOC {}, BANKSET {}", &[Octal(job.at), Octal(job.bank)]);
+    if job.area != 0 {
+        pen.fill(", VAC area ", Number(u64::from(job.area)));
+    }
+    pen.text("\n");
+}
+
+/// Writes which VAC areas are taken.
+fn put_areas<W: Write>(pen: &mut Pen<W>, memory: &[u16], map: &AgcMap)
+    requires within { IsWithin map.now (length memory.now) }
+    requires sets { HasSet map.now 0 }
+{
+    pen.text("VAC areas taken:");
+    for area in 0..5usize {
+        if word_in(memory, map, 84 + area) == 0 {
+            pen.fill(" ", Number(area as u64 + 1));
+        }
+    }
+    pen.text("\n");
+}
+
+/// Writes which tasks wait.
+fn put_tasks<W: Write>(pen: &mut Pen<W>, memory: &[u16], map: &AgcMap)
+    requires within { IsWithin map.now (length memory.now) }
+    requires sets { HasSet map.now 0 }
+{
+    for place in 0..9usize {
+        if let Some(task) = task_in(memory, map, place) {
+            let told = [
+                Octal(task.at),
+                Octal(task.bank),
+                Seconds(u64::from(task.left)),
+            ];
+            pen.put("task {}/{} in {} s\n", &told);
+        }
+    }
+}
+
+/// Writes the phases, FAILREG and NEWJOB.
+fn put_base<W: Write>(pen: &mut Pen<W>, memory: &[u16], map: &AgcMap)
+    requires within { IsWithin map.now (length memory.now) }
+    requires sets { HasSet map.now 0 }
+{
+    pen.text("PHASE");
+    for group in 0..6usize {
+        pen.fill(" ", Octal(word_in(memory, map, 118 + 2 * group)));
+    }
+    pen.text("\nFAILREG");
+    for place in 129..132usize {
+        pen.fill(" ", Octal(word_in(memory, map, place)));
+    }
+    pen.fill("\nNEWJOB ", Octal(word_in(memory, map, 89)));
+    pen.text("\n");
+}
+
+/// Writes which words a model wouldn't hold.
+fn put_odd<W: Write>(pen: &mut Pen<W>, memory: &[u16], map: &AgcMap)
+    requires within { IsWithin map.now (length memory.now) }
+    requires sets { IsSets map.now.sets }
+{
+    for place in 0..48 + 12 * map.sets as usize {
+        let rule = rule_in(memory, map, place);
+        if rule != 0 {
+            pen.text("odd: ");
+            put_place(pen, place);
+            let word = word_in(memory, map, place);
+            let at = address_in(map, place).min(65535) as u16;
+            pen.put(
+                ", at {}, is {}: {}\n",
+                &[Octal(at), Octal(word), Text(rule_text(rule))],
+            );
+        }
+    }
+}
+
+/// Writes what a memory says, by a map.
+fn put_core<W: Write>(pen: &mut Pen<W>, memory: &[u16], map: &AgcMap)
+    requires within { IsWithin map.now (length memory.now) }
+    requires sets { IsSets map.now.sets }
+{
+    for set in 0..map.sets as usize {
+        put_set(pen, memory, map, set);
+    }
+    put_areas(pen, memory, map);
+    put_tasks(pen, memory, map);
+    put_base(pen, memory, map);
+    put_odd(pen, memory, map);
+}
+
+/// Writes what the memory that a text is says, by the map in a file of this name. The exit status
+/// is 0.
+pub(crate) fn write_core<W: Write>(
+    rt: &HostRuntime,
+    name: &str,
+    text: &str,
+    writer: &mut W,
+) -> Result<u8, Stop> {
+    let alloc = rt.alloc();
+    let Read { map, skip } = read_map(rt, name)?;
+    let words = words_of(alloc, text)?;
+    let memory = words.as_slice().get(skip..).unwrap_or(&[]);
+    if (map.sets != 7 && map.sets != 8) || !is_within(&map, memory.len()) {
+        return Err(refused(alloc, &[name, ": a table is beyond the end of the memory"]));
+    }
+    let mut pen = Pen::new(writer);
+    put_core(&mut pen, memory, &map);
+    match pen.end() {
+        Ok(()) => Ok(0),
+        Err(_failed) => Err(Stop::Fault(Fault::Output)),
+    }
+}
