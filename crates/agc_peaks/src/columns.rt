@@ -38,3 +38,8 @@ pub(crate) fn put_cells<W: Write>(
         put_cell(pen, *width, *cell);
     }
 }
+
+/// Hundredths of a centisecond as seconds, to the nearest hundredth.
+pub(crate) fn seconds(hundredths: u64) -> Filling<'static> {
+    Filling::Seconds(hundredths.saturating_add(50) / 100)
+}

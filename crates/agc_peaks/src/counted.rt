@@ -61,6 +61,7 @@ pub(crate) fn counted_to_end<W: Write>(
     let mut tally = Tally::new(run.machine());
     while let Some(asked) = run.next() {
         let counts = counts_then(run.machine(), &asked.request);
+        tally.pass(run.clock());
         let mut fired = Fired::new();
         let answer = run.ask(&asked, &mut fired);
         let ended = tally.come(run.machine(), &asked.request, counts, &answer);

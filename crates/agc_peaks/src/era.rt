@@ -1,5 +1,5 @@
 //! What is counted of an era.
-use crate::columns::{put_cell, put_cells, put_spaces};
+use crate::columns::{put_cell, put_cells, put_spaces, seconds};
 use crate::counting::Counts;
 use agc_text::Filling::{Number, Seconds, Text};
 use agc_text::{Filling, Pen};
@@ -11,13 +11,14 @@ const HEADING: &str = " era    begins  by         lasts  requests  begun  ended 
 
 /// The same as a row of comma-separated values.
 const NAMES: &str = "era,begins,by,lasts,requests,begun,ended,sets,sets_since,areas,areas_since,\
-    tasks,tasks_since,idle,ended_by\n";
+    tasks,tasks_since,idle,lost,ended_by\n";
 
-/// How eras are written: with the percentage of their ticks at which no job was running, or
-/// without; and as comma-separated values, or in columns. Source: profile.
+/// How eras are written: with what is known where time passes by itself, which is the percentage of
+/// their ticks at which no job was running, and the computing that was lost, or without; and as
+/// comma-separated values, or in columns. Source: profile.
 #[derive(Clone, Copy)]
 pub(crate) struct Style {
-    pub(crate) has_idle: bool,
+    pub(crate) has_time: bool,
     pub(crate) csv: bool,
 }
 
@@ -61,6 +62,8 @@ pub(crate) struct Era {
     pub(crate) tasks: Most,
     /// At how many ticks no job was running.
     pub(crate) idle: u64,
+    /// How many hundredths of a centisecond the jobs had computed that were lost as it ended.
+    pub(crate) lost: u64,
 }
 
 impl Era {
@@ -79,6 +82,7 @@ impl Era {
             areas: NONE,
             tasks: NONE,
             idle: 0,
+            lost: 0,
         };
         era.see(counts, began);
         era
@@ -110,24 +114,25 @@ impl Era {
     /// Writes its row.
     pub(crate) fn put<W: Write>(&self, style: Style, pen: &mut Pen<W>) {
         if style.csv {
-            put_csv(self, style.has_idle, pen);
+            put_csv(self, style.has_time, pen);
         } else {
-            self.put_columns(style.has_idle, pen);
+            self.put_columns(style.has_time, pen);
         }
     }
 
     /// Writes its row in columns.
-    fn put_columns<W: Write>(&self, has_idle: bool, pen: &mut Pen<W>) {
+    fn put_columns<W: Write>(&self, has_time: bool, pen: &mut Pen<W>) {
         put_cell(pen, 4, Number(self.number));
         pen.text(" ");
         put_cell(pen, 9, Seconds(self.began));
         pen.fill("  ", Text(self.by));
         put_spaces(pen, self.by.len(), 7);
         put_cells(pen, " ", &WIDTHS, &numbers(self));
-        if has_idle {
+        if has_time {
             pen.text(" ");
             put_cell(pen, 4, Number(self.idle_percent()));
             pen.text("%");
+            put_cells(pen, " ", &[7], &[seconds(self.lost)]);
         }
         pen.fill("  ", Text(self.end));
         pen.text("\n");
@@ -151,15 +156,17 @@ fn numbers(era: &Era) -> [Filling<'static>; 10] {
 }
 
 /// Writes an era's row as comma-separated values.
-fn put_csv<W: Write>(era: &Era, has_idle: bool, pen: &mut Pen<W>) {
+fn put_csv<W: Write>(era: &Era, has_time: bool, pen: &mut Pen<W>) {
     let first = [Number(era.number), Seconds(era.began), Text(era.by)];
     pen.put("{},{},{}", &first);
     for cell in numbers(era) {
         pen.fill(",", cell);
     }
-    pen.text(",");
-    if has_idle {
-        pen.add(Number(era.idle_percent()));
+    if has_time {
+        let fillings = [Number(era.idle_percent()), seconds(era.lost)];
+        pen.put(",{},{}", &fillings);
+    } else {
+        pen.text(",,");
     }
     pen.put(",{}\n", &[Text(era.end)]);
 }
@@ -171,8 +178,8 @@ pub(crate) fn put_heading<W: Write>(style: Style, pen: &mut Pen<W>) {
         return;
     }
     pen.text(HEADING);
-    pen.text(if style.has_idle {
-        "  idle  ended by\n"
+    pen.text(if style.has_time {
+        "  idle    lost  ended by\n"
     } else {
         "  ended by\n"
     });

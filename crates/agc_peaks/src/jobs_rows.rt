@@ -1,5 +1,5 @@
 //! The table of a run's jobs.
-use crate::columns::{put_cells, put_spaces};
+use crate::columns::{put_cells, put_spaces, seconds};
 use crate::ledger::{Kind, Ledger, Spent};
 use crate::rows::put_quoted;
 use agc_scenario::Timing;
@@ -21,11 +21,6 @@ const WIDTHS: [usize; 12] = [5, 5, 5, 5, 7, 7, 7, 7, 9, 7, 8, 10];
 
 /// The names of the columns of the second table.
 const ERAS: &str = "\n era    begins     lasts  computing  stolen    idle\n";
-
-/// Hundredths of a centisecond as seconds, to the nearest hundredth.
-fn seconds(hundredths: u64) -> Filling<'static> {
-    Seconds(hundredths.saturating_add(50) / 100)
-}
 
 /// A part of a whole in thousandths, to the nearest.
 fn thousandths(part: u64, whole: u64) -> u64 {

@@ -42,8 +42,9 @@ fn put_eras<W: Write>(mut run: Run<'_>, style: Style, writer: &mut W) -> Result<
 /// Runs a scenario, and writes for each era when it began and why, how long it lasted, how many
 /// requests were served and jobs begun and ended in it, the most core sets, VAC areas and places of
 /// the Waitlist that were in use at once and since when, the percentage of its ticks at which no
-/// job was running, and what ended it; as comma-separated values, if that is asked. The writer is
-/// not flushed. Source: profile.
+/// job was running, how many seconds the jobs had computed that were lost as it ended, and what
+/// ended it; as comma-separated values, if that is asked. The writer is not flushed. Source:
+/// profile.
 ///
 /// # Errors
 ///
@@ -57,14 +58,15 @@ pub fn scenario_peaks<W: Write>(
     let machine = machine_of(alloc, scenario.bench())?;
     let asks = Asks::of_scenario(scenario.timing());
     let style = Style {
-        has_idle: true,
+        has_time: true,
         csv,
     };
     put_eras(Run::new(machine, asks), style, writer)
 }
 
 /// Asks a bench's machine for all its requests, as `serial` does, and writes the same for each era,
-/// without the percentage of its ticks at which no job was running. The writer is not flushed.
+/// without the percentage of its ticks at which no job was running and without what was lost. The
+/// writer is not flushed.
 /// Source: profile.
 ///
 /// # Errors
@@ -77,7 +79,7 @@ pub fn bench_peaks<W: Write>(
     writer: &mut W,
 ) -> Result<(), RunFault> {
     let style = Style {
-        has_idle: false,
+        has_time: false,
         csv,
     };
     put_eras(

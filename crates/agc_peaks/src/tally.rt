@@ -4,6 +4,7 @@ ghost use Rattle.agc_clock.specs.Runs.{begins_with};
 
 use crate::counting::{Counts, counts_of};
 use crate::era::Era;
+use agc_clock::Clock;
 use agc_machine::{Machine, Refusal};
 use agc_plan::{Alarm, Reply, Request};
 use agc_text::alarm_code;
@@ -50,6 +51,9 @@ pub(crate) struct Tally {
     pub(crate) longest: u32,
     /// How full the tables are.
     held: Counts,
+    /// How many hundredths of a centisecond the jobs that live have computed since they were
+    /// established or roused, before the present request.
+    given: u64,
     era: Era,
     found: Found,
 }
@@ -64,6 +68,7 @@ impl Tally {
             refused: 0,
             longest: 0,
             held,
+            given: 0,
             era: Era::new(1, 0, "start", held),
             found: Found {
                 code: "",
@@ -116,11 +121,23 @@ impl Tally {
             None if *request == Request::Fresh => end = "fresh start",
             None => {}
         }
-        let ended = self.era(end);
+        let mut ended = self.era(end);
+        ended.lost = self.given;
         self.found.saw(&ended);
         self.held = counts_of(machine.erasable());
         self.era = Era::new(ended.number.saturating_add(1), self.time, by, self.held);
         ended
+    }
+
+    /// Takes note of what a clock has given to jobs, before it is asked for a request.
+    pub(crate) fn pass(&mut self, clock: Option<&Clock>) {
+        if let Some(clock) = clock {
+            let mut sum: u64 = 0;
+            for given in clock.given().iter() {
+                sum = sum.saturating_add(u64::from(*given));
+            }
+            self.given = sum;
+        }
     }
 
     /// Takes note of what a machine answered to a request, which left its tables so full before an
