@@ -13,6 +13,9 @@ import { seconds, visible } from "./words.js";
 /** How many times real time, and which is chosen first. */
 const SPEEDS = [0.1, 0.2, 0.5, 1, 2, 5, 10, 20, 50, 100];
 
+/** How long one waits at most for the first alarm, or for the end, in ticks of the reader's time. */
+const PATIENCE = 800;
+
 /** How many requests are asked at a stretch, so that the page goes on answering. */
 const STRETCH = 64_000;
 
@@ -53,6 +56,17 @@ export class ClockPanel {
     this.sliders = new Sliders((given, name) => this.change(given, this.isWhole, name));
     fill("speed", SPEEDS.map((it) => make("option", { value: String(it) }, `${it} ×`)));
     by("speed").value = "1";
+  }
+
+  /**
+   * Chooses a speed at which something happens soon: the first alarm, if it isn't hidden, or the end.
+   * @param {Run} run
+   */
+  suit(run) {
+    const [alarm] = run.source.isHidden ? [] : run.alarms;
+    const ticks = run.bench.seconds === undefined ? 0 : run.ticksAt(alarm ?? run.count);
+    const speed = SPEEDS.find((it) => it >= 1 && it * PATIENCE >= ticks) ?? 100;
+    by("speed").value = String(speed);
   }
 
   /**
@@ -238,7 +252,6 @@ export class ClockPanel {
     this.last = performance.now();
     this.drawn = 0;
     if (!this.hasMore) this.runToAddTo();
-    by("sentence").setAttribute("aria-live", "off");
     this.drawButtons();
     requestAnimationFrame((now) => this.frame(now));
   }
@@ -246,7 +259,6 @@ export class ClockPanel {
   pause() {
     if (!this.isRunning) return;
     this.isRunning = false;
-    by("sentence").setAttribute("aria-live", "polite");
     this.drawButtons();
     this.workbench.drawAll();
   }
@@ -255,6 +267,10 @@ export class ClockPanel {
     by("run").textContent = this.isRunning ? "Pause" : "Run";
     by("run").setAttribute("aria-pressed", String(this.isRunning));
     document.body.classList.toggle("running", this.isRunning);
+    // (nothing is read aloud while time passes)
+    for (const it of document.querySelectorAll("[aria-live]")) {
+      it.setAttribute("aria-live", this.isRunning ? "off" : "polite");
+    }
   }
 
   /**

@@ -227,6 +227,7 @@ class Workbench {
     this.forgetBefore();
     this.history.show({ run, count: run.count, at: 0 });
     this.history.branches = [];
+    this.clock.suit(run);
     this.drawAll();
     this.keep();
   }
@@ -929,7 +930,6 @@ async function begin() {
     const [first] = workbench.view.run.alarms;
     workbench.stage.scale?.see(0, 1.15 * workbench.view.run.ticksAt(first));
     workbench.stage.drawSeen();
-    by("speed").value = "5";
     workbench.guide.begin();
   } else workbench.drawAll();
   clearTimeout(workbench.keeping);

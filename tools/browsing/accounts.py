@@ -350,7 +350,7 @@ def try_endings(browser, trial):
     path = browser.value("location.pathname")
     browser.show(path, "#exercise-1")
     for row, wanted in ((5, "Job 1 ended: its core set and its VAC area are free. Job 3 runs next, at 02000.|"),
-                        (12, "A job is in each core set. Since the beginning ")):
+                        (12, "All five VAC areas are owned. Since the beginning ")):
         go_to(browser, str(row))
         told = texts(browser, "#account li")
         trial.expect(f"row {row}: {told}", told.startswith(wanted))

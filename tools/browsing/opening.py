@@ -55,6 +55,10 @@ def opening(browser, folder):
     browser.value("document.querySelectorAll('#guide-steps button')[1].click()")
     browser.show(path)
     trial.expect("a guide that was skipped comes again", browser.value(GUIDE) == "")
+    for mark, wanted in ("#apollo-11", "50"), ("#landing-1202", "5"), ("#landing", "5"), ("#no-vac-area", "1"), ("#new", "1"):
+        browser.show(path, mark)
+        speed = browser.value("document.getElementById('speed').value")
+        trial.expect(f"{mark}: {speed} times as fast", speed == wanted)
     try_new(browser, trial)
     trial.expect(f"{browser.shown()['broken']}", not browser.shown()["broken"])
     return trial.faults

@@ -3,7 +3,7 @@ import json
 import time
 
 from browsing.browser import LAPTOP, PHONE
-from browsing.pages import PROGRAM, Trial, exercise, go_to, open_text, says, save, texts, type_line, written
+from browsing.pages import PROGRAM, TOP, Trial, exercise, go_to, open_text, says, save, texts, type_line, written
 
 ASKED = 'script = ["novac 20 04000 00005", "findvac 30 04100 00005", "sleep 06000", "list 100 02000 00005", "phase 3 2"]\n'
 
@@ -48,6 +48,7 @@ def touching(browser, folder):
     try_also(browser, trial)
     try_phone(browser, trial, path)
     try_flown(browser, trial, path)
+    try_words(browser, trial, path)
     trial.expect(f"{browser.shown()['broken']}", not browser.shown()["broken"])
     try_no_module(browser, trial, folder)
     return trial.faults
@@ -93,13 +94,18 @@ def try_phone(browser, trial, path):
     cut = browser.value("(() => { const it = document.getElementById('sentence'); return it.scrollWidth > it.clientWidth || it.scrollHeight > it.clientHeight + 1; })()")
     trial.expect("the alarm's text is cut on a phone", not cut)
     browser.press("Home")
+    live = "Array.from(document.querySelectorAll('[aria-live]'), (it) => it.ariaLive).filter((it) => it !== 'off').length"
+    loud = browser.value(live)
+    browser.value("document.querySelector('#sets .cover').click()")
     browser.click("run")
+    trial.expect(f"{browser.value(live)} of {loud} are read aloud while it runs", loud > 5 and browser.value(live) == 0)
     browser.value("document.getElementById('sets-name').scrollIntoView()")
     time.sleep(0.3)
     seen = browser.value("(() => { const bar = document.querySelector('.bar').getBoundingClientRect();"
                          " return innerHeight - bar.bottom; })()")
     trial.expect(f"{seen} points of tables while it runs", seen > 300)
     browser.click("run")
+    trial.expect("nothing is read aloud any more", browser.value(live) == loud)
     browser.width(*LAPTOP)
 
 
@@ -112,6 +118,24 @@ def try_flown(browser, trial, path):
     trial.expect(f"before it is read: {texts(browser, '#dsky span')}", texts(browser, "#dsky span") == "PROG on|VERB 05 NOUN 09: 01202 01202 01202")
     browser.press("Home")
     trial.expect(f"at the beginning: {texts(browser, '#dsky span')}", texts(browser, "#dsky span") == "PROG off|VERB 05 NOUN 09: 00000 00000 00000")
+
+
+# What the glossary and the model's description both say of the field's words.
+BOTH = {"sets": ("the address at which it begins, its priority and six work words", "The job in core set 0 runs, unless every job is asleep"),
+        "areas": ("a longer block of memory",), "tasks": ("There is room for nine",),
+        "phases": ("There are six restart groups, and each has a phase",), "codes": ("FAILREG keeps the codes of alarms",)}
+
+
+def try_words(browser, trial, path):
+    """The words that are touched are told as docs/MODEL.md has them."""
+    with open(f"{TOP}/docs/MODEL.md", encoding="utf-8") as file:
+        model = " ".join(file.read().replace("**", "").split())
+    browser.show(path, "#new")
+    for list_name, wanted in BOTH.items():
+        browser.value(f"document.querySelector('#{list_name} .cover').click()")
+        told = browser.text("touch-body")
+        for it in wanted:
+            trial.expect(f"{list_name}: {it!r} isn't in the model's words and in {told}", it in told and it in model)
 
 
 def try_no_module(browser, trial, folder):
