@@ -232,7 +232,7 @@ typedef struct { uint32_t code, at, bank; } AgcTask;
 /* A job in a core set: its number, 0 where the set is free; its priority; where it begins, or at which
    address it sleeps; the word for its bank; its VAC area, 1 to 5, or 0; whether it sleeps; and its six
    work words. */
-AGC_TYPE struct { uint32_t code, number, priority, at, bank, area; bool asleep; uint16_t work[AGC_WORK]; } AgcJob;
+AGC_TYPE struct { uint32_t code, number, priority, at, bank, area; bool asleep; uint16_t work[6]; } AgcJob;
 
 /* A task that waits, and the centiseconds that are left to it. Its address is 0 where there is none. */
 typedef struct { uint32_t code, at, bank, left; } AgcWaiting;

@@ -18,7 +18,7 @@ import agc
 
 NUMBERS = {"uint32_t": "u32", "int32_t": "i32", "uint8_t": "u8", "bool": "bool", "char": "u8", "uint64_t": "u64", "size_t": "usize"}
 NUMBERS |= {"uint16_t": "u16", "AgcAction": "AgcRequest"}
-SIZES = {"AGC_WORK": 6, "AGC_WORDS": 144, "AGC_PHASE_WORDS": 12, "AGC_FIRED": 9, "AGC_ACTIONS": 4}
+SIZES = {"AGC_WORDS": 144, "AGC_PHASE_WORDS": 12, "AGC_FIRED": 9, "AGC_ACTIONS": 4}
 LENGTHS = {"rows": "row_count", "entries": "entry_count", "text: &[": "length", "text: &mut [": "room"}
 LENGTHS |= {"memory": "memory_size", "stolen": "stolen_count", "costs": "cost_count", "events": "event_count", "requests": "request_count"}
 

@@ -169,6 +169,9 @@ function answers() {
   const wide = Array.from(machine.words, (it, place) => (place === 5 ? 65535 : it));
   found.push(["findingOf", agc.findingOf(machine.words)], ["findingOf", agc.findingOf(untidy)], ["findingOf", agc.findingOf(wide)]);
   found.push(["placeName", agc.placeName(89)]);
+  const map = { sets: 7, mpac: 0, vac1use: "00200", newjob: 400, time3: 401, lst1: 402, lst2: 410, phase1: 428, failreg: 440 };
+  const memory = Array.from({ length: 500 }, (_, k) => (k === 11 ? 512 : k % 12 === 11 && k < 84 ? 32767 : 1));
+  found.push(["readCore", agc.readCore(memory, { ...map, endtask: 5, skip: 0 })]);
   found.push(["Machine.of", agc.Machine.of(machine.state)], ["Clock.of", agc.Clock.of(clock.state)]);
   found.push(["Machine.copy", machine.copy()], ["Machine.report", machine.report()], ["codeText", agc.codeText(1)], ["replyText", agc.replyText(99)]);
   found.push(["Step.toString", `${step}`], ["Asked.toString", `${first}`], ["Lacking.constructor", new agc.Lacking(1)]);
@@ -190,7 +193,7 @@ async function compareAnswers() {
     if (!named.has(name)) faults.push(`types: ${name} isn't called`);
     else for (const it of told) for (const one of wanted(it, name)) if (!seen.has(one)) faults.push(`types: ${one} doesn't come up`);
   }
-  for (const name of ["Step", "Asked", "Machine", "Clock", "Lacking", "Scene", "Job", "Waiting", "Task", "Totals"]) {
+  for (const name of ["Step", "Asked", "Machine", "Clock", "Lacking", "Scene", "Job", "Waiting", "Task", "Totals", "Core", "Odd"]) {
     for (const [member, { type }] of types.get(name)) {
       const where = `${name}.${member}`;
       for (const it of [where, ...wanted(type, where)]) if (!seen.has(it)) faults.push(`types: ${it} doesn't come up`);
