@@ -301,6 +301,23 @@ export function* requestsOf(bench) {
 }
 
 /**
+ * Whether an event ever comes.
+ * @param {EventRow} event
+ */
+export function comes({ at, every, until }) {
+  return every === undefined || until === undefined || at <= until;
+}
+
+/**
+ * What the module's clock is given, of a bench or of what is changed of it: an event that never comes
+ * is left out, since the module takes none.
+ * @param {any} given
+ */
+export function timetableOf(given) {
+  return given.event === undefined ? given : { ...given, event: given.event.filter(comes) };
+}
+
+/**
  * How many requests a bench asks for.
  * @param {Bench} bench
  */

@@ -13,6 +13,7 @@
  *   isAfter?: boolean }} Shown
  */
 import { Kind, Machine, sceneOf } from "../libagc/js/machine.js";
+import { timetableOf } from "./bench.js";
 import { Column } from "./column.js";
 import { Lanes } from "./lanes.js";
 
@@ -412,7 +413,7 @@ export class Run {
    */
   changeAt(state, row) {
     if (state.clock === null) return;
-    for (const it of this.changes) if (it.row === row) state.clock.change(it.given);
+    for (const it of this.changes) if (it.row === row) state.clock.change(timetableOf(it.given));
   }
 
   /**
@@ -423,7 +424,7 @@ export class Run {
   change(bench, given) {
     this.changes.push({ row: this.count, given, before: this.bench });
     this.bench = { ...this.bench, ...bench };
-    this.head.clock.change(given);
+    this.head.clock.change(timetableOf(given));
   }
 
   /**

@@ -10,7 +10,7 @@ import repository
 from browsing.benches import compare_words, random_line
 from browsing.opened import TIGHT
 from browsing.pages import (
-    COUNTS, PROGRAM, TOP, Trial, open_text, press_try, save, saved, says, table, written)
+    COUNTS, PROGRAM, TOP, Trial, open_text, press_try, save, saved, says, set_slider, table, written)
 
 
 def random_scenario(dice):
@@ -68,11 +68,24 @@ def clock(browser, folder):
         found = tomllib.loads(saved(browser)[0]).get("script", [])
         if trial.expect(f"{len(found)} requests, not {len(asked)}: {scenario}", found == asked):
             compare_words(browser, trial, bench)
+    try_never(browser, trial)
     try_time(browser, trial)
     try_alarm(browser, trial)
     try_landing(browser, trial)
     trial.expect(f"{browser.shown()['broken']}", not browser.shown()["broken"])
     return trial.faults
+
+
+def try_never(browser, trial):
+    """An event whose `until` is before its `at` never comes, as agc_watch says, and the others keep their numbers."""
+    fault = open_text(browser, "seconds = 1\n" + table("event", at=30, every=10, until=29, do="novac 20 04000 00005")
+                      + table("event", at=60, do="novac 20 04100 00005"))
+    trial.expect(f"an event that never comes: {fault}", not fault)
+    browser.click("change-next")
+    says(browser, trial, "the other event", "at 0.60 s: novac 20 04100 00005. Reply: job 1.")
+    trial.expect(browser.text("account"), "Asked by event 2." in browser.text("account"))
+    set_slider(browser, 50)
+    trial.expect(f"stolen: {browser.text('outcome')}", "no alarm" in browser.text("outcome"))
 
 
 def try_time(browser, trial):
