@@ -377,7 +377,7 @@ static void texts(void) {
     check(!strcmp(agc_code_text(4), "a number of the call is out of its range"), "agc_code_text", 7, 4);
     check(!strcmp(agc_code_text(13), "the line spells no request"), "agc_code_text", 7, 13);
     check(!strcmp(agc_code_text(17), "one address has two costs"), "agc_code_text", 7, 17);
-    check(!strcmp(agc_code_text(18), "no call answers this code"), "agc_code_text", 7, 18);
+    check(!strcmp(agc_code_text(19), "no call answers this code"), "agc_code_text", 7, 19);
     check(!strcmp(agc_reply_text(AGC_NO_SLEEPER), "no job sleeps at that address"), "agc_reply_text", 7, 0);
     check(!strcmp(agc_reply_text(0), "no reply is of this kind"), "agc_reply_text", 7, 0);
 }
