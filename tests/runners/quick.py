@@ -196,6 +196,8 @@ def lay_both(room):
 
 def lay_case(room, case):
     words = [case.program().encode(), *(case.parts["args"].words() if "args" in case.parts else [])]
+    # rt try runs it in another folder, where the files of the repository are not.
+    words = [f"{TOP}/".encode() + it if b"/" in it and os.path.isfile(os.path.join(TOP.encode(), it)) else it for it in words]
     # rt try runs it without variables, and by a loader, beside which no workbench is.
     if words[1:2] == [b"page"] and b"--workbench" not in words:
         words += [b"--workbench", f"{TOP}/share/workbench.html".encode()]
