@@ -1,6 +1,6 @@
 # Completes agc_watch's words in bash.
 _agc_watch() {
-    local commands='trace picture page check explore bench peaks jobs sweep core play'
+    local commands='trace picture page check explore bench peaks jobs compare sweep core play'
     COMPREPLY=()
     case $COMP_CWORD:${COMP_WORDS[1]} in
         1:*) mapfile -t COMPREPLY < <(compgen -W "$commands help --help --version" -- "$2") ;;
@@ -8,10 +8,10 @@ _agc_watch() {
         2:check) mapfile -t COMPREPLY < <(compgen -W '--script --progress --help' -- "$2") ;;
         *:trace) mapfile -t COMPREPLY < <(compgen -W '--script --alarms --brief --from --to --csv --json --perfetto --progress --help' -- "$2") ;;
         *:explore) mapfile -t COMPREPLY < <(compgen -W '--states --alarm --through --peaks --bench --csv --help' -- "$2") ;;
-        2:sweep) mapfile -t COMPREPLY < <(compgen -W 'steal sets seconds --csv --help' -- "$2") ;;
-        *:sweep) mapfile -t COMPREPLY < <(compgen -W '--csv --help' -- "$2") ;;
+        2:sweep) mapfile -t COMPREPLY < <(compgen -W 'steal sets seconds --and --find --csv --progress --help' -- "$2") ;;
+        *:sweep) mapfile -t COMPREPLY < <(compgen -W '--and --find --csv --progress --help' -- "$2") ;;
         2:peaks | 2:jobs) mapfile -t COMPREPLY < <(compgen -W '--csv --help' -- "$2") ;;
-        2:bench | *:core | 2:play) mapfile -t COMPREPLY < <(compgen -W '--help' -- "$2") ;;
+        2:bench | 2:compare | *:core | 2:play) mapfile -t COMPREPLY < <(compgen -W '--help' -- "$2") ;;
         *:picture) mapfile -t COMPREPLY < <(compgen -W '--time --width --from --to --progress --help' -- "$2") ;;
         *:page) mapfile -t COMPREPLY < <(compgen -W '--workbench --progress --help' -- "$2") ;;
     esac

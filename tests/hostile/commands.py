@@ -321,15 +321,16 @@ def unproved(clone):
 
 
 def progress(hostile):
-    """Long work tells each second how far it has come: a trace how many requests were asked, where that is asked for or
-    standard error is a terminal, and a sweep how many runs are done."""
+    """Long work tells each second how far it has come, where that is asked for or standard error is a terminal: a trace how
+    many requests were asked, and a sweep how many runs are done."""
     with tempfile.TemporaryDirectory() as room:
         bench = f"{room}/bench.toml"
         write(bench, "script = []\n" + 32 * '[[device]]\nline = "timer"\npulses = 1000000\n')
         for ends, words, total in (
                 (os.pipe, ["trace", "--alarms", "--progress", bench], "32000000 requests"),
                 (os.openpty, ["trace", "--alarms", bench], "32000000 requests"),
-                (os.pipe, ["sweep", "seconds", "1", "3600", f"{TOP}/examples/landing.toml"], "3600 runs")):
+                (os.pipe, ["sweep", "--progress", "seconds", "1", "3600", f"{TOP}/examples/landing.toml"], "3600 runs"),
+                (os.openpty, ["sweep", "seconds", "1", "3600", f"{TOP}/examples/landing.toml"], "3600 runs")):
             reading, writing = ends()
             ran = subprocess.Popen([WATCH, *words], stdout=subprocess.DEVNULL, stderr=writing)
             with open(reading, encoding="utf-8") as file:

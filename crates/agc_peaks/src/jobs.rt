@@ -102,7 +102,7 @@ fn jobs_then(machine: &Machine, request: &Request) -> Jobs {
 
 /// Asks for all requests of a run, in order, and for no others, and takes note of what becomes of
 /// its jobs.
-fn jobs_to_end(alloc: Global, run: &mut Run<'_>) -> Result<Ledger, AllocError>
+pub(crate) fn jobs_to_end(alloc: Global, run: &mut Run<'_>) -> Result<Ledger, AllocError>
     ensures { IfOk result (λ _. run.new.machine
         ≡ fold after run.old.machine (to_ask run.old.machine run.old.asks)) }
 {

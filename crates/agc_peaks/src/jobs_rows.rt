@@ -77,7 +77,7 @@ fn percentile(times: &[u64], percent: usize) -> u64 {
 }
 
 /// What fills the columns of an address's jobs, with this for computing time that isn't known.
-fn cells(kind: &Kind, unknown: Option<&'static str>) -> [Filling<'static>; 12] {
+pub(crate) fn cells(kind: &Kind, unknown: Option<&'static str>) -> [Filling<'static>; 12] {
     let times = kind.responses.as_slice();
     let mean = mean_of(kind);
     let computed = match unknown {
@@ -101,7 +101,7 @@ fn cells(kind: &Kind, unknown: Option<&'static str>) -> [Filling<'static>; 12] {
 }
 
 /// The name of an address's jobs, if a scenario gives one.
-fn name_at(timing: Option<&Timing>, at: u16) -> Option<&str> {
+pub(crate) fn name_at(timing: Option<&Timing>, at: u16) -> Option<&str> {
     let timing = timing?;
     for job in timing.jobs() {
         if job.at().get() == at {

@@ -1,22 +1,28 @@
-//! What runs come to: of each era how full the tables were, of many scenarios the first alarm, and
-//! the bench that a scenario is. Source: profile.
+//! What runs come to: of each era how full the tables were, of many scenarios the first alarm, what
+//! differs between two, and the bench that a scenario is. Source: profile.
 #![tactic(auto)]
 
 mod columns;
+mod comparing;
 mod counted;
 mod counting;
 mod era;
+mod finding;
 mod jobs;
 mod jobs_rows;
 mod ledger;
 mod lives;
+mod outcome;
 mod peaks;
 mod rows;
 mod sweep;
 mod tally;
 mod writing;
 
+pub use comparing::put_differences;
+pub use finding::find_alarm;
 pub use jobs::{bench_jobs, scenario_jobs};
+pub use outcome::{Outcome, bench_outcome, scenario_outcome};
 pub use peaks::{bench_peaks, scenario_peaks};
-pub use sweep::{Column, Sweep, Watches, run_sweep};
+pub use sweep::{Axis, Column, Watches, run_sweep};
 pub use writing::scenario_bench;

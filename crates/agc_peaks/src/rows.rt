@@ -1,5 +1,6 @@
 //! The rows of a sweep.
 use crate::columns::{put_cell, put_cells, put_spaces};
+use crate::sweep::Axis;
 use crate::tally::Found;
 use agc_text::Filling::{Number, Seconds, Text};
 use agc_text::{Output, Pen};
@@ -17,28 +18,45 @@ pub(crate) fn put_quoted<W: Write>(pen: &mut Pen<W>, name: &str) {
     }
 }
 
+/// How wide the column of a number is.
+fn width_of(axis: &Axis<'_>) -> usize {
+    axis.name.chars().count().max(10)
+}
+
 /// Writes the names of the columns.
-pub(crate) fn put_names<W: Write>(name: &str, csv: bool, writer: &mut W) -> Result<(), Output> {
+pub(crate) fn put_names<W: Write>(
+    axes: &[Axis<'_>],
+    csv: bool,
+    writer: &mut W,
+) -> Result<(), Output> {
     let mut pen = Pen::new(writer);
-    if csv {
-        put_quoted(&mut pen, name);
-        pen.text(",alarm,at,alarms,most_sets,most_areas,most_tasks\n");
-    } else {
-        put_spaces(&mut pen, name.chars().count(), 10);
-        pen.text(name);
-        pen.text("  alarm         at  alarms  sets  areas  tasks\n");
+    let mut before = "";
+    for axis in axes {
+        if csv {
+            put_quoted(&mut pen, axis.name);
+            pen.text(",");
+        } else {
+            pen.text(before);
+            before = "  ";
+            put_spaces(&mut pen, axis.name.chars().count(), width_of(axis));
+            pen.text(axis.name);
+        }
     }
+    pen.text(if csv {
+        "alarm,at,alarms,most_sets,most_areas,most_tasks\n"
+    } else {
+        "  alarm         at  alarms  sets  areas  tasks\n"
+    });
     pen.end()
 }
 
-/// Writes a row of comma-separated values.
-fn put_csv<W: Write>(pen: &mut Pen<W>, value: u64, found: &Found) {
+/// Writes what was found, as comma-separated values.
+fn put_csv<W: Write>(pen: &mut Pen<W>, found: &Found) {
     let at = match found.alarms {
         0 => Text(""),
         _ => Seconds(found.at),
     };
     let fillings = [
-        Number(value),
         Text(found.code),
         at,
         Number(found.alarms),
@@ -46,12 +64,11 @@ fn put_csv<W: Write>(pen: &mut Pen<W>, value: u64, found: &Found) {
         Number(found.areas),
         Number(found.tasks),
     ];
-    pen.put("{},{},{},{},{},{},{}\n", &fillings);
+    pen.put("{},{},{},{},{},{}\n", &fillings);
 }
 
-/// Writes a row of columns, the first of which is so wide.
-fn put_row<W: Write>(pen: &mut Pen<W>, width: usize, value: u64, found: &Found) {
-    put_cell(pen, width, Number(value));
+/// Writes what was found, in columns.
+fn put_row<W: Write>(pen: &mut Pen<W>, found: &Found) {
     if found.alarms == 0 {
         pen.text("  none           -");
     } else {
@@ -68,20 +85,29 @@ fn put_row<W: Write>(pen: &mut Pen<W>, width: usize, value: u64, found: &Found) 
     pen.text("\n");
 }
 
-/// Writes what comes of a value of the number that has this name.
+/// Writes what comes of these values of numbers.
 pub(crate) fn put_found<W: Write>(
-    name: &str,
+    axes: &[Axis<'_>],
     csv: bool,
-    value: u64,
+    values: &[u64],
     found: &Found,
     writer: &mut W,
 ) -> Result<(), Output> {
     let mut pen = Pen::new(writer);
+    let mut is_first = true;
+    for (axis, value) in axes.iter().zip(values.iter()) {
+        if csv {
+            pen.put("{},", &[Number(*value)]);
+        } else {
+            pen.text(if is_first { "" } else { "  " });
+            is_first = false;
+            put_cell(&mut pen, width_of(axis).min(60), Number(*value));
+        }
+    }
     if csv {
-        put_csv(&mut pen, value, found);
+        put_csv(&mut pen, found);
     } else {
-        let width = name.chars().count().max(10).min(60);
-        put_row(&mut pen, width, value, found);
+        put_row(&mut pen, found);
     }
     pen.end()
 }

@@ -36,14 +36,28 @@ impl Column {
     }
 }
 
-/// The first value, the last, the step, and whether rows are written as CSV.
-/// Source: profile.
+/// One of the numbers of a sweep: what it is called, which it is, its first value, its last, and
+/// the step. Source: profile.
 #[derive(Clone, Copy)]
-pub struct Sweep {
+pub struct Axis<'a> {
+    pub name: &'a str,
+    pub column: Column,
     pub from: u64,
     pub to: u64,
     pub step: u64,
-    pub csv: bool,
+}
+
+impl Axis<'_> {
+    /// How many values it has: one at least.
+    fn count(&self) -> u64 {
+        (self.to.saturating_sub(self.from) / self.step.max(1)).saturating_add(1)
+    }
+
+    /// The value of this place, from 0.
+    fn value(&self, place: u64) -> u64 {
+        self.from
+            .saturating_add(self.step.max(1).saturating_mul(place))
+    }
 }
 
 /// Receives a call after each run of a sweep.
@@ -58,10 +72,51 @@ fn found_in(alloc: Global, scenario: &Scenario, sets: Sets) -> Result<Found, Run
     Ok(counted_to_end(&mut run, Told::Nothing, &mut io::sink())?.found())
 }
 
-/// Runs a scenario once for each value of one of its numbers, and writes a row for each: the value,
-/// the first alarm and the second at which it came, how many alarms came, and the most core sets,
-/// VAC areas and places of the Waitlist that were taken at once. The number keeps the last value.
-/// The writer is not flushed. Source: profile.
+/// What is counted of a scenario's run in which its numbers have these values. They keep them.
+pub(crate) fn found_with(
+    alloc: Global,
+    scenario: &mut Scenario,
+    axes: &[Axis<'_>],
+    values: &[u64],
+) -> Result<Found, RunFault> {
+    let mut sets = scenario.bench().sets();
+    for (axis, value) in axes.iter().zip(values.iter()) {
+        match axis.column {
+            Column::Sets if *value == 8 => sets = Sets::Eight,
+            Column::Sets => sets = Sets::Seven,
+            Column::Number(number) => scenario.exchange(alloc, number, *value)?,
+        }
+    }
+    found_in(alloc, scenario, sets)
+}
+
+/// How many runs a sweep has: one for each value of each number with each of the others.
+pub(crate) fn runs_of(axes: &[Axis<'_>]) -> u64 {
+    let mut count: u64 = 1;
+    for axis in axes {
+        count = count.saturating_mul(axis.count());
+    }
+    count
+}
+
+/// The values of two numbers at most in this run of all, from 0; those of the last number change
+/// first.
+pub(crate) fn values_of(axes: &[Axis<'_>], run: u64) -> [u64; 2] {
+    match axes {
+        [] => [0, 0],
+        [only] => [only.value(run), 0],
+        [first, second, ..] => {
+            let inner = second.count().max(1);
+            [first.value(run / inner), second.value(run % inner)]
+        }
+    }
+}
+
+/// Runs a scenario once for each value of a number, or for each value of one with each of a second,
+/// and writes a row for each: the values, the first alarm and the second at which it came, how many
+/// alarms came, and the most core sets, VAC areas and places of the Waitlist that were taken at
+/// once; as comma-separated values, if that is asked. The numbers keep their last values. The
+/// writer is not flushed. Source: profile.
 ///
 /// # Errors
 ///
@@ -69,26 +124,18 @@ fn found_in(alloc: Global, scenario: &Scenario, sets: Sets) -> Result<Found, Run
 pub fn run_sweep<P: Watches, W: Write>(
     alloc: Global,
     scenario: &mut Scenario,
-    name: &str,
-    column: Column,
-    asked: Sweep,
+    axes: &[Axis<'_>],
+    csv: bool,
     watches: &mut P,
     writer: &mut W,
 ) -> Result<(), RunFault> {
-    put_names(name, asked.csv, writer)?;
-    let step = asked.step.max(1);
-    let count = (asked.to.saturating_sub(asked.from) / step).saturating_add(1);
-    for k in 0..count {
-        let value = asked.from.saturating_add(step.saturating_mul(k));
-        let mut sets = scenario.bench().sets();
-        match column {
-            Column::Sets if value == 8 => sets = Sets::Eight,
-            Column::Sets => sets = Sets::Seven,
-            Column::Number(number) => scenario.exchange(alloc, number, value)?,
-        }
-        let found = found_in(alloc, scenario, sets)?;
-        put_found(name, asked.csv, value, &found, writer)?;
-        watches.ran(k.saturating_add(1), count);
+    put_names(axes, csv, writer)?;
+    let count = runs_of(axes);
+    for run in 0..count {
+        let values = values_of(axes, run);
+        let found = found_with(alloc, scenario, axes, &values)?;
+        put_found(axes, csv, &values, &found, writer)?;
+        watches.ran(run.saturating_add(1), count);
     }
     Ok(())
 }

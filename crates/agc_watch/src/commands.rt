@@ -190,6 +190,25 @@ const JOBS: Row = Row {
     arguments: &[FILE, CSV],
 };
 
+const COMPARE: Row = Row {
+    name: "compare",
+    called: "agc_watch compare",
+    about: "Says what two benches or scenarios come to that differs",
+    example: "Example: agc_watch compare before.toml after.toml",
+    arguments: &[
+        (
+            "file",
+            Form::Word("FIRST", true),
+            "The first file; standard input for -",
+        ),
+        (
+            "second",
+            Form::Word("SECOND", true),
+            "The second file; standard input for -",
+        ),
+    ],
+};
+
 const SWEEP: Row = Row {
     name: "sweep",
     called: "agc_watch sweep",
@@ -199,7 +218,9 @@ KEY is sets, steal, seconds, job.NAME.cost, event.NAME.at, event.NAME.every or
 event.NAME.until. A job without a name is named by its address. If the word after
 TO isn't a number, it is the file.
 
-Example: agc_watch sweep steal 0 20 5 scenario.toml",
+Example: agc_watch sweep steal 0 20 5 scenario.toml
+Example: agc_watch sweep steal 0 20 5 --and job.SERVICER.cost:150:190:10 scenario.toml
+Example: agc_watch sweep steal 0 100 --find scenario.toml",
     arguments: &[
         (
             "key",
@@ -218,7 +239,18 @@ Example: agc_watch sweep steal 0 20 5 scenario.toml",
             Form::Word("FILE", false),
             "The scenario to read; standard input if none is named, or -",
         ),
+        (
+            "and",
+            Form::Option("KEY:FROM:TO[:STEP]"),
+            "Runs it for each value of a second number, too",
+        ),
+        (
+            "find",
+            Form::Flag,
+            "Looks for the smallest value that raises an alarm",
+        ),
         CSV,
+        PROGRESS,
     ],
 };
 
@@ -258,8 +290,8 @@ const PLAY: Row = Row {
 };
 
 /// The commands, in the order of the help.
-const COMMANDS: [Row; 11] = [
-    TRACE, PICTURE, PAGE, CHECK, EXPLORE, BENCH, PEAKS, JOBS, SWEEP, CORE, PLAY,
+const COMMANDS: [Row; 12] = [
+    TRACE, PICTURE, PAGE, CHECK, EXPLORE, BENCH, PEAKS, JOBS, COMPARE, SWEEP, CORE, PLAY,
 ];
 
 /// A word or an option of a command, as `clap` reads it.

@@ -7,6 +7,9 @@ use std::time::Instant;
 /// Of how many requests one looks at the clock.
 const STEP: u64 = 1024;
 
+/// How many columns a picture has at most without a word of it.
+const MOST_COLUMNS: u64 = 2000;
+
 /// One who says on standard error, each second, how many requests were asked, or how many runs of a
 /// sweep are done; who says nothing where no time is known at which the run began.
 #[derive(Drop)]
@@ -33,6 +36,16 @@ impl<'a> Teller<'a> {
             seconds: 0,
             expected: 0,
             asked: 0,
+        }
+    }
+
+    /// Says how many columns a picture has that has one for each request, where these are many.
+    pub(crate) fn tell_columns(&self) {
+        let count = self.asked;
+        if count > MOST_COLUMNS {
+            let _ = eprintln!(self.rt;
+                "agc_watch: a column for each of {count} requests; --time draws seconds"
+            );
         }
     }
 

@@ -13,7 +13,8 @@ use std::process::ExitCode;
 /// What the program is called, and which words it takes.
 const PROGRAM: Program = Program {
     name: "agc_watch",
-    usage: "use trace, picture, page, check, explore, bench, peaks, jobs, sweep, core or play",
+    usage: "use trace, picture, page, check, explore, bench, peaks, jobs, compare, sweep, core or \
+        play",
 };
 
 /// Why a command ends early.

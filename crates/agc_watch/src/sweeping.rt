@@ -1,13 +1,15 @@
-//! Which number of a scenario a sweep exchanges.
+//! Sweeps: which numbers of a scenario they exchange.
+use crate::progress::Teller;
 use crate::stops::Stop;
-use crate::words::{Values, refused_words};
+use crate::words::{Sweep, Values, refused_words};
 use agc_check::add;
-use agc_peaks::Column;
+use agc_peaks::{Axis, Column, find_alarm, run_sweep};
 use agc_scenario::Scenario;
 use agc_text::add_word;
 use arrayvec::ArrayString;
 use std::alloc::{AllocError, Global};
-use std::fmt::Write;
+use std::fmt::Write as Told;
+use std::io::Write;
 
 /// How many jobs and events are listed at most.
 const MOST_KEYS: usize = 20;
@@ -48,20 +50,27 @@ fn add_unknown(told: &mut String, scenario: &Scenario, key: &str) -> Result<(), 
     add_keys(told, scenario)
 }
 
-/// Which number of a scenario these values are of, if it may have them all. If not, it is told why.
-pub(crate) fn column_of(
-    alloc: Global,
-    scenario: &Scenario,
-    values: Values<'_>,
-) -> Result<Column, Stop> {
+/// The number of a scenario and its values, if it may have them all. If not, it is told why.
+fn axis_of<'a>(alloc: Global, scenario: &Scenario, values: Values<'a>) -> Result<Axis<'a>, Stop> {
     let mut told = String::new(alloc);
-    let key = values.key;
+    let Values {
+        key,
+        from,
+        to,
+        step,
+    } = values;
     let added = match Column::named(scenario, key) {
         None => add_unknown(&mut told, scenario, key),
         Some(column) => {
             let (least, most) = column.range();
-            if least <= values.from && values.to <= most {
-                return Ok(column);
+            if least <= from && to <= most {
+                return Ok(Axis {
+                    name: key,
+                    column,
+                    from,
+                    to,
+                    step,
+                });
             }
             write!(told, "'{key}' may be {least} to {most}")
         }
@@ -70,4 +79,27 @@ pub(crate) fn column_of(
         Ok(()) => Err(refused_words(alloc, "sweep", told.as_str())),
         Err(error) => Err(Stop::from(error)),
     }
+}
+
+/// Writes what comes of each value of a scenario's number, or of two, or looks for one that raises
+/// an alarm.
+pub(crate) fn write_sweep<W: Write>(
+    alloc: Global,
+    asked: Sweep<'_>,
+    scenario: &mut Scenario,
+    progress: &mut Teller<'_>,
+    writer: &mut W,
+) -> Result<(), Stop> {
+    let first = axis_of(alloc, scenario, asked.first)?;
+    let csv = asked.csv;
+    let Some(values) = asked.second else {
+        let axes = [first];
+        if asked.finds {
+            return Ok(find_alarm(alloc, scenario, &axes, csv, writer)?);
+        }
+        return Ok(run_sweep(alloc, scenario, &axes, csv, progress, writer)?);
+    };
+    let second = axis_of(alloc, scenario, values)?;
+    let axes = [first, second];
+    Ok(run_sweep(alloc, scenario, &axes, csv, progress, writer)?)
 }

@@ -13,13 +13,23 @@ use std::alloc::Global;
 /// How many states a search may see, if nothing is said of it.
 const STATES: u64 = 200_000;
 
-/// The values to try of the number that the key names, and whether they are written as CSV.
+/// The values to try of the number that a key names.
 #[derive(Clone, Copy)]
 pub(crate) struct Values<'a> {
     pub key: &'a str,
     pub from: u64,
     pub to: u64,
     pub step: u64,
+}
+
+/// A sweep: the values of a number, and those of a second one, if there is one; whether the
+/// smallest that raises an alarm is looked for; and whether rows are written as comma-separated
+/// values.
+#[derive(Clone, Copy)]
+pub(crate) struct Sweep<'a> {
+    pub first: Values<'a>,
+    pub second: Option<Values<'a>>,
+    pub finds: bool,
     pub csv: bool,
 }
 
@@ -56,8 +66,10 @@ pub(crate) enum Task<'a> {
     Play,
     /// To write the bench that a scenario comes to.
     Bench,
-    /// To say what comes of a scenario for each of these values of a number.
-    Sweep(Values<'a>),
+    /// To say what comes of a scenario for each value of a number, or of two.
+    Sweep(Sweep<'a>),
+    /// To say what differs from the document of this name.
+    Compare(&'a str),
     /// To say what the memory of a real computer holds, by the map in this file.
     Core(&'a str),
 }
@@ -109,6 +121,31 @@ fn centiseconds_of(text: &str) -> Option<u64> {
             )
         }
         _ => None,
+    }
+}
+
+/// The values that a text says, as `KEY:FROM:TO` or `KEY:FROM:TO:STEP`.
+fn values_of(text: &str) -> Option<Values<'_>> {
+    let (front, last) = text.rsplit_once(':')?;
+    let (key, before) = front.rsplit_once(':')?;
+    let last = number_of(last)?;
+    let before = number_of(before)?;
+    match key.rsplit_once(':') {
+        None => Some(values_from(key, before, last, 1)),
+        Some((name, first)) => match number_of(first) {
+            None => Some(values_from(key, before, last, 1)),
+            Some(first) => Some(values_from(name, first, before, last)),
+        },
+    }
+}
+
+/// These values of the number that a key names.
+fn values_from(key: &str, from: u64, to: u64, step: u64) -> Values<'_> {
+    Values {
+        key,
+        from,
+        to,
+        step,
     }
 }
 
@@ -260,18 +297,40 @@ impl<'a, 'b> Words<'a, 'b> {
         }
     }
 
-    /// What the words after `sweep` ask for.
-    fn sweep(&mut self) -> Values<'a> {
+    /// The values of the first number of a sweep.
+    fn first_values(&mut self) -> Values<'a> {
         let from = self.bound("from", "FROM is no number");
         let to = self.bound("to", "TO is no number");
         let step = self.step();
         self.check(step > 0, "STEP is 0");
         self.check(from <= to, "FROM is beyond TO");
-        Values {
-            key: self.given.get_str("key").unwrap_or(""),
-            from,
-            to,
-            step,
+        values_from(self.given.get_str("key").unwrap_or(""), from, to, step)
+    }
+
+    /// The values of the second number of a sweep, if it is given.
+    fn second_values(&mut self, key: &str) -> Option<Values<'a>> {
+        let text = self.given.get_str("and")?;
+        let values = values_of(text);
+        let reason = "--and wants KEY:FROM:TO or KEY:FROM:TO:STEP, such as steal:0:20:5";
+        self.check(values.is_some(), reason);
+        if let Some(values) = values {
+            self.check(values.step > 0, "STEP of --and is 0");
+            self.check(values.from <= values.to, "FROM of --and is beyond TO");
+            self.check(values.key != key, "--and wants another key");
+        }
+        values
+    }
+
+    /// What the words after `sweep` ask for.
+    fn sweep(&mut self) -> Sweep<'a> {
+        let first = self.first_values();
+        let second = self.second_values(first.key);
+        let finds = self.given.get_flag("find");
+        self.check(second.is_none() || !finds, "--find goes without --and");
+        Sweep {
+            first,
+            second,
+            finds,
             csv: self.given.get_flag("csv"),
         }
     }
@@ -290,6 +349,7 @@ impl<'a, 'b> Words<'a, 'b> {
             "jobs" => Task::Show(Show::Jobs(self.given.get_flag("csv"))),
             "sweep" => Task::Sweep(self.sweep()),
             "core" => Task::Core(self.given.get_str("map").unwrap_or("")),
+            "compare" => Task::Compare(self.given.get_str("second").unwrap_or("-")),
             _ => Task::Play,
         }
     }
@@ -320,7 +380,7 @@ fn asked_by<'a>(alloc: Global, matches: &ArgMatches<'a>) -> Result<Asked<'a>, St
         None => Ok(Asked {
             task,
             input: input_of(task, words.file),
-            has_progress: command == "sweep" || given.get_flag("progress"),
+            has_progress: given.get_flag("progress"),
         }),
     }
 }

@@ -2,17 +2,19 @@
 use crate::checking::{check_document, check_script};
 use crate::cores::write_core;
 use crate::documents::{Shown, bench_in, document_in, scenario_in};
+use crate::files::text_of;
 use crate::naming::columns_of;
 use crate::page::put_page;
 use crate::progress::Teller;
 use crate::stops::Stop;
-use crate::sweeping::column_of;
-use crate::words::{Asked, Show, Task, Values};
+use crate::sweeping::write_sweep;
+use crate::words::{Asked, Input as Source, Show, Sweep, Task};
 use crate::workbench::Workbench;
 use agc_document::Bench;
 use agc_orders::{Options, Reach, Watch, explore};
 use agc_peaks::{
-    Sweep, bench_jobs, bench_peaks, run_sweep, scenario_bench, scenario_jobs, scenario_peaks,
+    Outcome, bench_jobs, bench_outcome, bench_peaks, put_differences, scenario_bench,
+    scenario_jobs, scenario_outcome, scenario_peaks,
 };
 use agc_picture::{picture, scenario_picture, scenario_time_picture, time_picture};
 use agc_play::{Manner, PlayFault, play};
@@ -107,7 +109,8 @@ fn show_scenario<W: Write>(
     }
 }
 
-/// Shows this of a bench or a scenario. The exit status is 0.
+/// Shows this of a bench or a scenario. The exit status is 0. Of a picture that is very wide it is
+/// said how wide it is.
 fn show_document<W: Write>(
     rt: &HostRuntime,
     show: Show<'_>,
@@ -115,14 +118,19 @@ fn show_document<W: Write>(
     progress: &mut Teller<'_>,
     writer: &mut W,
 ) -> Result<u8, Stop> {
+    let is_whole = match show {
+        Show::Picture => true,
+        _ => false,
+    };
     let shown = match document_in(rt.alloc(), text)? {
         Shown::Bench(bench) => show_bench(rt, show, text, &bench, progress, writer),
         Shown::Scenario(scenario) => show_scenario(rt, show, text, &scenario, progress, writer),
     };
-    match shown {
-        Ok(()) => Ok(0),
-        Err(stop) => Err(stop),
+    shown?;
+    if is_whole {
+        progress.tell_columns();
     }
+    Ok(0)
 }
 
 /// Writes the trace of a script. The exit status is 0.
@@ -198,36 +206,51 @@ fn write_bench<W: Write>(alloc: Global, text: &str, writer: &mut W) -> Result<u8
     }
 }
 
-/// Writes what comes of each value of a number of a scenario. The exit status is 0.
-fn write_sweep<W: Write>(
+/// Writes a sweep of a scenario. The exit status is 0.
+fn sweep_scenario<W: Write>(
     alloc: Global,
-    values: Values<'_>,
+    asked: Sweep<'_>,
     text: &str,
     progress: &mut Teller<'_>,
     writer: &mut W,
 ) -> Result<u8, Stop> {
     let mut scenario = scenario_in(alloc, text)?;
-    let column = column_of(alloc, &scenario, values)?;
-    let Values {
-        key,
-        from,
-        to,
-        step,
-        csv,
-    } = values;
-    let sweep = Sweep {
-        from,
-        to,
-        step,
-        csv,
-    };
-    run_sweep(alloc, &mut scenario, key, column, sweep, progress, writer)?;
+    write_sweep(alloc, asked, &mut scenario, progress, writer)?;
     Ok(0)
+}
+
+/// What a text's document comes to.
+fn outcome_in(alloc: Global, text: &str) -> Result<Outcome, Stop> {
+    match document_in(alloc, text)? {
+        Shown::Bench(bench) => Ok(bench_outcome(alloc, &bench)?),
+        Shown::Scenario(scenario) => Ok(scenario_outcome(alloc, &scenario)?),
+    }
+}
+
+/// Writes what differs between a text's document and that of a file. The exit status is 0.
+fn compare_with<W: Write>(
+    rt: &HostRuntime,
+    second: &str,
+    text: &str,
+    writer: &mut W,
+) -> Result<u8, Stop> {
+    let input = match second {
+        "-" => Source::Standard,
+        name => Source::File(name),
+    };
+    let other = text_of(rt, input)?;
+    let outcome = outcome_in(rt.alloc(), text)?;
+    let other = outcome_in(rt.alloc(), other.as_str())?;
+    match put_differences(&outcome, &other, writer) {
+        Ok(()) => Ok(0),
+        Err(_failed) => Err(Stop::Fault(Fault::Output)),
+    }
 }
 
 /// Does what is asked for of a text, and returns the exit status. Here stands what each command
 /// takes: a bench or a scenario where it shows or checks a document, a bench where it explores or
-/// plays, a scenario where it writes a bench or a sweep, and else a script.
+/// plays, a scenario where it writes a bench or a sweep, two documents where it compares, and else
+/// a script.
 pub(crate) fn work<W: Write>(
     rt: &HostRuntime,
     asked: &Asked<'_>,
@@ -243,7 +266,8 @@ pub(crate) fn work<W: Write>(
         Task::Explore(options) => explore_bench(rt, options, text, writer),
         Task::Play => play_bench(rt, manner, text, writer),
         Task::Bench => write_bench(alloc, text, writer),
-        Task::Sweep(values) => write_sweep(alloc, values, text, &mut progress, writer),
+        Task::Sweep(asked) => sweep_scenario(alloc, asked, text, &mut progress, writer),
+        Task::Compare(second) => compare_with(rt, second, text, writer),
         Task::Core(map) => write_core(rt, map, text, writer),
         Task::TraceScript(choice) => trace_requests(alloc, choice, text, &mut progress, writer),
         Task::CheckScript => check_script(alloc, text, writer),

@@ -1,0 +1,195 @@
+//! The smallest value of a scenario's number that raises an alarm.
+use crate::rows::{put_found, put_names};
+use crate::sweep::{Axis, found_with, runs_of, values_of};
+use agc_scenario::Scenario;
+use agc_session::RunFault;
+use agc_text::Filling::Number;
+use agc_text::{Output, Pen};
+use std::alloc::Global;
+use std::io::Write;
+
+/// A value that was tried, by its place from 0, and whether an alarm came.
+#[derive(Clone, Copy)]
+struct Tried {
+    place: u64,
+    is_alarmed: bool,
+}
+
+/// A search among the values of a number, the only one of these, and which were tried.
+#[derive(Drop)]
+struct Search<'a> {
+    alloc: Global,
+    axes: &'a [Axis<'a>],
+    csv: bool,
+    tried: Vec<Tried>,
+}
+
+impl Search<'_> {
+    /// The place of the last value.
+    fn last(&self) -> u64 {
+        runs_of(self.axes).saturating_sub(1)
+    }
+
+    /// The value at a place.
+    fn value(&self, place: u64) -> u64 {
+        let values = values_of(self.axes, place);
+        values[0]
+    }
+
+    /// What came of the value at a place, if it was tried.
+    fn known(&self, place: u64) -> Option<bool> {
+        for tried in self.tried.iter() {
+            if tried.place == place {
+                return Some(tried.is_alarmed);
+            }
+        }
+        None
+    }
+
+    /// Whether the value at a place raises an alarm: a row is written where it wasn't tried before.
+    fn raises<W: Write>(
+        &mut self,
+        scenario: &mut Scenario,
+        place: u64,
+        writer: &mut W,
+    ) -> Result<bool, RunFault> {
+        if let Some(is_alarmed) = self.known(place) {
+            return Ok(is_alarmed);
+        }
+        let values = values_of(self.axes, place);
+        let found = found_with(self.alloc, scenario, self.axes, &values)?;
+        put_found(self.axes, self.csv, &values, &found, writer)?;
+        let is_alarmed = found.alarms > 0;
+        self.tried.push(Tried { place, is_alarmed })?;
+        Ok(is_alarmed)
+    }
+
+    /// A place whose value raises an alarm: the first or the last, or else a quarter of the way
+    /// before it, half of it, and three quarters.
+    fn first_raising<W: Write>(
+        &mut self,
+        scenario: &mut Scenario,
+        writer: &mut W,
+    ) -> Result<Option<u64>, RunFault> {
+        let last = self.last();
+        for place in [0, last, last.saturating_sub(last / 4), last / 2, last / 4] {
+            if self.raises(scenario, place, writer)? {
+                return Ok(Some(place));
+            }
+        }
+        Ok(None)
+    }
+
+    /// The least place down to which halving comes from one that raises an alarm: the value before
+    /// it raises none.
+    fn halved<W: Write>(
+        &mut self,
+        scenario: &mut Scenario,
+        raising: u64,
+        writer: &mut W,
+    ) -> Result<u64, RunFault> {
+        let mut low: u64 = 0;
+        let mut high = raising;
+        for _half in 0..64u32 {
+            let middle = low.saturating_add(high.saturating_sub(low) / 2);
+            if middle > low {
+                if self.raises(scenario, middle, writer)? {
+                    high = middle;
+                } else {
+                    low = middle;
+                }
+            }
+        }
+        Ok(high)
+    }
+
+    /// Tries a few larger values.
+    fn try_larger<W: Write>(
+        &mut self,
+        scenario: &mut Scenario,
+        found: u64,
+        writer: &mut W,
+    ) -> Result<(), RunFault> {
+        let last = self.last();
+        let half = found.saturating_add(last.saturating_sub(found) / 2);
+        let next = found.saturating_add(1);
+        for place in [next, next.saturating_add(1), half, last] {
+            if place <= last {
+                let _known = self.raises(scenario, place, writer)?;
+            }
+        }
+        Ok(())
+    }
+
+    /// The least value, above the one that was found, that was tried and raises no alarm.
+    fn exception(&self, found: u64) -> Option<u64> {
+        let mut least: Option<u64> = None;
+        for tried in self.tried.iter() {
+            if tried.place > found && !tried.is_alarmed {
+                let place = least.unwrap_or(tried.place).min(tried.place);
+                least = Some(place);
+            }
+        }
+        match least {
+            None => None,
+            Some(place) => Some(self.value(place)),
+        }
+    }
+
+    /// Writes which value was found, in how many runs, and whether a larger one raises no alarm.
+    fn put_summary<W: Write>(&self, found: Option<u64>, writer: &mut W) -> Result<(), Output> {
+        let mut pen = Pen::new(writer);
+        let runs = Number(self.tried.len() as u64);
+        match found {
+            None => pen.put("none of these values raises an alarm; {} runs\n", &[runs]),
+            Some(found) => {
+                let fillings = [Number(self.value(found)), runs];
+                pen.put(
+                    "the smallest value found that raises an alarm is {}; {} runs\n",
+                    &fillings,
+                );
+                if let Some(larger) = self.exception(found) {
+                    pen.put(
+                        "warning: {} is larger and raises none, so there may be a smaller one\n",
+                        &[Number(larger)],
+                    );
+                }
+            }
+        }
+        pen.end()
+    }
+}
+
+/// Looks for the smallest value of a number with which a scenario raises an alarm, by halving, and
+/// tries a few larger ones. Writes the row of each value that is tried, as in a sweep, and then,
+/// unless comma-separated values are asked, what was found. The number keeps the last value. The
+/// writer is not flushed. Source: profile.
+///
+/// # Errors
+///
+/// `NoMemory`, and no further row is written. `Output`, where a write failed.
+pub fn find_alarm<W: Write>(
+    alloc: Global,
+    scenario: &mut Scenario,
+    axes: &[Axis<'_>; 1],
+    csv: bool,
+    writer: &mut W,
+) -> Result<(), RunFault> {
+    put_names(axes, csv, writer)?;
+    let mut search = Search {
+        alloc,
+        axes,
+        csv,
+        tried: Vec::new(alloc),
+    };
+    let mut found = search.first_raising(scenario, writer)?;
+    if let Some(raising) = found {
+        let least = search.halved(scenario, raising, writer)?;
+        search.try_larger(scenario, least, writer)?;
+        found = Some(least);
+    }
+    if !csv {
+        search.put_summary(found, writer)?;
+    }
+    Ok(())
+}

@@ -1,0 +1,106 @@
+//! What a document's run comes to, to be compared with that of another.
+use crate::counted::{Told, counted_to_end};
+use crate::jobs::jobs_to_end;
+use crate::jobs_rows::{cells, name_at};
+use crate::ledger::Kind;
+use crate::tally::{Found, Tally};
+use agc_document::Bench;
+use agc_run::{Asks, Run};
+use agc_scenario::{Scenario, Timing};
+use agc_session::{RunFault, machine_of};
+use agc_text::Filling;
+use std::alloc::{AllocError, Global};
+use std::io;
+
+/// What the jobs of an address came to: its name, if a scenario gives one, the address, and what
+/// the columns of `jobs` have of them.
+#[derive(Drop)]
+pub(crate) struct JobsAt {
+    pub(crate) name: Option<String>,
+    pub(crate) at: u16,
+    pub(crate) cells: [Filling<'static>; 12],
+}
+
+impl JobsAt {
+    /// Whether the jobs of another document are called the same.
+    pub(crate) fn is_called_as(&self, other: &JobsAt) -> bool {
+        match (&self.name, &other.name) {
+            (None, None) => self.at == other.at,
+            (Some(name), Some(called)) => name.as_str() == called.as_str(),
+            _ => false,
+        }
+    }
+}
+
+/// What a document's run comes to. Source: profile.
+#[derive(Drop)]
+pub struct Outcome {
+    pub(crate) time: u64,
+    pub(crate) asked: u64,
+    pub(crate) refused: u64,
+    pub(crate) eras: u64,
+    pub(crate) found: Found,
+    pub(crate) jobs: Vec<JobsAt>,
+}
+
+/// What the jobs of an address came to.
+fn jobs_of(alloc: Global, kind: &Kind, timing: Option<&Timing>) -> Result<JobsAt, AllocError> {
+    let name = match name_at(timing, kind.at) {
+        None => None,
+        Some(name) => Some(String::from_str(alloc, name)?),
+    };
+    let unknown = if timing.is_none() { Some("-") } else { None };
+    Ok(JobsAt {
+        name,
+        at: kind.at,
+        cells: cells(kind, unknown),
+    })
+}
+
+/// The outcome of a run that was counted, and of another whose jobs are told.
+fn outcome_of(
+    alloc: Global,
+    tally: &Tally,
+    kinds: &[Kind],
+    timing: Option<&Timing>,
+) -> Result<Outcome, AllocError> {
+    let mut jobs = Vec::new(alloc);
+    for kind in kinds {
+        jobs.push(jobs_of(alloc, kind, timing)?)?;
+    }
+    Ok(Outcome {
+        time: tally.time,
+        asked: tally.asked,
+        refused: tally.refused,
+        eras: tally.era("").number,
+        found: tally.found(),
+        jobs,
+    })
+}
+
+/// What a scenario's run comes to. Source: profile.
+///
+/// # Errors
+///
+/// Where there is no memory.
+pub fn scenario_outcome(alloc: Global, scenario: &Scenario) -> Result<Outcome, RunFault> {
+    let (bench, timing) = (scenario.bench(), scenario.timing());
+    let mut run = Run::new(machine_of(alloc, bench)?, Asks::of_scenario(timing));
+    let tally = counted_to_end(&mut run, Told::Nothing, &mut io::sink())?;
+    let mut again = Run::new(machine_of(alloc, bench)?, Asks::of_scenario(timing));
+    let ledger = jobs_to_end(alloc, &mut again)?;
+    Ok(outcome_of(alloc, &tally, ledger.kinds.as_slice(), Some(timing))?)
+}
+
+/// What a bench's run comes to, by the requests of `serial`. Source: profile.
+///
+/// # Errors
+///
+/// Where there is no memory.
+pub fn bench_outcome(alloc: Global, bench: &Bench) -> Result<Outcome, RunFault> {
+    let mut run = Run::new(machine_of(alloc, bench)?, Asks::of_bench(bench));
+    let tally = counted_to_end(&mut run, Told::Nothing, &mut io::sink())?;
+    let mut again = Run::new(machine_of(alloc, bench)?, Asks::of_bench(bench));
+    let ledger = jobs_to_end(alloc, &mut again)?;
+    Ok(outcome_of(alloc, &tally, ledger.kinds.as_slice(), None)?)
+}
