@@ -124,7 +124,7 @@ fn put_called<W: Write>(pen: &mut Pen<W>, jobs: &JobsAt) {
 /// What the columns of `jobs` have of an address.
 type Cells = [Filling<'static>; 12];
 
-/// What a column has; a stroke for jobs that a document doesn't have.
+/// What a column has; a dash for jobs that a document doesn't have.
 fn cell(cells: Option<&Cells>, column: usize) -> Filling<'static> {
     match cells {
         None => Text("-"),

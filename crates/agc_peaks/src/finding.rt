@@ -64,8 +64,8 @@ impl Search<'_> {
         Ok(is_alarmed)
     }
 
-    /// A place whose value raises an alarm: the first or the last, or else a quarter of the way
-    /// before it, half of it, and three quarters.
+    /// A place whose value raises an alarm. The first place is tried, then the last, and then those
+    /// at three quarters, half and a quarter of the way.
     fn first_raising<W: Write>(
         &mut self,
         scenario: &mut Scenario,
@@ -80,8 +80,8 @@ impl Search<'_> {
         Ok(None)
     }
 
-    /// The least place down to which halving comes from one that raises an alarm: the value before
-    /// it raises none.
+    /// Halves the way down from a place whose value raises an alarm. The value of the place that is
+    /// returned raises one, too, and the value before it, if there is one, raises none.
     fn halved<W: Write>(
         &mut self,
         scenario: &mut Scenario,
@@ -162,8 +162,8 @@ impl Search<'_> {
 
 /// Looks for the smallest value of a number with which a scenario raises an alarm, by halving, and
 /// tries a few larger ones. Writes the row of each value that is tried, as in a sweep, and then,
-/// unless comma-separated values are asked, what was found. The number keeps the last value. The
-/// writer is not flushed. Source: profile.
+/// unless comma-separated values are asked for, what was found. The number keeps the value that was
+/// tried last. The writer is not flushed. Source: profile.
 ///
 /// # Errors
 ///

@@ -115,7 +115,7 @@ pub(crate) fn values_of(axes: &[Axis<'_>], run: u64) -> [u64; 2] {
 /// Runs a scenario once for each value of a number, or for each value of one with each of a second,
 /// and writes a row for each: the values, the first alarm and the second at which it came, how many
 /// alarms came, and the most core sets, VAC areas and places of the Waitlist that were taken at
-/// once; as comma-separated values, if that is asked. The numbers keep their last values. The
+/// once; as comma-separated values, if these are asked for. The numbers keep their last values. The
 /// writer is not flushed. Source: profile.
 ///
 /// # Errors

@@ -28,7 +28,8 @@ fn put_job<W: Write>(pen: &mut Pen<W>, columns: &Columns, seat: Option<Seat>) {
     }
 }
 
-/// Writes who runs, and how many core sets, areas and places of the Waitlist are taken.
+/// Writes the running job and its priority, and how many core sets, VAC areas and tasks there are
+/// in the tables.
 fn put_counts<W: Write>(pen: &mut Pen<W>, scene: &Scene) {
     let mut sets: u64 = 0;
     let mut areas: u64 = 0;

@@ -64,7 +64,7 @@ fn put_seat<W: Write>(pen: &mut Pen<W>, columns: &Columns, seat: Seat, since: Op
     end_known(pen, since);
 }
 
-/// Writes the core sets; it is told since when each job is there, where that is known.
+/// Writes the core sets, and since when each job is there, where that is known.
 fn put_seats<W: Write>(pen: &mut Pen<W>, columns: &Columns, scene: &Scene, event: Option<&Event>) {
     pen.text(",\"sets\":[");
     for (k, seat) in scene.seats().iter().enumerate() {
@@ -87,7 +87,7 @@ fn put_task<W: Write>(pen: &mut Pen<W>, columns: &Columns, task: Task) {
     put_name(pen, columns.task(&task));
 }
 
-/// Writes the tasks that wait; it is told since when each waits, where that is known.
+/// Writes the tasks that wait, and since when each waits, where that is known.
 fn put_waits<W: Write>(pen: &mut Pen<W>, columns: &Columns, scene: &Scene, event: Option<&Event>) {
     pen.text(",\"tasks\":[");
     for (k, wait) in scene.waits().iter().enumerate() {

@@ -24,7 +24,7 @@ const SET_WORDS: [&str; 12] = [
     "PUSHLOC", "PRIORITY",
 ];
 
-/// What of a table is where, and how many numbers come before the memory.
+/// Where the tables are, and how many numbers come before the memory.
 #[derive(Clone, Copy)]
 struct Read {
     map: AgcMap,

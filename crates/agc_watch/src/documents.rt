@@ -62,7 +62,7 @@ fn scenario_of(alloc: Global, document: &Document<'_>) -> Result<Scenario, Stop>
     }
 }
 
-/// Why a document is no scenario, in which this was found. It is told whether it is a bench.
+/// Why a document is no scenario, in which this was found. A bench gets a sentence of its own.
 fn no_scenario(
     alloc: Global,
     document: &Document<'_>,

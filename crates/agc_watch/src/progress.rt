@@ -7,7 +7,7 @@ use std::time::Instant;
 /// Of how many requests one looks at the clock.
 const STEP: u64 = 1024;
 
-/// How many columns a picture has at most without a word of it.
+/// A picture of more columns than these is said to be wide.
 const MOST_COLUMNS: u64 = 2000;
 
 /// One who says on standard error, each second, how many requests were asked, or how many runs of a
@@ -39,7 +39,7 @@ impl<'a> Teller<'a> {
         }
     }
 
-    /// Says how many columns a picture has that has one for each request, where these are many.
+    /// Says how many columns a picture has, one for each request, if there are many.
     pub(crate) fn tell_columns(&self) {
         let count = self.asked;
         if count > MOST_COLUMNS {

@@ -50,7 +50,7 @@ fn add_unknown(told: &mut String, scenario: &Scenario, key: &str) -> Result<(), 
     add_keys(told, scenario)
 }
 
-/// The number of a scenario and its values, if it may have them all. If not, it is told why.
+/// The number of a scenario and its values, if it may have them all.
 fn axis_of<'a>(alloc: Global, scenario: &Scenario, values: Values<'a>) -> Result<Axis<'a>, Stop> {
     let mut told = String::new(alloc);
     let Values {

@@ -109,8 +109,8 @@ fn show_scenario<W: Write>(
     }
 }
 
-/// Shows this of a bench or a scenario. The exit status is 0. Of a picture that is very wide it is
-/// said how wide it is.
+/// Shows this of a bench or a scenario, and says how wide a very wide picture is. The exit status
+/// is 0.
 fn show_document<W: Write>(
     rt: &HostRuntime,
     show: Show<'_>,
