@@ -2,6 +2,7 @@
 //! answer requests, and the report of a machine. Source: profile.
 #![tactic(auto)]
 
+mod draft;
 mod fault;
 mod input;
 mod line;
@@ -16,6 +17,7 @@ mod session;
 mod spelling;
 mod writing;
 
+pub use draft::Draft;
 pub use fault::{Output, ReadFault, ScriptFault};
 pub use input::read_all;
 pub use line::{parse_action, parse_line};

@@ -18,12 +18,18 @@ pub enum Filling<'a> {
     Priority(u16),
     /// Centiseconds, as seconds with two decimals.
     Seconds(u64),
+    /// A text as a value of CSV: in quotes where it has a comma, a quote or the end of a line, each
+    /// quote twice.
+    Csv(&'a str),
+    /// A text as it is within the quotes of a string of JSON: it ends nothing there. A control
+    /// character is a blank.
+    Json(&'a str),
 }
 
 /// A writer, and whether a write to it failed: nothing more is written then. Source: profile.
 #[derive(Drop)]
 pub struct Pen<W> {
-    writer: W,
+    pub(crate) writer: W,
     failed: bool,
 }
 
@@ -33,6 +39,32 @@ fn cut(text: &str) -> (&str, &str) {
         None => (text, ""),
         Some(parts) => parts,
     }
+}
+
+/// Writes a text as a value of CSV.
+fn put_csv<W: Write>(writer: &mut W, text: &str) -> io::Result<()> {
+    if !text.contains(',') && !text.contains('"') && !text.contains('\n') && !text.contains('\r') {
+        return writer.write_all(text.as_bytes());
+    }
+    for part in text.split('"') {
+        writer.write_all(b"\"")?;
+        writer.write_all(part.as_bytes())?;
+        writer.write_all(b"\"")?;
+    }
+    Ok(())
+}
+
+/// Writes a text as it is within a string of JSON.
+fn put_json<W: Write>(writer: &mut W, text: &str) -> io::Result<()> {
+    for byte in text.as_bytes() {
+        match *byte {
+            b'"' => writer.write_all(b"\\\"")?,
+            b'\\' => writer.write_all(b"\\\\")?,
+            0..=31 => writer.write_all(b" ")?,
+            other => writer.write_all(&[other])?,
+        }
+    }
+    Ok(())
 }
 
 /// Writes what fills a gap.
@@ -47,6 +79,8 @@ fn put_filling<W: Write>(writer: &mut W, filling: Filling<'_>) -> io::Result<()>
             let (whole, rest) = (time / 100, time % 100);
             write!(writer, "{whole}.{rest:02}")
         }
+        Filling::Csv(text) => put_csv(writer, text),
+        Filling::Json(text) => put_json(writer, text),
     }
 }
 
