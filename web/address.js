@@ -8,8 +8,9 @@
  * @typedef {import("./run.js").Run} Run
  * @typedef {{ plan?: any, parts: any[] }} Recipe
  */
-import { requestsOf } from "./bench.js";
+import { readBench, requestsOf, writeBench } from "./bench.js";
 import { packed, unpacked } from "./files.js";
+import { isClock } from "./run.js";
 
 const STORED = "agc-workbench-undo";
 
@@ -111,12 +112,47 @@ export function readAddress(mark) {
   return found;
 }
 
-/** @param {string} data */
-export async function readRecipe(data) {
+/** The numbers of a bench that a recipe may have changed: of its clock, and of its plan. */
+const CLOCKED = ["steal", "job", "event"];
+const PLANNED = ["sets", "task"];
+
+/**
+ * Whether these are some of a bench's own, such as its document might have.
+ * @param {any} given
+ * @param {string[]} names
+ * @param {import("./bench.js").Bench} bench
+ */
+function areOf(given, names, bench) {
+  if (typeof given !== "object" || !Object.keys(given).every((it) => names.includes(it))) return false;
+  readBench(writeBench({ ...bench, seconds: bench.seconds ?? 1, ...given }));
+  return true;
+}
+
+/**
+ * Whether this is a part of what was done: rows of the document or of the clock, one by somebody
+ * else, or other numbers.
+ * @param {any} part
+ * @param {import("./bench.js").Bench} bench
+ */
+function isPart(part, bench) {
+  if (!Array.isArray(part)) return false;
+  const [kind, one, who] = part;
+  if (kind === "c" || kind === "d") return Number.isSafeInteger(one) && one >= 0;
+  if (kind === "s") return areOf(one, CLOCKED, bench);
+  return kind === "y" && typeof one === "string" && typeof who === "string" && !isClock(who);
+}
+
+/**
+ * What was done to a run of this bench.
+ * @param {string} data
+ * @param {import("./bench.js").Bench} bench
+ */
+export async function readRecipe(data, bench) {
   try {
-    const recipe = JSON.parse(await unpacked(data));
-    if (!Array.isArray(recipe.parts)) throw new Damaged("");
-    return /** @type {Recipe} */ (recipe);
+    const { plan = {}, parts } = JSON.parse(await unpacked(data));
+    const isWhole = areOf(plan, PLANNED, bench) && parts.every((/** @type {any} */ it) => isPart(it, bench));
+    if (!isWhole) throw new Damaged("");
+    return /** @type {Recipe} */ ({ plan, parts });
   } catch {
     throw new Damaged("what was done can't be read: it may be cut");
   }
@@ -161,7 +197,8 @@ export function store(given) {
 export function stored(state) {
   try {
     const found = JSON.parse(sessionStorage.getItem(STORED) ?? "null");
-    return found !== null && found.id === state?.id ? found : null;
+    const isWhole = [found?.done, found?.undone, found?.branches].every(Array.isArray);
+    return isWhole && found.id === state?.id ? found : null;
   } catch {
     return null;
   }

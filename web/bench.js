@@ -13,6 +13,7 @@
  *   device: { line: string, pulses: number }[], seconds?: number, steal: number | StealRow[],
  *   job: JobRow[], event: EventRow[] }} Bench
  */
+import { pulseOf } from "../libagc/js/machine.js";
 import { Unread, linesOf, readToml } from "./toml.js";
 import { ACTIONS, JOBS, LISTS, PARTS, REQUESTS, lineFault, nearest } from "./words.js";
 
@@ -292,8 +293,7 @@ export function* requestsOf(bench) {
     for (const line of script) yield [line, `worker ${k + 1}`];
   }
   for (const [k, { line, pulses }] of bench.device.entries()) {
-    const asked = line === "timer" ? ["tick"] : line === "key" ? bench.key : bench.radar;
-    const lines = asked.filter((it) => it !== "nothing");
+    const lines = pulseOf(line, bench);
     for (let n = 0; n < pulses && lines.length > 0; n++) {
       for (const one of lines) yield [one, `device ${k + 1}, ${line}`];
     }
@@ -301,31 +301,12 @@ export function* requestsOf(bench) {
 }
 
 /**
- * Whether an event ever comes.
- * @param {EventRow} event
- */
-export function comes({ at, every, until }) {
-  return every === undefined || until === undefined || at <= until;
-}
-
-/**
- * What the module's clock is given, of a bench or of what is changed of it: an event that never comes
- * is left out, since the module takes none.
- * @param {any} given
- */
-export function timetableOf(given) {
-  return given.event === undefined ? given : { ...given, event: given.event.filter(comes) };
-}
-
-/**
  * How many requests a bench asks for.
  * @param {Bench} bench
  */
-export function countOf({ script, worker, device, key, radar }) {
-  const pulses = device.map((it) => {
-    const asked = it.line === "timer" ? ["tick"] : it.line === "key" ? key : radar;
-    return it.pulses * asked.filter((one) => one !== "nothing").length;
-  });
+export function countOf(bench) {
+  const { script, worker, device } = bench;
+  const pulses = device.map((it) => it.pulses * pulseOf(it.line, bench).length);
   return [script.length, ...worker.map((it) => it.script.length), ...pulses]
     .reduce((sum, it) => sum + it, 0);
 }

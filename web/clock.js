@@ -4,7 +4,7 @@
  * numbers of the document, and says how a run differs from it; here a run goes on with others.
  */
 import { Clock } from "../libagc/js/machine.js";
-import { comes, timetableOf, writeBench } from "./bench.js";
+import { writeBench } from "./bench.js";
 import { button, by, fill, make } from "./dom.js";
 import { MOST_ROWS, Run } from "./run.js";
 import { Sliders, differencesOf } from "./sliders.js";
@@ -29,8 +29,7 @@ const DRAWN_EACH = 300;
  */
 function whoOf(run, event) {
   if (event === null) return "the clock";
-  const row = run.bench.event.filter(comes)[event];
-  return `event ${visible(row?.name ?? String(run.bench.event.indexOf(row) + 1))}`;
+  return `event ${visible(run.bench.event[event]?.name ?? String(event + 1))}`;
 }
 
 /** The longest time that a run has, in seconds, where no scenario says it. */
@@ -41,7 +40,7 @@ const LONGEST = 3600;
  * @param {import("./bench.js").Bench} bench
  */
 function clockOf({ seconds: length, steal, job, event }) {
-  return new Clock(timetableOf({ seconds: length ?? LONGEST, steal, job, event }));
+  return new Clock({ seconds: length ?? LONGEST, steal, job, event });
 }
 
 export class ClockPanel {

@@ -61,6 +61,8 @@ class Workbench {
     this.mark = "";
     this.documentMark = "";
     this.keeping = 0;
+    /** What is done last with the address. */
+    this.turn = Promise.resolve();
     /** The document within the page. */
     this.own = "";
     /** The row of which the tables are shown as its restart left them, and its run. */
@@ -589,7 +591,7 @@ class Workbench {
       it.text === source.document || it.name === source.exercise);
     const area = make("textarea", { readOnly: true, value: bench, "aria-label": "The bench" });
     const link = make("input", { type: "text", readOnly: true, "aria-label": "The link" });
-    const told = make("p", {}, "A link to it: ", link);
+    const told = make("p", { class: "link" }, "A link to it: ", link);
     openDialog("Save", [
       make("p", {}, "This bench has all requests up to the last row: agc serial comes to the same "
         + "tables with it."), area,
@@ -739,10 +741,26 @@ class Workbench {
     return { ...source, isHidden: false, isChanged };
   }
 
-  /** Opens what the address says. What can't be read of it is said, and nothing is opened. */
-  async fromAddress() {
+  /** Opens what the address says. */
+  fromAddress() {
+    return this.inTurn(() => this.openMark());
+  }
+
+  /**
+   * Does what has to do with the address after what was begun before: a document is unpacked beside
+   * what the reader does.
+   * @param {() => Promise<void>} what
+   */
+  inTurn(what) {
+    this.turn = this.turn.catch(() => {}).then(what);
+    return this.turn;
+  }
+
+  /** What can't be read of the address is said, and nothing is opened. */
+  async openMark() {
     if (location.hash === this.mark) return;
     this.mark = location.hash;
+    document.body.setAttribute("aria-busy", "true");
     try {
       const found = address.readAddress(location.hash);
       document.body.classList.toggle("embed", found.isEmbedded);
@@ -750,6 +768,8 @@ class Workbench {
       await this.doAgain(found);
     } catch (fault) {
       this.sayDamaged(fault instanceof address.Damaged ? fault.message : "");
+    } finally {
+      document.body.removeAttribute("aria-busy");
     }
   }
 
@@ -788,9 +808,9 @@ class Workbench {
    */
   async doAgain({ done, at, see, isShown }) {
     if (done !== "") {
-      const recipe = await address.readRecipe(done);
       const old = this.view.run;
       const { title, about, source, given } = old;
+      const recipe = await address.readRecipe(done, given);
       const run = this.clock.begunOf({ ...given, ...recipe.plan });
       Object.assign(run, { title, about, source, given });
       address.follow(run, recipe, this.clock);
@@ -813,7 +833,7 @@ class Workbench {
   /** The address says what is shown, a moment after nothing more happens. */
   keep() {
     clearTimeout(this.keeping);
-    this.keeping = setTimeout(() => this.keepNow(), KEPT_AFTER);
+    this.keeping = setTimeout(() => this.inTurn(() => this.keepNow()), KEPT_AFTER);
   }
 
   async keepNow() {
@@ -884,7 +904,7 @@ class Workbench {
       Object.assign(plain, { title: now.title, about: now.about, source: now.source, isOpened: true });
       return { run: plain, count: plain.count };
     }
-    const recipe = await address.readRecipe(done);
+    const recipe = await address.readRecipe(done, now.given);
     const run = this.clock.begunOf({ ...now.given, ...recipe.plan });
     Object.assign(run, { title: now.title, about: now.about, source: now.source, given: now.given });
     address.follow(run, recipe, this.clock);

@@ -12,8 +12,7 @@
  *   afterWords: Uint16Array, last: Scene | null, era: number, begun: number, ended: number,
  *   isAfter?: boolean }} Shown
  */
-import { Kind, Machine, sceneOf } from "../libagc/js/machine.js";
-import { timetableOf } from "./bench.js";
+import { Code, Kind, Machine, refusalOf, sceneOf } from "../libagc/js/machine.js";
 import { Column } from "./column.js";
 import { Lanes } from "./lanes.js";
 
@@ -42,9 +41,10 @@ function once(line) {
   return line;
 }
 
-/** What came of a request that was not served. */
+/** What came of a request that was not served, and by which code of the module. */
 export const SPENT = 100;
 export const LOG_FULL = 101;
+const REFUSED = { [Code.OK]: 0, [Code.SPENT]: SPENT, [Code.LOG_FULL]: LOG_FULL };
 
 /**
  * The document that a run came of, and the exercise that it is, if any: name and question, whether
@@ -244,6 +244,14 @@ export function afterOf(shown) {
     jobsSince: jobs, jobsFrom: from };
 }
 
+/**
+ * Whether it is the clock that asks, or one of its events.
+ * @param {string} who
+ */
+export function isClock(who) {
+  return /^the clock|^event/.test(who);
+}
+
 export class Run {
   /** @param {import("./bench.js").Bench} bench */
   constructor(bench) {
@@ -284,13 +292,15 @@ export class Run {
   }
 
   /**
-   * Why a request isn't served as the next one: `SPENT`, `LOG_FULL`, or 0.
+   * Why a request isn't served, after so many more: `SPENT`, `LOG_FULL`, or 0, as the module says.
    * @param {string} line
+   * @param {number} [more]
    */
-  refusal(line) {
-    if (BigInt(this.head.served) >= this.bench.allowance) return SPENT;
-    const isBound = line !== "restart" && line !== "fresh";
-    return isBound && this.head.log >= this.bench.limit ? LOG_FULL : 0;
+  refusal(line, more = 0) {
+    const { served, log } = this.head;
+    const { limit, allowance } = this.bench;
+    const counts = { served: served + more, logged: log + more };
+    return REFUSED[refusalOf(line, { ...counts, limit, allowance })];
   }
 
   /** @param {string} who */
@@ -319,8 +329,7 @@ export class Run {
    * @param {number} most
    */
   hasRoomFor(most) {
-    return this.head.log + most < this.bench.limit
-      && BigInt(this.head.served + most) < this.bench.allowance;
+    return this.refusal("tick", most) === 0;
   }
 
   /**
@@ -413,7 +422,7 @@ export class Run {
    */
   changeAt(state, row) {
     if (state.clock === null) return;
-    for (const it of this.changes) if (it.row === row) state.clock.change(timetableOf(it.given));
+    for (const it of this.changes) if (it.row === row) state.clock.change(it.given);
   }
 
   /**
@@ -424,7 +433,7 @@ export class Run {
   change(bench, given) {
     this.changes.push({ row: this.count, given, before: this.bench });
     this.bench = { ...this.bench, ...bench };
-    this.head.clock.change(timetableOf(given));
+    this.head.clock.change(given);
   }
 
   /**
@@ -432,7 +441,7 @@ export class Run {
    * @param {number} row
    */
   isByClock(row) {
-    return /^the clock|^event/.test(this.whoAsked(row));
+    return isClock(this.whoAsked(row));
   }
 
   /**

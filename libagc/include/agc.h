@@ -116,7 +116,9 @@ enum {
     AGC_TIME_RANGE = 15,  /* a number of the timetable is out of its range */
     AGC_STEAL_TWICE = 16, /* two rows of stolen time hold at one time */
     AGC_COST_TWICE = 17,  /* one address has two costs */
-    AGC_OUTSIDE = 18      /* a map has a table beyond the end of the memory */
+    AGC_OUTSIDE = 18,     /* a map has a table beyond the end of the memory */
+    AGC_SPENT = 19,       /* as many requests were served as the allowance says */
+    AGC_LOG_FULL = 20     /* as many requests were served since the last era began as the limit says */
 };
 
 /* The kinds of replies, and what the reply's number then is. */
@@ -165,6 +167,9 @@ enum {
     AGC_ALARM_1202 = 01202, /* no core set is free */
     AGC_ALARM_1203 = 01203  /* nine tasks wait */
 };
+
+/* The lines of devices, of which agc_pulse takes one. */
+enum { AGC_TIMER = 0, AGC_KEY = 1, AGC_RADAR = 2 };
 
 /* The rules that lawful words keep. agc_explain tells the first that is broken. */
 enum {
@@ -285,6 +290,10 @@ typedef struct { uint32_t code, reply, number, fired, action; } AgcStep;
    themselves or in a tick, and those with which an era began. */
 typedef struct { uint64_t served, alarms_1201, alarms_1202, alarms_1203, restarts; } AgcTotals;
 
+/* How many requests were served, and how many are at most; how many were since the last era began, and
+   how many are at most. You keep the counts. */
+typedef struct { uint64_t served, allowance; uint32_t logged, limit; } AgcBounds;
+
 /* An entry of a plan: what begins again while a restart group, 1 to 6, stands in a phase, 1 to 127.
    A job, where `job` isn't 0, and a task, where `delay` isn't 0; their numbers are those of the
    calls agc_novac, agc_findvac and agc_list. */
@@ -311,7 +320,7 @@ typedef struct { uint32_t from, to, percent; } AgcStolen;
 typedef struct { uint32_t at, hundredths, then; } AgcCost;
 
 /* An event: it comes at a centisecond, 0 to 360,000, and where `every` isn't 0 again each so many
-   centiseconds, at last at `until`. Each time it asks for `count` requests, 1 to 16, of those that are
+   centiseconds, at last at `until`: never, where that is before the first. Each time it asks for `count` requests, 1 to 16, of those that are
    handed to the call, from number `first` on, which counts from 0. */
 typedef struct { uint32_t at, every, until, first, count; } AgcEvent;
 
@@ -354,6 +363,8 @@ AGC_INLINE const char *agc_code_text(uint32_t code) {
     case AGC_STEAL_TWICE: return "two rows of stolen time hold at one time";
     case AGC_COST_TWICE: return "one address has two costs";
     case AGC_OUTSIDE: return "the map has a table beyond the end of the memory";
+    case AGC_SPENT: return "as many requests were served as the allowance says";
+    case AGC_LOG_FULL: return "the log is full, which only a restart or a fresh start empties";
     default: return "no call answers this code";
     }
 }
@@ -523,6 +534,18 @@ AGC_USED AgcNumber agc_write_reply(const AgcStep *step, const AgcFired fired[AGC
    image. */
 AGC_USED AgcNumber agc_write_report(const uint16_t words[AGC_WORDS], uint32_t sets, const AgcTotals *totals, char *text,
                            size_t room);
+
+/* Whether a request is served, with these counts before it, by the rule of `agc`: AGC_OK;
+   AGC_OUT_OF_RANGE and AGC_NOT_A_WORD for the request; AGC_SPENT; AGC_LOG_FULL, which neither AGC_RESTART
+   nor AGC_FRESH is answered. agc_step asks nobody: it serves what is lawful. */
+AGC_USED uint32_t agc_refusal(const AgcRequest *request, const AgcBounds *bounds);
+
+/* What a pulse of a device's line asks for: of AGC_TIMER a tick, of AGC_KEY and AGC_RADAR what the plan has
+   done for it, at most AGC_ACTIONS actions each, of which AGC_NOTHING asks for nothing. The requests come in
+   order in the first places of `requests`, the others stay, and the number says how many they are.
+   AGC_OUT_OF_RANGE for the line; AGC_PLAN_RANGE where there are more actions, or one is none. */
+AGC_USED AgcNumber agc_pulse(uint32_t line, const AgcAction *key, size_t key_count, const AgcAction *radar,
+                    size_t radar_count, AgcRequest requests[AGC_ACTIONS]);
 
 /* Whether rows make a timetable: AGC_OK, or the first of AGC_TIME_RANGE, AGC_STEAL_TWICE and
    AGC_COST_TWICE. Of all rows and requests there may be none, and they may then be null. */

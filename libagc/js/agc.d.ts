@@ -26,6 +26,8 @@ export declare const Code: {
   readonly STEAL_TWICE: 16;
   readonly COST_TWICE: 17;
   readonly OUTSIDE: 18;
+  readonly SPENT: 19;
+  readonly LOG_FULL: 20;
 };
 
 /** The kinds of replies. */
@@ -339,6 +341,25 @@ export interface Core {
 /** The tables in the erasable memory of a real computer or an emulator. Only a map is refused. */
 export declare function readCore(memory: ArrayLike<number>, map: CoreMap): Core;
 
+/**
+ * How many requests were served, and how many are at most; how many were since the last era began, and
+ * how many are at most.
+ */
+export interface Bounds {
+  served: number | bigint;
+  allowance: number | bigint;
+  logged: number;
+  limit: number;
+}
+
+/** Whether a request is served, with these counts before it: `Code.OK`, `SPENT` or `LOG_FULL`. */
+export declare function refusalOf(request: string, bounds: Bounds): number;
+
+/** The lines of what a pulse of a device asks for: `line` is "timer", "key" or "radar". */
+export declare function pulseOf(
+  line: string, plan?: { key?: string | string[]; radar?: string | string[] },
+): string[];
+
 /** Takes the module agc.wasm, as bytes or compiled. Importing `agc` has done it. */
 export declare function start(source: BufferSource | WebAssembly.Module): Promise<void>;
 
@@ -372,6 +393,11 @@ export interface Library {
   agc_power_up_trusted(
     answer: bigint, words: bigint, sets: number, entries: bigint, entry_count: bigint,
     phase_words: bigint,
+  ): void;
+  agc_refusal(request: bigint, bounds: bigint): number;
+  agc_pulse(
+    answer: bigint, line: number, key: bigint, key_count: bigint, radar: bigint, radar_count: bigint,
+    requests: bigint,
   ): void;
   agc_read_request(text: bigint, length: bigint, request: bigint): number;
   agc_read_action(text: bigint, length: bigint, action: bigint): number;

@@ -38,6 +38,8 @@
  * @typedef {{ sets: (Job | null)[], taken: boolean[], tasks: Waiting[], phases: number[],
  *   codes: number[], newjob: number, odd: Odd[] }} Core
  * @typedef {{ timetable: Timetable, at: number[] }} ClockState
+ * @typedef {{ served: number | bigint, allowance: number | bigint, logged: number,
+ *   limit: number }} Bounds
  */
 
 /** The release of this module. */
@@ -67,6 +69,8 @@ export const Code = Object.freeze({
   STEAL_TWICE: 16,
   COST_TWICE: 17,
   OUTSIDE: 18,
+  SPENT: 19,
+  LOG_FULL: 20,
 });
 
 /** The kinds of replies. */
@@ -107,6 +111,8 @@ const CODE_TEXTS = {
   [Code.STEAL_TWICE]: "two rows of stolen time hold at one time",
   [Code.COST_TWICE]: "one address has two costs",
   [Code.OUTSIDE]: "the map has a table beyond the end of the memory",
+  [Code.SPENT]: "as many requests were served as the allowance says",
+  [Code.LOG_FULL]: "the log is full, which only a restart or a fresh start empties",
 };
 
 /** @type {Record<number, string>} */
@@ -186,7 +192,7 @@ export class Lacking extends Error {
 // words from elsewhere, that machine's plan, and behind it that clock's timetable.
 const SIZE = {
   ...{ words: 288, moment: 288, answer: 40, fired: 72, request: 16, totals: 40, phases: 24 },
-  ...{ clock: 64, text: 2048, other: 288, map: 40 },
+  ...{ clock: 64, text: 2048, other: 288, map: 40, bounds: 24, pulse: 64, actions: 160 },
 };
 const ROW = 72;
 const ENTRY = 36;
@@ -849,6 +855,65 @@ export class Asked {
   toString() {
     return this.text;
   }
+}
+
+const BOUNDS = ["served", "allowance", "logged", "limit"];
+const WORD = 0xffffffffn;
+
+/**
+ * Whether a request is served, with these counts before it: `Code.OK`, `Code.SPENT`, or
+ * `Code.LOG_FULL`, which is the answer neither to a restart nor to a fresh start. A line that spells
+ * no request is thrown.
+ * @param {string} request
+ * @param {Bounds} bounds
+ * @returns {number}
+ */
+export function refusalOf(request, bounds) {
+  if (calls === null) throw new TypeError("the module isn't there yet: await start(bytes)");
+  known("the bounds", bounds, BOUNDS, BOUNDS);
+  read(calls.agc_read_request, request, "request");
+  BOUNDS.forEach((name, k) => {
+    const it = Reflect.get(bounds, name);
+    const [low, high] = typeof it === "bigint" ? [Number(it & WORD), Number(it >> 32n)]
+      : [it % 2 ** 32, Math.floor(it / 2 ** 32)];
+    if (!(Number.isInteger(low) && high >= 0 && high < (k < 2 ? 2 ** 32 : 1))) {
+      throw new Lacking(Code.OUT_OF_RANGE, `${name} can't be ${it}`);
+    }
+    const place = at.bounds / 4 + (k < 2 ? 2 * k : k + 2);
+    numbers[place] = low;
+    if (k < 2) numbers[place + 1] = high;
+  });
+  return calls.agc_refusal(to.request, to.bounds);
+}
+
+/** The lines of devices, and the most actions that are handed on: one too many is told so. */
+const LINES = ["timer", "key", "radar"];
+const MOST_ACTIONS = 5;
+
+/**
+ * The lines of what a pulse of a device asks for, where `line` is "timer", "key" or "radar": a tick,
+ * or what a plan has done for a key or a radar pulse, which is at most four actions.
+ * @param {string} line
+ * @param {{ key?: string | string[], radar?: string | string[] }} [plan]
+ * @returns {string[]}
+ */
+export function pulseOf(line, plan = {}) {
+  if (calls === null) throw new TypeError("the module isn't there yet: await start(bytes)");
+  known("a plan of pulses", plan, DOCUMENT);
+  const found = [plan.key ?? [], plan.radar ?? []].map((it) => (Array.isArray(it) ? it : [it])
+    .slice(0, MOST_ACTIONS).map((text) => action(text, "action", ACTIONS)));
+  found.forEach((it, k) => it.forEach((row, j) =>
+    numbers.set(row, at.actions / 4 + 4 * (MOST_ACTIONS * k + j))));
+  const second = to.actions + BigInt(16 * MOST_ACTIONS);
+  const number = LINES.includes(line) ? LINES.indexOf(line) : LINES.length;
+  const [key, radar] = found.map((it) => BigInt(it.length));
+  calls.agc_pulse(to.answer, number, to.actions, key, second, radar, to.pulse);
+  served(numbers[at.answer / 4]);
+  return Array.from({ length: numbers[at.answer / 4 + 1] }, (_, k) => {
+    const [kind, ...given] = numbers.subarray(at.pulse / 4 + 4 * k, at.pulse / 4 + 4 * k + 4);
+    const name = NAMES[kind - 1];
+    return new Asked(name, given.slice(0, WIDTHS[name].length), null).text;
+  });
 }
 
 const STOLEN = 12;

@@ -114,6 +114,27 @@ fn keeps() -> Result<(), Lacking> {
     Ok(())
 }
 
+/// A request is refused by the rule of `agc`, and a pulse asks for a tick, or for what the plan has done.
+fn asks() -> Result<(), Lacking> {
+    let [tick, novac] = ["tick", "novac 20 02000 00005"].map(|it| AgcRequest::try_from(it).unwrap());
+    let of = |served, logged| AgcBounds { served, allowance: 10, logged, limit: 5 };
+    assert_eq!([of(9, 4), of(9, 5), of(10, 5), of(11, 0)].map(|it| agc_refusal(&tick, &it)), [OK, LOG_FULL, SPENT, SPENT]);
+    assert_eq!(["restart", "fresh"].map(|it| agc_refusal(&it.try_into().unwrap(), &of(9, 5))), [OK, OK]);
+    assert_eq!(agc_refusal(&AgcRequest::default(), &of(9, 5)), OUT_OF_RANGE);
+    let none = AgcAction::default();
+    let (key, mut found) = ([none, novac, none, novac], [tick; ACTIONS]);
+    assert_eq!((agc_pulse(KEY, &key, &[], &mut found), found), (AgcNumber { code: OK, number: 2 }, [novac, novac, tick, tick]));
+    assert_eq!((agc_pulse(TIMER, &key, &key, &mut found).number, found[0]), (1, tick));
+    assert_eq!(agc_pulse(RADAR, &key, &[], &mut found), AgcNumber { code: OK, number: 0 });
+    assert_eq!(agc_pulse(RADAR, &[], &[novac; 5], &mut found), AgcNumber { code: PLAN_RANGE, number: 0 });
+    assert_eq!(agc_pulse(3, &key, &key, &mut found), AgcNumber { code: OUT_OF_RANGE, number: 0 });
+    // An event whose last time is before its first never comes.
+    let never = Timetable::new(1).event(5, 2, 4, &["restart"])?;
+    let (mut machine, mut clock) = (Machine::new(7, Plan::new())?, Clock::new(never)?);
+    assert!(machine.run(&mut clock, 20)?.iter().all(|it| it.0.request == tick && it.0.event.is_none()));
+    Ok(())
+}
+
 fn main() -> Result<(), Lacking> {
     let twice = Timetable::new(1).job(0o4000, 1, "end")?.job(0o4000, 2, "end")?;
     assert_eq!(Clock::new(twice).unwrap_err().code, COST_TWICE);
@@ -127,6 +148,7 @@ fn main() -> Result<(), Lacking> {
     assert_eq!(scene_of(&[0; 131]).unwrap_err().code, NOT_WORDS);
     spells()?;
     keeps()?;
+    asks()?;
     let (mut text, mut out) = (String::new(), BufWriter::new(io::stdout()));
     io::stdin().read_to_string(&mut text).unwrap();
     let mut scenario = None;

@@ -253,6 +253,67 @@ static void clocks(void) {
     BOTH("agc_clock_served", 0, agc_clock_served, w, s, &step, &clock);
 }
 
+/* Whether a request is served with these counts before it, and what pulses ask for. */
+static void asking(void) {
+    AgcRequest change = {AGC_CHANGE, 0, 0, 0}, restart = {AGC_RESTART, 0, 0, 0}, fresh = {AGC_FRESH, 0, 0, 0};
+    AgcRequest none = {AGC_NOTHING, 0, 0, 0}, store = {AGC_STORE, 1, 32768, 0}, novac = {AGC_NOVAC, 31, 16383, 32767};
+    AgcRequest list = {AGC_LIST, 2, 1024, 5}, tick = {AGC_TICK, 0, 0, 0}, five[5], found[AGC_ACTIONS], was[AGC_ACTIONS];
+    AgcBounds bounds = {9, 10, 4, 5}, all = {UINT64_MAX - 1, UINT64_MAX, 0, 1};
+    check(agc_refusal(&change, &bounds) == 0 && agc_refusal(&change, &all) == 0, "a request within its bounds", 7, 0);
+    check(agc_refusal(&none, &bounds) == 4 && agc_refusal(&store, &bounds) == 5, "numbers that are no request", 7, 4);
+    bounds.logged = 5;
+    check(agc_refusal(&change, &bounds) == 20 && agc_refusal(&tick, &bounds) == 20, "a full log", 7, 20);
+    check(agc_refusal(&restart, &bounds) == 0 && agc_refusal(&fresh, &bounds) == 0, "what starts over a full log", 7, 0);
+    bounds.served = 10;
+    check(agc_refusal(&change, &bounds) == 19 && agc_refusal(&restart, &bounds) == 19, "a used allowance", 7, 19);
+    check(agc_refusal(&none, &bounds) == 4, "no request beyond the allowance", 7, 4);
+    bounds.served = 11;
+    check(agc_refusal(&fresh, &bounds) == 19, "more than the allowance", 7, 19);
+    AgcBounds nothing = {0, 0, 0, 0};
+    check(agc_refusal(&tick, &nothing) == 19, "an allowance of nothing", 7, 19);
+
+    memset(was, 7, sizeof was);
+    memcpy(found, was, sizeof was);
+    AgcNumber it = agc_pulse(AGC_TIMER, NULL, 0, NULL, 0, found);
+    check(it.code == 0 && it.number == 1 && !memcmp(found, &tick, sizeof tick) && !memcmp(found + 1, was + 1, sizeof was - sizeof *was), "the timer", 7, 0);
+    AgcAction key[AGC_ACTIONS] = {{AGC_NOTHING, 9, 9, 9}, novac, {AGC_NOTHING, 0, 0, 0}, list};
+    memcpy(found, was, sizeof was);
+    it = agc_pulse(AGC_KEY, key, AGC_ACTIONS, NULL, 0, found);
+    check(it.code == 0 && it.number == 2 && !memcmp(found, &novac, sizeof novac) && !memcmp(found + 1, &list, sizeof list) &&
+          !memcmp(found + 2, was + 2, 2 * sizeof *was), "two of four actions", 7, 0);
+    memcpy(found, was, sizeof was);
+    it = agc_pulse(AGC_RADAR, key, AGC_ACTIONS, NULL, 0, found);
+    check(it.code == 0 && it.number == 0 && !memcmp(found, was, sizeof was), "a radar of nothing", 7, 0);
+    it = agc_pulse(3, key, AGC_ACTIONS, NULL, 0, found);
+    check(it.code == 4 && it.number == 0 && !memcmp(found, was, sizeof was), "no line", 7, 4);
+    for (int k = 0; k < 5; k++) five[k] = list;
+    check(agc_pulse(AGC_RADAR, NULL, 0, five, 4, found).number == 4, "four actions", 7, 0);
+    memcpy(found, was, sizeof was);
+    check(agc_pulse(AGC_KEY, five, 5, NULL, 0, found).code == 9 && agc_pulse(AGC_TIMER, NULL, 0, five, 5, found).code == 9, "five actions", 7, 9);
+    check(agc_pulse(AGC_KEY, &tick, 1, NULL, 0, found).code == 9 && agc_pulse(AGC_TIMER, NULL, 0, &store, 1, found).code == 9, "no action", 7, 9);
+    five[3].first = 16251;
+    check(agc_pulse(AGC_KEY, five, 4, NULL, 0, found).code == 9 && !memcmp(found, was, sizeof was), "an action out of range", 7, 9);
+}
+
+/* An event that comes again may have its last time before its first: then it never comes. */
+static void never(void) {
+    AgcRequest change = {AGC_CHANGE, 0, 0, 0}, it = change;
+    AgcEvent event = {5, 2, 4, 0, 1};
+    AgcClock clock;
+    uint16_t words[AGC_WORDS];
+    memset(&clock, 0, sizeof clock);
+    check(agc_clock_check(NULL, 0, NULL, 0, &event, 1, &change, 1) == 0, "an event that never comes", 7, 0);
+    agc_clear(words, 7);
+    for (int k = 0; k < 20; k++) {
+        AgcStep step = {AGC_OK, AGC_TICKED, 0, 0, 0};
+        check(agc_clock_next(words, 7, 20, NULL, 0, NULL, 0, &event, 1, &change, 1, &clock, &it).number == 1, "a tick, and no event", 7, 0);
+        check(agc_clock_served(words, 7, &step, &clock) == 0, "a tick", 7, 0);
+    }
+    check(agc_clock_next(words, 7, 20, NULL, 0, NULL, 0, &event, 1, &change, 1, &clock, &it).number == 0, "the time is over", 7, 0);
+    event.until = 360001;
+    check(agc_clock_check(NULL, 0, NULL, 0, &event, 1, &change, 1) == 15, "an event beyond an hour", 7, 15);
+}
+
 static void power(void) {
     AgcPhaseEntry entries[2] = {{6, 127, AGC_NOVAC, 31, 16383, 32767, 0, 0, 0}, {6, 127, 0, 0, 0, 0, 0, 0, 0}};
     uint16_t phases[AGC_PHASE_WORDS] = {077777, 0, 077777, 0, 077777, 0, 077777, 0, 077777, 0, 077600, 0177};
@@ -377,7 +438,8 @@ static void texts(void) {
     check(!strcmp(agc_code_text(4), "a number of the call is out of its range"), "agc_code_text", 7, 4);
     check(!strcmp(agc_code_text(13), "the line spells no request"), "agc_code_text", 7, 13);
     check(!strcmp(agc_code_text(17), "one address has two costs"), "agc_code_text", 7, 17);
-    check(!strcmp(agc_code_text(19), "no call answers this code"), "agc_code_text", 7, 19);
+    check(!strcmp(agc_code_text(20), "the log is full, which only a restart or a fresh start empties"), "agc_code_text", 7, 20);
+    check(!strcmp(agc_code_text(21), "no call answers this code"), "agc_code_text", 7, 21);
     check(!strcmp(agc_reply_text(AGC_NO_SLEEPER), "no job sleeps at that address"), "agc_reply_text", 7, 0);
     check(!strcmp(agc_reply_text(0), "no reply is of this kind"), "agc_reply_text", 7, 0);
 }
@@ -412,6 +474,8 @@ int main(void) {
     eras();
     steps();
     clocks();
+    asking();
+    never();
     power();
     lines();
     numbers_of_replies();

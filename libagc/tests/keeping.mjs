@@ -4,7 +4,8 @@
 //     node keeping.mjs AGC_JS
 import { pathToFileURL } from "node:url";
 
-const { Clock, Code, Kind, Lacking, Machine, VERSION, replyText, sceneOf } = await import(pathToFileURL(process.argv[2]).href);
+const agc = await import(pathToFileURL(process.argv[2]).href);
+const { Clock, Code, Kind, Lacking, Machine, VERSION, pulseOf, refusalOf, replyText, sceneOf } = agc;
 
 const SERVICER = {
   steal: 15,
@@ -37,6 +38,54 @@ function timeGoesOn() {
   thrown(Lacking, () => new Clock({ seconds: 3601 }), "a timetable lasts at most 3600 seconds, and this 3601");
   thrown(Lacking, () => new Clock({ seconds: 0.125 }), "seconds has to be whole centiseconds, and is 0.125");
   thrown(Lacking, () => new Clock({ seconds: Number.NaN }));
+}
+
+/** An event whose last time is before its first, as `agc_watch` takes it. */
+function anEventMayNeverCome() {
+  const texts = new Set();
+  const clock = new Clock({ event: [{ at: 5, every: 2, until: 4, do: "restart" }] });
+  new Machine().run(clock, 20, (asked) => texts.add(`${asked} ${asked.event}`));
+  want(same([...texts], ["tick null"]), "an event that never comes");
+}
+
+/** By the rule of `agc`: the allowance is looked at first, and a full log serves what starts over. */
+function boundsRefuse() {
+  const most = 2n ** 64n - 1n;
+  for (const [counts, code, lines] of [
+    [[0, 1, 0, 1], Code.OK, ["change", "tick", "restart"]],
+    [[most - 1n, most, 999999, 1000000], Code.OK, ["novac 20 02000 00005"]],
+    [[9, 10, 5, 5], Code.OK, ["restart", "fresh"]],
+    [[9, 10, 5, 5], Code.LOG_FULL, ["tick", "novac 20 02000 00005"]],
+    [[10, 10, 5, 5], Code.SPENT, ["tick", "fresh"]],
+    [[2 ** 40, 2n ** 40n, 0, 5], Code.SPENT, ["tick"]],
+    [[11, 10, 0, 5], Code.SPENT, ["restart"]],
+  ]) {
+    const [count, allowance, logged, limit] = counts;
+    const found = lines.map((it) => refusalOf(it, { served: count, allowance, logged, limit }));
+    want(found.every((it) => it === code), `${counts} of ${lines}: ${found}`);
+  }
+  const bounds = { served: 0, allowance: 1, logged: 0, limit: 1 };
+  thrown(Lacking, () => refusalOf("tock", bounds), '"tock" is no request');
+  thrown(Lacking, () => refusalOf("tick", { ...bounds, allowance: 2n ** 64n }), "allowance can't be 18446744073709551616");
+  thrown(Lacking, () => refusalOf("tick", { ...bounds, logged: -1 }), "logged can't be -1");
+  thrown(TypeError, () => refusalOf("tick", { served: 0 }), 'the bounds has to have "allowance"');
+}
+
+/** A timer's pulse asks for a tick, the others for what the plan has done; no machine takes note of it. */
+function pulsesAsk() {
+  const key = ["nothing", "novac 20 02000 00005", "rouse 02100", "nothing"];
+  const machine = new Machine({ plan: PLAN });
+  machine.ask("list 1 02000 00005");
+  want(same(pulseOf("timer"), ["tick"]) && same(pulseOf("timer", { key, radar: key }), ["tick"]), "a timer");
+  want(same(pulseOf("key", { key }), ["novac 20 02000 00005", "rouse 02100"]), "a key");
+  want(same(pulseOf("radar", { key }), []), "a radar of nothing");
+  want(same(pulseOf("radar", { radar: "list 16250 37777 77777" }), ["list 16250 37777 77777"]), "a radar");
+  const four = new Array(4).fill("findvac 01 00001 00000");
+  want(same(pulseOf("key", { key: four }), four), "four actions");
+  thrown(Lacking, () => pulseOf("key", { key: [...four, "nothing"] }), "a number of the plan is out of its range");
+  thrown(Lacking, () => pulseOf("bell"), "a number of the call is out of its range");
+  thrown(Lacking, () => pulseOf("key", { key: "tick" }), '"tick" is no action');
+  want(machine.ask("tick").fired.length === 1 && machine.scene().sets[0].at === 0o4000, "the machine goes on");
 }
 
 function keysAreKnown() {
@@ -112,6 +161,9 @@ function areKept() {
 }
 
 timeGoesOn();
+anEventMayNeverCome();
+boundsRefuse();
+pulsesAsk();
 keysAreKnown();
 faultsNameTheirRow();
 foreignWordsHaveNoScene();

@@ -46,6 +46,41 @@ def an_hour_is_the_longest():
     assert raised(Lacking, lambda: Clock(late)) == "event 2: a number of the timetable is out of its range"
 
 
+def an_event_may_never_come():
+    """Its last time is before its first: only the clock's own requests come, as in `agc_watch`."""
+    clock, machine = Clock({"event": [{"at": 5, "every": 2, "until": 4, "do": "restart"}]}), Machine()
+    assert {(it.text, it.event) for it, _ in machine.run(clock, 20)} == {("tick", None)}
+
+
+def bounds_refuse():
+    """By the rule of `agc`: the allowance is looked at first, and a full log serves what starts over."""
+    for counts, lines in [
+        ((0, 1, 0, 1), ("change", "tick", "restart")),
+        ((2**64 - 2, 2**64 - 1, 999_999, 1_000_000), ("novac 20 02000 00005",)),
+        ((9, 10, 5, 5), ("restart", "fresh")),
+    ]:
+        assert [agc.refusal(it, agc.Bounds(*counts)) for it in lines] == [Code.OK] * len(lines), counts
+    for counts, code in [((9, 10, 5, 5), Code.LOG_FULL), ((10, 10, 5, 5), Code.SPENT), ((0, 0, 0, 1), Code.SPENT), ((11, 10, 0, 5), Code.SPENT)]:
+        assert agc.refusal("tick", agc.Bounds(*counts)) is code, counts
+    assert agc.refusal("fresh", agc.Bounds(10, 10, 0, 5)) is Code.SPENT
+    assert raised(Lacking, lambda: agc.refusal("tock", agc.Bounds(0, 1, 0, 1))) == "'tock' is no request"
+    assert raised(Lacking, lambda: agc.refusal("tick", agc.Bounds(0, 2**64, 0, 1))) == "allowance can't be 18446744073709551616"
+    assert raised(Lacking, lambda: agc.refusal("tick", agc.Bounds(0, 1, -1, 1))) == "logged can't be -1"
+    raised(TypeError, lambda: agc.refusal("tick", (0, 1, 0, 1)))
+
+
+def pulses_ask():
+    """A timer's pulse for a tick, the others' for what the plan has done."""
+    keys = ["nothing", "novac 20 02000 00005", "rouse 02100", "nothing"]
+    assert agc.pulse("timer") == ["tick"] and agc.pulse("timer", keys, keys) == ["tick"]
+    assert agc.pulse("key", keys) == ["novac 20 02000 00005", "rouse 02100"] and agc.pulse("radar", keys) == []
+    assert agc.pulse("radar", radar="list 16250 37777 77777") == ["list 16250 37777 77777"]
+    assert agc.pulse("key", ["findvac 01 00001 00000"] * 4) == ["findvac 01 00001 00000"] * 4
+    assert raised(Lacking, lambda: agc.pulse("key", ["nothing"] * 5)) == "a number of the plan is out of its range"
+    assert raised(Lacking, lambda: agc.pulse("bell")) == "a number of the call is out of its range"
+    assert raised(Lacking, lambda: agc.pulse("key", "tick")) == "'tick' is no action"
+
+
 def keys_are_known():
     for call, told in [
         (lambda: Clock({"stael": 15}), "a timetable has no key 'stael': is it 'steal'?"),
@@ -173,6 +208,9 @@ def main():
     for test in [
         time_goes_on,
         an_hour_is_the_longest,
+        an_event_may_never_come,
+        bounds_refuse,
+        pulses_ask,
         keys_are_known,
         a_fault_names_its_row,
         foreign_words_have_no_scene,

@@ -20,7 +20,7 @@ NUMBERS = {"uint32_t": "u32", "int32_t": "i32", "uint8_t": "u8", "bool": "bool",
 NUMBERS |= {"uint16_t": "u16", "AgcAction": "AgcRequest"}
 SIZES = {"AGC_WORDS": 144, "AGC_PHASE_WORDS": 12, "AGC_FIRED": 9, "AGC_ACTIONS": 4}
 LENGTHS = {"rows": "row_count", "entries": "entry_count", "text: &[": "length", "text: &mut [": "room"}
-LENGTHS |= {"memory": "memory_size", "stolen": "stolen_count", "costs": "cost_count", "events": "event_count", "requests": "request_count"}
+LENGTHS |= {"key": "key_count", "radar": "radar_count", "memory": "memory_size", "stolen": "stolen_count", "costs": "cost_count", "events": "event_count", "requests: &[": "request_count"}
 
 
 def text_of(path):
@@ -32,7 +32,7 @@ def parameter(text):
     """A parameter of Rattle or Rust, as `name: type`."""
     name, kind = (it.strip() for it in text.split(":", 1))
     kind = kind.replace("PhaseWords", "[u16; 12]").replace("Words", "[u16; 144]").replace("AgcAction", "AgcRequest")
-    kind = kind.replace("FIRED", "9").replace("*const ", "&").replace("*mut ", "&mut ")
+    kind = kind.replace("FIRED", "9").replace("ACTIONS", "4").replace("*const ", "&").replace("*mut ", "&mut ")
     kind = re.sub(r"\b(Stolen|Clock)\b", r"Agc\1", kind)
     return f"{name}: {kind}"
 
@@ -187,7 +187,7 @@ def names_of_python(calls):
 def compared_names(calls):
     """An image has its array and its sets."""
     named = {name: [it.split(":")[0] for it in takes] for name, (takes, _) in calls.items()}
-    wanted = {name: [it for it in names if it not in ("words", "sets") or name == "agc_recover"] for name, names in named.items()}
+    wanted = {name: [it for it in names if it not in ("words", "sets", "requests") or name == "agc_recover"] for name, names in named.items()}
     found = names_of_python(calls)
     if len(found) < 20:
         yield f"signatures: agc.py has {len(found)} calls by their names"
@@ -225,7 +225,7 @@ def compared_texts(header, module):
     for name, texts in zip(("agc.py", "machine.js", "agc.rs"), [others[0], others[1][1:], others[2][:-1]]):
         if texts != rules or len(rules) != 20:
             yield f"signatures: rules of {name} aren't those of agc.h"
-    if len(wanted) != 34:
+    if len(wanted) != 36:
         yield f"signatures: agc.h has {len(wanted)} texts"
 
 
@@ -239,7 +239,7 @@ def main():
     source = "".join(text_of(it) for it in glob.glob(f"{HERE}/../../crates/libagc/src/*.rt"))
     source += "".join(text_of(it) for name in ("agc_image", "agc_core") for it in glob.glob(f"{HERE}/../../crates/{name}/src/*.rt"))
     source += "".join(text_of(f"{HERE}/../../crates/agc_clock/src/{it}.rt") for it in ("clock", "timetable"))
-    calls, structs = of_rust(source, r'no_mangle\)\]\npub extern "C" ')
+    calls, structs = of_rust(source, r'no_mangle\)\]\n(?:#\[.*\]\n)?pub extern "C" ')
     header, module = text_of(f"{HERE}/../include/agc.h"), text_of(f"{HERE}/../rust/agc.rs")
     faults = []
     # calls with slices stand before the blocks of declarations, which have pointers and lengths

@@ -169,6 +169,8 @@ function answers() {
   const wide = Array.from(machine.words, (it, place) => (place === 5 ? 65535 : it));
   found.push(["findingOf", agc.findingOf(machine.words)], ["findingOf", agc.findingOf(untidy)], ["findingOf", agc.findingOf(wide)]);
   found.push(["placeName", agc.placeName(89)]);
+  found.push(["refusalOf", agc.refusalOf("tick", { served: 0, allowance: 1n, logged: 0, limit: 1 })]);
+  found.push(["pulseOf", agc.pulseOf("key", { key: "rouse 02000", radar: ["nothing"] })]);
   const map = { sets: 7, mpac: 0, vac1use: "00200", newjob: 400, time3: 401, lst1: 402, lst2: 410, phase1: 428, failreg: 440 };
   const memory = Array.from({ length: 500 }, (_, k) => (k === 11 ? 512 : k % 12 === 11 && k < 84 ? 32767 : 1));
   found.push(["readCore", agc.readCore(memory, { ...map, endtask: 5, skip: 0 })]);

@@ -40,6 +40,7 @@ PROGRAM = "#!/bin/sh\necho ran $*\necho own line >&2\nexit 7\n"
 PROGRAMS = ("agc", "agc_watch")
 AGC, WATCH = (f"{TOP}/crates/{it}/out/{it}" for it in PROGRAMS)
 WORKBENCH = f"{TOP}/share/workbench.html"
+VERSION = open(f"{TOP}/VERSION", encoding="ascii").read().strip()
 NEEDED = "sh dirname find sort xargs cksum cp mkdir mktemp head cat tr awk sed rm grep".split()
 
 # Cases of agc_watch that need no program: their words, and what comes on standard output.
@@ -485,7 +486,16 @@ def workbench(hostile):
         shutil.copy(WORKBENCH, installed)
         expect("installed", (0, whole, ""))
         write(beside, "")
-        expect("beside it another file", (1, "", f"agc_watch: {beside} is not an empty AGC workbench\n"))
+        none = (1, "", f"agc_watch: {beside} is not an empty AGC workbench\n")
+        expect("beside it another file", none)
+        for length in (1, 20, 60, len(whole) // 2, len(whole) - 30, len(whole) - 1):
+            write(beside, whole[:length])
+            expect(f"beside it {length} letters of one", none)
+        for what, text in (("a page", "<!DOCTYPE html>\n<p>5</p>\n"), ("a head", whole[:60] + "\n"), ("its end", whole[-200:]), ("more", whole + "\n")):
+            write(beside, text)
+            expect(f"beside it {what}", none)
+        write(beside, whole.replace(f"workbench {VERSION} -->", "workbench 9.0.1 -->", 1))
+        expect("beside it another version", (1, "", f"agc_watch: {beside} is the workbench of version 9.0.1, and this is version {VERSION}\n"))
         shutil.copy(WORKBENCH, beside)
         os.remove(installed)
         expect("beside it", (0, whole, ""))

@@ -57,11 +57,18 @@ class Browser:
         os.close(down)
         os.close(up)
         self.rest, self.number, self.session, self.events = b"", 0, None, []
+        self.session = self.tab()
+
+    def tab(self):
+        """A new tab, by its session: the calls go to the session that is set."""
+        before, self.session = self.session, None
         target = self.call("Target.createTarget", url="about:blank")["targetId"]
-        self.session = self.call("Target.attachToTarget", targetId=target, flatten=True)["sessionId"]
+        made = self.session = self.call("Target.attachToTarget", targetId=target, flatten=True)["sessionId"]
         for domain in "Page", "Runtime", "Network":
             self.call(f"{domain}.enable")
         self.call("Page.addScriptToEvaluateOnNewDocument", source=HEARD)
+        self.session = before
+        return made
 
     def read(self):
         while b"\0" not in self.rest:

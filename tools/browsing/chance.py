@@ -8,6 +8,7 @@ import repository
 from browsing.benches import compare_words, random_bench, random_line
 from browsing.browser import LAPTOP, LISTED, SIZES
 from browsing.clock import random_scenario
+from browsing.kept import again
 from browsing.opened import NAMED, THREE_ALARMS, TIGHT
 from browsing.pages import (
     COUNTS, PROGRAM, TOP, Trial, go_to, open_text, save, saved, says, table, type_line, written)
@@ -32,6 +33,34 @@ SLID = """(() => {
   it.dispatchEvent(new Event('input'));
   it.dispatchEvent(new Event('change'));
 })()"""
+
+
+def come_back(browser):
+    """Waits until the workbench is there again; where Back has left it, Forward comes first."""
+    begun = time.monotonic()
+    while browser.value("document.documentElement?.dataset.ready !== 'yes' || document.body.ariaBusy === 'true'"):
+        if browser.value("location.protocol") == "about:":
+            browser.value("history.forward()")
+        if time.monotonic() - begun > 60:
+            raise OSError(f"the page isn't ready: {browser.value('[location.href, window.broken]')}")
+        time.sleep(0.05)
+
+
+def travel(browser, dice, path, links):
+    """F5, Back, Forward, or a link that was saved before, and says which."""
+    kind = dice.choice(["F5", "back", "back", "forward", "save", "saved"])
+    if kind == "F5":
+        again(browser)
+    elif kind == "save" or not links:
+        links.append(browser.value("location.hash"))
+        del links[:-20]
+    elif kind == "saved":
+        browser.call("Page.navigate", url=f"file://{path}{dice.choice(links)}")
+    else:
+        browser.value(f"history.{kind}()")
+    time.sleep(0.05)
+    come_back(browser)
+    return kind
 
 
 def act(browser, dice):
@@ -90,12 +119,17 @@ def hold_still(browser):
         time.sleep(0.1)
 
 
-def play(browser, trial):
+def play(browser, trial, tabs=(), path=""):
     """Random keys, clicks, sliders, sizes, links and documents: nothing breaks, from time to time the rows that
-    are listed are a trace's, and the memory is bounded."""
+    are listed are a trace's, and the memory is bounded. With a path also F5, Back, Forward and saved links, in these tabs by
+    turns."""
     dice, begun, done, most, compared, count = random.Random(COUNTS["seed"]), time.monotonic(), [], 0, 0, 0
+    links, travelled = [], 0
     browser.call("HeapProfiler.enable")
     while time.monotonic() - begun < COUNTS["seconds"] and not trial.faults:
+        if path and dice.random() < 0.1:
+            browser.session = dice.choice(tabs)
+            done, travelled = [*done[-20:], f"{travel(browser, dice, path, links)} in tab {tabs.index(browser.session)}"], travelled + 1
         done, count = [*done[-20:], act(browser, dice)], count + 1
         broken = browser.value("window.broken")
         trial.expect(f"after {done}: {broken}", not broken)
@@ -110,16 +144,23 @@ def play(browser, trial):
         browser.call("HeapProfiler.collectGarbage")
         most = max(most, browser.call("Runtime.getHeapUsage")["usedSize"])
     browser.width(*LAPTOP)
+    if path:
+        print(f"browse: {travelled} times F5, Back, Forward and saved links in {len(tabs)} tabs", flush=True)
     trial.expect(f"{most / 1e6:.0f} MB are held", most < 400e6)
     print(f"browse: {compared} times among {count} random keys, clicks and documents from seed {COUNTS['seed']} rows and words "
           f"were compared; at most {most / 1e6:.0f} MB were held")
 
 
 def soak(browser, folder):
-    """Random keys, clicks and documents alone."""
-    trial = Trial(f"soak from seed {COUNTS['seed']}")
-    browser.show(save(folder, "soak", written(PROGRAM, "page", "")), "#new")
-    play(browser, trial)
+    """Random keys, clicks and documents, F5, Back, Forward and saved links, in two tabs."""
+    trial, path = Trial(f"soak from seed {COUNTS['seed']}"), save(folder, "soak", written(PROGRAM, "page", ""))
+    tabs = browser.session, browser.tab()
+    for it in reversed(tabs):
+        browser.session = it
+        browser.call("HeapProfiler.enable")
+        browser.width(*LAPTOP)
+        browser.show(path, "#new")
+    play(browser, trial, tabs, path)
     return trial.faults
 
 

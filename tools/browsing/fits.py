@@ -3,7 +3,7 @@ import time
 
 from browsing.access import CONTRAST
 from browsing.browser import LAPTOP, PHONE
-from browsing.pages import DRAWN, PROGRAM, Trial, edit_text, save, set_slider, written
+from browsing.pages import DRAWN, PROGRAM, Trial, edit_text, save, set_slider, type_line, written
 
 TABLET = 768, 1024
 FOUR = (1400, 900), (1920, 1080), TABLET, PHONE
@@ -50,6 +50,20 @@ def touched(browser, path):
     browser.value("document.querySelector('#sets .cover').click()")
 
 
+def asked(browser, path):
+    browser.show(path, "#new")
+    for line in ("findvac 30 02100 00005", "novac 20 02000 00005", "list 10 02000 00005", "change", "sleep 02100"):
+        type_line(browser, line)
+    browser.press("Escape")
+
+
+def branched(browser, path):
+    at_alarm(browser, path)
+    type_line(browser, "restart")
+    browser.press("Escape")
+    browser.value("document.querySelector('#branches button:nth-of-type(2)').click()")
+
+
 VIEWS = {
     "opening": lambda browser, path: browser.show(path),
     "alarm": at_alarm,
@@ -59,6 +73,10 @@ VIEWS = {
     "flown": lambda browser, path: (browser.show(path, "#apollo-11"), browser.press("a")),
     "exercise": lambda browser, path: browser.show(path, "#exercise-1"),
     "embedded": lambda browser, path: browser.show(path, "#landing-1202&at=3128&embed"),
+    "asked": asked,
+    "branch": branched,
+    "damaged": lambda browser, path: browser.show(path, "#landing-1202&what=5"),
+    "save": lambda browser, path: (browser.show(path, "#landing-1202"), browser.click("save")),
     "examples": lambda browser, path: (browser.show(path, "#new"), browser.click("examples")),
     "help": lambda browser, path: (browser.show(path, "#new"), browser.click("help")),
     "plan": lambda browser, path: (browser.show(path, "#landing-1202"), browser.click("plan")),
@@ -98,6 +116,10 @@ SEEN = """(() => { const box = document.getElementById('told-name').getBoundingC
   return box.top >= bar.bottom - 1 && box.bottom <= innerHeight; })()"""
 
 
+# Whether all of the account is shown, and none of it has to be scrolled to.
+WHOLE = "(() => { const it = document.getElementById('account'); return it.scrollHeight <= it.clientHeight + 1; })()"
+
+
 def try_why(browser, trial, path):
     """From an alarm to why: on a laptop it is in view, on a tablet and a phone by one click."""
     for size in (1400, 900), TABLET, PHONE:
@@ -109,6 +131,7 @@ def try_why(browser, trial, path):
             browser.click("why")
             time.sleep(0.1)
         trial.expect(f"the account isn't seen at {size}", browser.value(SEEN))
+        trial.expect(f"the account is cut at {size}", browser.value(WHOLE))
         told = browser.value("document.querySelector('#account li').textContent")
         trial.expect(f"first is told: {told}", told.startswith("A job is in each core set. Since the beginning 48 jobs began and 41 ended"))
         light = browser.text("dsky")

@@ -4,7 +4,7 @@
 // scenario it prints only that it is one.
 import { readFileSync } from "node:fs";
 import { Clock, start } from "../../libagc/js/machine.js";
-import { readBench, requestsOf, timetableOf } from "../../web/bench.js";
+import { readBench, requestsOf } from "../../web/bench.js";
 import { Run } from "../../web/run.js";
 
 await start(readFileSync(new URL("../../libagc/js/agc.wasm", import.meta.url)));
@@ -19,7 +19,7 @@ function read(text) {
     const run = new Run(bench);
     if (bench.seconds !== undefined) {
       const { seconds, steal, job, event } = bench;
-      new Clock(timetableOf({ seconds, steal, job, event }));
+      new Clock({ seconds, steal, job, event });
       return { scenario: true };
     }
     for (const [line, who] of requestsOf(run.bench)) {

@@ -6,3 +6,4 @@ pub mod Stepping
 pub mod Coding
 pub mod Rising
 pub mod Spelling
+pub mod Pulsing

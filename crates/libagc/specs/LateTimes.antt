@@ -29,11 +29,10 @@ is_cost row =
     && (nat_lt 0 row.hundredths && (nat_le row.hundredths most_cost
     && ((row.then == 0) || is_some (address_told row.then))))
 
--- once, or again up to a time that isn't before the first
+-- once, or again up to a time: never, where that is before the first
 abbrev pub is_coming : AgcEvent → Bool
 is_coming row =
-    nat_le row.at last_time
-    && ((row.every == 0) || (nat_le row.at row.until && nat_le row.until last_time))
+    nat_le row.at last_time && ((row.every == 0) || nat_le row.until last_time)
 
 -- an event asks for one to sixteen of so many requests
 abbrev pub is_event : ℕ → AgcEvent → Bool

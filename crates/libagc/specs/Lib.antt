@@ -12,3 +12,4 @@ pub mod Clocks
 pub mod Tables
 pub mod Explaining
 pub mod Reading
+pub mod Asking

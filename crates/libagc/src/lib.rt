@@ -2,6 +2,7 @@
 //! array of 144 numbers that the caller owns, with the words of seven core sets or eight.
 #![tactic(auto)]
 
+mod asking;
 mod clearing;
 mod clock;
 mod eras;
@@ -23,6 +24,7 @@ mod timetable;
 mod version;
 mod words;
 
+pub use asking::AgcBounds;
 pub use explaining::AgcFinding;
 pub use phases::AgcPhases;
 pub use reading::AgcCell;

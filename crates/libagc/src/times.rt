@@ -36,7 +36,7 @@ fn is_cost(row: &AgcCost) -> bool
 fn is_coming(row: &AgcEvent) -> bool
     ensures { result ≡ is_coming row.now }
 {
-    row.at <= LAST_TIME && (row.every == 0 || (row.at <= row.until && row.until <= LAST_TIME))
+    row.at <= LAST_TIME && (row.every == 0 || row.until <= LAST_TIME)
 }
 
 /// Whether numbers are an event's, which asks for some of so many requests.

@@ -1,0 +1,75 @@
+-- What a pulse asks for, and which requests are refused, in a caller's numbers.
+use Rattle.std.specs.Prelude.{◌≡◌, ℕ, ◌==◌, nat_lt, nat_le, ◌&&◌, not, Bool, true}
+use Rattle.std.specs.Prelude.{if◌then◌else◌, List, [], ◌∷◌, length, map, Option, Some, None}
+use Rattle.agc_plan.specs.declared.line.Line.{Line}
+use Rattle.agc_plan.specs.declared.line.Line.TheVariants.{Timer, Key, Radar}
+use Rattle.agc_plan.specs.declared.request.Request.{Request}
+use Rattle.agc_plan.specs.Plans.{planned_with}
+use Rattle.agc_plan.specs.Pulses.{pulse_requests}
+use Rattle.agc_image.specs.declared.asked.AgcRequest.{AgcRequest}
+use Rattle.agc_image.specs.declared.fault.Fault.{Fault}
+use Rattle.agc_image.specs.declared.fault.Fault.TheVariants.{OutOfRange, PlanRange}
+use Rattle.agc_image.specs.Asked.{request_told, asked_fault}
+use Rattle.agc_image.specs.Codes.{code_of}
+use Rattle.agc_image.specs.Lacking.{is_action}
+use Rattle.agc_image.specs.Written.{action_told}
+use Rattle.agc_machine.specs.declared.answer.Refusal.{Refusal}
+use Rattle.agc_machine.specs.declared.answer.Refusal.TheVariants.{Spent, LogFull}
+use Rattle.agc_machine.specs.Machines.{Machined, starts_over}
+use Rattle.libagc.specs.declared.asking.AgcBounds.{AgcBounds}
+use Rattle.libagc.specs.Spelled.{numbers_of}
+
+abbrev pub are_actions : List AgcRequest → Bool
+are_actions [] = true
+are_actions (a ∷ others) = is_action a && are_actions others
+
+-- what a pulse has done: at most four actions
+abbrev pub are_few : List AgcRequest → Bool
+are_few actions = nat_le (length actions) 4 && are_actions actions
+
+-- the first thing that is wrong: the line, 0 the timer's, 1 the keys', 2 the radar's, or actions
+abbrev pub pulse_lacks : ℕ → List AgcRequest → List AgcRequest → Option Fault
+pulse_lacks line key radar =
+    if nat_lt 2 line then Some OutOfRange
+    else if not (are_few key) then Some PlanRange
+    else if not (are_few radar) then Some PlanRange
+    else None
+
+abbrev pub line_told : ℕ → Line
+line_told line = if line == 0 then Timer else if line == 1 then Key else Radar
+
+-- the numbers of what a pulse asks for, by a plan that has these actions done for a key and a radar
+-- pulse
+abbrev pub pulse_told : ℕ → List AgcRequest → List AgcRequest → List AgcRequest
+pulse_told line key radar = map numbers_of (pulse_requests
+    (planned_with
+    (record { rows = []; entries = []; key = map action_told key; radar = map action_told radar })
+    7)
+    (line_told line))
+
+abbrev pub refusal_code : Option Refusal → ℕ
+refusal_code None = 0
+refusal_code (Some Spent) = 19
+refusal_code (Some LogFull) = 20
+
+-- no more are served than the allowance says; a full log refuses what doesn't start over
+abbrev pub bounds_code : AgcBounds → Request → ℕ
+bounds_code bounds asked =
+    if nat_le bounds.allowance bounds.served then 19
+    else if nat_le bounds.limit bounds.logged && not (starts_over asked) then 20
+    else 0
+
+-- the code of numbers that are no request, or else that of the counts
+abbrev pub refused_with : AgcRequest → AgcBounds → Option Request → ℕ
+refused_with numbers bounds None = code_of (asked_fault numbers)
+refused_with numbers bounds (Some asked) = bounds_code bounds asked
+
+abbrev pub refused_code : AgcRequest → AgcBounds → ℕ
+refused_code numbers bounds = refused_with numbers bounds (request_told numbers)
+
+-- a machine has these counts
+pub record Counts (m : Machined) (bounds : AgcBounds) : Type 0 where
+  pub served : m.totals.served ≡ bounds.served
+  pub allowance : m.allowance ≡ bounds.allowance
+  pub logged : length m.log ≡ bounds.logged
+  pub limit : m.limit ≡ bounds.limit
