@@ -19,7 +19,7 @@ use crate::texts::{
 use agc_clock::Stolen;
 use agc_document::{
     EntryTexts, FromData, Key, KeyFault, Level, Lists, Notes, Place, Refusal, RowTexts,
-    ScenarioKey, Settings, Text, Texts, entry_in, has_only, items_of, items_or_none, number_at,
+    ScenarioKey, Settings, Texts, entry_in, has_only, items_of, items_or_none, number_at,
     number_of, number_or, optional_number, optional_text, row_in, settings_in, some_texts_at,
     table_at, text_at, value_of,
 };
@@ -332,82 +332,40 @@ fn named_in<'a>(
     })
 }
 
-/// These texts, in a list of their own.
-fn same_texts<'a>(alloc: Global, texts: &[Text<'a>]) -> Result<Vec<Text<'a>>, AllocError>
-    ensures { IfOk result (λ v. v.items ≡ texts.now) }
-{
-    let mut same = Vec::new(alloc);
-    for text in texts {
-        same.push(Text::new(text.as_str()))?;
-    }
-    Ok(same)
-}
-
-/// The texts of a row, in memory of their own.
-fn same_row<'a>(alloc: Global, row: &RowTexts<'a>) -> Result<RowTexts<'a>, AllocError>
-    ensures { IfOk result (λ r. r ≡ row.now) }
-{
-    Ok(RowTexts {
-        at: row.at,
-        bank: row.bank,
-        actions: same_texts(alloc, row.actions.as_slice())?,
-    })
-}
-
-/// The rows, without their names.
-fn rows_in<'a>(alloc: Global, named: &[NamedRow<'a>]) -> Result<Vec<RowTexts<'a>>, AllocError>
-    ensures { IfOk result (λ v. v.items ≡ map (λ n. n.row) named.now) }
+/// The rows, and the names of these.
+fn rows_apart<'a>(
+    alloc: Global,
+    named: Vec<NamedRow<'a>>,
+) -> Result<(Vec<RowTexts<'a>>, Vec<NameText<'a>>), AllocError>
+    ensures rows { IfOk result (λ r. r.0.items ≡ map (λ n. n.row) named.entry.items) }
+    ensures names { IfOk result (λ r. r.1.items ≡ map (λ n. n.name) named.entry.items) }
 {
     let mut rows = Vec::new(alloc);
-    for one in named {
-        rows.push(same_row(alloc, &one.row)?)?;
-    }
-    Ok(rows)
-}
-
-/// The names of rows.
-fn row_names<'a>(alloc: Global, named: &[NamedRow<'a>]) -> Result<Vec<NameText<'a>>, AllocError>
-    ensures { IfOk result (λ v. v.items ≡ map (λ n. n.name) named.now) }
-{
     let mut names = Vec::new(alloc);
     for one in named {
-        names.push(NameText {
-            text: one.name.text,
-        })?;
+        let NamedRow { row, name } = one;
+        rows.push(row)?;
+        names.push(name)?;
     }
-    Ok(names)
+    Ok((rows, names))
 }
 
-/// The entries, without their names.
-fn entries_in<'a>(
+/// The entries, and the names of these.
+fn entries_apart<'a>(
     alloc: Global,
-    named: &[NamedEntry<'a>],
-) -> Result<Vec<EntryTexts<'a>>, AllocError>
-    ensures { IfOk result (λ v. v.items ≡ map (λ n. n.entry) named.now) }
+    named: Vec<NamedEntry<'a>>,
+) -> Result<(Vec<EntryTexts<'a>>, Vec<NameText<'a>>), AllocError>
+    ensures entries { IfOk result (λ r. r.0.items ≡ map (λ n. n.entry) named.entry.items) }
+    ensures names { IfOk result (λ r. r.1.items ≡ map (λ n. n.name) named.entry.items) }
 {
     let mut entries = Vec::new(alloc);
-    for one in named {
-        entries.push(EntryTexts {
-            group: one.entry.group,
-            phase: one.entry.phase,
-            job: one.entry.job,
-            task: one.entry.task,
-        })?;
-    }
-    Ok(entries)
-}
-
-/// The names of entries.
-fn entry_names<'a>(alloc: Global, named: &[NamedEntry<'a>]) -> Result<Vec<NameText<'a>>, AllocError>
-    ensures { IfOk result (λ v. v.items ≡ map (λ n. n.name) named.now) }
-{
     let mut names = Vec::new(alloc);
     for one in named {
-        names.push(NameText {
-            text: one.name.text,
-        })?;
+        let NamedEntry { entry, name } = one;
+        entries.push(entry)?;
+        names.push(name)?;
     }
-    Ok(names)
+    Ok((entries, names))
 }
 
 /// The texts of a scenario that has these settings, tasks and phases.
@@ -419,17 +377,19 @@ fn texts_with<'a>(
 ) -> Result<ScenarioTexts<'a>, AllocError>
     ensures { IfOk result (λ t. t ≡ texts_with settings.entry named.entry timing.entry) }
 {
+    let (rows, row_names) = rows_apart(alloc, named.rows)?;
+    let (entries, entry_names) = entries_apart(alloc, named.entries)?;
     let lists = Lists {
         script: Vec::new(alloc),
-        rows: rows_in(alloc, named.rows.as_slice())?,
-        entries: entries_in(alloc, named.entries.as_slice())?,
+        rows,
+        entries,
         workers: Vec::new(alloc),
         devices: Vec::new(alloc),
     };
     Ok(ScenarioTexts {
         bench: Texts { settings, lists },
-        row_names: row_names(alloc, named.rows.as_slice())?,
-        entry_names: entry_names(alloc, named.entries.as_slice())?,
+        row_names,
+        entry_names,
         timing,
     })
 }
