@@ -12,7 +12,7 @@ from browsing.pages import COUNTS, PROGRAM, Trial, save, set_slider, type_line, 
 from browsing.reader import damaged
 
 # What the page has made of the address: its note or dialog, a sentence, the boxes of the tables, and what broke.
-SEEN = """[document.body.ariaBusy === 'true' ? '' : location.hash, document.getElementById('sentence').textContent,
+SEEN = """[document.body.ariaBusy === 'true' ? '' : 'done', document.getElementById('sentence').textContent,
   document.getElementById('note').textContent + (document.getElementById('dialog').open ? document.getElementById('dialog-body').textContent : ''),
   document.querySelectorAll('#sets > li').length, document.querySelectorAll('#areas > li').length,
   document.getElementById('told-name').textContent, window.broken.join()]"""
