@@ -75,7 +75,7 @@ function refuses() {
   const faults = [
     [Code.TIME_RANGE, { steal: 101 }], [Code.STEAL_TWICE, { steal: [{ from: 0, to: 9, percent: 1 }, { from: 8, to: 9, percent: 1 }] }],
     [Code.COST_TWICE, { job: [job, job] }], [Code.NOT_SPELLED, { job: [{ ...job, then: "tick" }] }],
-    [Code.TIME_RANGE, { event: [{ at: 0, do: "tick" }, { at: 5, do: "tick", every: 1, until: 4 }] }],
+    [Code.TIME_RANGE, { event: [{ at: 0, do: "tick" }, { at: 360001, do: "tick", every: 1, until: 4 }] }],
     [Code.TIME_RANGE, { event: [{ at: 0, do: "tick" }, { at: 5, do: "tick", every: 0 }] }],
   ];
   for (const [code, timetable] of faults) {

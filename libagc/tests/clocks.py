@@ -184,7 +184,7 @@ def refuses():
         (15, {"job": [{**job, "cost": 1000001}]}), (15, {"job": [{**job, "at": "00000"}]}), (17, {"job": [job, job]}),
         (13, {"job": [{**job, "then": "tick"}]}), (15, {"event": [{**event, "at": 360001}]}), (15, {"event": [{**event, "do": []}]}),
         (15, {"event": [{**event, "do": ["tick"] * 17}]}), (0, {"event": [{**event, "do": ["tick"] * 16}]}),
-        (15, {"event": [{**event, "at": 5, "every": 1, "until": 4}]}), (15, {"event": [{**event, "every": 0}]}),
+        (0, {"event": [{**event, "at": 5, "every": 1, "until": 4}]}), (15, {"event": [{**event, "every": 0}]}),
         (13, {"event": [{**event, "do": "wait"}]}), (0, {}),
     ]
     for code, timetable in wrong:
