@@ -7,45 +7,22 @@ ghost use Rattle.agc_scene.specs.Events.{watched};
 use agc_run::{Source, WatchedRun};
 use agc_scene::{Event, Scene};
 use agc_session::Progress;
-use agc_text::{Output, Pen};
+use agc_text::Output;
 use std::io::Write;
 
-/// How the events of a run are drawn.
+/// How the events of a run are drawn: what is added to a draft, which is then written.
 pub(crate) trait Draws {
-    /// Writes what comes before the first event, in this scene.
-    fn begin<W: Write>(&mut self, pen: &mut Pen<W>, scene: Scene);
+    /// Adds what comes before the first event, in this scene.
+    fn begin(&mut self, scene: Scene);
 
     /// Draws an event, and who asked for it.
-    fn draw<W: Write>(&mut self, pen: &mut Pen<W>, source: Source, event: Event);
+    fn draw(&mut self, source: Source, event: Event);
 
-    /// Writes what comes after the last event.
-    fn finish<W: Write>(&mut self, pen: &mut Pen<W>);
-}
+    /// Adds what comes after the last event.
+    fn finish(&mut self);
 
-/// Writes what comes before the first event, in this scene.
-fn begin<D: Draws, W: Write>(form: &mut D, scene: Scene, writer: &mut W) -> Result<(), Output> {
-    let mut pen = Pen::new(writer);
-    form.begin(&mut pen, scene);
-    pen.end()
-}
-
-/// Draws an event, and who asked for it.
-fn draw_one<D: Draws, W: Write>(
-    form: &mut D,
-    source: Source,
-    event: Event,
-    writer: &mut W,
-) -> Result<(), Output> {
-    let mut pen = Pen::new(writer);
-    form.draw(&mut pen, source, event);
-    pen.end()
-}
-
-/// Writes what comes after the last event.
-fn finish<D: Draws, W: Write>(form: &mut D, writer: &mut W) -> Result<(), Output> {
-    let mut pen = Pen::new(writer);
-    form.finish(&mut pen);
-    pen.end()
+    /// Writes what was added.
+    fn send<W: Write>(&mut self, writer: &mut W) -> Result<(), Output>;
 }
 
 /// Asks for all that is still to be asked in a run, and draws each event.
@@ -59,7 +36,8 @@ fn draw_all<D: Draws, P: Progress, W: Write>(
         ≡ fold watched run.old.watching (to_ask run.old.watching.machine run.old.asks)) }
 {
     while let Some((source, event)) = run.next() {
-        draw_one(form, source, event, writer)?;
+        form.draw(source, event);
+        form.send(writer)?;
         progress.asked();
     }
     Ok(())
@@ -75,7 +53,9 @@ pub(crate) fn draw<D: Draws, P: Progress, W: Write>(
     ensures { OnOk result (run.new.watching
         ≡ fold watched run.old.watching (to_ask run.old.watching.machine run.old.asks)) }
 {
-    begin(form, run.watched().scene(), writer)?;
+    form.begin(run.watched().scene());
+    form.send(writer)?;
     draw_all(run, form, progress, writer)?;
-    finish(form, writer)
+    form.finish();
+    form.send(writer)
 }

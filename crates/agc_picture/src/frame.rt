@@ -1,8 +1,7 @@
 // What stands around the lanes.
 use crate::labels::Labels;
+use agc_text::Draft;
 use agc_text::Filling::{Bytes, Number, Text};
-use agc_text::Pen;
-use std::io::Write;
 
 /// A column of a picture: the request's number, and where it begins, in points from the left.
 #[derive(Clone, Copy)]
@@ -81,18 +80,18 @@ fn right_of(labels: &Labels, count: u64) -> u64 {
         .max(last.saturating_add(NUMBER))
 }
 
-/// Writes all names, and the legend.
-fn put_names<W: Write>(pen: &mut Pen<W>, sets: u64, labels: &Labels) {
-    pen.text(ABOVE);
+/// Adds all names, and the legend.
+fn put_names(draft: &mut Draft, sets: u64, labels: &Labels) {
+    draft.text(ABOVE);
     for k in 0..sets {
         let y = 69 + 27 * k.min(7);
-        pen.put(
+        draft.put(
             "<text x=\"8\" y=\"{}\">set {}</text>\n",
             &[Number(y), Number(k)],
         );
     }
     let below = 27 * sets.min(8);
-    pen.put(
+    draft.put(
         BELOW,
         &[
             Number(below + 95),
@@ -106,12 +105,12 @@ fn put_names<W: Write>(pen: &mut Pen<W>, sets: u64, labels: &Labels) {
     );
 }
 
-/// Writes the picture's title, or else how many requests there are.
-fn put_title<W: Write>(pen: &mut Pen<W>, labels: &Labels, count: u64) {
+/// Adds the picture's title, or else how many requests there are.
+fn put_title(draft: &mut Draft, labels: &Labels, count: u64) {
     let ending = if count == 1 { "" } else { "s" };
     match labels.title() {
-        Some(title) => pen.put("<title>{}</title>\n", &[Bytes(title)]),
-        None => pen.put(
+        Some(title) => draft.put("<title>{}</title>\n", &[Bytes(title)]),
+        None => draft.put(
             "<title>A run of {} request{}</title>\n",
             &[Number(count), Text(ending)],
         ),
@@ -119,19 +118,19 @@ fn put_title<W: Write>(pen: &mut Pen<W>, labels: &Labels, count: u64) {
 }
 
 /// Begins an SVG, so many points wide and high.
-pub(crate) fn begin_svg<W: Write>(pen: &mut Pen<W>, width: u64, height: u64) {
+pub(crate) fn begin_svg(draft: &mut Draft, width: u64, height: u64) {
     let (width, height) = (Number(width), Number(height));
-    pen.text("<svg xmlns=\"http://www.w3.org/2000/svg\"");
-    pen.put(
+    draft.text("<svg xmlns=\"http://www.w3.org/2000/svg\"");
+    draft.put(
         " viewBox=\"0 0 {} {}\" width=\"{}\" height=\"{}\">\n",
         &[width, height, width, height],
     );
 }
 
-/// Writes the head of a picture of so many core sets and requests.
-pub(crate) fn put_head<W: Write>(pen: &mut Pen<W>, sets: u64, labels: &Labels, count: u64) {
-    begin_svg(pen, right_of(labels, count), 246 + 27 * sets.min(8));
-    put_title(pen, labels, count);
-    pen.text(STYLE);
-    put_names(pen, sets, labels);
+/// Adds the head of a picture of so many core sets and requests.
+pub(crate) fn put_head(draft: &mut Draft, sets: u64, labels: &Labels, count: u64) {
+    begin_svg(draft, right_of(labels, count), 246 + 27 * sets.min(8));
+    put_title(draft, labels, count);
+    draft.text(STYLE);
+    put_names(draft, sets, labels);
 }

@@ -3,9 +3,8 @@ use crate::labels::Labels;
 use agc_exec::Seat;
 use agc_plan::Alarm;
 use agc_scene::Scene;
+use agc_text::Draft;
 use agc_text::Filling::{Number, Priority};
-use agc_text::Pen;
-use std::io::Write;
 
 /// What a lane is of: the running job, a core set, a VAC area, or the tasks that wait; over time
 /// also the events of a scenario, the time that is stolen, and the time in which no job runs.
@@ -127,26 +126,26 @@ pub(crate) fn held_in(scene: &Scene, place: Place) -> Held {
     Held { number, seat: None }
 }
 
-/// Writes a lane's name.
-pub(crate) fn put_name<W: Write>(pen: &mut Pen<W>, place: Place) {
+/// Adds a lane's name.
+pub(crate) fn put_name(draft: &mut Draft, place: Place) {
     match place {
-        Place::Runs => pen.text("runs"),
-        Place::Set(k) => pen.put("set {}", &[Number(k)]),
-        Place::Area(area) => pen.put("area {}", &[Number(area as u64)]),
-        Place::Tasks => pen.text("tasks"),
-        Place::Events => pen.text("events"),
-        Place::Stolen => pen.text("stolen"),
-        Place::Idle => pen.text("idle"),
+        Place::Runs => draft.text("runs"),
+        Place::Set(k) => draft.put("set {}", &[Number(k)]),
+        Place::Area(area) => draft.put("area {}", &[Number(area as u64)]),
+        Place::Tasks => draft.text("tasks"),
+        Place::Events => draft.text("events"),
+        Place::Stolen => draft.text("stolen"),
+        Place::Idle => draft.text("idle"),
     }
 }
 
-/// Writes which job it is, of a core set also its priority, and where it is.
-pub(crate) fn put_job<W: Write>(pen: &mut Pen<W>, labels: &Labels, held: Held) {
-    pen.put("job {}", &[Number(held.number)]);
+/// Adds which job it is, of a core set also its priority, and where it is.
+pub(crate) fn put_job(draft: &mut Draft, labels: &Labels, held: Held) {
+    draft.put("job {}", &[Number(held.number)]);
     if let Some(seat) = held.seat {
-        pen.put(", priority {}, at ", &[Priority(seat.priority)]);
-        labels.put_place(pen, seat.at);
-        pen.text(if seat.asleep { ", asleep" } else { "" });
+        draft.put(", priority {}, at ", &[Priority(seat.priority)]);
+        labels.put_place(draft, seat.at);
+        draft.text(if seat.asleep { ", asleep" } else { "" });
     }
 }
 

@@ -4,9 +4,8 @@ ghost use Rattle.std.specs.Prelude.{◌≡◌, IfErr};
 use crate::escaping::escaped;
 use agc_scenario::Scenario;
 use agc_session::RunFault;
-use agc_text::{Filling, Pen};
+use agc_text::{Draft, Filling};
 use std::alloc::{AllocError, Global};
-use std::io::Write;
 
 /// A text as it is in markup, and how many letters it has.
 #[derive(Drop)]
@@ -177,11 +176,11 @@ impl Labels {
         }
     }
 
-    /// Writes where a job is: behind its name, if it has one.
-    pub(crate) fn put_place<W: Write>(&self, pen: &mut Pen<W>, at: u16) {
+    /// Adds where a job is: behind its name, if it has one.
+    pub(crate) fn put_place(&self, draft: &mut Draft, at: u16) {
         match self.job(at) {
-            None => pen.add(Filling::Octal(at)),
-            Some(label) => pen.put(
+            None => draft.add(Filling::Octal(at)),
+            Some(label) => draft.put(
                 "{} ({})",
                 &[
                     Filling::Bytes(label.name.markup.as_slice()),

@@ -3,9 +3,8 @@ use crate::held::{Held, Place, put_job, put_name};
 use crate::labels::Labels;
 use crate::palette::Origin;
 use crate::scale::{COLUMN, Scale};
+use agc_text::Draft;
 use agc_text::Filling::{Number, Seconds, Text};
-use agc_text::Pen;
-use std::io::Write;
 
 /// How wide a letter of a name may be, in points.
 const LETTER: u64 = 18;
@@ -133,19 +132,19 @@ impl Strip {
         }
     }
 
-    /// Writes the rectangle of columns, of this class.
-    pub(crate) fn put_path<W: Write>(self, pen: &mut Pen<W>, class: &str, from: u64, to: u64) {
+    /// Adds the rectangle of columns, of this class.
+    pub(crate) fn put_path(self, draft: &mut Draft, class: &str, from: u64, to: u64) {
         let width = Number(to.saturating_sub(from).saturating_mul(COLUMN));
         let (x, y) = (Number(Scale::x(from)), Number(self.y));
-        pen.put(
+        draft.put(
             "<path class=\"{}\" d=\"M{} {}h{}v{}h-{}z\"",
             &[Text(class), x, y, width, Number(self.height), width],
         );
     }
 
-    /// Writes how many tasks wait, above their bar, and the name of a job, or its address, in its
+    /// Adds how many tasks wait, above their bar, and the name of a job, or its address, in its
     /// block, if these columns have room for it.
-    fn put_label<W: Write>(self, pen: &mut Pen<W>, labels: &Labels, run: Run) {
+    fn put_label(self, draft: &mut Draft, labels: &Labels, run: Run) {
         let Block { held, origin, .. } = run.block;
         let x = Scale::x(run.from).saturating_add(3);
         match origin {
@@ -153,14 +152,14 @@ impl Strip {
                 let base = self.y.saturating_add(self.height / 2 + 9);
                 let class = run.block.class(self.place);
                 let name = labels.name(at);
-                pen.put(
+                draft.put(
                     "<text class=\"on-{}\" x=\"{}\" y=\"{}\">{}</text>\n",
                     &[Text(class), Number(x), Number(base), name],
                 );
             }
             None if self.tasks(held) > 0 => {
                 let base = self.part(held.number).y.saturating_sub(4);
-                pen.put(
+                draft.put(
                     "<text x=\"{}\" y=\"{}\">{}</text>\n",
                     &[Number(x), Number(base), Number(held.number)],
                 );
@@ -169,26 +168,26 @@ impl Strip {
         }
     }
 
-    /// Writes what a block tells: a title, and a number or name where there is room for it.
-    fn put_told<W: Write>(self, pen: &mut Pen<W>, labels: &Labels, run: Run) {
-        pen.text("><title>");
-        put_name(pen, self.place);
+    /// Adds what a block tells: a title, and a number or name where there is room for it.
+    fn put_told(self, draft: &mut Draft, labels: &Labels, run: Run) {
+        draft.text("><title>");
+        put_name(draft, self.place);
         match self.place {
             Place::Idle => {}
-            Place::Tasks => pen.put(": {}", &[Number(run.block.held.number)]),
+            Place::Tasks => draft.put(": {}", &[Number(run.block.held.number)]),
             _ => {
-                pen.text(": ");
-                put_job(pen, labels, run.block.held);
+                draft.text(": ");
+                put_job(draft, labels, run.block.held);
             }
         }
-        pen.put(", from {} s</title></path>\n", &[Seconds(run.block.since)]);
+        draft.put(", from {} s</title></path>\n", &[Seconds(run.block.since)]);
         if run.length() >= 11 {
-            self.put_label(pen, labels, run);
+            self.put_label(draft, labels, run);
         }
     }
 
-    /// Writes a run of columns. Nothing is written where nothing is there, or no column.
-    fn put_run<W: Write>(self, pen: &mut Pen<W>, labels: &Labels, run: Run) {
+    /// Adds a run of columns. Nothing is written where nothing is there, or no column.
+    fn put_run(self, draft: &mut Draft, labels: &Labels, run: Run) {
         let held = run.block.held;
         if run.from >= run.to || (held.number == 0 && !run.is_joined) {
             return;
@@ -198,11 +197,11 @@ impl Strip {
             (true, true) => ("y", run.most),
             (true, false) => ("x", run.most),
         };
-        self.part(tasks).put_path(pen, class, run.from, run.to);
+        self.part(tasks).put_path(draft, class, run.from, run.to);
         if run.is_joined || run.length() < 4 {
-            pen.text("/>\n");
+            draft.text("/>\n");
         } else {
-            self.put_told(pen, labels, run);
+            self.put_told(draft, labels, run);
         }
     }
 }
@@ -239,14 +238,7 @@ impl Lane {
 
     /// Adds columns to those that are not written yet, which are written where they show something
     /// else.
-    fn add<W: Write>(
-        &mut self,
-        pen: &mut Pen<W>,
-        labels: &Labels,
-        is_joined: bool,
-        from: u64,
-        to: u64,
-    ) {
+    fn add(&mut self, draft: &mut Draft, labels: &Labels, is_joined: bool, from: u64, to: u64) {
         let run = Run {
             block: self.block,
             is_joined,
@@ -261,7 +253,7 @@ impl Lane {
         if self.run.to == from && self.run.is_like(run) {
             self.run.to = to;
         } else {
-            self.strip.put_run(pen, labels, self.run);
+            self.strip.put_run(draft, labels, self.run);
             self.run = run;
         }
     }
@@ -275,16 +267,16 @@ impl Lane {
     }
 
     /// Time comes to a column.
-    pub(crate) fn pass<W: Write>(&mut self, pen: &mut Pen<W>, labels: &Labels, column: u64) {
+    pub(crate) fn pass(&mut self, draft: &mut Draft, labels: &Labels, column: u64) {
         if column <= self.column {
             return;
         }
         let mut own = self.column;
         if self.is_joined {
             own = own.saturating_add(1);
-            self.add(pen, labels, true, self.column, own);
+            self.add(draft, labels, true, self.column, own);
         }
-        self.add(pen, labels, false, own, column);
+        self.add(draft, labels, false, own, column);
         self.column = column;
         self.begin();
     }
@@ -306,9 +298,9 @@ impl Lane {
         };
     }
 
-    /// Writes the columns that are not written yet.
-    pub(crate) fn flush<W: Write>(&mut self, pen: &mut Pen<W>, labels: &Labels) {
-        self.strip.put_run(pen, labels, self.run);
+    /// Adds the columns that are not written yet.
+    pub(crate) fn flush(&mut self, draft: &mut Draft, labels: &Labels) {
+        self.strip.put_run(draft, labels, self.run);
         self.run.from = self.run.to;
     }
 }

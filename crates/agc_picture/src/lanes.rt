@@ -6,7 +6,8 @@ use crate::labels::Labels;
 use agc_run::Source;
 use agc_scene::{Event, Scene};
 use agc_text::Filling::{Number, Text};
-use agc_text::{Pen, alarm_code};
+use agc_text::{Draft, Output, alarm_code};
+use std::alloc::{AllocError, Global};
 use std::io::Write;
 
 /// What is drawn of a scene: all lanes, those that have changed, or, as an era begins, these and
@@ -30,22 +31,24 @@ impl Part {
 }
 
 /// How the requests of a run are drawn, a column each: the scene that was drawn last, how many
-/// requests there are, and what jobs are called.
+/// requests there are, what jobs are called, and what is to be written.
 #[derive(Drop)]
 pub(crate) struct Columns {
     drawn: Option<Scene>,
     count: u64,
     labels: Labels,
+    draft: Draft,
 }
 
 impl Columns {
     /// So many requests will be drawn, and jobs are called so.
-    pub(crate) fn new(count: u64, labels: Labels) -> Columns {
-        Columns {
+    pub(crate) fn new(alloc: Global, count: u64, labels: Labels) -> Result<Columns, AllocError> {
+        Ok(Columns {
             drawn: None,
             count,
             labels,
-        }
+            draft: Draft::new(alloc)?,
+        })
     }
 }
 
@@ -61,21 +64,21 @@ fn spot(place: Place, sets: u64) -> (u64, u64) {
     }
 }
 
-/// Writes what is in a lane, as a title.
-fn put_title<W: Write>(pen: &mut Pen<W>, labels: &Labels, place: Place, held: Held) {
+/// Adds what is in a lane, as a title.
+fn put_title(draft: &mut Draft, labels: &Labels, place: Place, held: Held) {
     match place {
-        Place::Runs if held.number == 0 => pen.text("no job is running"),
-        Place::Runs => pen.put("job {} runs", &[Number(held.number)]),
-        Place::Tasks if held.number == 1 => pen.text("1 task waits"),
-        Place::Tasks => pen.put("{} tasks wait", &[Number(held.number)]),
-        Place::Events | Place::Stolen | Place::Idle => put_name(pen, place),
+        Place::Runs if held.number == 0 => draft.text("no job is running"),
+        Place::Runs => draft.put("job {} runs", &[Number(held.number)]),
+        Place::Tasks if held.number == 1 => draft.text("1 task waits"),
+        Place::Tasks => draft.put("{} tasks wait", &[Number(held.number)]),
+        Place::Events | Place::Stolen | Place::Idle => put_name(draft, place),
         Place::Set(_) | Place::Area(_) => {
-            put_name(pen, place);
-            pen.text(": ");
+            put_name(draft, place);
+            draft.text(": ");
             if held.number == 0 {
-                pen.text("free");
+                draft.text("free");
             } else {
-                put_job(pen, labels, held);
+                put_job(draft, labels, held);
             }
         }
     }
@@ -83,44 +86,44 @@ fn put_title<W: Write>(pen: &mut Pen<W>, labels: &Labels, place: Place, held: He
 
 /// Ends a title with the request's number, and writes the block's rectangle, from the column to the
 /// right edge.
-fn put_ground<W: Write>(pen: &mut Pen<W>, column: Column, y: u64, height: u64) {
+fn put_ground(draft: &mut Draft, column: Column, y: u64, height: u64) {
     let Column { number, x } = column;
-    pen.put(
+    draft.put(
         ", from request {}</title><rect x=\"{}\" y=\"{}\" width=\"100%\" height=\"{}\"/>",
         &[Number(number), Number(x), Number(y), Number(height)],
     );
 }
 
-/// Writes a block from its column to the right edge, so far down and so high, and its title, but
+/// Adds a block from its column to the right edge, so far down and so high, and its title, but
 /// not its end.
-fn put_block<W: Write>(
-    pen: &mut Pen<W>,
+fn put_block(
+    draft: &mut Draft,
     labels: &Labels,
     column: Column,
     class: &str,
     (y, height): (u64, u64),
     (place, held): (Place, Held),
 ) {
-    pen.put("<g class=\"{}\"><title>", &[Text(class)]);
-    put_title(pen, labels, place, held);
-    put_ground(pen, column, y, height);
+    draft.put("<g class=\"{}\"><title>", &[Text(class)]);
+    put_title(draft, labels, place, held);
+    put_ground(draft, column, y, height);
 }
 
-/// Writes the blocks of tasks, at most nine: their lane's ground, and a bar with their number.
-fn put_tasks<W: Write>(pen: &mut Pen<W>, labels: &Labels, column: Column, y: u64, held: Held) {
+/// Adds the blocks of tasks, at most nine: their lane's ground, and a bar with their number.
+fn put_tasks(draft: &mut Draft, labels: &Labels, column: Column, y: u64, held: Held) {
     let height = 4 * held.number.min(9);
     let top = y.saturating_add(36 - height);
-    put_block(pen, labels, column, "f", (y, 36), (Place::Tasks, held));
-    pen.text("</g>\n");
+    put_block(draft, labels, column, "f", (y, 36), (Place::Tasks, held));
+    draft.text("</g>\n");
     put_block(
-        pen,
+        draft,
         labels,
         column,
         "t",
         (top, height),
         (Place::Tasks, held),
     );
-    pen.put(
+    draft.put(
         "<text x=\"{}\" y=\"{}\" dx=\"1\">{}</text></g>\n",
         &[
             Number(column.x),
@@ -130,10 +133,10 @@ fn put_tasks<W: Write>(pen: &mut Pen<W>, labels: &Labels, column: Column, y: u64
     );
 }
 
-/// Writes the blocks of a lane: of another than that of tasks what is in it, and the name or number
+/// Adds the blocks of a lane: of another than that of tasks what is in it, and the name or number
 /// of the job in a core set.
-fn put_lane<W: Write>(
-    pen: &mut Pen<W>,
+fn put_lane(
+    draft: &mut Draft,
     labels: &Labels,
     column: Column,
     sets: u64,
@@ -141,11 +144,11 @@ fn put_lane<W: Write>(
 ) {
     let (y, height) = spot(place, sets);
     if let Place::Tasks = place {
-        put_tasks(pen, labels, column, y, held);
+        put_tasks(draft, labels, column, y, held);
         return;
     }
     put_block(
-        pen,
+        draft,
         labels,
         column,
         held.class(place),
@@ -154,17 +157,17 @@ fn put_lane<W: Write>(
     );
     if let Some(seat) = held.seat {
         let name = labels.job_name(held.number, seat.at);
-        pen.put(
+        draft.put(
             "<text x=\"{}\" y=\"{}\" dx=\"1\">{}</text>",
             &[Number(column.x), Number(y.saturating_add(15)), name],
         );
     }
-    pen.text("</g>\n");
+    draft.text("</g>\n");
 }
 
-/// Writes this part of a scene, after another.
-fn put_part<W: Write>(
-    pen: &mut Pen<W>,
+/// Adds this part of a scene, after another.
+fn put_part(
+    draft: &mut Draft,
     labels: &Labels,
     column: Column,
     before: &Scene,
@@ -175,19 +178,19 @@ fn put_part<W: Write>(
         let held = held_in(scene, place);
         let has_changed = !held.is_same(held_in(before, place));
         if place.is_of(sets) && part.has(has_changed, held.number > 0) {
-            put_lane(pen, labels, column, sets, (place, held));
+            put_lane(draft, labels, column, sets, (place, held));
         }
     }
 }
 
-/// Writes the mark of an event's alarm, or of its restart, at the end of its column, down to this
+/// Adds the mark of an event's alarm, or of its restart, at the end of its column, down to this
 /// end.
-fn put_mark<W: Write>(pen: &mut Pen<W>, event: &Event, x: u64, end: u64) {
+fn put_mark(draft: &mut Draft, event: &Event, x: u64, end: u64) {
     let (class, title, name) = match event.alarm() {
         None => ("n", "restart", "restart"),
         Some(alarm) => ("m", full_table(alarm, &event.scene), alarm_code(alarm)),
     };
-    pen.put(
+    draft.put(
         "<g class=\"{}\"><title>{}, at request {}</title><path d=\"M{} 18V{}\"/>",
         &[
             Text(class),
@@ -197,17 +200,17 @@ fn put_mark<W: Write>(pen: &mut Pen<W>, event: &Event, x: u64, end: u64) {
             Number(end),
         ],
     );
-    pen.put(
+    draft.put(
         "<text x=\"{}\" y=\"14\">{}</text></g>\n",
         &[Number(x), Text(name)],
     );
 }
 
-/// Writes the column's number and the time, above each fifth column.
-fn put_axis<W: Write>(pen: &mut Pen<W>, column: Column, time: u64) {
+/// Adds the column's number and the time, above each fifth column.
+fn put_axis(draft: &mut Draft, column: Column, time: u64) {
     let (number, x) = (Number(column.number), Number(column.x));
     if column.number % 5 == 0 {
-        pen.put(
+        draft.put(
             "<text x=\"{}\" y=\"30\">{}</text><text x=\"{}\" y=\"43\">{}</text>\n",
             &[x, number, x, Number(time)],
         );
@@ -215,35 +218,32 @@ fn put_axis<W: Write>(pen: &mut Pen<W>, column: Column, time: u64) {
 }
 
 impl Draws for Columns {
-    /// Writes the head, and column 0, of the scene with which the machine begins.
-    fn begin<W: Write>(&mut self, pen: &mut Pen<W>, scene: Scene) {
+    /// Adds the head, and column 0, of the scene with which the machine begins.
+    fn begin(&mut self, scene: Scene) {
+        let draft = &mut self.draft;
         let first = column_at(width_of(self.count), 0);
-        put_head(pen, scene.seats().len() as u64, &self.labels, self.count);
-        put_axis(pen, first, 0);
-        put_part(pen, &self.labels, first, &scene, (Part::All, &scene));
+        put_head(draft, scene.seats().len() as u64, &self.labels, self.count);
+        put_axis(draft, first, 0);
+        put_part(draft, &self.labels, first, &scene, (Part::All, &scene));
         self.drawn = Some(scene);
     }
 
-    /// Writes the column of an event: in it what has changed. Where an era begins, its mark stands
-    /// at the end of the column, and in the next what began.
-    fn draw<W: Write>(&mut self, pen: &mut Pen<W>, _source: Source, event: Event) {
+    /// Adds the column of an event: in it what has changed. Where an era begins, its mark stands at
+    /// the end of the column, and in the next what began.
+    fn draw(&mut self, _source: Source, event: Event) {
         let width = width_of(self.count);
         let column = column_at(width, event.number);
-        put_axis(pen, column, event.time);
+        let draft = &mut self.draft;
+        put_axis(draft, column, event.time);
         if let Some(drawn) = &self.drawn {
-            put_part(
-                pen,
-                &self.labels,
-                column,
-                drawn,
-                (Part::Changed, &event.scene),
-            );
+            let changed = (Part::Changed, &event.scene);
+            put_part(draft, &self.labels, column, drawn, changed);
         }
         if let Some(era) = &event.era {
             let next = column_at(width, event.number.saturating_add(1));
             let end = 170 + 27 * (era.seats().len() as u64).min(8);
-            put_mark(pen, &event, next.x, end);
-            put_part(pen, &self.labels, next, &event.scene, (Part::Begun, era));
+            put_mark(draft, &event, next.x, end);
+            put_part(draft, &self.labels, next, &event.scene, (Part::Begun, era));
         }
         self.drawn = Some(match event.era {
             None => event.scene,
@@ -251,7 +251,11 @@ impl Draws for Columns {
         });
     }
 
-    fn finish<W: Write>(&mut self, pen: &mut Pen<W>) {
-        pen.text("</svg>\n");
+    fn finish(&mut self) {
+        self.draft.text("</svg>\n");
+    }
+
+    fn send<W: Write>(&mut self, writer: &mut W) -> Result<(), Output> {
+        self.draft.send(writer)
     }
 }

@@ -6,8 +6,7 @@ use crate::scale::Scale;
 use crate::sheet::Sheet;
 use agc_scene::Event;
 use agc_text::Filling::{Bytes, Number, Seconds, Text};
-use agc_text::{Pen, alarm_code};
-use std::io::Write;
+use agc_text::{Draft, alarm_code};
 
 /// How wide a letter of a name may be, in points.
 const LETTER: u64 = 18;
@@ -87,13 +86,13 @@ impl Room {
     }
 }
 
-/// Writes the line of an alarm or restart, left of this place, and what it is as its title.
-pub(crate) fn put_line<W: Write>(pen: &mut Pen<W>, event: &Event, x: u64, end: u64) {
+/// Adds the line of an alarm or restart, left of this place, and what it is as its title.
+pub(crate) fn put_line(draft: &mut Draft, event: &Event, x: u64, end: u64) {
     let (class, title) = match event.alarm() {
         None => ("n", "restart"),
         Some(alarm) => ("m", full_table(alarm, &event.scene)),
     };
-    pen.put(
+    draft.put(
         "<g class=\"{}\"><title>{}, at {} s</title><path d=\"M{} 140V{}\"/></g>\n",
         &[
             Text(class),
@@ -105,11 +104,11 @@ pub(crate) fn put_line<W: Write>(pen: &mut Pen<W>, event: &Event, x: u64, end: u
     );
 }
 
-/// Writes an alarm's code above its line, where there is room.
-pub(crate) fn put_code<W: Write>(pen: &mut Pen<W>, room: &mut Room, event: &Event, x: u64) {
+/// Adds an alarm's code above its line, where there is room.
+pub(crate) fn put_code(draft: &mut Draft, room: &mut Room, event: &Event, x: u64) {
     if let Some(alarm) = event.alarm() {
         if let Some(y) = room.takes_code(x) {
-            pen.put(
+            draft.put(
                 "<g class=\"m\"><text x=\"{}\" y=\"{}\">{}</text></g>\n",
                 &[Number(x), Number(y), Text(alarm_code(alarm))],
             );
@@ -117,10 +116,10 @@ pub(crate) fn put_code<W: Write>(pen: &mut Pen<W>, room: &mut Room, event: &Even
     }
 }
 
-/// Writes the mark of an event of a scenario, by its number, at the bottom of the lane, and its
+/// Adds the mark of an event of a scenario, by its number, at the bottom of the lane, and its
 /// name above, where there is room: one that comes again and again is named once.
-pub(crate) fn put_event<W: Write>(
-    pen: &mut Pen<W>,
+pub(crate) fn put_event(
+    draft: &mut Draft,
     (labels, scale): (&Labels, Scale),
     room: &mut Room,
     (number, time): (usize, u64),
@@ -133,14 +132,14 @@ pub(crate) fn put_event<W: Write>(
             height: 6,
             ..lane
         };
-        mark.put_path(pen, "e", column, column.saturating_add(2));
-        pen.text("/>\n");
+        mark.put_path(draft, "e", column, column.saturating_add(2));
+        draft.text("/>\n");
     }
     let x = Scale::x(column).saturating_add(8);
     if let Some((name, letters)) = labels.event(number) {
         if room.takes_name(number, letters, x, scale.width) {
             let base = Number(lane.y.saturating_add(16));
-            pen.put(
+            draft.put(
                 "<text class=\"e\" x=\"{}\" y=\"{}\">{}</text>\n",
                 &[Number(x), base, Bytes(name)],
             );

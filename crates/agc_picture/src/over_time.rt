@@ -59,7 +59,7 @@ fn begun<'a>(
 /// # Errors
 ///
 /// `NoMemory`, and nothing was written. `Output`, where a write failed, or took nothing of what was
-/// left.
+/// left, or there was no memory for what has no room.
 pub fn time_picture<P: Progress, W: Write>(
     alloc: Global,
     bench: &Bench,
@@ -89,7 +89,7 @@ pub fn time_picture<P: Progress, W: Write>(
 /// # Errors
 ///
 /// `NoMemory`, and nothing was written. `Output`, where a write failed, or took nothing of what was
-/// left.
+/// left, or there was no memory for what has no room.
 pub fn scenario_time_picture<P: Progress, W: Write>(
     alloc: Global,
     scenario: &Scenario,

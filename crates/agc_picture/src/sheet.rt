@@ -5,9 +5,8 @@ use crate::labels::Labels;
 use crate::lane::Strip;
 use crate::scale::{LEFT, Scale, short};
 use agc_clock::Stolen;
+use agc_text::Draft;
 use agc_text::Filling::{Bytes, Number, Seconds, Text};
-use agc_text::Pen;
-use std::io::Write;
 
 /// The fonts, the marks, and the colours: on light ground, and then those that are others on dark.
 /// The workbench's lanes have the same.
@@ -117,58 +116,58 @@ impl Sheet {
     }
 }
 
-/// Writes the title, or else the times.
-fn put_title<W: Write>(pen: &mut Pen<W>, labels: &Labels, scale: Scale) {
+/// Adds the title, or else the times.
+fn put_title(draft: &mut Draft, labels: &Labels, scale: Scale) {
     match labels.title() {
-        Some(title) => pen.add(Bytes(title)),
-        None => pen.put(
+        Some(title) => draft.add(Bytes(title)),
+        None => draft.put(
             "A run from {} s to {} s",
             &[short(scale.from), short(scale.to)],
         ),
     }
 }
 
-/// Writes the title above the lanes, in letters so high that it isn't cut.
-fn put_heading<W: Write>(pen: &mut Pen<W>, labels: &Labels, scale: Scale) {
+/// Adds the title above the lanes, in letters so high that it isn't cut.
+fn put_heading(draft: &mut Draft, labels: &Labels, scale: Scale) {
     let letters = labels.title_letters().saturating_mul(18).max(1);
     let size = scale.width.saturating_sub(16).saturating_mul(25) / letters;
-    pen.text("<text class=\"h\" x=\"8\" y=\"42\"");
+    draft.text("<text class=\"h\" x=\"8\" y=\"42\"");
     if size < TITLE {
-        pen.put(" style=\"font-size:{}px\"", &[Number(size.max(1))]);
+        draft.put(" style=\"font-size:{}px\"", &[Number(size.max(1))]);
     }
-    pen.text(">");
-    put_title(pen, labels, scale);
-    pen.text("</text>\n<text x=\"8\" y=\"84\">seconds</text>\n");
+    draft.text(">");
+    put_title(draft, labels, scale);
+    draft.text("</text>\n<text x=\"8\" y=\"84\">seconds</text>\n");
 }
 
-/// Writes the head of a picture of these lanes, up to their names.
-pub(crate) fn put_head<W: Write>(pen: &mut Pen<W>, labels: &Labels, sheet: Sheet, scale: Scale) {
-    begin_svg(pen, scale.width, sheet.bottom().saturating_add(122));
-    pen.text("<title>");
-    put_title(pen, labels, scale);
-    pen.text("</title>\n");
-    pen.text(STYLE);
+/// Adds the head of a picture of these lanes, up to their names.
+pub(crate) fn put_head(draft: &mut Draft, labels: &Labels, sheet: Sheet, scale: Scale) {
+    begin_svg(draft, scale.width, sheet.bottom().saturating_add(122));
+    draft.text("<title>");
+    put_title(draft, labels, scale);
+    draft.text("</title>\n");
+    draft.text(STYLE);
     for colour in 1..9u64 {
         let colour = Number(colour);
-        pen.put(HATCH, &[colour, colour, colour]);
+        draft.put(HATCH, &[colour, colour, colour]);
     }
-    put_heading(pen, labels, scale);
+    put_heading(draft, labels, scale);
 }
 
-/// Writes a lane's name and its ground.
-pub(crate) fn put_ground<W: Write>(pen: &mut Pen<W>, strip: Strip, scale: Scale) {
+/// Adds a lane's name and its ground.
+pub(crate) fn put_ground(draft: &mut Draft, strip: Strip, scale: Scale) {
     let Strip { place, y, height } = strip;
     let base = y.saturating_add(height / 2).saturating_add(9);
-    pen.put("<text x=\"8\" y=\"{}\">", &[Number(base)]);
-    put_name(pen, place);
-    pen.text("</text>");
-    strip.put_path(pen, "f", 0, scale.columns);
-    pen.text("/>\n");
+    draft.put("<text x=\"8\" y=\"{}\">", &[Number(base)]);
+    put_name(draft, place);
+    draft.text("</text>");
+    strip.put_path(draft, "f", 0, scale.columns);
+    draft.text("/>\n");
 }
 
-/// Writes the rows of stolen time: the more is stolen, the higher, and how much, where there is
+/// Adds the rows of stolen time: the more is stolen, the higher, and how much, where there is
 /// room for it.
-pub(crate) fn put_stolen<W: Write>(pen: &mut Pen<W>, sheet: Sheet, scale: Scale, rows: &[Stolen]) {
+pub(crate) fn put_stolen(draft: &mut Draft, sheet: Sheet, scale: Scale, rows: &[Stolen]) {
     let lane = sheet.strip_of(Place::Stolen);
     for row in rows {
         let percent = u64::from(row.percent).min(100);
@@ -179,8 +178,8 @@ pub(crate) fn put_stolen<W: Write>(pen: &mut Pen<W>, sheet: Sheet, scale: Scale,
         let height = (percent * LOW + 99) / 100;
         let y = lane.y.saturating_add(LOW - height.min(LOW));
         if from < to && 0 < percent {
-            Strip { y, height, ..lane }.put_path(pen, "v", from, to);
-            pen.put(
+            Strip { y, height, ..lane }.put_path(draft, "v", from, to);
+            draft.put(
                 "><title>stolen: {} %, from {} s</title></path>\n",
                 &[Number(percent), Seconds(u64::from(row.from))],
             );
@@ -188,7 +187,7 @@ pub(crate) fn put_stolen<W: Write>(pen: &mut Pen<W>, sheet: Sheet, scale: Scale,
         if from.saturating_add(45) <= to {
             let x = Number(Scale::x(from).saturating_add(3));
             let base = Number(lane.y.saturating_add(21));
-            pen.put(
+            draft.put(
                 "<text x=\"{}\" y=\"{}\">{} %</text>\n",
                 &[x, base, Number(percent)],
             );
@@ -207,10 +206,10 @@ fn number_at(scale: Scale, x: u64, time: u64) -> u64 {
     }
 }
 
-/// Writes a number of the axis, and its line through the lanes.
-fn put_number<W: Write>(pen: &mut Pen<W>, scale: Scale, time: u64, end: u64) {
+/// Adds a number of the axis, and its line through the lanes.
+fn put_number(draft: &mut Draft, scale: Scale, time: u64, end: u64) {
     let x = Scale::x(scale.column(time));
-    pen.put(
+    draft.put(
         "<path class=\"g\" d=\"M{} 92V{}\"/><text class=\"a\" x=\"{}\" y=\"84\">{}</text>\n",
         &[
             Number(x),
@@ -221,8 +220,8 @@ fn put_number<W: Write>(pen: &mut Pen<W>, scale: Scale, time: u64, end: u64) {
     );
 }
 
-/// Writes the axis: whole steps of time.
-fn put_axis<W: Write>(pen: &mut Pen<W>, sheet: Sheet, scale: Scale) {
+/// Adds the axis: whole steps of time.
+fn put_axis(draft: &mut Draft, sheet: Sheet, scale: Scale) {
     let step = scale.step().max(1);
     let before = scale.from.saturating_add(step - 1) / step;
     let first = before.saturating_mul(step);
@@ -231,17 +230,17 @@ fn put_axis<W: Write>(pen: &mut Pen<W>, sheet: Sheet, scale: Scale) {
         if time > scale.to {
             return;
         }
-        put_number(pen, scale, time, sheet.bottom());
+        put_number(draft, scale, time, sheet.bottom());
     }
 }
 
-/// Writes what blocks and colours mean, and closes the picture.
-fn put_legend<W: Write>(pen: &mut Pen<W>, y: u64, scale: Scale) {
+/// Adds what blocks and colours mean, and closes the picture.
+fn put_legend(draft: &mut Draft, y: u64, scale: Scale) {
     let (one, two) = (Number(y.saturating_add(36)), Number(y.saturating_add(70)));
     let (three, low) = (Number(y.saturating_add(104)), Number(y.saturating_add(85)));
     let high = Number(y.saturating_add(51));
     let length = Seconds(scale.column_length());
-    pen.put(
+    draft.put(
         LEGEND,
         &[
             one, high, two, length, high, two, low, three, low, three, three,
@@ -249,16 +248,16 @@ fn put_legend<W: Write>(pen: &mut Pen<W>, y: u64, scale: Scale) {
     );
 }
 
-/// Writes what is to the right of the lanes and below them, for a run that ends in this column, and
+/// Adds what is to the right of the lanes and below them, for a run that ends in this column, and
 /// closes the picture.
-pub(crate) fn put_foot<W: Write>(pen: &mut Pen<W>, sheet: Sheet, scale: Scale, end: u64) {
+pub(crate) fn put_foot(draft: &mut Draft, sheet: Sheet, scale: Scale, end: u64) {
     let low = sheet.bottom();
     if end < scale.columns {
         let (x, width) = (
             Scale::x(end),
             Scale::x(scale.columns - end).saturating_sub(LEFT),
         );
-        pen.put(
+        draft.put(
             "<path class=\"p\" d=\"M{} {}h{}V{}h-{}z\"/>\n",
             &[
                 Number(x),
@@ -269,6 +268,6 @@ pub(crate) fn put_foot<W: Write>(pen: &mut Pen<W>, sheet: Sheet, scale: Scale, e
             ],
         );
     }
-    put_axis(pen, sheet, scale);
-    put_legend(pen, low, scale);
+    put_axis(draft, sheet, scale);
+    put_legend(draft, low, scale);
 }

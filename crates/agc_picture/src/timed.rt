@@ -12,12 +12,12 @@ use agc_document::Bench;
 use agc_run::Source;
 use agc_scenario::Timing;
 use agc_scene::{Event, Scene};
-use agc_text::Pen;
+use agc_text::{Draft, Output};
 use std::alloc::{AllocError, Global};
 use std::io::Write;
 
 /// How a run is drawn over time: the time that has passed, what is timed, if a clock runs, what
-/// jobs are called and their colours, the lanes, and where marks have room.
+/// jobs are called and their colours, the lanes, where marks have room, and what is to be written.
 #[derive(Drop)]
 pub(crate) struct OverTime<'a> {
     time: u64,
@@ -28,6 +28,7 @@ pub(crate) struct OverTime<'a> {
     palette: Palette,
     lanes: Vec<Lane>,
     room: Room,
+    draft: Draft,
 }
 
 /// The lanes in which something comes and goes.
@@ -76,6 +77,7 @@ impl<'a> OverTime<'a> {
             labels,
             lanes: lanes_of(alloc, sheet)?,
             room: Room::new(),
+            draft: Draft::new(alloc)?,
         })
     }
 
@@ -100,31 +102,31 @@ impl<'a> OverTime<'a> {
         }
     }
 
-    /// Time comes to this column: what was there is written.
-    fn pass<W: Write>(&mut self, pen: &mut Pen<W>, column: u64) {
+    /// Time comes to this column: what was there is added.
+    fn pass(&mut self, column: u64) {
         for lane in self.lanes.iter_mut() {
-            lane.pass(pen, &self.labels, column);
+            lane.pass(&mut self.draft, &self.labels, column);
         }
     }
 
-    /// Writes what is not written yet.
-    fn flush<W: Write>(&mut self, pen: &mut Pen<W>) {
+    /// Adds what is not added yet.
+    fn flush(&mut self) {
         for lane in self.lanes.iter_mut() {
-            lane.flush(pen, &self.labels);
+            lane.flush(&mut self.draft, &self.labels);
         }
     }
 
-    /// Writes the mark of an event with which an era begins, over what was there, where there is
+    /// Adds the mark of an event with which an era begins, over what was there, where there is
     /// room: one line of an alarm a column, and one of a restart.
-    fn mark<W: Write>(&mut self, pen: &mut Pen<W>, event: &Event) {
+    fn mark(&mut self, event: &Event) {
         let column = self.scale.column(event.total);
         let x = Scale::x(column);
         if !self.room.takes_line(event.alarm().is_some(), column) {
             return;
         }
-        self.flush(pen);
-        put_line(pen, event, x, self.sheet.bottom());
-        put_code(pen, &mut self.room, event, x);
+        self.flush();
+        put_line(&mut self.draft, event, x, self.sheet.bottom());
+        put_code(&mut self.draft, &mut self.room, event, x);
     }
 
     /// Whether a time is shown.
@@ -134,35 +136,38 @@ impl<'a> OverTime<'a> {
 }
 
 impl<'a> Draws for OverTime<'a> {
-    /// Writes the head, the grounds of all lanes, and the stolen time.
-    fn begin<W: Write>(&mut self, pen: &mut Pen<W>, scene: Scene) {
+    /// Adds the head, the grounds of all lanes, and the stolen time.
+    fn begin(&mut self, scene: Scene) {
         self.show(&scene, false);
         self.settle();
-        put_head(pen, &self.labels, self.sheet, self.scale);
-        if let Some(timing) = self.timing {
-            put_ground(pen, Sheet::events(), self.scale);
-            put_ground(pen, self.sheet.strip_of(Place::Stolen), self.scale);
-            put_stolen(pen, self.sheet, self.scale, timing.stolen());
+        let timing = self.timing;
+        let draft = &mut self.draft;
+        put_head(draft, &self.labels, self.sheet, self.scale);
+        if let Some(timing) = timing {
+            put_ground(draft, Sheet::events(), self.scale);
+            put_ground(draft, self.sheet.strip_of(Place::Stolen), self.scale);
+            put_stolen(draft, self.sheet, self.scale, timing.stolen());
         }
         for lane in self.lanes.iter() {
-            put_ground(pen, lane.strip, self.scale);
+            put_ground(draft, lane.strip, self.scale);
         }
     }
 
     /// Draws an event: time passes, then comes what it left, then the era that begins with it.
-    fn draw<W: Write>(&mut self, pen: &mut Pen<W>, source: Source, event: Event) {
+    fn draw(&mut self, source: Source, event: Event) {
         self.time = event.total;
-        self.pass(pen, self.scale.column(event.total));
+        self.pass(self.scale.column(event.total));
         self.show(&event.scene, false);
         if self.shows(event.total) {
             if let Some(number) = event_of(source) {
                 let drawn = (&self.labels, self.scale);
-                put_event(pen, drawn, &mut self.room, (number, event.total));
+                let asked = (number, event.total);
+                put_event(&mut self.draft, drawn, &mut self.room, asked);
             }
         }
         if let Some(era) = &event.era {
             if self.shows(event.total) {
-                self.mark(pen, &event);
+                self.mark(&event);
             }
             self.show(era, true);
         }
@@ -171,15 +176,19 @@ impl<'a> Draws for OverTime<'a> {
         }
     }
 
-    /// Writes what is not written yet, and what stands around the lanes.
-    fn finish<W: Write>(&mut self, pen: &mut Pen<W>) {
+    /// Adds what is not added yet, and what stands around the lanes.
+    fn finish(&mut self) {
         let end = if self.time == 0 {
             self.scale.columns
         } else {
             self.scale.column(self.time)
         };
-        self.pass(pen, end);
-        self.flush(pen);
-        put_foot(pen, self.sheet, self.scale, end);
+        self.pass(end);
+        self.flush();
+        put_foot(&mut self.draft, self.sheet, self.scale, end);
+    }
+
+    fn send<W: Write>(&mut self, writer: &mut W) -> Result<(), Output> {
+        self.draft.send(writer)
     }
 }

@@ -28,7 +28,7 @@ use std::io::Write;
 /// # Errors
 ///
 /// `NoMemory`, and nothing was written. `Output`, where a write failed, or took nothing of what was
-/// left.
+/// left, or there was no memory for what has no room.
 pub fn picture<P: Progress, W: Write>(
     alloc: Global,
     bench: &Bench,
@@ -43,7 +43,7 @@ pub fn picture<P: Progress, W: Write>(
     let count = count_requests(bench).requests;
     progress.expect(count);
     let mut run = WatchedRun::new(machine, Asks::of_bench(bench));
-    let mut form = Columns::new(count, Labels::none(alloc));
+    let mut form = Columns::new(alloc, count, Labels::none(alloc))?;
     draw(&mut run, &mut form, progress, writer)?;
     Ok(run.into_watched())
 }
@@ -55,7 +55,7 @@ pub fn picture<P: Progress, W: Write>(
 /// # Errors
 ///
 /// `NoMemory`, and nothing was written. `Output`, where a write failed, or took nothing of what was
-/// left.
+/// left, or there was no memory for what has no room.
 pub fn scenario_picture<P: Progress, W: Write>(
     alloc: Global,
     scenario: &Scenario,
@@ -69,7 +69,7 @@ pub fn scenario_picture<P: Progress, W: Write>(
 {
     let count = clock_size(alloc, scenario)?;
     progress.expect(count);
-    let mut form = Columns::new(count, Labels::of(alloc, scenario)?);
+    let mut form = Columns::new(alloc, count, Labels::of(alloc, scenario)?)?;
     let machine = machine_of(alloc, scenario.bench())?;
     let mut run = WatchedRun::new(machine, Asks::of_scenario(scenario.timing()));
     draw(&mut run, &mut form, progress, writer)?;
