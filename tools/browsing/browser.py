@@ -107,7 +107,7 @@ class Browser:
         self.open(path, mark)
         begun = time.monotonic()
         while self.value("document.documentElement.dataset.ready") != "yes":
-            if time.monotonic() - begun > 10:
+            if time.monotonic() - begun > 60:
                 raise OSError(f"the page isn't ready: {self.value('window.broken')}")
             time.sleep(0.01)
 
