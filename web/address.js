@@ -123,7 +123,8 @@ const PLANNED = ["sets", "task"];
  * @param {import("./bench.js").Bench} bench
  */
 function areOf(given, names, bench) {
-  if (typeof given !== "object" || !Object.keys(given).every((it) => names.includes(it))) return false;
+  const isObject = typeof given === "object" && !Array.isArray(given);
+  if (!isObject || !Object.keys(given).every((it) => names.includes(it))) return false;
   readBench(writeBench({ ...bench, seconds: bench.seconds ?? 1, ...given }));
   return true;
 }

@@ -12,7 +12,7 @@ from browsing.pages import COUNTS, PROGRAM, Trial, save, set_slider, type_line, 
 from browsing.reader import damaged
 
 # What the page has made of the address: its note or dialog, a sentence, the boxes of the tables, and what broke.
-SEEN = """[document.body.ariaBusy === 'true' ? '' : 'done', document.getElementById('sentence').textContent,
+SEEN = """[document.body.ariaBusy === 'true' || document.documentElement.dataset.ready !== 'yes' ? '' : 'done', document.getElementById('sentence').textContent,
   document.getElementById('note').textContent + (document.getElementById('dialog').open ? document.getElementById('dialog-body').textContent : ''),
   document.querySelectorAll('#sets > li').length, document.querySelectorAll('#areas > li').length,
   document.getElementById('told-name').textContent, window.broken.join()]"""
@@ -91,6 +91,19 @@ def good(browser, path):
     return found
 
 
+NOTHING = ["", "", "", 0, 0, "", ""]
+
+
+def look_at(browser):
+    """What is seen a moment later; nothing where the page is being loaded anew."""
+    try:
+        browser.value("new Promise((done) => { setTimeout(done, 0); })", True)
+        return browser.value(SEEN)
+    except OSError:
+        time.sleep(0.05)
+        return NOTHING
+
+
 def links(browser, folder):
     """Links with letters, documents or what was done changed by lot always come to a view or to a message, by the address
     and by F5; what was done is all done, or not at all."""
@@ -106,10 +119,9 @@ def links(browser, folder):
         browser.call("Page.navigate", url=f"file://{path}{mark}")
         if k % 97 == 0:
             again(browser)
-        browser.value("new Promise((done) => { setTimeout(done, 0); })", True)
-        seen, begun = ["", "", "", 0, 0, "", ""], time.monotonic()
+        seen, begun = NOTHING, time.monotonic()
         while not (seen[0] and seen[1]) and time.monotonic() - begun < 60:
-            seen = browser.value(SEEN)
+            seen = look_at(browser)
         told += seen[2] != ""
         trial.expect(f"{mark}: {seen}", seen[0] != "" and seen[1] != "" and seen[3] in (7, 8) and seen[4] == 5 and seen[5] != "" and seen[6] == "")
         if trial.faults:
