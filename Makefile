@@ -34,6 +34,7 @@ PLACED = $(foreach it,README.md CHANGELOG.md $(call files,PROVED-BY.txt),$(it)=$
     $(foreach it,$(call files,teaching/*.*),$(it)=$(docdir)/teaching) \
     $(foreach it,$(call files,teaching/benches/*.*),$(it)=$(docdir)/teaching/benches) \
     $(foreach it,$(call files,share/man/*.[1-8]),$(it)=$(mandir)/man$(patsubst .%,%,$(suffix $(it)))) \
+    $(foreach it,$(call files,share/maps/*.toml),$(it)=$(datarootdir)/agc/maps) \
     share/completions/agc_watch.bash=$(BASH) share/completions/_agc_watch=$(ZSH) \
     $(foreach it,$(docdir) $(datarootdir)/agc,$(WORKBENCH)=$(it))
 
@@ -59,5 +60,6 @@ uninstall:
 	@for it in $(PLACED); do rm -f '$(DESTDIR)'$${it#*=}/$$(basename $${it%%=*}); done
 	rm -f '$(DESTDIR)$(BASH)/agc_watch'
 	@for it in '$(docdir)/docs' '$(docdir)/examples' '$(docdir)/teaching/benches' \
-	    '$(docdir)/teaching' '$(docdir)' '$(datarootdir)/agc'; do to='$(DESTDIR)'$$it; \
+	    '$(docdir)/teaching' '$(docdir)' '$(datarootdir)/agc/maps' '$(datarootdir)/agc'; \
+	    do to='$(DESTDIR)'$$it; \
 	    if [ -d "$$to" ]; then rmdir --ignore-fail-on-non-empty "$$to"; fi; done
