@@ -290,3 +290,23 @@ def bytes_changed(dice, text, other):
                                    (at, at, found[at:to]), (at, to, other[there : there + to - at])])
         found[at:to] = put
     return bytes(found)
+
+
+# The tables of a memory, and how many words each takes.
+TABLES = {"mpac": 96, "vac1use": 177, "newjob": 1, "time3": 1, "lst1": 8, "lst2": 18, "phase1": 12, "failreg": 3}
+
+
+def core(dice):
+    """A map with tables anywhere, and a memory of any words; in half of these, with bytes changed."""
+    rows = {"sets": dice.choice([7, 8]), "skip": dice.choice([0, 0, 4, 512])}
+    rows.update({key: f'"{dice.randrange(2048 - length):05o}"' for key, length in TABLES.items()})
+    if dice.often(0.5):
+        rows["endtask"] = f'"{dice.randrange(2048):05o}"'
+    text = "".join(f"{key} = {value}\n" for key, value in rows.items()).encode()
+    words = [dice.choice([0, 0, 1, 0o77777, dice.randrange(32768), dice.randrange(65536)]) for _ in range(rows["skip"] + 2048)]
+    memory = "".join(f"{word:o}\n" for word in words).encode()
+    if dice.often(0.25):
+        text = bytes_changed(dice, text, memory)
+    if dice.often(0.25):
+        memory = bytes_changed(dice, memory, text)
+    return text, memory
