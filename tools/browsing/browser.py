@@ -128,7 +128,7 @@ class Browser:
     def click(self, name):
         """Clicks on an element, which may not be there yet where a page has just been opened."""
         begun = time.monotonic()
-        while self.value(f"document.getElementById({json.dumps(name)}) === null") and time.monotonic() - begun < 10:
+        while self.value(f"document.getElementById({json.dumps(name)}) === null") and time.monotonic() - begun < 60:
             time.sleep(0.05)
         self.value(f"document.getElementById({json.dumps(name)}).click()")
 
