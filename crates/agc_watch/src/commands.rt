@@ -262,7 +262,7 @@ const CORE: Row = Row {
 MAP is a TOML file that says where the tables are. FILE has the memory's words, an
 octal number in each line, as yaAGC writes its core dump.
 
-Example: agc_watch core share/maps/luminary099.toml LM.core",
+Example: agc_watch core share/maps/made-up.toml LM.core",
     arguments: &[
         (
             "map",
