@@ -2,7 +2,6 @@
 //! of its alarm. Source: profile.
 #![tactic(auto)]
 
-mod folding;
 mod line;
 mod player;
 mod playing;

@@ -1,11 +1,9 @@
 //! What a line asks for, and what is said of one that asks for nothing.
 use agc_check::{Finding, LineFault, script_findings, script_told};
 use agc_plan::Request;
-use agc_session::RunFault;
 use agc_text::Filling::{Number, Text};
-use agc_text::{Pen, parse_line};
+use agc_text::{Draft, parse_line};
 use std::alloc::{AllocError, Global};
-use std::io::Write;
 
 /// How many ticks may be asked for at once.
 const MOST_TICKS: u32 = 1_000_000;
@@ -81,52 +79,38 @@ fn form_of(line: &str) -> Option<&'static str> {
 }
 
 /// Says this of the line of this number.
-pub(crate) fn tell_line<W: Write>(
-    writer: &mut W,
-    number: u64,
-    sentence: &str,
-) -> Result<(), RunFault> {
-    let mut pen = Pen::new(writer);
-    pen.put("line {}: {}\n", &[Number(number), Text(sentence)]);
-    Ok(pen.end()?)
+pub(crate) fn tell_line(draft: &mut Draft, number: u64, sentence: &str) {
+    draft.put("line {}: {}\n", &[Number(number), Text(sentence)]);
 }
 
-/// What is said after a fault: a word that no request begins with may be meant as a command.
-fn help_after(fault: &LineFault) -> &'static str {
-    match fault {
-        LineFault::Unknown(_) => "help says what else a line may be\n",
-        _ => "",
-    }
-}
-
-/// Says of a line, which may have been meant as a request, what `check --script` says.
-fn tell_fault<W: Write>(
-    alloc: Global,
-    finding: Finding<'_>,
-    writer: &mut W,
-) -> Result<(), RunFault> {
-    let help = help_after(&finding.fault);
+/// Says of a line, which may have been meant as a request, what `check --script` says; and where no
+/// request begins with its first word, which may be meant as a command, how commands are found.
+fn tell_fault(alloc: Global, finding: Finding<'_>, draft: &mut Draft) -> Result<(), AllocError> {
+    let is_unknown = matches!(finding.fault, LineFault::Unknown(_));
     let told = script_told(alloc, &[finding])?;
-    let mut pen = Pen::new(writer);
-    pen.text(told.as_str());
-    pen.text(help);
-    Ok(pen.end()?)
+    draft.text(told.as_str());
+    if is_unknown {
+        draft.text("help says what else a line may be\n");
+    }
+    Ok(())
 }
 
 /// Says what is wrong with a line that asks for nothing, by its number.
-pub(crate) fn tell_wrong<W: Write>(
+pub(crate) fn tell_wrong(
     alloc: Global,
     number: u64,
     text: &str,
-    writer: &mut W,
-) -> Result<(), RunFault> {
+    draft: &mut Draft,
+) -> Result<(), AllocError> {
     if let Some(form) = form_of(text) {
-        return tell_line(writer, number, form);
+        tell_line(draft, number, form);
+        return Ok(());
     }
     match fault_of(alloc, text)? {
         LineFault::OfBench => {
             let sentence = "this is a line of a bench; agc_watch play FILE begins from a bench";
-            tell_line(writer, number, sentence)
+            tell_line(draft, number, sentence);
+            Ok(())
         }
         fault => {
             let finding = Finding {
@@ -134,7 +118,7 @@ pub(crate) fn tell_wrong<W: Write>(
                 text,
                 fault,
             };
-            tell_fault(alloc, finding, writer)
+            tell_fault(alloc, finding, draft)
         }
     }
 }

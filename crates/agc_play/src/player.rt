@@ -13,9 +13,9 @@ use agc_run::{Asks, Source, WatchedRun};
 use agc_scene::{Event, Scene, Watched};
 use agc_session::{RunFault, machine_of};
 use agc_text::Filling::{Number, Octal, Priority, Text};
-use agc_text::{Output, Pen};
+use agc_text::{Draft, Output};
 use agc_trace::{Choice, Columns, Form, Rows};
-use std::alloc::Global;
+use std::alloc::{AllocError, Global};
 use std::io::Write;
 use std::marker::Model;
 
@@ -95,8 +95,8 @@ fn replayed(machine: Machine, requests: &[Request]) -> (Watched, Last)
     (run.into_watched(), last)
 }
 
-/// Writes what a core set holds.
-fn put_seat<W: Write>(pen: &mut Pen<W>, k: usize, seat: Seat) {
+/// Adds what a core set holds.
+fn put_seat(draft: &mut Draft, k: usize, seat: Seat) {
     let fillings = [
         Number(k as u64),
         Number(u64::from(seat.number)),
@@ -104,37 +104,37 @@ fn put_seat<W: Write>(pen: &mut Pen<W>, k: usize, seat: Seat) {
         Text(if seat.asleep { "asleep at" } else { "at" }),
         Octal(seat.at),
     ];
-    pen.put("    set {}: job {}, priority {}, {} {}", &fillings);
+    draft.put("    set {}: job {}, priority {}, {} {}", &fillings);
     if seat.area > 0 {
-        pen.fill(", area ", Number(u64::from(seat.area)));
+        draft.fill(", area ", Number(u64::from(seat.area)));
     }
-    pen.text("\n");
+    draft.text("\n");
 }
 
-/// Writes which job is running, and what the core sets hold.
-fn put_jobs<W: Write>(pen: &mut Pen<W>, scene: &Scene) {
+/// Adds which job is running, and what the core sets hold.
+fn put_jobs(draft: &mut Draft, scene: &Scene) {
     match scene.running() {
-        None => pen.text("    no job is running\n"),
-        Some(number) => pen.put(
+        None => draft.text("    no job is running\n"),
+        Some(number) => draft.put(
             "    job {} is running\n",
             &[Number(u64::from(number.get()))],
         ),
     }
     if let Some(number) = scene.named() {
-        pen.put(
+        draft.put(
             "    NEWJOB names job {}, which is more urgent\n",
             &[Number(u64::from(number))],
         );
     }
     for (k, seat) in scene.seats().iter().enumerate() {
         if let Some(seat) = *seat {
-            put_seat(pen, k, seat);
+            put_seat(draft, k, seat);
         }
     }
 }
 
-/// Writes how many core sets and areas are free.
-fn put_free<W: Write>(pen: &mut Pen<W>, scene: &Scene) {
+/// Adds how many core sets and areas are free.
+fn put_free(draft: &mut Draft, scene: &Scene) {
     let seats = scene.seats();
     let free = seats.iter().filter(|seat| seat.is_none()).count();
     let areas = (1..6u16)
@@ -145,38 +145,38 @@ fn put_free<W: Write>(pen: &mut Pen<W>, scene: &Scene) {
         Number(seats.len() as u64),
         Number(areas as u64),
     ];
-    pen.put(
+    draft.put(
         "    {} of {} core sets and {} of 5 VAC areas are free\n",
         &fillings,
     );
 }
 
-/// Writes the tasks that wait, the phases and the codes.
-fn put_rest<W: Write>(pen: &mut Pen<W>, scene: &Scene) {
+/// Adds the tasks that wait, the phases and the codes.
+fn put_rest(draft: &mut Draft, scene: &Scene) {
     if scene.waits().is_empty() {
-        pen.text("    no task waits\n");
+        draft.text("    no task waits\n");
     }
     for wait in scene.waits() {
         let (at, bank) = (wait.task.at.get(), wait.task.bank.bits());
         let distance = Number(u64::from(wait.distance));
-        pen.put(
+        draft.put(
             "    task {}/{}, due in {} cs\n",
             &[Octal(at), Octal(bank), distance],
         );
     }
-    pen.text("    phases");
+    draft.text("    phases");
     for phase in scene.phases() {
-        pen.fill(" ", Number(u64::from(phase.get())));
+        draft.fill(" ", Number(u64::from(phase.get())));
     }
-    pen.text("\n    FAILREG");
+    draft.text("\n    FAILREG");
     for code in scene.codes() {
-        pen.fill(" ", Octal(code_word(code).bits()));
+        draft.fill(" ", Octal(code_word(code).bits()));
     }
-    pen.text("\n");
+    draft.text("\n");
 }
 
-/// The rows of all that is asked, as they are written in this manner.
-fn rows_of(alloc: Global) -> Rows {
+/// The rows of all that is asked; on a terminal their tables stand below them.
+fn rows_of(alloc: Global, folds: bool) -> Result<Rows, AllocError> {
     let choice = Choice {
         form: Form::Lines,
         alarms: false,
@@ -184,25 +184,12 @@ fn rows_of(alloc: Global) -> Rows {
         to: None,
         brief: false,
     };
-    Rows::new(choice, Columns::of_bench(alloc, false))
-}
-
-/// Writes the heading, and what came of power-up, if the bench has phase words.
-///
-/// # Errors
-///
-/// `NoMemory`, and `Output`, where a write fails.
-pub(crate) fn put_heading<W: Write>(
-    alloc: Global,
-    bench: &Bench,
-    writer: &mut W,
-) -> Result<(), RunFault> {
-    let watched = Watched::new(machine_of(alloc, bench)?);
-    Ok(rows_of(alloc).begin(&watched, bench.power(), writer)?)
+    Rows::new(alloc, choice, Columns::of_play(alloc, folds))
 }
 
 impl Player {
-    /// A bench's machine after these requests, of which no rows are written.
+    /// A bench's machine after these requests, of which no rows are written; those of others have
+    /// their tables below them, if that is wanted.
     ///
     /// # Errors
     ///
@@ -211,40 +198,55 @@ impl Player {
         alloc: Global,
         bench: &Bench,
         requests: &[Request],
+        folds: bool,
     ) -> Result<Player, RunFault>
         ensures { IfOk result (λ p.
             p ≡ fold watched (watching_from (bench_machine bench.now)) requests.now) }
     {
+        let rows = rows_of(alloc, folds)?;
         let machine = machine_of(alloc, bench)?;
         let (watched, last) = replayed(machine, requests);
         Ok(Player {
             watched,
-            rows: rows_of(alloc),
+            rows,
             last,
         })
     }
 
-    /// Asks for one request; its row and account are written, but where only rows are wanted in
-    /// which something happened, and in this nothing did.
+    /// Adds the heading, and what came of power-up, if the bench has phase words.
     ///
     /// # Errors
     ///
-    /// Where a write fails. The request was asked.
-    pub(crate) fn ask<W: Write>(
-        &mut self,
-        request: &Request,
-        is_told: bool,
-        writer: &mut W,
-    ) -> Result<(), Output>
+    /// `NoMemory`.
+    pub(crate) fn put_heading(&mut self, alloc: Global, bench: &Bench) -> Result<(), RunFault>
+        ensures { self.new ≡ self.old }
+    {
+        let first = Watched::new(machine_of(alloc, bench)?);
+        self.rows.begin(&first, Some(bench));
+        Ok(())
+    }
+
+    /// Writes the rows that were added.
+    ///
+    /// # Errors
+    ///
+    /// Where a write fails.
+    pub(crate) fn send<W: Write>(&mut self, writer: &mut W) -> Result<(), Output>
+        ensures { self.new ≡ self.old }
+    {
+        self.rows.send(writer)
+    }
+
+    /// Asks for one request; its row and account are added, but where only rows are wanted in which
+    /// something happened, and in this nothing did.
+    pub(crate) fn ask(&mut self, request: &Request, is_told: bool)
         ensures { self.new ≡ watched self.old request.now }
     {
         let event = self.watched.ask(request);
         self.last = last_of(&event);
         if is_told || !matches!(self.last.came, Came::Quiet) {
             let source = Source::Bench(agc_session::Source::Script);
-            self.rows.tell(&self.watched, source, &event, writer)
-        } else {
-            Ok(())
+            self.rows.add(&self.watched, source, &event);
         }
     }
 
@@ -253,25 +255,25 @@ impl Player {
         self.last.came
     }
 
-    /// Writes all that is shown of the state: after which request, when, and the tables.
-    pub(crate) fn put_state<W: Write>(&self, pen: &mut Pen<W>, bench: &Bench) {
+    /// Adds all that is shown of the state: after which request, when, and the tables.
+    pub(crate) fn put_state(&self, draft: &mut Draft, bench: &Bench) {
         let Last {
             number,
             time,
             total,
             ..
         } = self.last;
-        pen.put(
+        draft.put(
             "after request {}: time {} of the era, {} in all\n",
             &[Number(number), Number(time), Number(total)],
         );
         let scene = self.watched.scene();
-        put_jobs(pen, &scene);
-        put_free(pen, &scene);
-        put_rest(pen, &scene);
+        put_jobs(draft, &scene);
+        put_free(draft, &scene);
+        put_rest(draft, &scene);
         let stored = u64::from(self.watched.machine().log_len());
         let limit = u64::from(bench.limit().get());
-        pen.put(
+        draft.put(
             "    the log has {} of {} requests\n",
             &[Number(stored), Number(limit)],
         );

@@ -1,19 +1,18 @@
 //! The play: a line is read, and answered, before the next one is read.
 ghost use Rattle.std.specs.Prelude.{◌≡◌, ◌++◌, ◌∷◌, [], OnOk};
 
-use crate::folding::Folded;
 use crate::line::{Asked, asked_by, tell_line, tell_wrong};
-use crate::player::{Came, Player, put_heading};
+use crate::player::{Came, Player};
 use agc_document::{Bench, put_bench};
 use agc_machine::Refusal;
 use agc_plan::Request;
 use agc_session::{RunFault, Walk, written};
 use agc_text::Filling::{Number, Text};
-use agc_text::{Filling, Output, Pen};
+use agc_text::{Draft, Output, Pen};
 use std::alloc::{AllocError, Global};
+use std::fs;
 use std::io::{BufRead, ErrorKind, Read, Write};
 use std::marker::Model;
-use std::{fs, io};
 
 /// How many bytes a line may have.
 const MOST_LINE: usize = 8192;
@@ -91,14 +90,17 @@ fn requests_of(alloc: Global, bench: &Bench) -> Result<Vec<Request>, AllocError>
 }
 
 /// A play: the bench that it began from, all that was asked, from the bench's own requests on, how
-/// many were asked before each line that asked for some, and the machine. Contracts see what was
-/// asked; the machine is what the bench's comes to by that. Source: profile.
+/// many were asked before each line that asked for some, the machine, what is told next, behind its
+/// rows, and how. Contracts see what was asked; the machine is what the bench's comes to by that.
+/// Source: profile.
 #[derive(Drop)]
 struct Played<'a> {
     bench: &'a Bench,
     requests: Vec<Request>,
     steps: Vec<usize>,
     player: Player,
+    draft: Draft,
+    manner: Manner,
 }
 
 impl<'a> Model for Played<'a> {
@@ -116,23 +118,18 @@ impl<'a> Model for Played<'a> {
         ≡ fold watched (watching_from (bench_machine p.bench.now)) p.requests.items };
 }
 
-/// What is said of a request that was refused, and of the number in it.
-fn words_of(bench: &Bench, refusal: Refusal) -> (&'static str, u64) {
+/// Adds that a request was refused, and the number that it came to.
+fn put_refusal(draft: &mut Draft, bench: &Bench, refusal: Refusal) {
     match refusal {
-        Refusal::LogFull => (
+        Refusal::LogFull => draft.put(
             "        the log is full (limit {}): only restart and fresh are served\n",
-            u64::from(bench.limit().get()),
+            &[Number(u64::from(bench.limit().get()))],
         ),
-        Refusal::Spent => (
+        Refusal::Spent => draft.put(
             "        spent (allowance {}): nothing more is served\n",
-            bench.allowance(),
+            &[Number(bench.allowance())],
         ),
     }
-}
-
-/// Writes a text.
-fn tell<W: Write>(writer: &mut W, text: &str) -> Result<(), RunFault> {
-    Ok(written(writer.write_all(text.as_bytes()))?)
 }
 
 /// A bench of the same machine as another's, whose script is these requests.
@@ -151,93 +148,84 @@ fn put_script<W: Write>(writer: &mut W, bench: &Bench, requests: &[Request]) -> 
     pen.end()
 }
 
-/// Writes a bench of so many requests to a file of this name, and says so.
-fn save<W: Write>(
+/// Writes a bench of so many requests to a file of this name, and adds what came of that.
+fn save(
     rt: &HostRuntime,
     name: &str,
     text: &[u8],
     count: usize,
-    writer: &mut W,
+    draft: &mut Draft,
 ) -> Result<(), RunFault> {
-    let length = Number(text.len() as u64);
     let (words, number) = if text.len() > MOST_BYTES {
-        (TOO_LONG, length)
+        (TOO_LONG, text.len())
     } else if let Err(error) = fs::write(rt, name, text) {
-        return Ok(written(write!(writer, "{name}: not written: {error}\n"))?);
+        let told = format!(in rt.alloc(); "{name}: not written: {error}\n")?;
+        draft.text(told.as_str());
+        return Ok(());
     } else if count == 1 {
-        ("{}: a bench of {} request\n", Number(1))
+        ("{}: a bench of {} request\n", 1)
     } else {
-        ("{}: a bench of {} requests\n", Number(count as u64))
+        ("{}: a bench of {} requests\n", count)
     };
-    let mut pen = Pen::new(writer);
-    pen.put(words, &[Text(name), number]);
-    Ok(pen.end()?)
+    draft.put(words, &[Text(name), Number(number as u64)]);
+    Ok(())
 }
 
 impl<'a> Played<'a> {
     /// A play that goes on where the bench ends.
-    fn new(alloc: Global, bench: &'a Bench) -> Result<Played<'a>, RunFault> {
+    fn new(alloc: Global, bench: &'a Bench, manner: Manner) -> Result<Played<'a>, RunFault> {
         let requests = requests_of(alloc, bench)?;
-        let player = Player::after(alloc, bench, requests.as_slice())?;
+        let draft = Draft::new(alloc)?;
+        let player = Player::after(alloc, bench, requests.as_slice(), manner.folds)?;
         Ok(Played {
             bench,
             requests,
             steps: Vec::new(alloc),
             player,
+            draft,
+            manner,
         })
     }
 
-    /// Writes the state, after this text, whose gap is filled by this.
-    fn tell_state<W: Write>(
-        &self,
-        words: &str,
-        fillings: &[Filling<'_>],
-        writer: &mut W,
-    ) -> Result<(), RunFault> {
-        let mut pen = Pen::new(writer);
-        pen.put(words, fillings);
-        self.player.put_state(&mut pen, self.bench);
-        Ok(pen.end()?)
+    /// Writes the rows that were added, and what is told behind them.
+    fn send<W: Write>(&mut self, writer: &mut W) -> Result<(), Output>
+        ensures { self.new ≡ self.old }
+    {
+        self.player.send(writer)?;
+        self.draft.send(writer)
     }
 
-    /// Writes the heading, what came of power-up, and where the bench's own requests ended.
-    fn begin<W: Write>(&self, alloc: Global, writer: &mut W) -> Result<(), RunFault> {
-        put_heading(alloc, self.bench, writer)?;
+    /// Adds the state.
+    fn put_state(&mut self) {
+        self.player.put_state(&mut self.draft, self.bench);
+    }
+
+    /// Adds the heading, what came of power-up, and where the bench's own requests ended.
+    fn begin(&mut self, alloc: Global) -> Result<(), RunFault> {
+        self.player.put_heading(alloc, self.bench)?;
         let count = self.requests.len();
         let words = match count {
             0 => return Ok(()),
             1 => "{} request was asked by the bench\n",
             _ => "{} requests were asked by the bench\n",
         };
-        self.tell_state(words, &[Number(count as u64)], writer)
+        self.draft.put(words, &[Number(count as u64)]);
+        self.put_state();
+        Ok(())
     }
 
-    /// Says what came of the last request, beside its row.
-    fn tell_came<W: Write>(&self, writer: &mut W) -> Result<(), Output> {
-        let mut pen = Pen::new(writer);
-        match self.player.came() {
-            Came::Served | Came::Quiet => {}
-            Came::Begun => self.player.put_state(&mut pen, self.bench),
-            Came::Refused(refusal) => {
-                let (words, number) = words_of(self.bench, refusal);
-                pen.put(words, &[Number(number)]);
-            }
-        }
-        pen.end()
-    }
-
-    /// Asks for one request.
-    fn ask<W: Write>(
-        &mut self,
-        request: &Request,
-        is_told: bool,
-        writer: &mut W,
-    ) -> Result<(), RunFault>
+    /// Asks for one request, and adds what came of it.
+    fn ask(&mut self, request: &Request, is_told: bool) -> Result<(), AllocError>
         ensures { OnOk result (self.new ≡ self.old ++ request.now ∷ []) }
     {
         self.requests.push(*request)?;
-        self.player.ask(request, is_told, writer)?;
-        Ok(self.tell_came(writer)?)
+        self.player.ask(request, is_told);
+        match self.player.came() {
+            Came::Served | Came::Quiet => {}
+            Came::Begun => self.player.put_state(&mut self.draft, self.bench),
+            Came::Refused(refusal) => put_refusal(&mut self.draft, self.bench, refusal),
+        }
+        Ok(())
     }
 
     /// Asks for a request so many times, up to one that is refused.
@@ -249,7 +237,8 @@ impl<'a> Played<'a> {
     ) -> Result<(), RunFault> {
         self.steps.push(self.requests.len())?;
         for number in 1..=times {
-            self.ask(request, number == times, writer)?;
+            self.ask(request, number == times)?;
+            self.send(writer)?;
             if matches!(self.player.came(), Came::Refused(_)) {
                 return Ok(());
             }
@@ -279,7 +268,7 @@ impl<'a> Played<'a> {
     fn go_back(&mut self, alloc: Global, taken: usize) -> Result<(), RunFault> {
         let left = self.requests.len().saturating_sub(taken);
         let requests = self.requests.as_slice();
-        match Player::after(alloc, self.bench, &requests[..left]) {
+        match Player::after(alloc, self.bench, &requests[..left], self.manner.folds) {
             Ok(player) => {
                 self.player = player;
                 self.requests.truncate(left);
@@ -290,24 +279,31 @@ impl<'a> Played<'a> {
     }
 
     /// Takes back what the last line asked, or the last request of the bench.
-    fn undo<W: Write>(&mut self, alloc: Global, writer: &mut W) -> Result<(), RunFault> {
+    fn undo(&mut self, alloc: Global) -> Result<(), RunFault> {
         let taken = self.asked_last();
         if taken > 0 {
             self.go_back(alloc, taken)?;
         }
         self.steps.pop();
         let words = match taken {
-            0 => return tell(writer, "nothing was asked that could be taken back\n"),
+            0 => "nothing was asked that could be taken back\n",
             1 => "{} request is taken back\n",
             _ => "{} requests are taken back\n",
         };
-        self.tell_state(words, &[Number(taken as u64)], writer)
+        if taken == 0 {
+            self.draft.text(words);
+        } else {
+            self.draft.put(words, &[Number(taken as u64)]);
+            self.put_state();
+        }
+        Ok(())
     }
 
     /// Writes all that was asked to a file, as a bench.
-    fn save<W: Write>(&self, rt: &HostRuntime, name: &str, writer: &mut W) -> Result<(), RunFault> {
+    fn save(&mut self, rt: &HostRuntime, name: &str) -> Result<(), RunFault> {
         let text = bench_of(rt.alloc(), self.bench, self.requests.as_slice())?;
-        save(rt, name, text.as_slice(), self.requests.len(), writer)
+        let count = self.requests.len();
+        save(rt, name, text.as_slice(), count, &mut self.draft)
     }
 
     /// Does what a line asks for, of this number.
@@ -319,20 +315,29 @@ impl<'a> Played<'a> {
         writer: &mut W,
     ) -> Result<(), RunFault> {
         match asked_by(line) {
-            Asked::Request(request, times) => self.ask_times(&request, times, writer),
-            Asked::Undo => self.undo(rt.alloc(), writer),
-            Asked::Show => self.tell_state("", &[], writer),
-            Asked::Save(name) => self.save(rt, name, writer),
-            Asked::Help => tell(writer, HELP),
-            Asked::Nothing => tell_wrong(rt.alloc(), number, line, writer),
+            Asked::Request(request, times) => return self.ask_times(&request, times, writer),
+            Asked::Undo => return self.undo(rt.alloc()),
+            Asked::Show => self.put_state(),
+            Asked::Save(name) => return self.save(rt, name),
+            Asked::Help => self.draft.text(HELP),
+            Asked::Nothing => tell_wrong(rt.alloc(), number, line, &mut self.draft)?,
+        }
+        Ok(())
+    }
+
+    /// Ends an answer with this text, and writes and flushes it.
+    fn end_answer<W: Write>(&mut self, text: &str, writer: &mut W) -> Result<(), RunFault> {
+        self.draft.text(text);
+        self.send(writer)?;
+        Ok(written(writer.flush())?)
+    }
+
+    /// Says on standard error that a line is waited for, if that is wanted.
+    fn prompt(&self, rt: &HostRuntime, text: &str) {
+        if self.manner.prompts {
+            let _ = eprint!(rt; "{text}");
         }
     }
-}
-
-/// Ends an answer with this text, and flushes it.
-fn end_answer<W: Write>(writer: &mut W, text: &str) -> Result<(), RunFault> {
-    tell(writer, text)?;
-    Ok(written(writer.flush())?)
 }
 
 /// The bytes of the next line, with its end; none at the end of the input.
@@ -359,28 +364,23 @@ fn text_of(line: &[u8]) -> Option<&str> {
 fn answer<W: Write>(
     rt: &HostRuntime,
     played: &mut Played<'_>,
-    number: u64,
-    text: Option<&str>,
+    (number, text): (u64, Option<&str>),
     writer: &mut W,
 ) -> Result<(), RunFault> {
     let served = match text {
         Some(text) => played.serve(rt, number, text, writer),
-        None => tell_line(writer, number, "not text"),
+        None => {
+            tell_line(&mut played.draft, number, "not text");
+            Ok(())
+        }
     };
     match served {
-        Ok(()) => end_answer(writer, "\n"),
+        Ok(()) => played.end_answer("\n", writer),
         Err(RunFault::Output) => Err(RunFault::Output),
         Err(_lacking) => {
             played.forget_empty();
-            end_answer(writer, "no memory\n\n")
+            played.end_answer("no memory\n\n", writer)
         }
-    }
-}
-
-/// Says on standard error that a line is waited for, if that is wanted.
-fn prompt(rt: &HostRuntime, manner: Manner, text: &str) {
-    if manner.prompts {
-        let _ = eprint!(rt; "{text}");
     }
 }
 
@@ -388,22 +388,21 @@ fn prompt(rt: &HostRuntime, manner: Manner, text: &str) {
 fn answer_next<R: BufRead, W: Write>(
     rt: &HostRuntime,
     played: &mut Played<'_>,
-    manner: Manner,
     number: u64,
     reader: &mut R,
     writer: &mut W,
 ) -> Result<bool, PlayFault> {
-    prompt(rt, manner, "> ");
+    played.prompt(rt, "> ");
     let line = next_line(rt.alloc(), reader)?;
     if line.is_empty() {
-        prompt(rt, manner, "\n");
+        played.prompt(rt, "\n");
         return Ok(false);
     }
     match text_of(line.as_slice()) {
         Some("quit") => Ok(false),
-        Some("") if manner.prompts => Ok(true),
+        Some("") if played.manner.prompts => Ok(true),
         text => {
-            answer(rt, played, number, text, writer)?;
+            answer(rt, played, (number, text), writer)?;
             Ok(true)
         }
     }
@@ -413,15 +412,14 @@ fn answer_next<R: BufRead, W: Write>(
 fn answer_all<R: BufRead, W: Write>(
     rt: &HostRuntime,
     played: &mut Played<'_>,
-    manner: Manner,
     reader: &mut R,
     writer: &mut W,
 ) -> Result<(), PlayFault> {
-    played.begin(rt.alloc(), writer)?;
-    end_answer(writer, "\n")?;
-    prompt(rt, manner, GREETING);
+    played.begin(rt.alloc())?;
+    played.end_answer("\n", writer)?;
+    played.prompt(rt, GREETING);
     for number in 1..u64::MAX {
-        if !answer_next(rt, played, manner, number, reader, writer)? {
+        if !answer_next(rt, played, number, reader, writer)? {
             break;
         }
     }
@@ -443,11 +441,8 @@ pub fn play<R: BufRead, W: Write>(
     reader: &mut R,
     writer: &mut W,
 ) -> Result<(), PlayFault> {
-    match Played::new(rt.alloc(), bench) {
-        Ok(mut played) => {
-            let mut folded = Folded::new(writer, manner.folds);
-            answer_all(rt, &mut played, manner, reader, &mut folded)
-        }
+    match Played::new(rt.alloc(), bench, manner) {
+        Ok(mut played) => answer_all(rt, &mut played, reader, writer),
         Err(fault) => Err(PlayFault::from(fault)),
     }
 }

@@ -1,15 +1,14 @@
 // A chart as browsers open it: the events of tracks, in JSON.
-use crate::columns::Columns;
-use crate::json::{put_name, put_source};
+use crate::json::put_source;
 use crate::lanes::{AREAS, Held, LANES, Lanes, TASKS, is_same, lanes_of};
-use crate::quoting::put_json_text;
+use crate::names::What;
+use crate::page::Page;
 use agc_clock::Clock;
 use agc_plan::Request;
 use agc_run::Source;
 use agc_scene::{Event, Scene};
-use agc_text::Filling::{Number, Octal, Priority, Seconds, Text};
-use agc_text::{Pen, alarm_code, put_request};
-use std::io::Write;
+use agc_text::Filling::{Json, Number, Octal, Priority, Seconds, Text};
+use agc_text::{Draft, alarm_code, request_text};
 
 /// The counters, by their numbers.
 const COUNTERS: [&str; 4] = ["core sets", "VAC areas", "tasks", "stolen percent"];
@@ -36,43 +35,10 @@ fn count_of(lanes: &Lanes, from: usize, to: usize) -> u64 {
     count
 }
 
-/// What is counted of lanes, beside this percentage of stolen time.
-fn counts_of(lanes: &Lanes, stolen: u64) -> [u64; 4] {
-    [
-        count_of(lanes, 0, AREAS),
-        count_of(lanes, AREAS, TASKS),
-        count_of(lanes, TASKS, LANES),
-        stolen,
-    ]
-}
-
-/// Writes how an event begins: of this phase, on the track of this number.
-fn begin_event<W: Write>(pen: &mut Pen<W>, phase: &str, track: usize, now: u64) {
-    let fillings = [Text(phase), Number(track as u64), Number(now)];
-    pen.put(
-        ",\n{\"ph\":\"{}\",\"pid\":1,\"tid\":{},\"ts\":{}",
-        &fillings,
-    );
-}
-
-/// Writes what names a track.
-fn put_track<W: Write>(pen: &mut Pen<W>, lane: usize) {
-    let (kind, number) = if lane >= TASKS {
-        ("task", lane.saturating_sub(TASKS).saturating_add(1))
-    } else if lane >= AREAS {
-        ("VAC area", lane.saturating_sub(AREAS).saturating_add(1))
-    } else {
-        ("core set", lane)
-    };
-    begin_event(pen, "M", track_of(lane), 0);
-    pen.text(",\"name\":\"thread_name\",\"args\":{\"name\":\"");
-    pen.put("{} {}\"}}", &[Text(kind), Number(number as u64)]);
-    begin_event(pen, "M", track_of(lane), 0);
-    let place = [Number(track_of(lane) as u64)];
-    pen.put(
-        ",\"name\":\"thread_sort_index\",\"args\":{\"sort_index\":{}}}",
-        &place,
-    );
+/// Adds how an event begins: of this phase, on the track of this number.
+fn begin_event(draft: &mut Draft, phase: &str, track: usize, now: u64) {
+    let event = [Text(phase), Number(track as u64), Number(now)];
+    draft.put(",\n{\"ph\":\"{}\",\"pid\":1,\"tid\":{},\"ts\":{}", &event);
 }
 
 /// The track of a lane; track 1 is that of alarms.
@@ -80,33 +46,66 @@ fn track_of(lane: usize) -> usize {
     lane.saturating_add(2)
 }
 
-/// Writes the name of what a lane holds.
-fn put_held<W: Write>(pen: &mut Pen<W>, columns: &Columns, held: &Held) {
-    let name = if held.number == 0 {
-        columns.task_at(held.at, held.bank)
+/// Adds what names a track.
+fn put_track(draft: &mut Draft, lane: usize) {
+    let (kind, number) = if lane >= TASKS {
+        ("task", lane.saturating_sub(TASKS).saturating_add(1))
+    } else if lane >= AREAS {
+        ("VAC area", lane.saturating_sub(AREAS).saturating_add(1))
     } else {
-        columns.job(held.at)
+        ("core set", lane)
     };
+    begin_event(draft, "M", track_of(lane), 0);
+    let name = [Text(kind), Number(number as u64)];
+    draft.put(
+        ",\"name\":\"thread_name\",\"args\":{\"name\":\"{} {}\"}}",
+        &name,
+    );
+    begin_event(draft, "M", track_of(lane), 0);
+    let place = [Number(track_of(lane) as u64)];
+    draft.put(
+        ",\"name\":\"thread_sort_index\",\"args\":{\"sort_index\":{}}}",
+        &place,
+    );
+}
+
+/// Adds a name, or else an address, and that a job sleeps.
+fn put_name(draft: &mut Draft, name: Option<&str>, at: u16, asleep: bool) {
     match name {
-        None => pen.add(Octal(held.at)),
-        Some(name) => put_json_text(pen, name),
+        None => draft.add(Octal(at)),
+        Some(name) => draft.add(Json(name)),
     }
-    pen.text(if held.asleep { " asleep" } else { "" });
+    draft.text(if asleep { " asleep" } else { "" });
+    draft.text("\",\"args\":{");
 }
 
-/// Writes what else is told of a task.
-fn put_task<W: Write>(pen: &mut Pen<W>, held: &Held) {
-    let fillings = [Octal(held.at), Octal(held.bank), Seconds(held.due)];
-    pen.put("\"at\":\"{}\",\"bank\":\"{}\",\"due\":{}", &fillings);
-}
-
-/// Writes what else is told of a job.
-fn put_job<W: Write>(pen: &mut Pen<W>, lane: usize, held: &Held) {
-    let fillings = [Number(u64::from(held.number)), Octal(held.at)];
-    pen.put("\"job\":{},\"at\":\"{}\"", &fillings);
-    if lane < AREAS {
-        pen.put(",\"priority\":\"{}\"", &[Priority(held.priority)]);
+/// Adds what a lane holds: its name, and what else is told of it.
+fn put_held(page: &mut Page, held: &Held) {
+    let (draft, names) = (&mut page.draft, &page.columns.names);
+    match *held {
+        Held::Job {
+            number,
+            at,
+            priority,
+            asleep,
+        } => {
+            put_name(draft, names.of(What::Job(at)), at, asleep);
+            let rest = [Number(u64::from(number)), Octal(at), Priority(priority)];
+            draft.put("\"job\":{},\"at\":\"{}\",\"priority\":\"{}\"", &rest);
+        }
+        Held::Owner { number, at } => {
+            put_name(draft, names.of(What::Job(at)), at, false);
+            let rest = [Number(u64::from(number)), Octal(at)];
+            draft.put("\"job\":{},\"at\":\"{}\"", &rest);
+        }
+        Held::Task(task, due) => {
+            let (at, bank) = (task.at.get(), task.bank.bits());
+            put_name(draft, names.of(What::Task(task)), at, false);
+            let rest = [Octal(at), Octal(bank), Seconds(due)];
+            draft.put("\"at\":\"{}\",\"bank\":\"{}\",\"due\":{}", &rest);
+        }
     }
+    draft.text("}}");
 }
 
 impl Chart {
@@ -121,73 +120,47 @@ impl Chart {
         }
     }
 
-    /// Writes the event with which what a lane holds begins.
-    fn put_begin<W: Write>(&self, pen: &mut Pen<W>, columns: &Columns, lane: usize, held: &Held) {
-        begin_event(pen, "B", track_of(lane), self.now);
-        pen.text(",\"name\":\"");
-        put_held(pen, columns, held);
-        pen.text("\",\"args\":{");
-        if held.number == 0 {
-            put_task(pen, held);
-        } else {
-            put_job(pen, lane, held);
-        }
-        pen.text("}}");
-    }
-
-    /// Writes that a lane holds this from now on, and ends what it held.
-    fn put_lane<W: Write>(
-        &self,
-        pen: &mut Pen<W>,
-        columns: &Columns,
-        lane: usize,
-        held: &Option<Held>,
-    ) {
-        match self.lanes.get(lane) {
-            Some(Some(_held)) => {
-                begin_event(pen, "E", track_of(lane), self.now);
-                pen.text("}");
-            }
-            _ => {}
-        }
-        if let Some(held) = held {
-            self.put_begin(pen, columns, lane, held);
-        }
-    }
-
-    /// Writes what ends and begins where the lanes hold this from now on.
-    fn put_lanes<W: Write>(&mut self, pen: &mut Pen<W>, columns: &Columns, lanes: &Lanes) {
+    /// Adds what ends and begins where the lanes hold this from now on.
+    fn put_lanes(&mut self, page: &mut Page, lanes: &Lanes) {
         for lane in 0..LANES {
             if !is_same(&self.lanes[lane], &lanes[lane]) {
-                self.put_lane(pen, columns, lane, &lanes[lane]);
+                if self.lanes[lane].is_some() {
+                    begin_event(&mut page.draft, "E", track_of(lane), self.now);
+                    page.draft.text("}");
+                }
+                if let Some(held) = &lanes[lane] {
+                    begin_event(&mut page.draft, "B", track_of(lane), self.now);
+                    page.draft.text(",\"name\":\"");
+                    put_held(page, held);
+                }
             }
             self.lanes[lane] = lanes[lane];
         }
     }
 
-    /// Writes the counters that have changed.
-    fn put_counts<W: Write>(&mut self, pen: &mut Pen<W>, counts: &[u64; 4]) {
+    /// Adds the counters that have changed.
+    fn put_counts(&mut self, draft: &mut Draft, counts: &[u64; 4]) {
         for counter in 0..4usize {
             if self.counts[counter] != counts[counter] {
-                begin_event(pen, "C", 0, self.now);
-                let fillings = [Text(COUNTERS[counter]), Number(counts[counter])];
-                pen.put(",\"name\":\"{}\",\"args\":{\"now\":{}}}", &fillings);
+                begin_event(draft, "C", 0, self.now);
+                let now = [Text(COUNTERS[counter]), Number(counts[counter])];
+                draft.put(",\"name\":\"{}\",\"args\":{\"now\":{}}}", &now);
             }
         }
         self.counts = *counts;
     }
 
-    /// Writes what comes of a scene at a centisecond.
-    fn put_scene<W: Write>(
-        &mut self,
-        pen: &mut Pen<W>,
-        columns: &Columns,
-        scene: &Scene,
-        time: u64,
-    ) {
+    /// Adds what comes of a scene at a centisecond.
+    fn put_scene(&mut self, page: &mut Page, scene: &Scene, time: u64) {
         let lanes = lanes_of(&self.lanes, scene, time);
-        self.put_lanes(pen, columns, &lanes);
-        self.put_counts(pen, &counts_of(&lanes, self.stolen));
+        self.put_lanes(page, &lanes);
+        let counts = [
+            count_of(&lanes, 0, AREAS),
+            count_of(&lanes, AREAS, TASKS),
+            count_of(&lanes, TASKS, LANES),
+            self.stolen,
+        ];
+        self.put_counts(&mut page.draft, &counts);
     }
 
     /// Takes note of how many hundredths of a centisecond are gone by a clock after this request:
@@ -201,69 +174,56 @@ impl Chart {
         }
     }
 
-    /// Writes the heading, and the scene with which all begins, if it is told.
-    pub(crate) fn begin<W: Write>(
-        &mut self,
-        pen: &mut Pen<W>,
-        columns: &Columns,
-        scene: Option<&Scene>,
-    ) {
-        pen.text("{\"displayTimeUnit\":\"ms\",\"traceEvents\":[\n");
-        pen.text("{\"ph\":\"M\",\"pid\":1,\"tid\":1,\"ts\":0,\"name\":\"process_name\",\"args\":");
-        pen.text("{\"name\":");
-        put_name(pen, columns.title().or(Some("AGC")));
-        pen.text("}}");
-        begin_event(pen, "M", 1, 0);
-        pen.text(",\"name\":\"thread_name\",\"args\":{\"name\":\"alarms\"}}");
+    /// Adds the heading, and the scene with which all begins, if it is told.
+    pub(crate) fn begin(&mut self, page: &mut Page, scene: Option<&Scene>) {
+        page.draft
+            .text("{\"displayTimeUnit\":\"ms\",\"traceEvents\":[\n");
+        page.draft.text(
+            "{\"ph\":\"M\",\"pid\":1,\"tid\":1,\"ts\":0,\"name\":\"process_name\",\"args\":",
+        );
+        let title = page.columns.names.of(What::Title).unwrap_or("AGC");
+        page.draft.put("{\"name\":\"{}\"}}", &[Json(title)]);
+        begin_event(&mut page.draft, "M", 1, 0);
+        page.draft.text(",\"name\":\"thread_name\",\"args\":{\"name\":\"alarms\"}}");
         for lane in 0..LANES {
-            put_track(pen, lane);
+            put_track(&mut page.draft, lane);
         }
         if let Some(scene) = scene {
-            self.put_scene(pen, columns, scene, 0);
+            self.put_scene(page, scene, 0);
         }
     }
 
-    /// Writes that an era begins with a request.
-    fn put_era<W: Write>(
-        &mut self,
-        pen: &mut Pen<W>,
-        columns: &Columns,
-        source: Source,
-        event: &Event,
-    ) {
-        begin_event(pen, "i", 1, self.now);
-        pen.text(",\"s\":\"p\",\"name\":\"");
+    /// Adds that an era begins with a request.
+    fn put_era(&mut self, page: &mut Page, source: Source, event: &Event) {
+        begin_event(&mut page.draft, "i", 1, self.now);
+        page.draft.text(",\"s\":\"p\",\"name\":\"");
         match event.alarm() {
-            None => put_request(pen, &event.request),
-            Some(alarm) => pen.fill("alarm ", Text(alarm_code(alarm))),
+            None => page.draft.text(request_text(&event.request).as_str()),
+            Some(alarm) => page.draft.fill("alarm ", Text(alarm_code(alarm))),
         }
-        pen.fill("\",\"args\":{\"request\":", Number(event.number));
-        pen.text(",\"by\":");
-        put_source(pen, columns, source);
-        pen.text("}}");
-        self.put_lanes(pen, columns, &[None; LANES]);
+        page.draft.put(
+            "\",\"args\":{\"request\":{},\"by\":",
+            &[Number(event.number)],
+        );
+        put_source(page, source);
+        page.draft.text("}}");
+        self.put_lanes(page, &[None; LANES]);
     }
 
-    /// Writes what comes of a request.
-    pub(crate) fn tell<W: Write>(
-        &mut self,
-        pen: &mut Pen<W>,
-        columns: &Columns,
-        source: Source,
-        event: &Event,
-    ) {
+    /// Adds what comes of a request.
+    pub(crate) fn tell(&mut self, page: &mut Page, source: Source, event: &Event) {
         let now = event.total.saturating_mul(100).saturating_add(self.gone);
         self.now = now.saturating_mul(100).max(self.now);
-        self.put_scene(pen, columns, &event.scene, event.total);
+        self.put_scene(page, &event.scene, event.total);
         if let Some(era) = &event.era {
-            self.put_era(pen, columns, source, event);
-            self.put_scene(pen, columns, era, event.total);
+            self.put_era(page, source, event);
+            self.put_scene(page, era, event.total);
         }
     }
 
     /// Ends all that lanes hold, and the chart.
-    pub(crate) fn end<W: Write>(&mut self, pen: &mut Pen<W>, columns: &Columns) {
-        self.put_lanes(pen, columns, &[None; LANES]);
-        pen.text("\n]}\n");
+    pub(crate) fn end(&mut self, page: &mut Page) {
+        self.put_lanes(page, &[None; LANES]);
+        page.draft.text("\n]}\n");
     }
 }

@@ -1,12 +1,10 @@
 // Which columns rows have, and what is called by a name in them.
-use crate::line::put_source;
-use crate::names::Names;
-use agc_plan::{Phase, Task};
+use crate::names::{Names, What};
+use agc_plan::{Line, Phase, Task};
 use agc_run::Source;
 use agc_text::Filling::{Number, Octal, Seconds, Text};
-use agc_text::{Filling, Pen, put_task};
+use agc_text::{Draft, Filling};
 use std::alloc::Global;
-use std::io::Write;
 
 /// How many letters of a name are shown at most.
 const MOST_LETTERS: usize = 24;
@@ -15,19 +13,21 @@ const MOST_LETTERS: usize = 24;
 const SOURCE_WIDTH: usize = 9;
 
 /// The columns of rows: how wide the one is that says who asks, where it is there; whether times
-/// are in seconds; and the names that are shown. Source: profile.
+/// are in seconds; whether the tables stand below a row; and the names that are shown. Source:
+/// profile.
 #[derive(Drop)]
 pub struct Columns {
     source: Option<usize>,
     has_seconds: bool,
-    names: Names,
+    pub(crate) folds: bool,
+    pub(crate) names: Names,
 }
 
 /// The width of the column that says who asks in a scenario: that of the longest name of an event.
 fn source_width(names: &Names, events: usize) -> usize {
     let mut width = SOURCE_WIDTH;
     for event in 0..events {
-        let letters = match names.event(event) {
+        let letters = match names.of(What::Event(event)) {
             None if event < 999 => SOURCE_WIDTH,
             None => SOURCE_WIDTH + 1,
             Some(name) => name.chars().count().min(MOST_LETTERS),
@@ -35,6 +35,15 @@ fn source_width(names: &Names, events: usize) -> usize {
         width = width.max(letters);
     }
     width
+}
+
+/// What a line of pulses is called.
+pub(crate) fn line_name(line: Line) -> &'static str {
+    match line {
+        Line::Timer => "timer",
+        Line::Key => "key",
+        Line::Radar => "radar",
+    }
 }
 
 impl Columns {
@@ -47,6 +56,18 @@ impl Columns {
                 None
             },
             has_seconds: false,
+            folds: false,
+            names: Names::none(alloc),
+        }
+    }
+
+    /// The columns of one who plays; on a terminal the tables stand below a row, each with its
+    /// name. Source: profile.
+    pub fn of_play(alloc: Global, folds: bool) -> Columns {
+        Columns {
+            source: None,
+            has_seconds: false,
+            folds,
             names: Names::none(alloc),
         }
     }
@@ -57,18 +78,18 @@ impl Columns {
         Columns {
             source: Some(source_width(&names, events)),
             has_seconds: true,
+            folds: false,
             names,
         }
     }
 
-    /// What all of it is called.
-    pub(crate) fn title(&self) -> Option<&str> {
-        self.names.title()
-    }
-
-    /// How wide the columns are that are before that of the answer.
-    pub(crate) fn widths(&self) -> [Option<usize>; 5] {
-        [Some(8), Some(8), Some(8), self.source, Some(22)]
+    /// How wide a column in front of the tables is, from 0, if it is there.
+    pub(crate) fn width(&self, column: usize) -> Option<usize> {
+        match column {
+            0..=2 => Some(8),
+            3 => self.source,
+            _ => Some(22),
+        }
     }
 
     /// How wide the columns before the scene are, without the last two blanks.
@@ -79,43 +100,29 @@ impl Columns {
         }
     }
 
-    /// What a job at this address is called.
-    pub(crate) fn job(&self, at: u16) -> Option<&str> {
-        self.names.job(at)
-    }
-
-    /// What a task is called.
-    pub(crate) fn task(&self, task: &Task) -> Option<&str> {
-        self.names.task(task)
-    }
-
-    /// What a task at this address in this bank is called.
-    pub(crate) fn task_at(&self, at: u16, bank: u16) -> Option<&str> {
-        self.names.task_at(at, bank)
-    }
-
-    /// What a phase of the group of this number, 1 to 6, is called.
-    pub(crate) fn phase(&self, group: usize, phase: Phase) -> Option<&str> {
-        self.names.phase(group, phase)
-    }
-
     /// What the event that asks is called.
     pub(crate) fn event(&self, source: Source) -> Option<&str> {
         match source {
-            Source::Time(agc_clock::Source::Event(event)) => self.names.event(event),
+            Source::Time(agc_clock::Source::Event(event)) => self.names.of(What::Event(event)),
             _ => None,
         }
     }
 
-    /// Writes who asks: an event by its name, or else by its number from 1.
-    pub(crate) fn put_source<W: Write>(&self, pen: &mut Pen<W>, source: Source) {
+    /// Adds who asks: an event by its name, or else by its number from 1.
+    pub(crate) fn put_source(&self, draft: &mut Draft, source: Source) {
         match source {
-            Source::Bench(source) => put_source(pen, source),
-            Source::Time(agc_clock::Source::Clock) => pen.text("clock"),
-            Source::Time(agc_clock::Source::Event(event)) => match self.names.event(event) {
-                None => pen.fill("event ", Number(event.saturating_add(1) as u64)),
-                Some(name) => put_joined(pen, name),
-            },
+            Source::Bench(agc_session::Source::Script) => draft.text("script"),
+            Source::Bench(agc_session::Source::Worker(number)) => {
+                draft.fill("worker ", Number(number));
+            }
+            Source::Bench(agc_session::Source::Pulse(line)) => draft.text(line_name(line)),
+            Source::Time(agc_clock::Source::Clock) => draft.text("clock"),
+            Source::Time(agc_clock::Source::Event(event)) => {
+                match self.names.of(What::Event(event)) {
+                    None => draft.fill("event ", Number(event.saturating_add(1) as u64)),
+                    Some(name) => put_joined(draft, name),
+                }
+            }
         }
     }
 
@@ -128,57 +135,47 @@ impl Columns {
         }
     }
 
-    /// Writes the number of a job, followed by its name, if its address has one.
-    pub(crate) fn put_job<W: Write>(&self, pen: &mut Pen<W>, number: u16, at: u16) {
-        pen.add(Number(u64::from(number)));
-        if let Some(name) = self.names.job(at) {
-            pen.text(":");
-            put_joined(pen, name);
+    /// Adds what this is called to a cell, behind a colon, if it has a name.
+    pub(crate) fn put_name(&self, draft: &mut Draft, what: What) {
+        if let Some(name) = self.names.of(what) {
+            draft.text(":");
+            put_joined(draft, name);
         }
     }
 
-    /// Writes the address of a task, followed by its name, if it has one.
-    pub(crate) fn put_waiting<W: Write>(&self, pen: &mut Pen<W>, task: Task) {
-        pen.add(Octal(task.at.get()));
-        if let Some(name) = self.names.task(&task) {
-            pen.text(":");
-            put_joined(pen, name);
+    /// Adds where a job is: its name, if it has one, and its address.
+    pub(crate) fn put_place(&self, draft: &mut Draft, at: u16) {
+        match self.names.of(What::Job(at)) {
+            None => draft.add(Octal(at)),
+            Some(name) => draft.put("{} ({})", &[Text(name), Octal(at)]),
         }
     }
 
-    /// Writes where a job is: its name, if it has one, and its address.
-    pub(crate) fn put_place<W: Write>(&self, pen: &mut Pen<W>, at: u16) {
-        match self.names.job(at) {
-            None => pen.add(Octal(at)),
-            Some(name) => pen.put("{} ({})", &[Text(name), Octal(at)]),
+    /// Adds a task: its name, if it has one, its address and its bank.
+    pub(crate) fn put_task(&self, draft: &mut Draft, task: Task) {
+        let (at, bank) = (task.at.get(), task.bank.bits());
+        match self.names.of(What::Task(task)) {
+            None => draft.put("{}/{}", &[Octal(at), Octal(bank)]),
+            Some(name) => draft.put("{} ({}/{})", &[Text(name), Octal(at), Octal(bank)]),
         }
     }
 
-    /// Writes a task: its name, if it has one, its address and its bank.
-    pub(crate) fn put_task<W: Write>(&self, pen: &mut Pen<W>, task: Task) {
-        match self.names.task(&task) {
-            None => put_task(pen, task),
-            Some(name) => {
-                pen.put("{} (", &[Text(name)]);
-                put_task(pen, task);
-                pen.text(")");
+    /// Adds the phases of a scene, each with its name, if it has one.
+    pub(crate) fn put_phases(&self, draft: &mut Draft, phases: &[Phase]) {
+        draft.text("        restart by phases");
+        for (k, phase) in phases.iter().enumerate() {
+            draft.fill(" ", Number(u64::from(phase.get())));
+            if let Some(name) = self.names.of(What::Phase(k.saturating_add(1), *phase)) {
+                draft.put(" ({})", &[Text(name)]);
             }
-        }
-    }
-
-    /// Writes the phase of a group, and its name, if it has one.
-    pub(crate) fn put_phase<W: Write>(&self, pen: &mut Pen<W>, group: usize, phase: Phase) {
-        pen.fill(" ", Number(u64::from(phase.get())));
-        if let Some(name) = self.names.phase(group, phase) {
-            pen.put(" ({})", &[Text(name)]);
         }
     }
 }
 
-/// Writes a name in a cell, at most so many letters of it, without blanks.
-fn put_joined<W: Write>(pen: &mut Pen<W>, name: &str) {
+/// Adds a name to a cell, at most so many letters of it, without blanks.
+fn put_joined(draft: &mut Draft, name: &str) {
     for letter in name.chars().take(MOST_LETTERS) {
         let letter = if letter == ' ' { '_' } else { letter };
-        pen.text(letter.encode_utf8(&mut [0; 4]));
+        draft.text(letter.encode_utf8(&mut [0; 4]));
     }
 }

@@ -1,40 +1,37 @@
 // What a trace says before the first request, about power-up, and after the last: how many requests
 // were refused, and which pulses asked for nothing.
-use crate::alarms::put_phases;
-use crate::columns::Columns;
-use crate::line::put_source;
-use crate::rows::put_power_row;
+use crate::columns::line_name;
+use crate::page::Page;
 use agc_document::Bench;
 use agc_phase::recover;
 use agc_scene::Scene;
-use agc_session::{Source, asks_nothing};
+use agc_session::asks_nothing;
+use agc_text::Draft;
 use agc_text::Filling::{Number, Octal, Text};
-use agc_text::Pen;
 use agc_word::Word;
-use std::io::Write;
 
-/// Writes what is wrong with the two words of a group, if anything is.
-fn put_pair<W: Write>(pen: &mut Pen<W>, group: u64, minus: Word, phase: Word) {
+/// Adds what is wrong with the two words of a group, if anything is.
+fn put_pair(draft: &mut Draft, group: u64, minus: Word, phase: Word) {
     let bits = phase.bits();
     if minus != phase.neg() {
-        pen.put(
+        draft.put(
             "          group {}: {} is not the complement of {}\n",
             &[Number(group), Octal(minus.bits()), Octal(bits)],
         );
     } else if bits > 127 {
-        pen.put(
+        draft.put(
             "          group {}: phase {} is above 127\n",
             &[Number(group), Number(u64::from(bits))],
         );
     }
 }
 
-/// Writes why power-up was a fresh start.
-fn put_broken<W: Write>(pen: &mut Pen<W>, words: &[Word; 12]) {
-    pen.text("        alarm 1107: no phase can be trusted, and nothing begins again\n");
+/// Adds why power-up was a fresh start.
+fn put_broken(draft: &mut Draft, words: &[Word; 12]) {
+    draft.text("        alarm 1107: no phase can be trusted, and nothing begins again\n");
     for group in 0..6usize {
         let (minus, phase) = (words[2 * group], words[2 * group + 1]);
-        put_pair(pen, group as u64 + 1, minus, phase);
+        put_pair(draft, group as u64 + 1, minus, phase);
     }
 }
 
@@ -47,19 +44,14 @@ pub(crate) fn power_reply(words: &[Word; 12]) -> &'static str {
     }
 }
 
-/// Writes what came of power-up with these phase words: the scene with which the first era begins.
-pub(crate) fn put_power<W: Write>(
-    pen: &mut Pen<W>,
-    columns: &Columns,
-    words: &[Word; 12],
-    scene: &Scene,
-) {
-    put_power_row(pen, columns, power_reply(words), scene);
+/// Adds what came of power-up with these phase words: the scene with which the first era begins.
+pub(crate) fn put_power(page: &mut Page, words: &[Word; 12], scene: &Scene) {
+    page.put_power(power_reply(words), scene);
     if recover(words).is_none() {
-        put_broken(pen, words);
+        put_broken(&mut page.draft, words);
     }
-    put_phases(pen, columns, &scene.phases());
-    pen.text("\n");
+    page.columns.put_phases(&mut page.draft, &scene.phases());
+    page.draft.text("\n");
 }
 
 /// How many requests were refused, for each reason.
@@ -74,45 +66,34 @@ fn ending(count: u64) -> &'static str {
     if count == 1 { "" } else { "s" }
 }
 
-/// Writes how many requests a machine of this limit and allowance refused.
-pub(crate) fn put_refused<W: Write>(
-    pen: &mut Pen<W>,
-    refused: Refused,
-    limit: u32,
-    allowance: u64,
-) {
+/// Adds how many requests the machine of a bench, or of a script, refused.
+pub(crate) fn put_refused(draft: &mut Draft, refused: Refused, bench: Option<&Bench>) {
     let Refused { log_full, spent } = refused;
+    let (limit, allowance) = match bench {
+        None => (1000, 1_000_000),
+        Some(bench) => (u64::from(bench.limit().get()), bench.allowance()),
+    };
     if log_full > 0 {
-        let fillings = [
-            Number(log_full),
-            Text(ending(log_full)),
-            Number(u64::from(limit)),
-        ];
-        pen.put(
-            "        {} request{} refused: log full (limit {})\n",
-            &fillings,
-        );
+        let told = [Number(log_full), Text(ending(log_full)), Number(limit)];
+        draft.put("        {} request{} refused: log full (limit {})\n", &told);
     }
     if spent > 0 {
-        let fillings = [Number(spent), Text(ending(spent)), Number(allowance)];
-        pen.put(
+        let told = [Number(spent), Text(ending(spent)), Number(allowance)];
+        draft.put(
             "        {} request{} refused: spent (allowance {}, all served)\n",
-            &fillings,
+            &told,
         );
     }
 }
 
-/// Writes a line for each device of a bench whose pulses ask for nothing, if it sends any.
-pub(crate) fn put_idle<W: Write>(pen: &mut Pen<W>, bench: &Bench) {
+/// Adds a line for each device of a bench whose pulses ask for nothing, if it sends any.
+pub(crate) fn put_idle(draft: &mut Draft, bench: &Bench) {
     for device in bench.devices() {
         let (line, pulses) = *device;
         let pulses = u64::from(pulses);
         if pulses > 0 && asks_nothing(bench, line) {
-            pen.fill("        ", Number(pulses));
-            pen.text(" ");
-            put_source(pen, Source::Pulse(line));
-            pen.fill(" pulse", Text(ending(pulses)));
-            pen.text(" asked for nothing\n");
+            let told = [Number(pulses), Text(line_name(line)), Text(ending(pulses))];
+            draft.put("        {} {} pulse{} asked for nothing\n", &told);
         }
     }
 }

@@ -1,206 +1,199 @@
 // The objects of a trace in JSON: one for each request.
-use crate::columns::Columns;
-use crate::quoting::put_json_text;
+use crate::names::What;
+use crate::page::Page;
 use agc_exec::Seat;
 use agc_plan::{Fired, Task};
 use agc_run::Source;
 use agc_scene::{Event, Scene, Since};
-use agc_text::Filling::{Number, Octal, Priority, Seconds, Text};
-use agc_text::{Pen, alarm_code, put_answer, put_request};
-use std::io::Write;
+use agc_text::Filling::{Bytes, Json, Number, Octal, Priority, Seconds, Text};
+use agc_text::{Draft, alarm_code, answer_text, request_text};
 
-/// Writes a name as a value.
-pub(crate) fn put_name<W: Write>(pen: &mut Pen<W>, name: Option<&str>) {
+/// Adds a name as a value.
+pub(crate) fn put_name(draft: &mut Draft, name: Option<&str>) {
     match name {
-        None => pen.text("null"),
-        Some(name) => {
-            pen.text("\"");
-            put_json_text(pen, name);
-            pen.text("\"");
-        }
+        None => draft.text("null"),
+        Some(name) => draft.put("\"{}\"", &[Json(name)]),
     }
 }
 
-/// Writes who asks, as a value.
-pub(crate) fn put_source<W: Write>(pen: &mut Pen<W>, columns: &Columns, source: Source) {
-    match columns.event(source) {
-        None => {
-            pen.text("\"");
-            columns.put_source(pen, source);
-            pen.text("\"");
-        }
-        named => put_name(pen, named),
+/// Adds who asks, as a value.
+pub(crate) fn put_source(page: &mut Page, source: Source) {
+    page.draft.text("\"");
+    match page.columns.event(source) {
+        None => page.columns.put_source(&mut page.draft, source),
+        Some(name) => page.draft.add(Json(name)),
     }
+    page.draft.text("\"");
 }
 
-/// Writes a number as a value, if it is there.
-fn put_number<W: Write>(pen: &mut Pen<W>, number: Option<u16>) {
+/// Adds a number as a value, if it is there.
+fn put_number(draft: &mut Draft, number: Option<u16>) {
     match number {
-        None => pen.text("null"),
-        Some(number) => pen.add(Number(u64::from(number))),
+        None => draft.text("null"),
+        Some(number) => draft.add(Number(u64::from(number))),
     }
 }
 
-/// Writes since which request something is there, where that is known, and ends its object.
-fn end_known<W: Write>(pen: &mut Pen<W>, since: Option<Since>) {
+/// Adds since which request something is there, where that is known, and ends its object.
+fn end_known(draft: &mut Draft, since: Option<Since>) {
     if let Some(Since { request, restart }) = since {
-        pen.fill(",\"since\":", Number(request));
-        pen.text(if restart { ",\"restart\":true" } else { "" });
+        draft.fill(",\"since\":", Number(request));
+        draft.text(if restart { ",\"restart\":true" } else { "" });
     }
-    pen.text("}");
+    draft.text("}");
 }
 
-/// Writes what a core set holds.
-fn put_seat<W: Write>(pen: &mut Pen<W>, columns: &Columns, seat: Seat, since: Option<Since>) {
-    let fillings = [Number(u64::from(seat.number)), Octal(seat.at)];
-    pen.put("{\"job\":{},\"at\":\"{}\",\"name\":", &fillings);
-    put_name(pen, columns.job(seat.at));
-    let fillings = [
+/// Adds what a core set holds, in an object that isn't ended.
+fn put_seat(page: &mut Page, seat: Seat) {
+    let front = [Number(u64::from(seat.number)), Octal(seat.at)];
+    page.draft
+        .put("{\"job\":{},\"at\":\"{}\",\"name\":", &front);
+    put_name(&mut page.draft, page.columns.names.of(What::Job(seat.at)));
+    let rest = [
         Priority(seat.priority),
         Text(if seat.asleep { "true" } else { "false" }),
         Number(u64::from(seat.area)),
     ];
-    pen.put(",\"priority\":\"{}\",\"asleep\":{},\"area\":{}", &fillings);
-    end_known(pen, since);
+    page.draft
+        .put(",\"priority\":\"{}\",\"asleep\":{},\"area\":{}", &rest);
 }
 
-/// Writes the core sets, and since when each job is there, where that is known.
-fn put_seats<W: Write>(pen: &mut Pen<W>, columns: &Columns, scene: &Scene, event: Option<&Event>) {
-    pen.text(",\"sets\":[");
-    for (k, seat) in scene.seats().iter().enumerate() {
-        pen.text(if k == 0 { "" } else { "," });
+/// Adds the core sets, and since when each job is there, where that is known.
+fn put_seats(page: &mut Page, scene: &Scene, event: Option<&Event>) {
+    let mut before = ",\"sets\":[";
+    for seat in scene.seats() {
+        page.draft.text(before);
+        before = ",";
         match *seat {
-            None => pen.text("null"),
+            None => page.draft.text("null"),
             Some(seat) => {
+                put_seat(page, seat);
                 let since = event.and_then(|event| event.jobs.of_job(seat.number));
-                put_seat(pen, columns, seat, since);
+                end_known(&mut page.draft, since);
             }
         }
     }
-    pen.text("]");
+    page.draft.text("]");
 }
 
-/// Writes a task, whose object isn't ended.
-fn put_task<W: Write>(pen: &mut Pen<W>, columns: &Columns, task: Task) {
-    let fillings = [Octal(task.at.get()), Octal(task.bank.bits())];
-    pen.put("{\"at\":\"{}\",\"bank\":\"{}\",\"name\":", &fillings);
-    put_name(pen, columns.task(&task));
+/// Adds a task, in an object that isn't ended.
+fn put_task(page: &mut Page, task: Task) {
+    let (at, bank) = (Octal(task.at.get()), Octal(task.bank.bits()));
+    page.draft
+        .put("{\"at\":\"{}\",\"bank\":\"{}\",\"name\":", &[at, bank]);
+    put_name(&mut page.draft, page.columns.names.of(What::Task(task)));
 }
 
-/// Writes the tasks that wait, and since when each waits, where that is known.
-fn put_waits<W: Write>(pen: &mut Pen<W>, columns: &Columns, scene: &Scene, event: Option<&Event>) {
-    pen.text(",\"tasks\":[");
+/// Adds the tasks that wait, and since when each waits, where that is known.
+fn put_waits(page: &mut Page, scene: &Scene, event: Option<&Event>) {
+    page.draft.text(",\"tasks\":[");
     for (k, wait) in scene.waits().iter().enumerate() {
-        pen.text(if k == 0 { "" } else { "," });
+        page.draft.text(if k == 0 { "" } else { "," });
+        put_task(page, wait.task);
+        let distance = Seconds(u64::from(wait.distance));
+        page.draft.fill(",\"in\":", distance);
         let listing = event.and_then(|event| event.tasks.as_slice().get(k));
-        put_task(pen, columns, wait.task);
-        pen.fill(",\"in\":", Seconds(u64::from(wait.distance)));
-        end_known(pen, listing.map(|listing| listing.since));
+        end_known(&mut page.draft, listing.map(|listing| listing.since));
     }
-    pen.text("]");
+    page.draft.text("]");
 }
 
-/// Writes the phases of the groups that are active.
-fn put_phases<W: Write>(pen: &mut Pen<W>, columns: &Columns, scene: &Scene) {
-    pen.text(",\"phases\":[");
+/// Adds the phases of the groups that are active.
+fn put_phases(page: &mut Page, scene: &Scene) {
+    page.draft.text(",\"phases\":[");
     let mut before = "";
     for (k, phase) in scene.phases().iter().enumerate() {
         let group = k.saturating_add(1);
-        let number = u64::from(phase.get());
-        if number > 0 {
-            pen.text(before);
-            let fillings = [Number(group as u64), Number(number)];
-            pen.put("{\"group\":{},\"phase\":{},\"name\":", &fillings);
-            put_name(pen, columns.phase(group, *phase));
-            pen.text("}");
+        if phase.get() > 0 {
+            let numbers = [
+                Text(before),
+                Number(group as u64),
+                Number(u64::from(phase.get())),
+            ];
+            page.draft
+                .put("{}{\"group\":{},\"phase\":{},\"name\":", &numbers);
+            let name = page.columns.names.of(What::Phase(group, *phase));
+            put_name(&mut page.draft, name);
+            page.draft.text("}");
             before = ",";
         }
     }
-    pen.text("]");
+    page.draft.text("]");
 }
 
-/// Writes the tables of a scene, as members of an object.
-fn put_scene<W: Write>(pen: &mut Pen<W>, columns: &Columns, scene: &Scene, event: Option<&Event>) {
-    pen.text("\"running\":");
-    put_number(pen, scene.running().map(|number| u16::from(number.get())));
-    pen.text(",\"newjob\":");
-    put_number(pen, scene.named());
-    put_seats(pen, columns, scene, event);
-    pen.text(",\"areas\":[");
+/// Adds the tables of a scene, as members of an object.
+fn put_scene(page: &mut Page, scene: &Scene, event: Option<&Event>) {
+    page.draft.text("\"running\":");
+    let running = scene.running().map(|number| u16::from(number.get()));
+    put_number(&mut page.draft, running);
+    page.draft.text(",\"newjob\":");
+    put_number(&mut page.draft, scene.named());
+    put_seats(page, scene, event);
+    page.draft.text(",\"areas\":[");
     for area in 1..6u16 {
-        pen.text(if area == 1 { "" } else { "," });
-        put_number(pen, scene.owner(area));
+        page.draft.text(if area == 1 { "" } else { "," });
+        put_number(&mut page.draft, scene.owner(area));
     }
-    pen.text("]");
-    put_waits(pen, columns, scene, event);
-    put_phases(pen, columns, scene);
+    page.draft.text("]");
+    put_waits(page, scene, event);
+    put_phases(page, scene);
 }
 
-/// Writes the tasks that fired.
-fn put_fired<W: Write>(pen: &mut Pen<W>, columns: &Columns, fired: &Fired) {
-    pen.text(",\"fired\":[");
+/// Adds the tasks that fired.
+fn put_fired(page: &mut Page, fired: &Fired) {
+    page.draft.text(",\"fired\":[");
     for k in 0..fired.len() {
         if let Some(task) = fired.get(k) {
-            pen.text(if k == 0 { "" } else { "," });
-            put_task(pen, columns, task);
-            pen.text("}");
+            page.draft.text(if k == 0 { "" } else { "," });
+            put_task(page, task);
+            page.draft.text("}");
         }
     }
-    pen.text("]");
+    page.draft.text("]");
 }
 
-/// Writes the object of power-up, with the scene with which the first era begins.
-pub(crate) fn put_power_object<W: Write>(
-    pen: &mut Pen<W>,
-    columns: &Columns,
-    reply: &str,
-    scene: &Scene,
-) {
-    pen.text("{\"no\":0,\"time\":0.00,\"total\":0.00,\"by\":null,\"request\":\"power-up\"");
-    pen.put(
+/// Adds the object of power-up, with the scene with which the first era begins.
+pub(crate) fn put_power(page: &mut Page, reply: &str, scene: &Scene) {
+    page.draft.text("{\"no\":0,\"time\":0.00,\"total\":0.00,\"by\":null,\"request\":\"power-up\"");
+    page.draft.put(
         ",\"reply\":\"{}\",\"alarm\":null,\"fired\":[],",
         &[Text(reply)],
     );
-    put_scene(pen, columns, scene, None);
-    pen.text(",\"era\":null}\n");
+    put_scene(page, scene, None);
+    page.draft.text(",\"era\":null}\n");
 }
 
-/// Writes what was asked and answered, as members of an object.
-fn put_front<W: Write>(pen: &mut Pen<W>, columns: &Columns, source: Source, event: &Event) {
-    let fillings = [
-        Number(event.number),
-        Seconds(event.time),
-        Seconds(event.total),
-    ];
-    pen.put("{\"no\":{},\"time\":{},\"total\":{},\"by\":", &fillings);
-    put_source(pen, columns, source);
-    pen.text(",\"request\":\"");
-    put_request(pen, &event.request);
-    pen.text("\",\"reply\":\"");
-    put_answer(pen, &event.answer, &event.fired);
-    pen.text("\",\"alarm\":");
-    put_name(pen, event.alarm().map(alarm_code));
-    put_fired(pen, columns, &event.fired);
+/// Adds what was asked and answered, as members of an object.
+fn put_front(page: &mut Page, source: Source, event: &Event) {
+    page.draft.fill("{\"no\":", Number(event.number));
+    page.draft.fill(",\"time\":", Seconds(event.time));
+    page.draft.fill(",\"total\":", Seconds(event.total));
+    page.draft.text(",\"by\":");
+    put_source(page, source);
+    let request = request_text(&event.request);
+    let answer = answer_text(&event.answer, &event.fired);
+    page.draft.text(",\"request\":\"");
+    page.draft.text(request.as_str());
+    page.draft.text("\",\"reply\":\"");
+    page.draft.add(Bytes(answer.as_slice()));
+    page.draft.text("\",\"alarm\":");
+    put_name(&mut page.draft, event.alarm().map(alarm_code));
+    put_fired(page, &event.fired);
 }
 
-/// Writes the object of a request, and ends the line.
-pub(crate) fn put_object<W: Write>(
-    pen: &mut Pen<W>,
-    columns: &Columns,
-    source: Source,
-    event: &Event,
-) {
-    put_front(pen, columns, source, event);
-    pen.text(",");
-    put_scene(pen, columns, &event.scene, Some(event));
-    pen.text(",\"era\":");
+/// Adds the object of a request, and ends the line.
+pub(crate) fn put_event(page: &mut Page, source: Source, event: &Event) {
+    put_front(page, source, event);
+    page.draft.text(",");
+    put_scene(page, &event.scene, Some(event));
+    page.draft.text(",\"era\":");
     match &event.era {
-        None => pen.text("null"),
+        None => page.draft.text("null"),
         Some(era) => {
-            pen.text("{");
-            put_scene(pen, columns, era, None);
-            pen.text("}");
+            page.draft.text("{");
+            put_scene(page, era, None);
+            page.draft.text("}");
         }
     }
-    pen.text("}\n");
+    page.draft.text("}\n");
 }

@@ -1,5 +1,4 @@
 // The lanes of a chart: what each core set and each VAC area holds, and the tasks that wait.
-use agc_exec::Seat;
 use agc_plan::Task;
 use agc_scene::Scene;
 
@@ -11,57 +10,27 @@ pub(crate) const AREAS: usize = 8;
 
 pub(crate) const TASKS: usize = 13;
 
-/// What a lane holds: a job, of this number, priority and sleep, at this address; the job that owns
-/// an area; or, with number 0, a task at this address in this bank, and the centisecond at which it
-/// is due.
+/// What a lane holds.
 #[derive(Clone, Copy, PartialEq, Eq)]
-pub(crate) struct Held {
-    pub(crate) number: u16,
-    pub(crate) at: u16,
-    pub(crate) priority: u16,
-    pub(crate) asleep: bool,
-    pub(crate) bank: u16,
-    pub(crate) due: u64,
+pub(crate) enum Held {
+    /// A job, of this number, at this address.
+    Job {
+        number: u16,
+        at: u16,
+        priority: u16,
+        asleep: bool,
+    },
+    /// The job that owns an area.
+    Owner {
+        number: u16,
+        at: u16,
+    },
+    /// A task, and the centisecond at which it is due.
+    Task(Task, u64),
 }
 
 /// What all lanes hold.
 pub(crate) type Lanes = [Option<Held>; LANES];
-
-/// A job in a core set.
-fn job_of(seat: Seat) -> Held {
-    Held {
-        number: seat.number,
-        at: seat.at,
-        priority: seat.priority,
-        asleep: seat.asleep,
-        bank: 0,
-        due: 0,
-    }
-}
-
-/// The job that owns an area.
-fn owner_of(seat: Seat) -> Held {
-    Held {
-        number: seat.number,
-        at: seat.at,
-        priority: 0,
-        asleep: false,
-        bank: 0,
-        due: 0,
-    }
-}
-
-/// A task that waits, and the centisecond at which it is due.
-fn task_of(task: Task, due: u64) -> Held {
-    Held {
-        number: 0,
-        at: task.at.get(),
-        priority: 0,
-        asleep: false,
-        bank: task.bank.bits(),
-        due,
-    }
-}
 
 /// Whether a lane holds the same as another.
 pub(crate) fn is_same(one: &Option<Held>, other: &Option<Held>) -> bool {
@@ -74,9 +43,10 @@ pub(crate) fn is_same(one: &Option<Held>, other: &Option<Held>) -> bool {
 
 /// Lets a task have the lane that it had, if it had one.
 fn keep(lanes: &mut Lanes, before: &Lanes, task: Held) -> bool {
+    let wanted = Some(task);
     for k in TASKS..LANES {
-        if lanes[k].is_none() && is_same(&before[k], &Some(task)) {
-            lanes[k] = Some(task);
+        if lanes[k].is_none() && is_same(&before[k], &wanted) {
+            lanes[k] = before[k];
             return true;
         }
     }
@@ -99,12 +69,12 @@ fn hold_tasks(lanes: &mut Lanes, before: &Lanes, scene: &Scene, time: u64) {
     let mut kept = [false; LANES];
     for (wait, is_kept) in scene.waits().iter().zip(kept.iter_mut()) {
         let due = time.saturating_add(u64::from(wait.distance));
-        *is_kept = keep(lanes, before, task_of(wait.task, due));
+        *is_kept = keep(lanes, before, Held::Task(wait.task, due));
     }
     for (wait, is_kept) in scene.waits().iter().zip(kept.iter()) {
         if !*is_kept {
             let due = time.saturating_add(u64::from(wait.distance));
-            add(lanes, task_of(wait.task, due));
+            add(lanes, Held::Task(wait.task, due));
         }
     }
 }
@@ -121,10 +91,18 @@ pub(crate) fn lanes_of(before: &Lanes, scene: &Scene, time: u64) -> Lanes {
     let mut lanes: Lanes = [None; LANES];
     for (k, seat) in scene.seats().iter().enumerate() {
         if let Some(seat) = *seat {
-            hold(&mut lanes, k, job_of(seat));
+            let (number, at) = (seat.number, seat.at);
+            let job = Held::Job {
+                number,
+                at,
+                priority: seat.priority,
+                asleep: seat.asleep,
+            };
+            hold(&mut lanes, k, job);
             if seat.area > 0 {
                 let area = usize::from(seat.area).saturating_sub(1);
-                hold(&mut lanes, AREAS.saturating_add(area), owner_of(seat));
+                let owner = Held::Owner { number, at };
+                hold(&mut lanes, AREAS.saturating_add(area), owner);
             }
         }
     }

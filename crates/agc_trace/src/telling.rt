@@ -3,17 +3,19 @@ use crate::alarms::put_account;
 use crate::brief::{Quiet, quiet_of};
 use crate::chart::Chart;
 use crate::columns::Columns;
-use crate::ends::{Refused, power_reply, put_power, put_refused};
-use crate::rows::{put_heading, put_row};
+use crate::ends::{Refused, power_reply, put_idle, put_power, put_refused};
+use crate::page::Page;
 use crate::{csv, json};
 use agc_clock::Clock;
+use agc_document::Bench;
 use agc_machine::Refusal;
 use agc_plan::{Reply, Request};
 use agc_run::Source;
 use agc_scene::{Event, Scene, Watched};
 use agc_text::Filling::{Number, Text};
-use agc_text::{Output, Pen};
+use agc_text::Output;
 use agc_word::Word;
+use std::alloc::{AllocError, Global};
 use std::io::Write;
 
 /// How a trace is written. Source: profile.
@@ -61,13 +63,13 @@ struct Left {
     count: u64,
 }
 
-/// The rows of a run: which requests have one, in which columns; what is charted of them; the scene
-/// before the next request, which is kept only in brief; the quiet requests that were not told yet,
-/// and how many were refused. Source: profile.
+/// The rows of a run: which requests have one, and the page on which they are told; what is charted
+/// of them; the scene before the next request, which is kept only in brief; the quiet requests that
+/// were not told yet, and how many were refused. Source: profile.
 #[derive(Drop)]
 pub struct Rows {
     choice: Choice,
-    columns: Columns,
+    page: Page,
     chart: Chart,
     before: Option<Scene>,
     left: Option<Left>,
@@ -84,22 +86,27 @@ fn counted(left: Option<Left>, quiet: Quiet) -> u64 {
 
 impl Rows {
     /// The rows of a run of which nothing was told yet. Source: profile.
-    pub fn new(choice: Choice, columns: Columns) -> Rows {
-        Rows {
+    ///
+    /// # Errors
+    ///
+    /// Where there is no memory.
+    pub fn new(alloc: Global, choice: Choice, columns: Columns) -> Result<Rows, AllocError> {
+        Ok(Rows {
             choice,
-            columns,
+            page: Page::new(alloc, columns)?,
             chart: Chart::new(),
             before: None,
             left: None,
             refused: Refused::default(),
-        }
+        })
     }
 
-    /// Writes how many quiet requests were left out since the last row, if there are any.
-    fn put_left<W: Write>(&mut self, pen: &mut Pen<W>) {
+    /// Adds how many quiet requests were left out since the last row, if there are any.
+    fn put_left(&mut self) {
         match self.left {
             Some(Left { quiet, count }) if self.choice.form == Form::Lines => {
-                pen.put("        {} x {}\n", &[Text(quiet.words()), Number(count)]);
+                let told = [Text(quiet.words()), Number(count)];
+                self.page.draft.put("        {} x {}\n", &told);
             }
             _ => {}
         }
@@ -107,10 +114,10 @@ impl Rows {
     }
 
     /// Counts one more quiet request, or tells of those that were quiet in another way.
-    fn put_quiet<W: Write>(&mut self, pen: &mut Pen<W>, quiet: Quiet) {
+    fn put_quiet(&mut self, quiet: Quiet) {
         let count = counted(self.left, quiet);
         if count == 1 {
-            self.put_left(pen);
+            self.put_left();
         }
         self.left = Some(Left { quiet, count });
     }
@@ -132,48 +139,38 @@ impl Rows {
         }
     }
 
-    /// Writes the heading, and what came of power-up with these phase words, if there are any.
-    fn put_first<W: Write>(&mut self, pen: &mut Pen<W>, power: Option<[Word; 12]>, scene: &Scene) {
-        let columns = &self.columns;
-        match (self.choice.form, power) {
-            (Form::Lines, None) => put_heading(pen, columns),
-            (Form::Lines, Some(words)) => {
-                put_heading(pen, columns);
-                put_power(pen, columns, &words, scene);
-            }
-            (Form::Csv, None) => csv::put_names(pen),
-            (Form::Csv, Some(words)) => {
-                csv::put_names(pen);
-                csv::put_power_row(pen, columns, power_reply(&words), scene);
-            }
-            (Form::Json, None) => {}
-            (Form::Json, Some(words)) => {
-                json::put_power_object(pen, columns, power_reply(&words), scene);
-            }
-            (Form::Chart, _) => {
+    /// Adds the heading.
+    fn put_heading(&mut self, scene: &Scene) {
+        match self.choice.form {
+            Form::Lines => self.page.put_heading(),
+            Form::Csv => self.page.draft.text(csv::NAMES),
+            Form::Json => {}
+            Form::Chart => {
                 let is_whole = self.choice.from.is_none();
-                self.chart
-                    .begin(pen, columns, if is_whole { Some(scene) } else { None });
+                let first = if is_whole { Some(scene) } else { None };
+                self.chart.begin(&mut self.page, first);
             }
         }
     }
 
-    /// Writes the heading, and what came of power-up with these phase words, if there are any.
-    /// Source: profile.
-    ///
-    /// # Errors
-    ///
-    /// Where a write fails.
-    pub fn begin<W: Write>(
-        &mut self,
-        watched: &Watched,
-        power: Option<[Word; 12]>,
-        writer: &mut W,
-    ) -> Result<(), Output> {
+    /// Adds what came of power-up with these phase words.
+    fn put_power(&mut self, words: &[Word; 12], scene: &Scene) {
+        match self.choice.form {
+            Form::Lines => put_power(&mut self.page, words, scene),
+            Form::Csv => csv::put_power(&mut self.page, power_reply(words), scene),
+            Form::Json => json::put_power(&mut self.page, power_reply(words), scene),
+            Form::Chart => {}
+        }
+    }
+
+    /// Adds the heading, and what came of power-up, if a bench has phase words. Source: profile.
+    pub fn begin(&mut self, watched: &Watched, bench: Option<&Bench>) {
         self.keep_scene(watched);
-        let mut pen = Pen::new(writer);
-        self.put_first(&mut pen, power, &watched.scene());
-        pen.end()
+        let scene = watched.scene();
+        self.put_heading(&scene);
+        if let Some(words) = bench.and_then(Bench::power) {
+            self.put_power(&words, &scene);
+        }
     }
 
     /// Takes note of where a clock is after a request.
@@ -191,84 +188,62 @@ impl Rows {
         }
     }
 
-    /// Writes what is told of an event.
-    fn put_told<W: Write>(
-        &mut self,
-        watched: &Watched,
-        source: Source,
-        event: &Event,
-        pen: &mut Pen<W>,
-    ) {
-        let columns = &self.columns;
+    /// Adds what is told of an event.
+    fn put_told(&mut self, watched: &Watched, source: Source, event: &Event) {
         match self.choice.form {
             Form::Lines => {
-                put_row(pen, columns, source, event);
-                put_account(pen, watched.machine().plan(), columns, event);
+                self.page.put_event(source, event);
+                put_account(&mut self.page, watched.machine().plan(), event);
             }
-            Form::Csv => csv::put_row(pen, columns, source, event),
-            Form::Json => json::put_object(pen, columns, source, event),
-            Form::Chart => self.chart.tell(pen, columns, source, event),
+            Form::Csv => csv::put_event(&mut self.page, source, event),
+            Form::Json => json::put_event(&mut self.page, source, event),
+            Form::Chart => self.chart.tell(&mut self.page, source, event),
         }
     }
 
-    /// Writes the row of an event and the account of its alarm, or counts it.
-    fn put_event<W: Write>(
-        &mut self,
-        watched: &Watched,
-        source: Source,
-        event: &Event,
-        pen: &mut Pen<W>,
-    ) {
+    /// Adds the row of an event and the account of its alarm, or counts it.
+    fn put_event(&mut self, watched: &Watched, source: Source, event: &Event) {
         match self.quiet(event) {
-            Some(quiet) => self.put_quiet(pen, quiet),
+            Some(quiet) => self.put_quiet(quiet),
             None => {
-                self.put_left(pen);
-                self.put_told(watched, source, event, pen);
+                self.put_left();
+                self.put_told(watched, source, event);
             }
         }
     }
 
-    /// Writes the row of a machine's last event, for which this source asked, and the account of
-    /// its alarm, if it is chosen. Source: profile.
-    ///
-    /// # Errors
-    ///
-    /// Where a write fails.
-    pub fn tell<W: Write>(
-        &mut self,
-        watched: &Watched,
-        source: Source,
-        event: &Event,
-        writer: &mut W,
-    ) -> Result<(), Output> {
-        let mut pen = Pen::new(writer);
+    /// Adds the row of a machine's last event, for which this source asked, and the account of its
+    /// alarm, if it is chosen. Source: profile.
+    pub fn add(&mut self, watched: &Watched, source: Source, event: &Event) {
         self.count_refused(&event.answer);
         if self.choice.tells(event.number, event.alarm().is_some()) {
-            self.put_event(watched, source, event, &mut pen);
+            self.put_event(watched, source, event);
         }
         self.keep_scene(watched);
-        pen.end()
     }
 
-    /// Writes what is told behind the last request, by a machine of this limit and allowance.
-    /// Source: profile.
+    /// Writes what was added. Source: profile.
     ///
     /// # Errors
     ///
-    /// Where a write fails.
-    pub fn end<W: Write>(
-        &mut self,
-        limit: u32,
-        allowance: u64,
-        writer: &mut W,
-    ) -> Result<(), Output> {
-        let mut pen = Pen::new(writer);
-        self.put_left(&mut pen);
+    /// Where a write fails, or there was no memory for a long row.
+    pub fn send<W: Write>(&mut self, writer: &mut W) -> Result<(), Output> {
+        self.page.send(writer)
+    }
+
+    /// Adds what is told behind the last request of a bench, or of a script: how many requests were
+    /// refused, and the devices whose pulses asked for nothing. Source: profile.
+    pub fn end(&mut self, bench: Option<&Bench>) {
+        self.put_left();
         match self.choice.form {
-            Form::Lines => put_refused(&mut pen, self.refused, limit, allowance),
+            Form::Lines => {
+                put_refused(&mut self.page.draft, self.refused, bench);
+                if let Some(bench) = bench {
+                    put_idle(&mut self.page.draft, bench);
+                }
+            }
             Form::Csv | Form::Json => {}
-            Form::Chart => self.chart.end(&mut pen, &self.columns),
+            Form::Chart => self.chart.end(&mut self.page),
         }
-        pen.end()
     }
 }

@@ -8,15 +8,14 @@ ghost use Rattle.agc_session.specs.Runs.{bench_machine, bench_requests, script_m
 ghost use Rattle.agc_session.specs.Shown.{EndsIn};
 
 use crate::columns::Columns;
-use crate::ends::put_idle;
-use crate::telling::{Choice, Form, Rows};
+use crate::telling::{Choice, Rows};
 use agc_document::Bench;
 use agc_plan::Request;
 use agc_run::{Asks, WatchedRun};
-use agc_scenario::Timing;
+use agc_scenario::Scenario;
 use agc_scene::Watched;
 use agc_session::{Progress, RunFault, count_requests, machine_of, script_machine};
-use agc_text::{Output, Pen};
+use agc_text::Output;
 use std::alloc::Global;
 use std::io::Write;
 
@@ -32,35 +31,30 @@ fn trace_all<P: Progress, W: Write>(
 {
     while let Some((source, event)) = run.next() {
         rows.pass(&event.request, run.clock());
-        rows.tell(run.watched(), source, &event, writer)?;
+        rows.add(run.watched(), source, &event);
+        rows.send(writer)?;
         progress.asked();
     }
     Ok(())
 }
 
-/// Traces a run of this bench's machine, from the heading to how many requests were refused.
-fn trace_whole<P: Progress, W: Write>(
+/// Traces a run of a bench's machine, or of a script's, from the heading to how many requests were
+/// refused.
+fn trace_run<P: Progress, W: Write>(
     run: &mut WatchedRun<'_>,
+    bench: Option<&Bench>,
     rows: &mut Rows,
-    bench: &Bench,
     progress: &mut P,
     writer: &mut W,
 ) -> Result<(), Output>
     ensures { OnOk result (run.new.watching
         ≡ fold watched run.old.watching (to_ask run.old.watching.machine run.old.asks)) }
 {
-    rows.begin(run.watched(), bench.power(), writer)?;
+    rows.begin(run.watched(), bench);
+    rows.send(writer)?;
     trace_all(run, rows, progress, writer)?;
-    rows.end(bench.limit().get(), bench.allowance(), writer)
-}
-
-/// Writes the devices of a bench whose pulses asked for nothing, where there are lines.
-fn tell_idle<W: Write>(bench: &Bench, form: Form, writer: &mut W) -> Result<(), Output> {
-    let mut pen = Pen::new(writer);
-    if form == Form::Lines {
-        put_idle(&mut pen, bench);
-    }
-    pen.end()
+    rows.end(bench);
+    rows.send(writer)
 }
 
 /// Writes the trace of a bench: the heading, and what came of power-up, where it has phase words;
@@ -72,7 +66,7 @@ fn tell_idle<W: Write>(bench: &Bench, form: Form, writer: &mut W) -> Result<(), 
 /// # Errors
 ///
 /// `NoMemory`, and nothing was written. `Output`, where a write failed, or took nothing of what was
-/// left.
+/// left, or there was no memory for a long row.
 pub fn trace<P: Progress, W: Write>(
     alloc: Global,
     bench: &Bench,
@@ -86,27 +80,11 @@ pub fn trace<P: Progress, W: Write>(
 {
     let machine = machine_of(alloc, bench)?;
     let counts = count_requests(bench);
+    let mut rows = Rows::new(alloc, choice, Columns::of_bench(alloc, counts.is_shared))?;
     progress.expect(counts.requests);
-    let mut rows = Rows::new(choice, Columns::of_bench(alloc, counts.is_shared));
     let mut run = WatchedRun::new(machine, Asks::of_bench(bench));
-    trace_whole(&mut run, &mut rows, bench, progress, writer)?;
-    tell_idle(bench, choice.form, writer)?;
+    trace_run(&mut run, Some(bench), &mut rows, progress, writer)?;
     Ok(run.into_watched())
-}
-
-/// Traces a run of a script's machine, from the heading to how many requests were refused.
-fn trace_requests<P: Progress, W: Write>(
-    run: &mut WatchedRun<'_>,
-    rows: &mut Rows,
-    progress: &mut P,
-    writer: &mut W,
-) -> Result<(), Output>
-    ensures { OnOk result (run.new.watching
-        ≡ fold watched run.old.watching (to_ask run.old.watching.machine run.old.asks)) }
-{
-    rows.begin(run.watched(), None, writer)?;
-    trace_all(run, rows, progress, writer)?;
-    rows.end(1000, 1_000_000, writer)
 }
 
 /// Writes the trace of a script in the same way: the machine is that of `run_script`. Source:
@@ -115,7 +93,7 @@ fn trace_requests<P: Progress, W: Write>(
 /// # Errors
 ///
 /// `NoMemory`, and nothing was written. `Output`, where a write failed, or took nothing of what was
-/// left.
+/// left, or there was no memory for a long row.
 pub fn trace_script<P: Progress, W: Write>(
     alloc: Global,
     requests: &[Request],
@@ -127,38 +105,36 @@ pub fn trace_script<P: Progress, W: Write>(
         (W.contents writer.old) (W.contents writer.new) result }
 {
     let machine = script_machine(alloc)?;
+    let mut rows = Rows::new(alloc, choice, Columns::of_bench(alloc, false))?;
     progress.expect(requests.len() as u64);
-    let mut rows = Rows::new(choice, Columns::of_bench(alloc, false));
     let mut run = WatchedRun::new(machine, Asks::of_script(requests));
-    trace_requests(&mut run, &mut rows, progress, writer)?;
+    trace_run(&mut run, None, &mut rows, progress, writer)?;
     Ok(run.into_watched())
 }
 
-/// Writes the trace of a scenario in the same way, in these columns: the machine of this bench is
-/// asked for the requests for which a clock asks, by how time passes. Returns it after the last
+/// Writes the trace of a scenario in the same way, in rows of which none was told: its machine is
+/// asked for the requests for which its clock asks, by how time passes. Returns it after the last
 /// request. Source: profile.
 ///
 /// # Errors
 ///
 /// `NoMemory`, and nothing was written. `Output`, where a write failed, or took nothing of what was
-/// left.
+/// left, or there was no memory for a long row.
 pub fn trace_timetable<P: Progress, W: Write>(
     alloc: Global,
-    bench: &Bench,
-    timing: &Timing,
-    columns: Columns,
-    choice: Choice,
+    scenario: &Scenario,
+    rows: &mut Rows,
     progress: &mut P,
     writer: &mut W,
 ) -> Result<Watched, RunFault>
     ensures { EndsIn
-        (fold watched (watching_from (bench_machine bench.now))
-        (clock_requests (schedule_of timing.now) (bench_machine bench.now)))
+        (fold watched (watching_from (bench_machine scenario.now.bench))
+        (clock_requests (schedule_of scenario.now.timing) (bench_machine scenario.now.bench)))
         (W.contents writer.old) (W.contents writer.new) result }
 {
+    let bench = scenario.bench();
     let machine = machine_of(alloc, bench)?;
-    let mut run = WatchedRun::new(machine, Asks::of_scenario(timing));
-    let mut rows = Rows::new(choice, columns);
-    trace_whole(&mut run, &mut rows, bench, progress, writer)?;
+    let mut run = WatchedRun::new(machine, Asks::of_scenario(scenario.timing()));
+    trace_run(&mut run, Some(bench), rows, progress, writer)?;
     Ok(run.into_watched())
 }

@@ -1,22 +1,22 @@
 //! The names of a scenario, as the columns of its trace have them.
 use agc_scenario::Scenario;
-use agc_trace::{Columns, Names};
+use agc_trace::{Columns, Names, What};
 use std::alloc::{AllocError, Global};
 
 /// Adds the title, and the names of jobs and events.
 fn name_timed(alloc: Global, names: &mut Names, scenario: &Scenario) -> Result<(), AllocError> {
     let timing = scenario.timing();
     if let Some(title) = timing.title() {
-        names.set_title(alloc, title)?;
+        names.name(alloc, What::Title, title)?;
     }
     for job in timing.jobs() {
         if let Some(name) = job.name() {
-            names.name_job(alloc, job.at().get(), name)?;
+            names.name(alloc, What::Job(job.at().get()), name)?;
         }
     }
     for (k, event) in timing.all_events().iter().enumerate() {
         if let Some(name) = event.name() {
-            names.name_event(alloc, k, name)?;
+            names.name(alloc, What::Event(k), name)?;
         }
     }
     Ok(())
@@ -27,13 +27,13 @@ fn name_planned(alloc: Global, names: &mut Names, scenario: &Scenario) -> Result
     let bench = scenario.bench();
     for (row, name) in bench.rows().iter().zip(scenario.row_names().iter()) {
         if let Some(name) = name.as_str() {
-            names.name_task(alloc, row.0, name)?;
+            names.name(alloc, What::Task(row.0), name)?;
         }
     }
     for (entry, name) in bench.entries().iter().zip(scenario.entry_names().iter()) {
         if let Some(name) = name.as_str() {
             let group = usize::from(entry.group().get());
-            names.name_phase(alloc, group, entry.phase(), name)?;
+            names.name(alloc, What::Phase(group, entry.phase()), name)?;
         }
     }
     Ok(())

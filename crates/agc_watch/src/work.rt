@@ -21,7 +21,7 @@ use agc_play::{Manner, PlayFault, play};
 use agc_program::Fault;
 use agc_scenario::Scenario;
 use agc_text::{ReadFault, read_script};
-use agc_trace::{Choice, trace, trace_script, trace_timetable};
+use agc_trace::{Choice, Rows, trace, trace_script, trace_timetable};
 use std::alloc::Global;
 use std::io::{Input, Write};
 
@@ -75,9 +75,8 @@ fn trace_scenario<W: Write>(
     progress: &mut Teller<'_>,
     writer: &mut W,
 ) -> Result<(), Stop> {
-    let columns = columns_of(alloc, scenario)?;
-    let (bench, timing) = (scenario.bench(), scenario.timing());
-    match trace_timetable(alloc, bench, timing, columns, choice, progress, writer) {
+    let mut rows = Rows::new(alloc, choice, columns_of(alloc, scenario)?)?;
+    match trace_timetable(alloc, scenario, &mut rows, progress, writer) {
         Ok(_watched) => Ok(()),
         Err(fault) => Err(Stop::from(fault)),
     }

@@ -6,6 +6,6 @@ use Rattle.agc_trace.proofs.tracer.trace.Goals as goal
 
 pub returns : goal.returns
 returns g c =
-    c.into_watched.ensures ∙ c.in_ok-trace_whole.ensures
+    c.into_watched.ensures ∙ c.in_ok-trace_run.ensures
     ∙ followed _ _ _ (bench_machine c.args.bench.now) (λ m. bench_requests c.args.bench.now) c.new-run.ensures.watched c.in_ok-machine.ensures.machine
     (λ k. ap (to_ask k) c.new-run.ensures.asks ∙ c.of_bench-2.ensures k)

@@ -1,0 +1,146 @@
+// What is told at once, and the rows in it.
+use crate::columns::Columns;
+use crate::names::What;
+use crate::row::Row;
+use agc_exec::Seat;
+use agc_run::Source;
+use agc_scene::{Event, Scene};
+use agc_text::Filling::{Bytes, Number, Octal, Priority, Text};
+use agc_text::{Draft, Output, answer_text, request_text};
+use std::alloc::{AllocError, Global};
+use std::io::Write;
+
+/// What is told at once, the row that is being gathered, and the columns in which it will stand.
+#[derive(Drop)]
+pub(crate) struct Page {
+    pub(crate) draft: Draft,
+    pub(crate) row: Row,
+    pub(crate) columns: Columns,
+}
+
+/// Adds what a core set holds: a job and its priority, in brackets where it sleeps, and behind `>`
+/// where NEWJOB names it.
+fn put_seat(draft: &mut Draft, columns: &Columns, named: Option<u16>, seat: Seat) {
+    let (before, behind) = if seat.asleep {
+        (" (", ")")
+    } else if named == Some(seat.number) {
+        (" >", "")
+    } else {
+        (" ", "")
+    };
+    draft.fill(before, Number(u64::from(seat.number)));
+    columns.put_name(draft, What::Job(seat.at));
+    draft.put("/{}{}", &[Priority(seat.priority), Text(behind)]);
+}
+
+/// Adds all tasks in order, each with the centiseconds that it still has.
+fn put_waits(draft: &mut Draft, columns: &Columns, scene: &Scene) {
+    if scene.waits().is_empty() {
+        draft.text(" -");
+    }
+    for wait in scene.waits() {
+        draft.fill(" ", Octal(wait.task.at.get()));
+        columns.put_name(draft, What::Task(wait.task));
+        draft.fill("+", Number(u64::from(wait.distance)));
+    }
+}
+
+impl Page {
+    /// Nothing is told yet.
+    pub(crate) fn new(alloc: Global, columns: Columns) -> Result<Page, AllocError> {
+        Ok(Page {
+            draft: Draft::new(alloc)?,
+            row: Row::new(alloc)?,
+            columns,
+        })
+    }
+
+    /// Writes what is told, and begins anew.
+    pub(crate) fn send<W: Write>(&mut self, writer: &mut W) -> Result<(), Output> {
+        self.row.text.end()?;
+        self.draft.send(writer)
+    }
+
+    /// Adds the row that was gathered.
+    pub(crate) fn put_row(&mut self) {
+        self.row.put(&mut self.draft, &self.columns);
+    }
+
+    /// Adds the tables of a scene to the row.
+    pub(crate) fn put_tables(&mut self, scene: &Scene) {
+        match scene.running() {
+            None => self.row.text.text("-"),
+            Some(number) => self.row.text.add(Number(u64::from(number.get()))),
+        }
+        self.row.end();
+        for seat in scene.seats() {
+            match *seat {
+                None => self.row.text.text(" ."),
+                Some(seat) => put_seat(&mut self.row.text, &self.columns, scene.named(), seat),
+            }
+        }
+        self.row.end();
+        for area in 1..6u16 {
+            match scene.owner(area) {
+                None => self.row.text.text(" ."),
+                Some(number) => self.row.text.fill(" ", Number(u64::from(number))),
+            }
+        }
+        self.row.end();
+        put_waits(&mut self.row.text, &self.columns, scene);
+        self.row.end();
+    }
+
+    /// Adds the title, if there is one, and the heading.
+    pub(crate) fn put_heading(&mut self) {
+        if let Some(title) = self.columns.names.of(What::Title) {
+            self.draft.put("{}\n", &[Text(title)]);
+        }
+        for name in ["no", "time", "total", "by", "request"] {
+            self.row.cell(name);
+        }
+        self.row.text.text("reply");
+        self.row.end_front();
+        if !self.columns.folds {
+            for name in ["running", " sets", " areas", " tasks"] {
+                self.row.cell(name);
+            }
+        }
+        self.put_row();
+    }
+
+    /// Adds the row of power-up, with the scene with which the first era begins.
+    pub(crate) fn put_power(&mut self, reply: &str, scene: &Scene) {
+        let time = self.columns.time(0);
+        self.row.cell("0");
+        for _times in 0..2 {
+            self.row.text.add(time);
+            self.row.end();
+        }
+        self.row.cell("");
+        self.row.cell("power-up");
+        self.row.text.text(reply);
+        self.row.end_front();
+        self.put_tables(scene);
+        self.put_row();
+    }
+
+    /// Adds the row of a request; the number of a refused one is followed by `!`.
+    pub(crate) fn put_event(&mut self, source: Source, event: &Event) {
+        self.row.text.add(Number(event.number));
+        self.row.cell(if event.answer.is_err() { "!" } else { "" });
+        for time in [event.time, event.total] {
+            self.row.text.add(self.columns.time(time));
+            self.row.end();
+        }
+        self.columns.put_source(&mut self.row.text, source);
+        self.row.end();
+        let request = request_text(&event.request);
+        self.row.cell(request.as_str());
+        let answer = answer_text(&event.answer, &event.fired);
+        self.row.text.add(Bytes(answer.as_slice()));
+        self.row.end_front();
+        self.put_tables(&event.scene);
+        self.put_row();
+    }
+}
