@@ -175,7 +175,7 @@ fn put_rest(draft: &mut Draft, scene: &Scene) {
     draft.text("\n");
 }
 
-/// The rows of all that is asked; on a terminal their tables stand below them.
+/// The rows of all requests; on a terminal each is followed by its tables.
 fn rows_of(alloc: Global, folds: bool) -> Result<Rows, AllocError> {
     let choice = Choice {
         form: Form::Lines,

@@ -13,8 +13,8 @@ const MOST_LETTERS: usize = 24;
 const SOURCE_WIDTH: usize = 9;
 
 /// The columns of rows: how wide the one is that says who asks, where it is there; whether times
-/// are in seconds; whether the tables stand below a row; and the names that are shown. Source:
-/// profile.
+/// are in seconds; whether each row is followed by its tables; and the names that are shown.
+/// Source: profile.
 #[derive(Drop)]
 pub struct Columns {
     source: Option<usize>,
@@ -61,7 +61,7 @@ impl Columns {
         }
     }
 
-    /// The columns of one who plays; on a terminal the tables stand below a row, each with its
+    /// The columns for playing; on a terminal each row is followed by its tables, each with its
     /// name. Source: profile.
     pub fn of_play(alloc: Global, folds: bool) -> Columns {
         Columns {

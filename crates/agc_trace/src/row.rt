@@ -15,7 +15,7 @@ const REPLY_WIDTH: usize = 28;
 /// tasks.
 const TABLE_WIDTHS: [usize; 4] = [7, 56, 10, 0];
 
-/// What the tables are called where they stand below a row.
+/// What the tables are called where they follow a row.
 const NAMES: [&str; 4] = ["running", "sets", "areas", "tasks"];
 
 /// How wide a line may be to which a further table is added.
