@@ -208,6 +208,31 @@ function valueOf(given, row, place) {
 }
 
 /**
+ * What is said of a key that is unknown in a table of this level.
+ * @param {string} name
+ * @param {string} level
+ */
+function aboutKey(name, level) {
+  const isIn = (/** @type {"bench" | "scenario"} */ other) => Object.hasOwn(LEVELS[other], name);
+  const meant = nearest(name, Object.keys(LEVELS[/** @type {keyof typeof LEVELS} */ (level)]));
+  if (level === "bench" && isIn("scenario")) return '; a scenario has it, which has "seconds" too';
+  if (level === "scenario" && isIn("bench")) return "; a bench has it, but no scenario";
+  if (level !== "bench" && level !== "scenario" && (isIn("bench") || isIn("scenario"))) {
+    return "; it belongs above all tables";
+  }
+  return meant === undefined ? "" : `; did you mean "${meant}"?`;
+}
+
+/**
+ * Whether a document is a scenario: it has seconds, or a key that nearly is that.
+ * @param {import("./toml.js").Table} table
+ */
+function isScenario({ keys }) {
+  return [...keys.keys()].some((it) => it === "seconds"
+    || (!Object.hasOwn(LEVELS.bench, it) && nearest(it, ["seconds"]) !== undefined));
+}
+
+/**
  * The values of a table of this level.
  * @param {import("./toml.js").Table} table
  * @param {string} level
@@ -222,9 +247,7 @@ function tableOf(table, level, place) {
     const line = table.lines.get(name) ?? place.line;
     const here = new Place(line, place.path === "" ? name : `${place.path}, ${name}`);
     if (!Object.hasOwn(rows, name)) {
-      const meant = nearest(name, Object.keys(rows));
-      const more = meant === undefined ? "" : `; did you mean "${meant}"?`;
-      new Place(line, place.path).refuse(`unknown key ${JSON.stringify(name)}${more}`);
+      new Place(line, place.path).refuse(`unknown key ${JSON.stringify(name)}${aboutKey(name, level)}`);
     }
     values[name] = valueOf(given, rows[name], here);
   }
@@ -276,7 +299,7 @@ export function readBench(document) {
   }
   if (/\p{Surrogate}/u.test(document)) throw new Unread(1, "the document isn't text");
   const table = readToml(document);
-  const level = table.keys.has("seconds") ? "scenario" : "bench";
+  const level = isScenario(table) ? "scenario" : "bench";
   const bench = { ...leftOut(level), ...tableOf(table, level, new Place(1, "")) };
   checkSteal(bench);
   return bench;

@@ -3,7 +3,7 @@
  * address; and a bench that comes to the same tables.
  */
 import { MOST_BYTES, emptyBench, writeBench } from "./bench.js";
-import { button, by, make, openDialog } from "./dom.js";
+import { button, by, make, openDialog, withCode } from "./dom.js";
 
 /**
  * The text of a document within the page: `\l` stands for what would begin markup, and a backslash
@@ -208,7 +208,7 @@ export function openExamples(kept, open) {
     const choices = kept.filter((it) => it.kind === kind).map((it) => {
       const told = kind === "exercise" ? questionOf(it.text).split("\n")[0]
         : firstSentence(it.text);
-      return make("li", {}, button(it.name, () => open(it.name)), " ", told);
+      return make("li", {}, button(it.name, () => open(it.name)), " ", make("span", {}, ...withCode(told)));
     });
     return make("ul", { class: "choices", "aria-label": `${kind}s` }, ...choices);
   };

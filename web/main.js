@@ -968,8 +968,10 @@ try {
   await start(bytesOf(by("module").textContent));
 } catch (fault) {
   by("broken").hidden = false;
-  by("broken").textContent = "This page runs the proved machine as WebAssembly, which this browser "
-    + `doesn't have, or doesn't allow here (${/** @type {Error} */ (fault).message}). Nothing on it works without.`;
+  document.body.classList.add("lost");
+  by("broken").textContent = "This page runs the proved machine as WebAssembly, which this browser doesn't have, "
+    + "or doesn't allow here, and nothing on it works without. Open the file in a current browser, from a disk or "
+    + `from a place without such a rule. (${/** @type {Error} */ (fault).message})`;
   for (const it of document.querySelectorAll("button, input, select")) /** @type {any} */ (it).disabled = true;
 }
 if (by("broken").hidden) await begin();

@@ -224,6 +224,8 @@ export class Stage {
     const bar = /** @type {HTMLElement} */ (document.querySelector(".bar"));
     new ResizeObserver(() => {
       document.documentElement.style.setProperty("--bar-high", `${bar.offsetHeight}px`);
+      // (a bar that has grown neither covers what has the focus, nor pushes it out of the window)
+      document.querySelector("main :focus")?.scrollIntoView({ block: "nearest" });
     }).observe(bar);
     canvas.addEventListener("wheel", (/** @type {WheelEvent} */ event) => this.wheel(event), { passive: false });
     canvas.addEventListener("pointerdown", (/** @type {PointerEvent} */ event) => this.down(event));

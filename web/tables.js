@@ -144,7 +144,7 @@ function drawDisplay({ scene, after, step }) {
   const { codes } = (step?.alarm ? after : null) ?? scene;
   const isLit = codes.some((it) => it !== 0);
   fill("dsky", [make("span", { class: isLit ? "prog on" : "prog" }, isLit ? "PROG on" : "PROG off"),
-    make("span", {}, `VERB 05 NOUN 09: ${codes.map((it) => octal(it, 5)).join(" ")}`)]);
+    make("span", {}, "VERB 05 NOUN 09: ", make("b", {}, codes.map((it) => octal(it, 5)).join(" ")))]);
 }
 
 /**

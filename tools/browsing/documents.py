@@ -82,6 +82,7 @@ def try_examples(browser, trial):
     told = texts(browser, "[aria-label=examples] li")
     trial.expect(f"an example is told: {told}", "no-vac-area Alarm 1201: the astronaut presses a key again and again, and each press establishes a "
                  "job with a VAC area.|" in told)
+    trial.expect("marks of code are shown", "`" not in told and "agc_watch explore --bench 1201" in texts(browser, "[aria-label=examples] code"))
     told = texts(browser, "[aria-label=exercises] li")
     trial.expect(f"exercises are told: {told}", told.startswith("exercise-1 Which request raised the alarm?|exercise-2 Who holds the table?|"))
     browser.value("document.querySelector('[aria-label=examples] button').click()")

@@ -35,6 +35,9 @@ def try_questions(browser, trial):
             seen = browser.value("document.body.innerText.replace(document.getElementById('question').innerText, '')")
             trial.expect(f"exercise {number} answers itself: {seen}", not re.search("alarm [0-9]|Alarm [0-9]|110[0-9]|120[0-9]", seen))
             trial.expect(f"exercise {number} has raw marks", not re.search("[`*]", browser.text("question")))
+    beside = browser.value("(() => { const [text, parts] = ['p', '.parts'].map((it) => document.querySelector(`#question ${it}`).getBoundingClientRect());"
+                           " return text.right <= parts.left && parts.top < text.bottom; })()")
+    trial.expect("the document isn't beside its question", beside)
     exercise(browser, 6)
     told = browser.value("document.getElementById('question').innerText")
     trial.expect(f"the question of 6: {told}", told.count("[[phase]]") == 4)

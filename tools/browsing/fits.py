@@ -18,9 +18,17 @@ CUT = """(() => {
     const isCut = style.overflowX !== 'visible' && it.scrollWidth > it.clientWidth + 1 && it.id !== 'sentence';
     const isLow = style.overflowY === 'hidden' && it.clientHeight > 0 && it.scrollHeight > it.clientHeight + 2;
     if (isCut || isLow) faults.push(`cut: ${it.id} ${it.textContent.slice(0, 40)}`);
+    const isFolded = innerWidth > 640 && it.matches('.sets span:not(.hidden)') && it.clientHeight > 1.9 * parseFloat(style.fontSize);
+    if (isFolded) faults.push(`in two lines: ${it.textContent}`);
     const box = it.getBoundingClientRect();
     if (box.right > innerWidth + 1 && !it.closest('.wide')) faults.push(`beyond the edge: ${it.id} ${it.textContent.slice(0, 40)}`);
   }
+  const over = (one, other) => one && other && one.getClientRects().length > 0 && other.getClientRects().length > 0
+    && (([a, b]) => a.left < b.right - 1 && b.left < a.right - 1 && a.top < b.bottom - 1 && b.top < a.bottom - 1)([one, other].map((it) => it.getBoundingClientRect()));
+  for (const it of document.querySelectorAll('#sliders label')) if (over(it.children[1], it.children[2])) faults.push(`over its slider: ${it.textContent}`);
+  if (over(document.getElementById('why'), document.getElementById('chart'))) faults.push('Why? is over the chart');
+  const sentence = document.getElementById('sentence');
+  if (sentence.scrollWidth > sentence.clientWidth) faults.push(`cut: ${sentence.textContent}`);
   return faults;
 })()"""
 
@@ -105,6 +113,7 @@ def fits(browser, folder):
             for fault in browser.value(f"{DRAWN}.then(() => {CONTRAST})", True):
                 trial.expect(f"{name}, {scheme}: contrast {fault}", False)
     try_why(browser, trial, path)
+    try_typing(browser, trial, path)
     browser.width(*LAPTOP)
     trial.expect(f"{browser.shown()['broken']}", not browser.shown()["broken"])
     return trial.faults
@@ -131,3 +140,19 @@ def try_why(browser, trial, path):
         trial.expect(f"first is told: {told}", told.startswith("A job is in each core set. Since the beginning 48 jobs began and 41 ended"))
         light = browser.text("dsky")
         trial.expect(f"at the alarm: {light}", light == "PROG onVERB 05 NOUN 09: 01202 00000 01202")
+
+
+# How far the request line is below the bar, and above the window's end.
+LINE = """(() => { const box = document.getElementById('line').getBoundingClientRect();
+  return [box.top - document.querySelector('.bar').getBoundingClientRect().bottom, innerHeight - box.bottom]; })()"""
+
+
+def try_typing(browser, trial, path):
+    """Who types one request after the other sees what is typed, also where the chart comes in, and the bar grows."""
+    for size in FOUR:
+        browser.width(*size)
+        browser.show(path, "#new")
+        for line in "novac 20 04000 00005", "findvac 30 04100 00005", "change":
+            type_line(browser, line)
+            above, below = browser.value(f"{DRAWN}.then(() => {LINE})", True)
+            trial.expect(f"the request line at {size}, after {line}: {above}, {below}", above >= 0 and below > 20)

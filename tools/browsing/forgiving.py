@@ -10,6 +10,16 @@ def paste(browser, text):
                   ".dispatchEvent(new ClipboardEvent('paste', { clipboardData: data, cancelable: true })); })()".replace("TEXT", repr(text)))
 
 
+def try_keys_of_others(browser, trial):
+    """A key that is nearly `seconds` is told in its own line, and one of another kind of document or table as agc_watch check tells it."""
+    for text, wanted in (('title = "A"\nsecnds = 5\nsteal = 3\n', 'line 2: unknown key "secnds"; did you mean "seconds"?'),
+                         ('steal = 5\nscript = ["tick"]\n', 'line 1: unknown key "steal"; a scenario has it, which has "seconds" too'),
+                         ('seconds = 5\nscript = ["tick"]\n', 'line 2: unknown key "script"; a bench has it, but no scenario'),
+                         ('seconds = 5\n[[job]]\nat = "04000"\ncost = 1\nsteal = 5\n', 'line 5: job 1: unknown key "steal"; it belongs above all tables')):
+        fault = open_text(browser, text)
+        trial.expect(f"{text!r}: {fault}", fault == f"This can't be opened. {wanted}")
+
+
 def forgiving(browser, folder):
     """Capitals, spaces and numbers without their zeros are taken, and told; pasted lines and scripts are asked; a fault of a document
     is marked in its line beside the run."""
@@ -57,6 +67,7 @@ def forgiving(browser, folder):
     time.sleep(0.3)
     trial.expect(f"mended: {browser.text('edit-fault')}", browser.text("edit-fault") == "" and texts(browser, "#edit-lines .wrong") == "")
     browser.click("edit-close")
+    try_keys_of_others(browser, trial)
     browser.value("Array.from(document.querySelectorAll('#common button')).find((it) => it.textContent.startsWith('findvac')).click()")
     browser.press("Enter")
     trial.expect("Enter in a form's first field does nothing", not browser.value("document.getElementById('dialog').open"))

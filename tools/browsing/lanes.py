@@ -76,6 +76,8 @@ def lanes(browser, folder):
     row = browser.text("sentence").split(" s: ")[0]
     trial.expect(f"a click: {row}", re.search("at 1[.](1[5-9]|2[0-4])$", row))
     try_zoom(browser, trial, row)
+    try_rows(browser, trial)
+    open_text(browser, LANED)
     for size in SIZES:
         browser.width(*size)
         time.sleep(0.1)
@@ -93,6 +95,42 @@ def lanes(browser, folder):
     browser.scheme("light")
     trial.expect(f"{browser.shown()['broken']}", not browser.shown()["broken"])
     return trial.faults
+
+
+# The colours down the lanes at a part of the width, as far as they are plain.
+COLUMN = """((at) => {
+  const canvas = document.getElementById('lanes-chart');
+  const { data } = canvas.getContext('2d').getImageData(Math.floor(at * canvas.width), 0, 1, canvas.height);
+  return Array.from({ length: canvas.height }, (_, y) => '#' + Array.from(data.slice(4 * y, 4 * y + 3), (it) => it.toString(16).padStart(2, '0')).join(''));
+})"""
+
+# ALPHA has an area until 3.75 s, of which a fifth is stolen; its task waits until 5 s; then nothing is left but an alarm at 15 s.
+ROWS = "seconds = 20\nsteal = 20\n" + "".join((
+    table("job", name="ALPHA", at="04000", cost=300), table("event", name="begin", at=0, do=["findvac 20 04000 00005", "list 500 02000 00005"]),
+    table("event", name="flood", at=1500, do=[*8 * ["novac 10 05100 00005"]])))
+
+
+def try_rows(browser, trial):
+    """Below the core sets: areas, tasks that wait, stolen and idle time; above them alarms, and events by name. Each says what it is."""
+    open_text(browser, ROWS)
+    names = browser.value("Array.from(document.querySelectorAll('#lane-names li'), (it) => it.textContent).join(' ')")
+    trial.expect(f"lanes: {names}", names == "set 0 set 1 set 2 set 3 set 4 set 5 set 6 areas tasks stolen idle")
+    middles = browser.value("Array.from(document.querySelectorAll('#lane-names li'), (it) => parseFloat(it.style.top))")
+    for what, colour, lane, early, late in ("an area", BRIGHT[0], 7, True, False), ("a task", "#8c564b", 8, True, False), \
+            ("stolen time", "#767676", 9, True, True), ("idle time", "#5f87a5", 10, False, True):
+        for at, wanted in (1 / 20, early), (10 / 20, late):
+            column = browser.value(f"{COLUMN}({at})")
+            near = column[int(middles[lane] + middles[lane - 1]) // 2 if lane > 7 else int(middles[7] - 14):int(middles[lane] + 8)]
+            trial.expect(f"{what} at {20 * at:.0f} s: {sorted(set(near))}", (colour in near) == wanted)
+    for lane, at, wanted in (7, 1 / 20, "VAC area 3: free"), (8, 1 / 20, "Waitlist: nothing waits here"), (9, 1 / 20, ": 20 % of the time is stolen"), \
+            (10, 1 / 20, ": a job runs"), (10, 10 / 20, ": no job runs"):
+        pointer(browser, "mouseMoved", at, lane)
+        trial.expect(f"{wanted}: {browser.text('block')}", wanted in browser.text("block"))
+    red = [k for k in range(990, 1010) if browser.value(f"{COLUMN}({0.75 * k / 1000})").count("#cc0000") > 100]
+    trial.expect(f"the alarm's line: {red}", red)
+    inked = browser.value("(() => { const it = document.getElementById('lanes-chart'); const { data } = it.getContext('2d').getImageData(3, 0, 40, 10);"
+                          " return data.filter((one, k) => k % 4 === 3 && one > 100).length; })()")
+    trial.expect(f"the event's name has {inked} points", inked > 30)
 
 
 def try_zoom(browser, trial, row):

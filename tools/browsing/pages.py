@@ -139,10 +139,17 @@ def texts(browser, what):
 
 
 def exercise(browser, number):
-    """Opens an exercise by its link."""
+    """Opens an exercise by its link, and waits until it is there, with its answer hidden."""
+    asked = dict(repository.tool("teaching").workbench_texts())[f"exercise-{number}"].splitlines()[1].strip("# ").split("`")[0]
     for mark in "#", f"#exercise-{number}":
         browser.value(f"location.hash = {json.dumps(mark)}")
         time.sleep(0.1)
+    begun = time.monotonic()
+    while not browser.value("document.getElementById('show-answer') !== null && document.querySelector('#question p').textContent"
+                            f".replaceAll('*', '').startsWith({json.dumps(asked.replace('*', ''))})"):
+        if time.monotonic() - begun > 10:
+            raise OSError(f"exercise {number} isn't there")
+        time.sleep(0.05)
 
 
 def set_slider(browser, value):

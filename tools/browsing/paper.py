@@ -42,11 +42,8 @@ def paper(browser, folder):
     trial.expect(f"{shown} other elements are printed", shown == 0)
     for fault in browser.value(CONTRAST):
         trial.expect(f"contrast on paper: {fault}", False)
-    data = base64.b64decode(browser.call("Page.printToPDF", preferCSSPageSize=True)["data"])
-    pages = len(re.findall(rb"/Type */Page\b", data))
-    trial.expect(f"{pages} pages", 1 <= pages <= 4)
-    first = browser.value("Array.from(document.getElementById('printed').children, (it) => it.localName).join(' ')")
-    trial.expect(f"first on paper: {first}", first.startswith("h1 p canvas h2 "))
+    pages, first = printed(browser)
+    trial.expect(f"{pages} pages, with {first} first", 1 <= pages <= 4 and first.startswith("h1 p canvas h2 "))
     left, below = browser.value(INKED)
     trial.expect(f"names on the left of the chart: {left}, its axis: {below}", 0.02 < left < 0.2 and 0.02 < below < 0.3)
     quiet = [cells for cells in rows if "tick, " in cells[2:3]]
@@ -57,7 +54,18 @@ def paper(browser, folder):
             trial.expect(f"{cells}", last - first == round(100 * (ended - begun)))
     browser.scheme("light")
     print_long(browser, trial)
+    for name, most in ("landing-1202", 4), ("landing", 4), ("apollo-11", 8):
+        browser.show(save(folder, "paper", written(PROGRAM, "page", "")), f"#{name}")
+        pages, first = printed(browser)
+        trial.expect(f"{name} is printed on {pages} pages, with {first} first", pages <= most and first.startswith("h1 p canvas h2 "))
     return trial.faults
+
+
+def printed(browser):
+    """On how many pages a run is printed, and in which order its parts."""
+    data = base64.b64decode(browser.call("Page.printToPDF", preferCSSPageSize=True)["data"])
+    return (len(re.findall(rb"/Type */Page\b", data)),
+            browser.value("Array.from(document.getElementById('printed').children, (it) => it.localName).join(' ')"))
 
 
 # How much of the printed chart's left edge, and of its lower one, has ink: names, and the axis.

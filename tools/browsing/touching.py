@@ -1,5 +1,6 @@
 """What is touched is told, what can be asked of it is offered, and what was seen wrong before."""
 import json
+import re
 import time
 
 from browsing.browser import LAPTOP, PHONE
@@ -44,6 +45,8 @@ def touching(browser, folder):
     touch(browser, "phases", 2)
     browser.value("document.querySelector('#touch-body button').click()")
     says(browser, trial, "asked by touch", "Request 6 of 6, at 0.00 s: phase 3 0.")
+    try_asked(browser, trial, path)
+    try_motion(browser, trial, path)
     try_predictions(browser, trial)
     try_also(browser, trial)
     try_phone(browser, trial, path)
@@ -52,6 +55,40 @@ def touching(browser, folder):
     trial.expect(f"{browser.shown()['broken']}", not browser.shown()["broken"])
     try_no_module(browser, trial, folder)
     return trial.faults
+
+
+def try_asked(browser, trial, path):
+    """What is offered of what is touched is asked: another priority, the end, waking, a phase."""
+    browser.show(path, "#new")
+    open_text(browser, ASKED)
+    browser.press("End")
+    touch(browser, "sets", 0)
+    browser.value("(() => { const it = document.querySelector('#touch-body select'); it.value = '15'; it.dispatchEvent(new Event('change')); })()")
+    says(browser, trial, "another priority", "Request 6 of 6, at 0.00 s: prio 15.")
+    for what, k, name, wanted in ("sets", 1, "Wake it", "Request 7 of 7, at 0.00 s: rouse 06000. Reply: roused 1."), \
+            ("sets", 0, "End it", "Request 8 of 8, at 0.00 s: end."), ("phases", 2, "Phase 0", "Request 9 of 9, at 0.00 s: phase 3 0."):
+        touch(browser, what, k)
+        browser.value(f"Array.from(document.querySelectorAll('#touch-body button')).find((it) => it.textContent === {json.dumps(name)})?.click()")
+        says(browser, trial, name, wanted)
+
+
+# What moves: the names of the animations, once each.
+MOVES = "Array.from(new Set(document.getAnimations().map((it) => it.animationName))).sort().join()"
+
+
+def try_motion(browser, trial, path):
+    """A job comes, sleeps and wakes with motion, and a restart sweeps all; not where less motion is wished."""
+    for is_calm in False, True:
+        browser.scheme("light", is_calm=is_calm)
+        browser.show(path, "#new")
+        for line, wanted in ("novac 20 04000 00005", "come"), ("novac 10 04100 00005", "come"), ("sleep 06000", "nod"), ("rouse 06000", "nod"), ("restart", ""):
+            type_line(browser, line)
+            found = browser.value(MOVES)
+            trial.expect(f"{line}, calm {is_calm}: {found}", found == ("" if is_calm else wanted))
+            browser.press("Escape")
+        browser.value("Array.from(document.querySelectorAll('#try button')).find((it) => it.textContent === 'After the restart').click()")
+        trial.expect(f"a restart, calm {is_calm}: {browser.value(MOVES)}", browser.value(MOVES) == ("" if is_calm else "swept"))
+    browser.scheme("light")
 
 
 def try_predictions(browser, trial):
@@ -110,11 +147,24 @@ def try_phone(browser, trial, path):
 
 
 def try_flown(browser, trial, path):
-    """The five alarms of Apollo 11, with mission times, the PROG light and what VERB 05 NOUN 09 shows."""
+    """The five alarms of Apollo 11, with mission times, the PROG light and what VERB 05 NOUN 09 shows. The times are those of the tables
+    in the documents, within two seconds of those flown; the scenario's first line says that it is fitted."""
     browser.show(path, "#apollo-11")
+    told = []
     for time_flown in "102:38:21", "102:39:03", "102:42:19", "102:42:41", "102:42:59":
         browser.press("a")
         says(browser, trial, "an alarm of the flight", f"({time_flown}): ")
+        told.append(re.search(r" at ([0-9.]+) s .* alarm (120[12])[.]", browser.text("sentence")).groups())
+    for name in "LANDING.md", "teaching/history.md":
+        with open(f"{TOP}/docs/{name}", encoding="utf-8") as file:
+            rows = re.findall(r"^[|] (120[12]) [|] 102:(\d\d):(\d\d) [|] (\d+) [|] ([0-9.]+) [|]$", file.read(), re.MULTILINE)
+        trial.expect(f"{name} and the run: {rows}, {told}", [(seconds, code) for code, _, _, _, seconds in rows] == told)
+        for code, minutes, seconds, flown, modelled in rows:
+            # (the engine was ignited at 102:33:05)
+            trial.expect(f"{name}: {code} at {flown}", 60 * (int(minutes) - 33) + int(seconds) - 5 == int(flown) and abs(float(modelled) - int(flown)) <= 2)
+    with open(f"{TOP}/examples/apollo-11.toml", encoding="utf-8") as file:
+        first = file.readline()
+    trial.expect(first, first.startswith("# Fitted, not explained: "))
     trial.expect(f"before it is read: {texts(browser, '#dsky span')}", texts(browser, "#dsky span") == "PROG on|VERB 05 NOUN 09: 01202 01202 01202")
     browser.press("Home")
     trial.expect(f"at the beginning: {texts(browser, '#dsky span')}", texts(browser, "#dsky span") == "PROG off|VERB 05 NOUN 09: 00000 00000 00000")
@@ -146,3 +196,8 @@ def try_no_module(browser, trial, folder):
         time.sleep(0.05)
     told = browser.text("broken"), browser.value("document.getElementById('run').disabled")
     trial.expect(f"without WebAssembly: {told}", "WebAssembly" in told[0] and told[1])
+    browser.width(*PHONE)
+    left = browser.value("['.menu', '.bar', 'main'].filter((it) => document.querySelector(it).getClientRects().length > 0).join()")
+    wide = browser.value("document.getElementById('broken').scrollWidth - document.getElementById('broken').clientWidth")
+    trial.expect(f"without WebAssembly there are {left}, and {wide} points are cut", left == "" and wide <= 0)
+    browser.width(*LAPTOP)
