@@ -1,7 +1,8 @@
 //! What a bench lists and sets, place by place.
 use agc_document::{Bench, Key, Place, ScenarioKey};
 use agc_plan::{Action, Group, Line, Phase, Request, Task};
-use agc_scenario::Scenario;
+use agc_run::Subject;
+use agc_scenario::Timing;
 use std::alloc::{AllocError, Global};
 
 /// What a bench says at one place.
@@ -83,45 +84,48 @@ impl Items {
             }
         }
     }
+
+    /// Adds the items of a bench, in the order of its keys.
+    fn add_bench(&mut self, bench: &Bench) {
+        self.add_actions(Place::Value(Key::Key), &None, bench.key().as_slice());
+        self.add_actions(Place::Value(Key::Radar), &None, bench.radar().as_slice());
+        self.add_requests(Place::Value(Key::Script), bench.script());
+        self.add_plan(bench);
+        for (k, worker) in bench.workers().iter().enumerate() {
+            let number = k as u64 + 1;
+            let at = Place::Field(Key::Workers, number, Key::Requests);
+            self.add_requests(at, worker.as_slice());
+        }
+        for (k, (line, _pulses)) in bench.devices().iter().enumerate() {
+            let number = k as u64 + 1;
+            let place = Place::Field(Key::Devices, number, Key::Line);
+            self.add(place, Item::Device(*line));
+        }
+    }
+
+    /// Adds what the events of a scenario list and set.
+    fn add_events(&mut self, timing: &Timing) {
+        for (k, event) in timing.all_events().iter().enumerate() {
+            let number = (k as u64).saturating_add(1);
+            let events = Key::Of(ScenarioKey::Events);
+            let at = Place::Field(events, number, Key::Of(ScenarioKey::Do));
+            self.add_requests(at, event.requests());
+        }
+    }
 }
 
-/// The items of a bench, in the order of its keys.
-pub(crate) fn items_of(alloc: Global, bench: &Bench) -> Result<Vec<(Place, Item)>, AllocError> {
+/// The items of a bench, and then those of a scenario's events.
+pub(crate) fn items_of(
+    alloc: Global,
+    subject: Subject<'_>,
+) -> Result<Vec<(Place, Item)>, AllocError> {
     let mut items = Items {
         list: Vec::new(alloc),
         failed: false,
     };
-    items.add_actions(Place::Value(Key::Key), &None, bench.key().as_slice());
-    items.add_actions(Place::Value(Key::Radar), &None, bench.radar().as_slice());
-    items.add_requests(Place::Value(Key::Script), bench.script());
-    items.add_plan(bench);
-    for (k, worker) in bench.workers().iter().enumerate() {
-        let number = k as u64 + 1;
-        let at = Place::Field(Key::Workers, number, Key::Requests);
-        items.add_requests(at, worker.as_slice());
-    }
-    for (k, (line, _pulses)) in bench.devices().iter().enumerate() {
-        let number = k as u64 + 1;
-        let place = Place::Field(Key::Devices, number, Key::Line);
-        items.add(place, Item::Device(*line));
-    }
-    items.ended()
-}
-
-/// The items of a scenario: those of its bench, and then those of its events.
-pub(crate) fn scenario_items(
-    alloc: Global,
-    scenario: &Scenario,
-) -> Result<Vec<(Place, Item)>, AllocError> {
-    let mut items = Items {
-        list: items_of(alloc, scenario.bench())?,
-        failed: false,
-    };
-    for (k, event) in scenario.timing().all_events().iter().enumerate() {
-        let number = (k as u64).saturating_add(1);
-        let events = Key::Of(ScenarioKey::Events);
-        let at = Place::Field(events, number, Key::Of(ScenarioKey::Do));
-        items.add_requests(at, event.requests());
+    items.add_bench(subject.bench());
+    if let Some(timing) = subject.timing() {
+        items.add_events(timing);
     }
     items.ended()
 }

@@ -3,18 +3,17 @@ ghost use Rattle.std.specs.Prelude.{◌≡◌, false, IfOk};
 ghost use Rattle.std.specs.List.{fold};
 ghost use Rattle.agc_machine.specs.Machines.{after};
 ghost use Rattle.agc_run.specs.Runs.{to_ask};
-ghost use Rattle.agc_session.specs.Runs.{bench_machine, bench_requests, script_machine};
+ghost use Rattle.agc_run.specs.Subjects.{asked_of, machine_of};
+ghost use Rattle.agc_session.specs.Runs.{script_machine};
 
-use agc_document::Bench;
 use agc_machine::{Machine, Refusal};
 use agc_plan::{Alarm, Fired, Reply, Request};
-use agc_run::{Asks, Run};
-use agc_scenario::Scenario;
-use agc_session::{machine_of, script_machine};
+use agc_run::{Asks, Run, Subject};
+use agc_session::script_machine;
 use std::alloc::{AllocError, Global};
 
-/// How many requests are run: more than a document has room to write out.
-const MOST_RUN: u64 = 200_000;
+/// How many requests are run: more than a text has room to write out.
+const MOST_RUN: u64 = 1_000_000;
 
 /// What the requests of a run come to. Source: profile.
 #[derive(Clone, Copy, Default)]
@@ -61,15 +60,15 @@ impl Ran {
     }
 }
 
-/// Asks for what is still to be asked in a run, but for no more than so many requests. Returns what
-/// they come to.
-fn run_most(run: &mut Run<'_>, most: u64) -> Ran
+/// Asks for what is still to be asked in a run, but for no more than 1,000,000 requests. Returns
+/// what they come to.
+fn run_most(run: &mut Run<'_>) -> Ran
     ensures { result.is_cut ≡ false → run.new.machine
         ≡ fold after run.old.machine (to_ask run.old.machine run.old.asks) }
 {
     let mut ran = Ran::default();
     while let Some(asked) = run.next() {
-        if ran.requests >= most {
+        if ran.requests >= MOST_RUN {
             return Ran {
                 is_cut: true,
                 ..ran
@@ -82,23 +81,22 @@ fn run_most(run: &mut Run<'_>, most: u64) -> Ran
     ran
 }
 
-/// Runs the requests of a bench by one caller, as `serial` does, but at most 200,000, and returns
-/// its machine after them, and what they came to. Source: profile.
+/// Runs a bench or a scenario, but at most 1,000,000 of its requests, and returns its machine after
+/// them, and what they came to. Source: profile.
 ///
 /// # Errors
 ///
 /// Where there is no memory.
-pub fn run_bench(alloc: Global, bench: &Bench) -> Result<(Machine, Ran), AllocError>
+pub fn run_subject(alloc: Global, subject: Subject<'_>) -> Result<(Machine, Ran), AllocError>
     // All requests were asked, in order, unless the run was cut.
     ensures { IfOk result (λ r. r.1.is_cut ≡ false
-        → r.0 ≡ fold after (bench_machine bench.now) (bench_requests bench.now)) }
+        → r.0 ≡ fold after (machine_of subject.entry) (asked_of subject.entry)) }
 {
-    let machine = match machine_of(alloc, bench) {
-        Ok(machine) => machine,
+    let mut run = match subject.run(alloc) {
+        Ok(run) => run,
         Err(_fault) => return Err(AllocError),
     };
-    let mut run = Run::new(machine, Asks::of_bench(bench));
-    let ran = run_most(&mut run, MOST_RUN);
+    let ran = run_most(&mut run);
     Ok((run.into_machine(), ran))
 }
 
@@ -115,22 +113,6 @@ pub(crate) fn run_requests(
         Err(_fault) => return Err(AllocError),
     };
     let mut run = Run::new(machine, Asks::of_script(requests));
-    let ran = run_most(&mut run, MOST_RUN);
+    let ran = run_most(&mut run);
     Ok((run.into_machine(), ran))
-}
-
-/// Runs a scenario, but at most so many of its requests, and returns what they came to. Source:
-/// profile.
-///
-/// # Errors
-///
-/// Where there is no memory.
-pub fn run_scenario(alloc: Global, scenario: &Scenario, most: u64) -> Result<Ran, AllocError> {
-    match machine_of(alloc, scenario.bench()) {
-        Ok(machine) => {
-            let mut run = Run::new(machine, Asks::of_scenario(scenario.timing()));
-            Ok(run_most(&mut run, most))
-        }
-        Err(_fault) => Err(AllocError),
-    }
 }

@@ -1,6 +1,4 @@
-//! What is warned of in a scenario.
-use crate::items::scenario_items;
-use crate::ran::Ran;
+//! What is warned of the jobs and events of a scenario.
 use crate::saying::{Piece, Said, said};
 use crate::warning::{
     AS_LONG_AS_IT_COMES, LATE, NEVER, NOT_AGAIN, NOT_BEGUN, NOTHING_LEFT, TWIN, Warned,
@@ -215,28 +213,12 @@ fn note_events(alloc: Global, found: &mut Found, timing: &Timing) -> Result<(), 
     Ok(())
 }
 
-/// What is warned of in a scenario that comes to this run: at most twenty times first its jobs and
-/// events, then what has no effect; and then what is warned of the run. Source: profile.
-///
-/// # Errors
-///
-/// Where there is no memory.
-pub fn scenario_warnings(
+/// Notes what is warned of the jobs and events of a scenario.
+pub(crate) fn note_timing(
     alloc: Global,
+    found: &mut Found,
     scenario: &Scenario,
-    ran: &Ran,
-) -> Result<Vec<Warned>, AllocError> {
-    let mut found = Found::new(alloc);
-    note_jobs(alloc, &mut found, scenario)?;
-    note_events(alloc, &mut found, scenario.timing())?;
-    let items = scenario_items(alloc, scenario)?;
-    found.note_items(alloc, scenario.bench(), items.as_slice())?;
-    let mut warned = found.ended()?;
-    let mut of_run = Found::new(alloc);
-    of_run.note_run(scenario.bench(), ran);
-    let last = of_run.ended()?;
-    for one in last.iter() {
-        warned.push(*one)?;
-    }
-    Ok(warned)
+) -> Result<(), AllocError> {
+    note_jobs(alloc, found, scenario)?;
+    note_events(alloc, found, scenario.timing())
 }

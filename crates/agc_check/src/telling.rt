@@ -1,27 +1,20 @@
 //! The lines that tell of warnings, and what a run comes to, in one line.
 use crate::bench::add_where;
-use crate::ran::{Ran, run_requests};
+use crate::ran::{Ran, run_requests, run_subject};
 use crate::saying::{Piece, Said, add_decimal, put};
 use crate::warning::{LOG_FULL, Warned};
+use crate::warnings::warnings;
 use agc_document::Place;
 use agc_findings::{line_at, places_in};
 use agc_plan::Request;
+use agc_run::Subject;
 use std::alloc::{AllocError, Global};
 
 /// How many requests the log of a script holds.
 const SCRIPT_LIMIT: u64 = 1000;
 
 /// A line for each warning of a document, with the number of the line at which its place begins.
-/// Source: profile.
-///
-/// # Errors
-///
-/// Where there is no memory.
-pub fn warnings_told(
-    alloc: Global,
-    document: &str,
-    warnings: &[Warned],
-) -> Result<String, AllocError> {
+fn warnings_told(alloc: Global, document: &str, warnings: &[Warned]) -> Result<String, AllocError> {
     let mut places: Vec<Place> = Vec::new(alloc);
     for one in warnings {
         places.push(one.place)?;
@@ -88,18 +81,34 @@ fn add_alarms(told: &mut String, alarms: &[u64; 3]) -> Result<(), AllocError> {
 }
 
 /// Appends how many requests were asked, how many tasks fired, and how many alarms of each code
-/// came; of a run that was cut the line says so. Source: profile.
-///
-/// # Errors
-///
-/// Where there is no memory.
-pub fn add_summary(told: &mut String, ran: &Ran) -> Result<(), AllocError> {
+/// came; of a run that was cut the line says so.
+fn add_summary(told: &mut String, ran: &Ran) -> Result<(), AllocError> {
     let first = Piece::Text(if ran.is_cut { "the first " } else { "" });
     let (requests, of_requests) = amount(ran.requests);
     let (tasks, of_tasks) = amount(ran.fired);
     let pieces = [first, requests, of_requests, tasks, of_tasks];
     put(told, "ok: {}{} request{}, {} task{} fired", &pieces)?;
     add_alarms(told, &ran.alarms)
+}
+
+/// What is said of a document that is a bench or a scenario: what is warned of, and what its run
+/// comes to. Source: profile.
+///
+/// # Errors
+///
+/// Where there is no memory.
+pub fn report_on(
+    alloc: Global,
+    document: &str,
+    subject: Subject<'_>,
+) -> Result<String, AllocError> {
+    let ran = run_subject(alloc, subject)?.1;
+    let warned = warnings(alloc, subject, &ran)?;
+    let mut told = warnings_told(alloc, document, warned.as_slice())?;
+    match add_summary(&mut told, &ran) {
+        Ok(()) => Ok(told),
+        Err(error) => Err(error),
+    }
 }
 
 /// Appends what the requests of a script come to, and before that a warning where its log is too

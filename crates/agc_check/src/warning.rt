@@ -33,7 +33,7 @@ pub(crate) const SPENT: &str =
     "request {} is the first that is refused: spent (allowance {}, all served)";
 
 pub(crate) const CUT: &str =
-    "only the first 200000 requests were run, so a later one may be refused too";
+    "only the first 1000000 requests were run, so a later one may be refused too";
 
 pub(crate) const NOT_BEGUN: &str = "nothing begins a job at this address";
 

@@ -2,11 +2,13 @@
 use crate::items::{Item, items_of};
 use crate::ran::Ran;
 use crate::saying::{Piece, Said, said};
+use crate::scenario::note_timing;
 use crate::warning::{
     CUT, LOG_FULL, NEVER_LISTED, NO_ENTRY, NO_REQUEST, NO_ROW, NO_ROWS, OTHER_BANK, SPENT, Warned,
 };
 use agc_document::{Bench, Key, Place};
 use agc_plan::{Group, Line, Phase, PhaseEntry, Task};
+use agc_run::Subject;
 use agc_session::asks_nothing;
 use agc_word::Word;
 use std::alloc::{AllocError, Global};
@@ -156,18 +158,22 @@ impl Found {
                 .any(|one| one.once == once && one.warning.0 == text)
     }
 
-    /// Notes a warning, unless it was said before, or as many are noted as may be.
+    /// Adds a warning.
+    fn add(&mut self, place: Place, (warning, once): Warning) {
+        let warned = Warned {
+            place,
+            warning,
+            once,
+        };
+        if self.list.push(warned).is_err() {
+            self.failed = true;
+        }
+    }
+
+    /// Adds a warning, unless it was said before, or as many are there as may be.
     pub(crate) fn note(&mut self, place: Place, warning: Warning) {
         if self.list.len() < MOST_TOLD && !self.is_said(&warning) {
-            let (warning, once) = warning;
-            let warned = Warned {
-                place,
-                warning,
-                once,
-            };
-            if self.list.push(warned).is_err() {
-                self.failed = true;
-            }
+            self.add(place, warning);
         }
     }
 
@@ -187,22 +193,25 @@ impl Found {
         Ok(())
     }
 
-    /// Notes which requests of a run are the first that were refused.
-    pub(crate) fn note_run(&mut self, bench: &Bench, ran: &Ran) {
+    /// Adds which requests of a run are the first that were refused, and whether it was cut.
+    fn add_run(&mut self, bench: &Bench, ran: &Ran) {
         if let Some(first) = ran.log_full {
             let limit = Piece::Number(u64::from(bench.limit().get()));
             let warning = said(LOG_FULL, Piece::Number(first), limit);
-            self.note(Place::Value(Key::Limit), (warning, None));
+            self.add(Place::Value(Key::Limit), (warning, None));
         }
         if let Some(first) = ran.spent {
             let allowance = Piece::Number(bench.allowance());
             let warning = said(SPENT, Piece::Number(first), allowance);
-            self.note(Place::Value(Key::Allowance), (warning, None));
+            self.add(Place::Value(Key::Allowance), (warning, None));
+        }
+        if ran.is_cut {
+            self.add(Place::Whole, (plain(CUT), None));
         }
     }
 
     /// All that was found.
-    pub(crate) fn ended(self) -> Result<Vec<Warned>, AllocError> {
+    fn ended(self) -> Result<Vec<Warned>, AllocError> {
         if self.failed {
             Err(AllocError)
         } else {
@@ -211,19 +220,20 @@ impl Found {
     }
 }
 
-/// What is warned of in a bench that comes to this run, at most twenty times: first what has no
-/// effect, in the order of the bench's keys, then what is warned of the run. Source: profile.
+/// What is warned of in a bench or a scenario that comes to this run: at most twenty times the jobs
+/// and events of a scenario, and then what has no effect, in the order of the bench's keys; and
+/// last, whatever was said before, what is warned of the run. Source: profile.
 ///
 /// # Errors
 ///
 /// Where there is no memory.
-pub fn bench_warnings(alloc: Global, bench: &Bench, ran: &Ran) -> Result<Vec<Warned>, AllocError> {
-    let items = items_of(alloc, bench)?;
+pub fn warnings(alloc: Global, subject: Subject<'_>, ran: &Ran) -> Result<Vec<Warned>, AllocError> {
     let mut found = Found::new(alloc);
-    found.note_items(alloc, bench, items.as_slice())?;
-    found.note_run(bench, ran);
-    if ran.is_cut {
-        found.note(Place::Whole, (plain(CUT), None));
+    if let Subject::Scenario(scenario) = subject {
+        note_timing(alloc, &mut found, scenario)?;
     }
+    let items = items_of(alloc, subject)?;
+    found.note_items(alloc, subject.bench(), items.as_slice())?;
+    found.add_run(subject.bench(), ran);
     found.ended()
 }

@@ -7,12 +7,10 @@ ghost use Rattle.agc_run.specs.Runs.{to_ask};
 use crate::jobs_rows::put_jobs;
 use crate::ledger::{Ledger, Passed};
 use crate::lives::{Jobs, MOST, Moment, jobs_seen};
-use agc_document::Bench;
 use agc_machine::Machine;
 use agc_plan::{Fired, Request};
-use agc_run::{Asks, Run};
-use agc_scenario::{Scenario, Timing};
-use agc_session::{RunFault, machine_of};
+use agc_run::{Run, Subject};
+use agc_session::RunFault;
 use std::alloc::{AllocError, Global};
 use std::io::Write;
 
@@ -129,53 +127,23 @@ pub(crate) fn jobs_to_end(alloc: Global, run: &mut Run<'_>) -> Result<Ledger, Al
     Ok(ledger)
 }
 
-/// Runs to the end, and writes what the jobs came to.
-fn put_run<W: Write>(
+/// Runs a bench or a scenario, and writes for the jobs of each address how many began, ended, were
+/// lost as an era began and live still; the shortest, mean, 95th percentile and longest time from
+/// where a job was established to where it ended, and how much of it on average it computed, waited
+/// and slept; how often another job took over from one; and its share of the processor. Then a line
+/// for each era says how much of its time was used by jobs, stolen and idle. In a bench time passes
+/// with ticks alone, and no computing time is known. The writer is not flushed. Source: profile.
+///
+/// # Errors
+///
+/// `NoMemory`, and nothing was written. `Output`, where a write failed.
+pub fn write_jobs<W: Write>(
     alloc: Global,
-    mut run: Run<'_>,
-    timing: Option<&Timing>,
+    subject: Subject<'_>,
     csv: bool,
     writer: &mut W,
 ) -> Result<(), RunFault> {
+    let mut run = subject.run(alloc)?;
     let ledger = jobs_to_end(alloc, &mut run)?;
-    Ok(put_jobs(&ledger, timing, csv, writer)?)
-}
-
-/// Runs a scenario, and writes for the jobs of each address how many began, ended, were lost as an
-/// era began and live still; the shortest, mean, 95th percentile and longest time from where a job
-/// was established to where it ended, and how much of it on average it computed, waited and slept;
-/// how often another job took over from one; and its share of the processor. Then a line for each
-/// era says how much of its time was used by jobs, stolen and idle. The writer is not flushed.
-/// Source: profile.
-///
-/// # Errors
-///
-/// `NoMemory`, and nothing was written. `Output`, where a write failed.
-pub fn scenario_jobs<W: Write>(
-    alloc: Global,
-    scenario: &Scenario,
-    csv: bool,
-    writer: &mut W,
-) -> Result<(), RunFault> {
-    let machine = machine_of(alloc, scenario.bench())?;
-    let timing = scenario.timing();
-    let run = Run::new(machine, Asks::of_scenario(timing));
-    put_run(alloc, run, Some(timing), csv, writer)
-}
-
-/// Asks a bench's machine for all its requests, as `serial` does, and writes the same, in which
-/// time passes with ticks alone, and no computing time is known. The writer is not flushed. Source:
-/// profile.
-///
-/// # Errors
-///
-/// `NoMemory`, and nothing was written. `Output`, where a write failed.
-pub fn bench_jobs<W: Write>(
-    alloc: Global,
-    bench: &Bench,
-    csv: bool,
-    writer: &mut W,
-) -> Result<(), RunFault> {
-    let run = Run::new(machine_of(alloc, bench)?, Asks::of_bench(bench));
-    put_run(alloc, run, None, csv, writer)
+    Ok(put_jobs(&ledger, subject.timing(), csv, writer)?)
 }

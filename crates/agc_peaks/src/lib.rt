@@ -21,8 +21,8 @@ mod writing;
 
 pub use comparing::put_differences;
 pub use finding::find_alarm;
-pub use jobs::{bench_jobs, scenario_jobs};
-pub use outcome::{Outcome, bench_outcome, scenario_outcome};
-pub use peaks::{bench_peaks, scenario_peaks};
+pub use jobs::write_jobs;
+pub use outcome::{Outcome, outcome_of};
+pub use peaks::write_peaks;
 pub use sweep::{Axis, Column, Watches, run_sweep};
 pub use writing::scenario_bench;

@@ -4,10 +4,9 @@ use crate::jobs::jobs_to_end;
 use crate::jobs_rows::{cells, name_at};
 use crate::ledger::Kind;
 use crate::tally::{Found, Tally};
-use agc_document::Bench;
-use agc_run::{Asks, Run};
-use agc_scenario::{Scenario, Timing};
-use agc_session::{RunFault, machine_of};
+use agc_run::Subject;
+use agc_scenario::Timing;
+use agc_session::RunFault;
 use agc_text::Filling;
 use std::alloc::{AllocError, Global};
 use std::io;
@@ -57,50 +56,33 @@ fn jobs_of(alloc: Global, kind: &Kind, timing: Option<&Timing>) -> Result<JobsAt
     })
 }
 
-/// The outcome of a run that was counted, and of another whose jobs are told.
-fn outcome_of(
+/// What the jobs of each address came to.
+fn all_jobs(
     alloc: Global,
-    tally: &Tally,
     kinds: &[Kind],
     timing: Option<&Timing>,
-) -> Result<Outcome, AllocError> {
+) -> Result<Vec<JobsAt>, AllocError> {
     let mut jobs = Vec::new(alloc);
     for kind in kinds {
         jobs.push(jobs_of(alloc, kind, timing)?)?;
     }
+    Ok(jobs)
+}
+
+/// What the run of a bench or a scenario comes to. Source: profile.
+///
+/// # Errors
+///
+/// Where there is no memory.
+pub fn outcome_of(alloc: Global, subject: Subject<'_>) -> Result<Outcome, RunFault> {
+    let tally = counted_to_end(&mut subject.run(alloc)?, Told::Nothing, &mut io::sink())?;
+    let ledger = jobs_to_end(alloc, &mut subject.run(alloc)?)?;
     Ok(Outcome {
         time: tally.time,
         asked: tally.asked,
         refused: tally.refused,
         eras: tally.era("").number,
         found: tally.found(),
-        jobs,
+        jobs: all_jobs(alloc, ledger.kinds.as_slice(), subject.timing())?,
     })
-}
-
-/// What a scenario's run comes to. Source: profile.
-///
-/// # Errors
-///
-/// Where there is no memory.
-pub fn scenario_outcome(alloc: Global, scenario: &Scenario) -> Result<Outcome, RunFault> {
-    let (bench, timing) = (scenario.bench(), scenario.timing());
-    let mut run = Run::new(machine_of(alloc, bench)?, Asks::of_scenario(timing));
-    let tally = counted_to_end(&mut run, Told::Nothing, &mut io::sink())?;
-    let mut again = Run::new(machine_of(alloc, bench)?, Asks::of_scenario(timing));
-    let ledger = jobs_to_end(alloc, &mut again)?;
-    Ok(outcome_of(alloc, &tally, ledger.kinds.as_slice(), Some(timing))?)
-}
-
-/// What a bench's run comes to, by the requests of `serial`. Source: profile.
-///
-/// # Errors
-///
-/// Where there is no memory.
-pub fn bench_outcome(alloc: Global, bench: &Bench) -> Result<Outcome, RunFault> {
-    let mut run = Run::new(machine_of(alloc, bench)?, Asks::of_bench(bench));
-    let tally = counted_to_end(&mut run, Told::Nothing, &mut io::sink())?;
-    let mut again = Run::new(machine_of(alloc, bench)?, Asks::of_bench(bench));
-    let ledger = jobs_to_end(alloc, &mut again)?;
-    Ok(outcome_of(alloc, &tally, ledger.kinds.as_slice(), None)?)
 }

@@ -2,7 +2,8 @@
 ghost use Rattle.std.specs.Prelude.{◌≡◌, IfErr};
 
 use crate::escaping::escaped;
-use agc_scenario::Scenario;
+use agc_run::Subject;
+use agc_scenario::Timing;
 use agc_session::RunFault;
 use agc_text::{Draft, Filling};
 use std::alloc::{AllocError, Global};
@@ -47,8 +48,7 @@ fn told_if(alloc: Global, text: Option<&str>) -> Result<Option<Told>, AllocError
 }
 
 /// What a scenario calls itself, its jobs and its events.
-fn read(alloc: Global, scenario: &Scenario) -> Result<Labels, AllocError> {
-    let timing = scenario.timing();
+fn read(alloc: Global, timing: &Timing) -> Result<Labels, AllocError> {
     let mut jobs = Vec::new(alloc);
     for job in timing.jobs() {
         if let Some(name) = job.name() {
@@ -70,20 +70,18 @@ fn read(alloc: Global, scenario: &Scenario) -> Result<Labels, AllocError> {
 }
 
 impl Labels {
-    /// A bench calls nothing by a name.
-    pub(crate) fn none(alloc: Global) -> Labels {
-        Labels {
-            title: None,
-            jobs: Vec::new(alloc),
-            events: Vec::new(alloc),
-        }
-    }
-
-    /// What a scenario calls itself, its jobs and its events.
-    pub(crate) fn of(alloc: Global, scenario: &Scenario) -> Result<Labels, RunFault>
+    /// What a scenario calls itself, its jobs and its events; a bench calls nothing by a name.
+    pub(crate) fn of(alloc: Global, subject: Subject<'_>) -> Result<Labels, RunFault>
         ensures { IfErr result (λ e. e ≡ RunFault.NoMemory) }
     {
-        match read(alloc, scenario) {
+        let Some(timing) = subject.timing() else {
+            return Ok(Labels {
+                title: None,
+                jobs: Vec::new(alloc),
+                events: Vec::new(alloc),
+            });
+        };
+        match read(alloc, timing) {
             Ok(labels) => Ok(labels),
             Err(_no_memory) => Err(RunFault::NoMemory),
         }

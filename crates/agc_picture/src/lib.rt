@@ -19,6 +19,6 @@ mod sizing;
 mod timed;
 mod whole;
 
-pub use over_time::{scenario_time_picture, time_picture};
+pub use over_time::time_picture;
 pub use scale::Span;
-pub use whole::{picture, scenario_picture};
+pub use whole::picture;

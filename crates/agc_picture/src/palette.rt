@@ -1,8 +1,7 @@
 // The colours of jobs over time: by the name of a job, or by the address at which it began.
 use crate::labels::Labels;
-use agc_document::Bench;
 use agc_plan::JobStart;
-use agc_scenario::Timing;
+use agc_run::Subject;
 use agc_scene::Scene;
 
 /// How many colours there are: what comes after these has them once more.
@@ -33,18 +32,18 @@ fn address_of(job: JobStart) -> u16 {
 
 impl Palette {
     /// The jobs of a scenario come first, and then those that begin with a restart.
-    pub(crate) fn of(labels: &Labels, bench: &Bench, timing: Option<&Timing>) -> Palette {
+    pub(crate) fn of(labels: &Labels, subject: Subject<'_>) -> Palette {
         let mut palette = Palette {
             known: [0; 64],
             count: 0,
             jobs: [None; 9],
         };
-        if let Some(timing) = timing {
+        if let Some(timing) = subject.timing() {
             for job in timing.jobs() {
                 palette.colour(labels.first_of(job.at().get()));
             }
         }
-        for entry in bench.entries() {
+        for entry in subject.bench().entries() {
             if let Some(job) = entry.job() {
                 palette.colour(labels.first_of(address_of(job)));
             }

@@ -1,10 +1,9 @@
 // How long a run lasts, and how many requests it has.
 ghost use Rattle.std.specs.Prelude.{◌≡◌, IfErr};
 
-use agc_document::Bench;
-use agc_run::{Asks, WatchedRun};
-use agc_scenario::Scenario;
-use agc_session::{RunFault, machine_of};
+use agc_clock::Timetables;
+use agc_run::{Subject, WatchedRun};
+use agc_session::{RunFault, count_requests};
 use std::alloc::Global;
 
 /// The time of a run, and the number of its last request.
@@ -27,20 +26,22 @@ fn size_of(run: &mut WatchedRun<'_>) -> Size {
     size
 }
 
-/// How many centiseconds a bench's run lasts.
-pub(crate) fn bench_length(alloc: Global, bench: &Bench) -> Result<u64, RunFault>
+/// How many centiseconds a run lasts: a scenario says so, a bench is run.
+pub(crate) fn length_of(alloc: Global, subject: Subject<'_>) -> Result<u64, RunFault>
     ensures { IfErr result (λ e. e ≡ RunFault.NoMemory) }
 {
-    let machine = machine_of(alloc, bench)?;
-    let mut run = WatchedRun::new(machine, Asks::of_bench(bench));
-    Ok(size_of(&mut run).time)
+    match subject.timing() {
+        Some(timing) => Ok(u64::from(timing.lasts())),
+        None => Ok(size_of(&mut subject.watched(alloc)?).time),
+    }
 }
 
-/// How many requests a scenario's clock asks for.
-pub(crate) fn clock_size(alloc: Global, scenario: &Scenario) -> Result<u64, RunFault>
+/// How many requests a run has: those of a bench are counted, a scenario is run.
+pub(crate) fn requests_of(alloc: Global, subject: Subject<'_>) -> Result<u64, RunFault>
     ensures { IfErr result (λ e. e ≡ RunFault.NoMemory) }
 {
-    let machine = machine_of(alloc, scenario.bench())?;
-    let mut run = WatchedRun::new(machine, Asks::of_scenario(scenario.timing()));
-    Ok(size_of(&mut run).requests)
+    match subject {
+        Subject::Bench(bench) => Ok(count_requests(bench).requests),
+        Subject::Scenario(_scenario) => Ok(size_of(&mut subject.watched(alloc)?).requests),
+    }
 }

@@ -8,8 +8,7 @@ use crate::palette::Palette;
 use crate::scale::Scale;
 use crate::sheet::{Sheet, put_foot, put_ground, put_head, put_stolen};
 use agc_clock::Timetables;
-use agc_document::Bench;
-use agc_run::Source;
+use agc_run::{Source, Subject};
 use agc_scenario::Timing;
 use agc_scene::{Event, Scene};
 use agc_text::{Draft, Output};
@@ -56,16 +55,16 @@ fn event_of(source: Source) -> Option<usize> {
 }
 
 impl<'a> OverTime<'a> {
-    /// A run of a bench, in which time passes so, if a clock runs, is to be drawn on this scale,
-    /// with these names.
+    /// A run is to be drawn on this scale, with these names.
     pub(crate) fn new(
         alloc: Global,
-        (bench, timing): (&Bench, Option<&'a Timing>),
+        subject: Subject<'a>,
         scale: Scale,
         labels: Labels,
     ) -> Result<OverTime<'a>, AllocError> {
+        let timing = subject.timing();
         let sheet = Sheet {
-            sets: bench.sets().count() as u64,
+            sets: subject.bench().sets().count() as u64,
             is_timed: timing.is_some(),
         };
         Ok(OverTime {
@@ -73,7 +72,7 @@ impl<'a> OverTime<'a> {
             scale,
             sheet,
             timing,
-            palette: Palette::of(&labels, bench, timing),
+            palette: Palette::of(&labels, subject),
             labels,
             lanes: lanes_of(alloc, sheet)?,
             room: Room::new(),

@@ -5,8 +5,10 @@
 mod asks;
 mod requests;
 mod run;
+mod subject;
 mod watching;
 
 pub use asks::{Asked, Asks, Source};
 pub use run::Run;
+pub use subject::Subject;
 pub use watching::WatchedRun;

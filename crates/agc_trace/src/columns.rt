@@ -1,10 +1,12 @@
 // Which columns rows have, and what is called by a name in them.
 use crate::names::{Names, What};
 use agc_plan::{Line, Phase, Task};
-use agc_run::Source;
+use agc_run::{Source, Subject};
+use agc_scenario::Scenario;
+use agc_session::count_requests;
 use agc_text::Filling::{Number, Octal, Seconds, Text};
 use agc_text::{Draft, Filling};
-use std::alloc::Global;
+use std::alloc::{AllocError, Global};
 
 /// How many letters of a name are shown at most.
 const MOST_LETTERS: usize = 24;
@@ -72,14 +74,27 @@ impl Columns {
         }
     }
 
-    /// The columns of a scenario with so many events: one of them says who asks, these names are
-    /// shown, and times are in seconds. Source: profile.
-    pub fn of_scenario(names: Names, events: usize) -> Columns {
-        Columns {
+    /// The columns of a scenario: one of them says who asks, its names are shown, and times are in
+    /// seconds.
+    fn of_scenario(alloc: Global, scenario: &Scenario) -> Result<Columns, AllocError> {
+        let names = Names::of_scenario(alloc, scenario)?;
+        let events = scenario.timing().all_events().len();
+        Ok(Columns {
             source: Some(source_width(&names, events)),
             has_seconds: true,
             folds: false,
             names,
+        })
+    }
+
+    /// The columns of a bench, where one says who asks if several do; or of a scenario, where one
+    /// always does, times are in seconds, and names are shown.
+    pub(crate) fn of(alloc: Global, subject: Subject<'_>) -> Result<Columns, AllocError> {
+        match subject {
+            Subject::Bench(bench) => {
+                Ok(Columns::of_bench(alloc, count_requests(bench).is_shared))
+            }
+            Subject::Scenario(scenario) => Columns::of_scenario(alloc, scenario),
         }
     }
 

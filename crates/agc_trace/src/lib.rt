@@ -19,6 +19,5 @@ mod tracer;
 
 pub use columns::Columns;
 pub use laws::quiet_request_changes_the_time_alone;
-pub use names::{Names, What};
 pub use telling::{Choice, Form, Rows};
-pub use tracer::{trace, trace_script, trace_timetable};
+pub use tracer::{trace, trace_script};

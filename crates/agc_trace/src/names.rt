@@ -1,10 +1,11 @@
 // What a scenario calls itself, its jobs, tasks, phases and events.
 use agc_plan::{Phase, Task};
+use agc_scenario::Scenario;
 use std::alloc::{AllocError, Global};
 
-/// What has a name in a scenario. Source: profile.
+/// What has a name in a scenario.
 #[derive(Clone, Copy, PartialEq, Eq)]
-pub enum What {
+pub(crate) enum What {
     /// The scenario itself.
     Title,
     /// The jobs that are established at this address.
@@ -24,26 +25,66 @@ struct Named {
 }
 
 /// What a scenario calls itself, its jobs, tasks, phases and events, in memory of its own; a bench
-/// calls nothing by a name. Source: profile.
+/// calls nothing by a name.
 #[derive(Drop)]
-pub struct Names {
+pub(crate) struct Names {
     all: Vec<Named>,
 }
 
 impl Names {
-    /// No names. Source: profile.
-    pub fn none(alloc: Global) -> Names {
+    /// No names.
+    pub(crate) fn none(alloc: Global) -> Names {
         Names {
             all: Vec::new(alloc),
         }
     }
 
-    /// Gives something a name. Source: profile.
-    ///
-    /// # Errors
-    ///
-    /// Where there is no memory; nothing is changed.
-    pub fn name(&mut self, alloc: Global, what: What, name: &str) -> Result<(), AllocError> {
+    /// The names of a scenario.
+    pub(crate) fn of_scenario(alloc: Global, scenario: &Scenario) -> Result<Names, AllocError> {
+        let mut names = Names::none(alloc);
+        names.name_timed(alloc, scenario)?;
+        names.name_planned(alloc, scenario)?;
+        Ok(names)
+    }
+
+    /// Adds the title, and the names of jobs and events.
+    fn name_timed(&mut self, alloc: Global, scenario: &Scenario) -> Result<(), AllocError> {
+        let timing = scenario.timing();
+        if let Some(title) = timing.title() {
+            self.name(alloc, What::Title, title)?;
+        }
+        for job in timing.jobs() {
+            if let Some(name) = job.name() {
+                self.name(alloc, What::Job(job.at().get()), name)?;
+            }
+        }
+        for (k, event) in timing.all_events().iter().enumerate() {
+            if let Some(name) = event.name() {
+                self.name(alloc, What::Event(k), name)?;
+            }
+        }
+        Ok(())
+    }
+
+    /// Adds the names of tasks and phases.
+    fn name_planned(&mut self, alloc: Global, scenario: &Scenario) -> Result<(), AllocError> {
+        let bench = scenario.bench();
+        for (row, name) in bench.rows().iter().zip(scenario.row_names().iter()) {
+            if let Some(name) = name.as_str() {
+                self.name(alloc, What::Task(row.0), name)?;
+            }
+        }
+        for (entry, name) in bench.entries().iter().zip(scenario.entry_names().iter()) {
+            if let Some(name) = name.as_str() {
+                let group = usize::from(entry.group().get());
+                self.name(alloc, What::Phase(group, entry.phase()), name)?;
+            }
+        }
+        Ok(())
+    }
+
+    /// Gives something a name. Where there is no memory nothing is changed.
+    fn name(&mut self, alloc: Global, what: What, name: &str) -> Result<(), AllocError> {
         let name = String::from_str(alloc, name)?;
         match self.all.push(Named { what, name }) {
             Ok(()) => Ok(()),

@@ -1,77 +1,18 @@
 //! What is wrong with a document or a script, or else warnings and a summary of its run.
+use crate::documents::looked_at;
 use crate::stops::Stop;
-use agc_check::{
-    add_script_summary, add_summary, bench_told, bench_warnings, run_bench, run_scenario,
-    scenario_warnings, script_findings, script_told, warnings_told,
-};
-use agc_document::Bench;
-use agc_findings::{Document, NoDocument, bench_findings};
+use agc_check::{add_script_summary, bench_told, report_on, script_findings, script_told};
+use agc_findings::{Document, NoDocument};
 use agc_program::Fault;
-use agc_scenario::{CheckedScenario, Scenario, is_scenario, scenario_findings};
 use agc_text::{put, read_script};
 use std::alloc::{AllocError, Global};
 use std::io::Write;
 
-/// How many requests are run.
-const MOST_RUN: u64 = 1_000_000;
-
-/// The report on a scenario in which nothing is wrong: warnings, and a summary of its run.
-fn told_of_scenario(alloc: Global, text: &str, scenario: &Scenario) -> Result<String, AllocError> {
-    let ran = run_scenario(alloc, scenario, MOST_RUN)?;
-    let warnings = scenario_warnings(alloc, scenario, &ran)?;
-    let mut told = warnings_told(alloc, text, warnings.as_slice())?;
-    add_summary(&mut told, &ran)?;
-    Ok(told)
-}
-
-/// Whether a document is a scenario, and the report on it, in which this was found.
-fn report_on(
-    alloc: Global,
-    text: &str,
-    checked: &CheckedScenario,
-) -> Result<(bool, String), AllocError> {
-    let told = match &checked.scenario {
-        Some(scenario) => told_of_scenario(alloc, text, scenario),
-        None => bench_told(alloc, checked.findings.as_slice()),
-    };
-    match told {
-        Ok(told) => Ok((checked.scenario.is_some(), told)),
-        Err(error) => Err(error),
-    }
-}
-
-/// Whether a document is a scenario, and the report on it.
-fn scenario_told(alloc: Global, document: &Document<'_>) -> Result<(bool, String), AllocError> {
-    match scenario_findings(alloc, document) {
-        Ok(checked) => report_on(alloc, document.text(), &checked),
-        Err(error) => Err(error),
-    }
-}
-
-/// The report on a bench in which nothing is wrong: warnings, and a summary of its run.
-fn told_of_bench(alloc: Global, text: &str, bench: &Bench) -> Result<String, AllocError> {
-    let ran = run_bench(alloc, bench)?.1;
-    let warnings = bench_warnings(alloc, bench, &ran)?;
-    let mut told = warnings_told(alloc, text, warnings.as_slice())?;
-    add_summary(&mut told, &ran)?;
-    Ok(told)
-}
-
-/// Whether a document is a bench, and the report on it.
-fn bench_report(alloc: Global, document: &Document<'_>) -> Result<(bool, String), AllocError> {
-    let checked = bench_findings(alloc, document)?;
-    match &checked.bench {
-        Some(bench) => Ok((true, told_of_bench(alloc, document.text(), bench)?)),
-        None => Ok((false, bench_told(alloc, checked.findings.as_slice())?)),
-    }
-}
-
 /// Whether a document is the scenario or the bench that it is to be, and the report on it.
 fn document_report(alloc: Global, document: &Document<'_>) -> Result<(bool, String), AllocError> {
-    if is_scenario(document) {
-        scenario_told(alloc, document)
-    } else {
-        bench_report(alloc, document)
+    match looked_at(alloc, document)? {
+        Ok(shown) => Ok((true, report_on(alloc, document.text(), shown.subject())?)),
+        Err(found) => Ok((false, bench_told(alloc, found.as_slice())?)),
     }
 }
 

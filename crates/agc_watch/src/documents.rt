@@ -4,6 +4,7 @@ use agc_check::bench_told;
 use agc_document::{Bench, BenchFault};
 use agc_findings::{Checked, Document, Finding, NoDocument, bench_findings};
 use agc_program::Fault;
+use agc_run::Subject;
 use agc_scenario::{CheckedScenario, Scenario, is_scenario, scenario_findings};
 use std::alloc::{AllocError, Global};
 
@@ -12,6 +13,16 @@ use std::alloc::{AllocError, Global};
 pub(crate) enum Shown {
     Bench(Bench),
     Scenario(Scenario),
+}
+
+impl Shown {
+    /// What is run of it.
+    pub(crate) fn subject(&self) -> Subject<'_> {
+        match self {
+            Shown::Bench(bench) => Subject::Bench(bench),
+            Shown::Scenario(scenario) => Subject::Scenario(scenario),
+        }
+    }
 }
 
 /// A document that is refused, in which this was found: for the fault of what was found first.
@@ -35,30 +46,40 @@ fn parsed<'a>(alloc: Global, text: &'a str) -> Result<Document<'a>, Stop> {
     }
 }
 
-/// The bench that a document is.
-fn bench_of(alloc: Global, document: &Document<'_>) -> Result<Bench, Stop> {
-    let Checked { bench, findings } = bench_findings(alloc, document)?;
+/// The bench or the scenario that a document is, or else what was found that is wrong with it: a
+/// scenario is a document that says how many seconds it lasts.
+pub(crate) fn looked_at(
+    alloc: Global,
+    document: &Document<'_>,
+) -> Result<Result<Shown, Vec<Finding>>, AllocError> {
+    if is_scenario(document) {
+        let CheckedScenario { scenario, findings } = scenario_findings(alloc, document)?;
+        Ok(scenario.map(Shown::Scenario).ok_or(findings))
+    } else {
+        let Checked { bench, findings } = bench_findings(alloc, document)?;
+        Ok(bench.map(Shown::Bench).ok_or(findings))
+    }
+}
+
+/// The bench or the scenario that a text is.
+pub(crate) fn document_in(alloc: Global, text: &str) -> Result<Shown, Stop> {
+    let document = parsed(alloc, text)?;
+    match looked_at(alloc, &document)? {
+        Ok(shown) => Ok(shown),
+        Err(found) => Err(wrong(alloc, found.as_slice())),
+    }
+}
+
+/// The bench that a text is.
+pub(crate) fn bench_in(alloc: Global, text: &str) -> Result<Bench, Stop> {
+    let document = parsed(alloc, text)?;
+    if is_scenario(&document) {
+        return Err(Stop::IsScenario);
+    }
+    let Checked { bench, findings } = bench_findings(alloc, &document)?;
     match bench {
         Some(bench) => Ok(bench),
-        None => Err(no_bench(alloc, document, findings.as_slice())),
-    }
-}
-
-/// Why a document is no bench, in which this was found.
-fn no_bench(alloc: Global, document: &Document<'_>, found: &[Finding]) -> Stop {
-    if is_scenario(document) {
-        Stop::IsScenario
-    } else {
-        wrong(alloc, found)
-    }
-}
-
-/// The scenario that a document is.
-fn scenario_of(alloc: Global, document: &Document<'_>) -> Result<Scenario, Stop> {
-    let CheckedScenario { scenario, findings } = scenario_findings(alloc, document)?;
-    match scenario {
-        Some(scenario) => Ok(scenario),
-        None => Err(no_scenario(alloc, document, findings.as_slice())?),
+        None => Err(wrong(alloc, findings.as_slice())),
     }
 }
 
@@ -76,30 +97,12 @@ fn no_scenario(
     }
 }
 
-/// The bench that a text is.
-pub(crate) fn bench_in(alloc: Global, text: &str) -> Result<Bench, Stop> {
-    let document = parsed(alloc, text)?;
-    bench_of(alloc, &document)
-}
-
 /// The scenario that a text is.
 pub(crate) fn scenario_in(alloc: Global, text: &str) -> Result<Scenario, Stop> {
     let document = parsed(alloc, text)?;
-    scenario_of(alloc, &document)
-}
-
-/// The bench or the scenario that a text is.
-pub(crate) fn document_in(alloc: Global, text: &str) -> Result<Shown, Stop> {
-    let document = parsed(alloc, text)?;
-    if is_scenario(&document) {
-        match scenario_of(alloc, &document) {
-            Ok(scenario) => Ok(Shown::Scenario(scenario)),
-            Err(stop) => Err(stop),
-        }
-    } else {
-        match bench_of(alloc, &document) {
-            Ok(bench) => Ok(Shown::Bench(bench)),
-            Err(stop) => Err(stop),
-        }
+    let CheckedScenario { scenario, findings } = scenario_findings(alloc, &document)?;
+    match scenario {
+        Some(scenario) => Ok(scenario),
+        None => Err(no_scenario(alloc, &document, findings.as_slice())?),
     }
 }

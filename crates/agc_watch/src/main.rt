@@ -10,7 +10,6 @@ mod commands;
 mod cores;
 mod documents;
 mod files;
-mod naming;
 mod page;
 mod program;
 mod progress;

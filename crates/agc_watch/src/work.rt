@@ -1,27 +1,22 @@
 //! What each command does with its input, which is a text.
 use crate::checking::{check_document, check_script};
 use crate::cores::write_core;
-use crate::documents::{Shown, bench_in, document_in, scenario_in};
+use crate::documents::{bench_in, document_in, scenario_in};
 use crate::files::text_of;
-use crate::naming::columns_of;
 use crate::page::put_page;
 use crate::progress::Teller;
 use crate::stops::Stop;
 use crate::sweeping::write_sweep;
 use crate::words::{Asked, Input as Source, Show, Sweep, Task};
 use crate::workbench::Workbench;
-use agc_document::Bench;
 use agc_orders::{Options, Reach, Watch, explore};
-use agc_peaks::{
-    Outcome, bench_jobs, bench_outcome, bench_peaks, put_differences, scenario_bench,
-    scenario_jobs, scenario_outcome, scenario_peaks,
-};
-use agc_picture::{picture, scenario_picture, scenario_time_picture, time_picture};
+use agc_peaks::{Outcome, outcome_of, put_differences, scenario_bench, write_jobs, write_peaks};
+use agc_picture::{picture, time_picture};
 use agc_play::{Manner, PlayFault, play};
 use agc_program::Fault;
-use agc_scenario::Scenario;
+use agc_run::Subject;
 use agc_text::{ReadFault, read_script};
-use agc_trace::{Choice, Rows, trace, trace_script, trace_timetable};
+use agc_trace::{Choice, trace, trace_script};
 use std::alloc::Global;
 use std::io::{Input, Write};
 
@@ -43,64 +38,22 @@ fn write_page<W: Write>(
     }
 }
 
-/// Shows this of a text's bench.
-fn show_bench<W: Write>(
+/// Shows this of a bench or a scenario, which a text is.
+fn show_subject<W: Write>(
     rt: &HostRuntime,
     show: Show<'_>,
-    text: &str,
-    bench: &Bench,
+    (text, subject): (&str, Subject<'_>),
     progress: &mut Teller<'_>,
     writer: &mut W,
 ) -> Result<(), Stop> {
     let alloc = rt.alloc();
     let shown = match show {
         Show::Page(named) => return write_page(rt, named, text, writer),
-        Show::Peaks(csv) => return Ok(bench_peaks(alloc, bench, csv, writer)?),
-        Show::Jobs(csv) => return Ok(bench_jobs(alloc, bench, csv, writer)?),
-        Show::Trace(choice) => trace(alloc, bench, choice, progress, writer),
-        Show::Picture => picture(alloc, bench, progress, writer),
-        Show::TimePicture(span) => time_picture(alloc, bench, span, progress, writer),
-    };
-    match shown {
-        Ok(_watched) => Ok(()),
-        Err(fault) => Err(Stop::from(fault)),
-    }
-}
-
-/// Writes the trace of a scenario.
-fn trace_scenario<W: Write>(
-    alloc: Global,
-    choice: Choice,
-    scenario: &Scenario,
-    progress: &mut Teller<'_>,
-    writer: &mut W,
-) -> Result<(), Stop> {
-    let mut rows = Rows::new(alloc, choice, columns_of(alloc, scenario)?)?;
-    match trace_timetable(alloc, scenario, &mut rows, progress, writer) {
-        Ok(_watched) => Ok(()),
-        Err(fault) => Err(Stop::from(fault)),
-    }
-}
-
-/// Shows this of a text's scenario.
-fn show_scenario<W: Write>(
-    rt: &HostRuntime,
-    show: Show<'_>,
-    text: &str,
-    scenario: &Scenario,
-    progress: &mut Teller<'_>,
-    writer: &mut W,
-) -> Result<(), Stop> {
-    let alloc = rt.alloc();
-    let shown = match show {
-        Show::Page(named) => return write_page(rt, named, text, writer),
-        Show::Peaks(csv) => return Ok(scenario_peaks(alloc, scenario, csv, writer)?),
-        Show::Jobs(csv) => return Ok(scenario_jobs(alloc, scenario, csv, writer)?),
-        Show::Trace(choice) => return trace_scenario(alloc, choice, scenario, progress, writer),
-        Show::Picture => scenario_picture(alloc, scenario, progress, writer),
-        Show::TimePicture(span) => {
-            scenario_time_picture(alloc, scenario, span, progress, writer)
-        }
+        Show::Peaks(csv) => return Ok(write_peaks(alloc, subject, csv, writer)?),
+        Show::Jobs(csv) => return Ok(write_jobs(alloc, subject, csv, writer)?),
+        Show::Trace(choice) => trace(alloc, subject, choice, progress, writer),
+        Show::Picture => picture(alloc, subject, progress, writer),
+        Show::TimePicture(span) => time_picture(alloc, subject, span, progress, writer),
     };
     match shown {
         Ok(_watched) => Ok(()),
@@ -121,11 +74,8 @@ fn show_document<W: Write>(
         Show::Picture => true,
         _ => false,
     };
-    let shown = match document_in(rt.alloc(), text)? {
-        Shown::Bench(bench) => show_bench(rt, show, text, &bench, progress, writer),
-        Shown::Scenario(scenario) => show_scenario(rt, show, text, &scenario, progress, writer),
-    };
-    shown?;
+    let shown = document_in(rt.alloc(), text)?;
+    show_subject(rt, show, (text, shown.subject()), progress, writer)?;
     if is_whole {
         progress.tell_columns();
     }
@@ -220,10 +170,8 @@ fn sweep_scenario<W: Write>(
 
 /// What a text's document comes to.
 fn outcome_in(alloc: Global, text: &str) -> Result<Outcome, Stop> {
-    match document_in(alloc, text)? {
-        Shown::Bench(bench) => Ok(bench_outcome(alloc, &bench)?),
-        Shown::Scenario(scenario) => Ok(scenario_outcome(alloc, &scenario)?),
-    }
+    let shown = document_in(alloc, text)?;
+    Ok(outcome_of(alloc, shown.subject())?)
 }
 
 /// Writes what differs between a text's document and that of a file. The exit status is 0.

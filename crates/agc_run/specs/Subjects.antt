@@ -1,0 +1,38 @@
+-- What is run: a bench, or a scenario.
+use Rattle.std.specs.Prelude.{◌≡◌, List, Option, Some, None}
+use Rattle.agc_plan.specs.declared.request.Request.{Request}
+use Rattle.agc_machine.specs.Machines.{Machined}
+use Rattle.agc_scenario.specs.Scenarios.{Timed, schedule_of}
+use Rattle.agc_document.specs.Benches.{Benched}
+use Rattle.agc_session.specs.Runs.{bench_machine, bench_requests}
+use Rattle.agc_run.specs.Runs.{Asking, clock_requests, to_ask}
+use Rattle.agc_run.specs.declared.subject.Subject.{Subject}
+use Rattle.agc_run.specs.declared.subject.Subject.TheVariants.{Bench, Scenario}
+
+-- the bench that says on which machine it is run
+abbrev pub bench_of : Subject → Benched
+bench_of (Bench bench) = bench.now
+bench_of (Scenario scenario) = scenario.now.bench
+
+-- how time passes, in a scenario
+abbrev pub timing_of : Subject → Option Timed
+timing_of (Bench bench) = None
+timing_of (Scenario scenario) = Some scenario.now.timing
+
+-- this machine
+abbrev pub machine_of : Subject → Machined
+machine_of subject = bench_machine (bench_of subject)
+
+-- all for which a machine is asked: by a bench as one caller asks, or by the clock of a scenario
+abbrev pub requests_of : Subject → Machined → List Request
+requests_of (Bench bench) machine = bench_requests bench.now
+requests_of (Scenario scenario) machine =
+    clock_requests (schedule_of scenario.now.timing) machine
+
+-- and for which its own is asked
+abbrev pub asked_of : Subject → List Request
+asked_of subject = requests_of subject (machine_of subject)
+
+-- what is still to be asked is all for which a subject asks, of whatever machine
+abbrev pub IsOf : Subject → Asking → Type 0
+IsOf subject asks = (m : Machined) → to_ask m asks ≡ requests_of subject m

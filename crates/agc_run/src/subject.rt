@@ -1,0 +1,93 @@
+// What is run.
+ghost use Rattle.std.specs.Prelude.{◌≡◌, option_map, IfOk, IfErr};
+ghost use Rattle.agc_run.specs.Subjects.{IsOf, bench_of, machine_of, timing_of};
+ghost use Rattle.agc_scene.specs.Events.{watching_from};
+
+use crate::asks::Asks;
+use crate::run::Run;
+use crate::watching::WatchedRun;
+use agc_document::Bench;
+use agc_machine::Machine;
+use agc_scenario::{Scenario, Timing};
+use agc_session::{RunFault, machine_of};
+use std::alloc::Global;
+
+/// What is run: a bench, in the order of [`serial`](agc_session::serial), or a scenario. Source:
+/// profile.
+#[derive(Clone, Copy)]
+pub enum Subject<'a> {
+    Bench(&'a Bench),
+    Scenario(&'a Scenario),
+}
+
+impl<'a> Subject<'a> {
+    /// The bench that says on which machine it is run. Source: profile.
+    pub fn bench(self) -> &'a Bench
+        ensures { result.now ≡ bench_of self.entry }
+    {
+        match self {
+            Subject::Bench(bench) => bench,
+            Subject::Scenario(scenario) => scenario.bench(),
+        }
+    }
+
+    /// How time passes, if it is a scenario. Source: profile.
+    pub fn timing(self) -> Option<&'a Timing>
+        ensures { option_map (λ t. t.now) result ≡ timing_of self.entry }
+    {
+        match self {
+            Subject::Bench(_bench) => None,
+            Subject::Scenario(scenario) => Some(scenario.timing()),
+        }
+    }
+
+    /// Its machine, of which nothing was asked. Source: profile.
+    ///
+    /// # Errors
+    ///
+    /// `NoMemory`, and no other.
+    pub fn machine(self, alloc: Global) -> Result<Machine, RunFault>
+        ensures machine { IfOk result (λ m. m ≡ machine_of self.entry) }
+        ensures refused { IfErr result (λ e. e ≡ RunFault.NoMemory) }
+    {
+        machine_of(alloc, self.bench())
+    }
+
+    /// All for which a machine is asked. Source: profile.
+    pub fn asks(self) -> Asks<'a>
+        ensures { IsOf self.entry result }
+    {
+        match self {
+            Subject::Bench(bench) => Asks::of_bench(bench),
+            Subject::Scenario(scenario) => Asks::of_scenario(scenario.timing()),
+        }
+    }
+
+    /// Its run, of which nothing was asked. Source: profile.
+    ///
+    /// # Errors
+    ///
+    /// `NoMemory`, and no other.
+    pub fn run(self, alloc: Global) -> Result<Run<'a>, RunFault>
+        ensures machine { IfOk result (λ r. r.machine ≡ machine_of self.entry) }
+        ensures asks { IfOk result (λ r. IsOf self.entry r.asks) }
+        ensures refused { IfErr result (λ e. e ≡ RunFault.NoMemory) }
+    {
+        let machine = self.machine(alloc)?;
+        Ok(Run::new(machine, self.asks()))
+    }
+
+    /// The same, with its machine watched. Source: profile.
+    ///
+    /// # Errors
+    ///
+    /// `NoMemory`, and no other.
+    pub fn watched(self, alloc: Global) -> Result<WatchedRun<'a>, RunFault>
+        ensures watched { IfOk result (λ r. r.watching ≡ watching_from (machine_of self.entry)) }
+        ensures asks { IfOk result (λ r. IsOf self.entry r.asks) }
+        ensures refused { IfErr result (λ e. e ≡ RunFault.NoMemory) }
+    {
+        let machine = self.machine(alloc)?;
+        Ok(WatchedRun::new(machine, self.asks()))
+    }
+}
