@@ -1,9 +1,8 @@
 //! The table of a run's jobs.
 use crate::columns::{put_cells, put_spaces, seconds};
 use crate::ledger::{Kind, Ledger, Spent};
-use crate::rows::put_quoted;
 use agc_scenario::Timing;
-use agc_text::Filling::{Number, Octal, Seconds, Text};
+use agc_text::Filling::{Csv, Number, Octal, Seconds, Text};
 use agc_text::{Filling, Output, Pen};
 use std::io::Write;
 
@@ -157,7 +156,7 @@ fn put_row<W: Write>(
 fn put_csv<W: Write>(pen: &mut Pen<W>, name: Option<&str>, kind: &Kind, time: Option<u64>) {
     match name {
         None => pen.add(Octal(kind.at)),
-        Some(name) => put_quoted(pen, name),
+        Some(name) => pen.add(Csv(name)),
     }
     let unknown = if time.is_none() { Some("") } else { None };
     for cell in cells(kind, unknown) {

@@ -24,5 +24,5 @@ pub use finding::find_alarm;
 pub use jobs::write_jobs;
 pub use outcome::{Outcome, outcome_of};
 pub use peaks::write_peaks;
-pub use sweep::{Axis, Column, Watches, run_sweep};
+pub use sweep::{Axis, Column, run_sweep};
 pub use writing::scenario_bench;

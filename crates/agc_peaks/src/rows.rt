@@ -2,21 +2,9 @@
 use crate::columns::{put_cell, put_cells, put_spaces};
 use crate::sweep::Axis;
 use crate::tally::Found;
-use agc_text::Filling::{Number, Seconds, Text};
+use agc_text::Filling::{Csv, Number, Seconds, Text};
 use agc_text::{Output, Pen};
 use std::io::Write;
-
-/// Writes a name as a value of CSV: in quotes where it has a comma or a quote, each of these twice.
-pub(crate) fn put_quoted<W: Write>(pen: &mut Pen<W>, name: &str) {
-    if !name.contains(',') && !name.contains('"') {
-        pen.text(name);
-        return;
-    }
-    for part in name.split('"') {
-        pen.fill("\"", Text(part));
-        pen.text("\"");
-    }
-}
 
 /// How wide the column of a number is.
 fn width_of(axis: &Axis<'_>) -> usize {
@@ -33,8 +21,7 @@ pub(crate) fn put_names<W: Write>(
     let mut before = "";
     for axis in axes {
         if csv {
-            put_quoted(&mut pen, axis.name);
-            pen.text(",");
+            pen.put("{},", &[Csv(axis.name)]);
         } else {
             pen.text(before);
             before = "  ";

@@ -4,7 +4,7 @@ use crate::rows::{put_found, put_names};
 use crate::tally::Found;
 use agc_run::{Asks, Run};
 use agc_scenario::{Number, Scenario};
-use agc_session::{RunFault, machine_on};
+use agc_session::{Progress, RunFault, machine_on};
 use agc_word::Sets;
 use std::alloc::Global;
 use std::io;
@@ -58,11 +58,6 @@ impl Axis<'_> {
         self.from
             .saturating_add(self.step.max(1).saturating_mul(place))
     }
-}
-
-/// Receives a call after each run of a sweep.
-pub trait Watches {
-    fn ran(&mut self, done: u64, of: u64);
 }
 
 /// What is counted of a scenario's run on so many core sets.
@@ -121,21 +116,22 @@ pub(crate) fn values_of(axes: &[Axis<'_>], run: u64) -> [u64; 2] {
 /// # Errors
 ///
 /// `NoMemory`, and no further row is written. `Output`, where a write failed.
-pub fn run_sweep<P: Watches, W: Write>(
+pub fn run_sweep<P: Progress, W: Write>(
     alloc: Global,
     scenario: &mut Scenario,
     axes: &[Axis<'_>],
     csv: bool,
-    watches: &mut P,
+    progress: &mut P,
     writer: &mut W,
 ) -> Result<(), RunFault> {
     put_names(axes, csv, writer)?;
     let count = runs_of(axes);
+    progress.expect(count);
     for run in 0..count {
         let values = values_of(axes, run);
         let found = found_with(alloc, scenario, axes, &values)?;
         put_found(axes, csv, &values, &found, writer)?;
-        watches.ran(run.saturating_add(1), count);
+        progress.done();
     }
     Ok(())
 }

@@ -38,7 +38,7 @@ fn draw_all<D: Draws, P: Progress, W: Write>(
     while let Some((source, event)) = run.next() {
         form.draw(source, event);
         form.send(writer)?;
-        progress.asked();
+        progress.done();
     }
     Ok(())
 }

@@ -1,13 +1,13 @@
-// Who is told how far a run has come.
+// Who is told how far work has come.
 
-/// Whatever shows how far a run has come: it is given the number of requests that will be asked,
-/// and hears of each one that was. Source: profile.
+/// Whatever shows how far work has come that is counted, as the requests of a run or the runs of a
+/// sweep: it is given their number, and hears of each one that is done. Source: profile.
 pub trait Progress {
-    /// So many more requests will be asked. Source: profile.
+    /// So many more are to be done. Source: profile.
     fn expect(&mut self, count: u64);
 
-    /// One more request was asked. Source: profile.
-    fn asked(&mut self);
+    /// One more is done. Source: profile.
+    fn done(&mut self);
 }
 
 /// Reports go nowhere. Source: profile.
@@ -17,5 +17,5 @@ pub struct Silent;
 impl Progress for Silent {
     fn expect(&mut self, _count: u64) {}
 
-    fn asked(&mut self) {}
+    fn done(&mut self) {}
 }

@@ -32,7 +32,7 @@ fn trace_all<P: Progress, W: Write>(
         rows.pass(&event.request, run.clock());
         rows.add(run.watched(), source, &event);
         rows.send(writer)?;
-        progress.asked();
+        progress.done();
     }
     Ok(())
 }

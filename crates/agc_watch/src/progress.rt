@@ -1,30 +1,52 @@
-//! How far a run has come, in a line a second.
-use agc_peaks::Watches;
+//! How far work has come, in a line a second.
 use agc_session::Progress;
 use std::io::IsTerminal;
 use std::time::Instant;
 
-/// Of how many requests one looks at the clock.
-const STEP: u64 = 1024;
-
 /// A picture of more columns than these is said to be wide.
 const MOST_COLUMNS: u64 = 2000;
 
-/// One who says on standard error, each second, how many requests were asked, or how many runs of a
-/// sweep are done; who says nothing where no time is known at which the run began.
+/// What is counted.
+#[derive(Clone, Copy)]
+pub(crate) enum Counted {
+    Requests,
+    Runs,
+}
+
+impl Counted {
+    /// What it is called.
+    fn name(self) -> &'static str {
+        match self {
+            Counted::Requests => "requests",
+            Counted::Runs => "runs",
+        }
+    }
+
+    /// Of how many one looks at the clock.
+    fn step(self) -> u64 {
+        match self {
+            Counted::Requests => 1024,
+            Counted::Runs => 1,
+        }
+    }
+}
+
+/// One who says on standard error, each second, how many are done; who says nothing where no time
+/// is known at which the work began.
 #[derive(Drop)]
 pub(crate) struct Teller<'a> {
     rt: &'a HostRuntime,
     begun: Option<Instant>,
     seconds: u64,
+    counted: Counted,
     expected: u64,
-    asked: u64,
+    count: u64,
 }
 
 impl<'a> Teller<'a> {
-    /// A run begins now; its progress is reported if that is wanted, and wherever standard error is
-    /// a terminal.
-    pub(crate) fn new(rt: &'a HostRuntime, is_wanted: bool) -> Teller<'a> {
+    /// Work begins now, of which this is counted; its progress is reported if that is wanted, and
+    /// wherever standard error is a terminal.
+    pub(crate) fn new(rt: &'a HostRuntime, counted: Counted, is_wanted: bool) -> Teller<'a> {
         let begun = if is_wanted || rt.stderr().is_terminal() {
             Instant::now(rt).ok()
         } else {
@@ -34,14 +56,15 @@ impl<'a> Teller<'a> {
             rt,
             begun,
             seconds: 0,
+            counted,
             expected: 0,
-            asked: 0,
+            count: 0,
         }
     }
 
     /// Says how many columns a picture has, one for each request, if there are many.
     pub(crate) fn tell_columns(&self) {
-        let count = self.asked;
+        let count = self.count;
         if count > MOST_COLUMNS {
             let _ = eprintln!(self.rt;
                 "agc_watch: a column for each of {count} requests; --time draws seconds"
@@ -49,8 +72,8 @@ impl<'a> Teller<'a> {
         }
     }
 
-    /// Says how many of these are done, where a second has passed.
-    fn tell(&mut self, done: u64, of: u64, things: &str) {
+    /// Says how many are done, where a second has passed.
+    fn tell(&mut self) {
         let Some(begun) = self.begun else {
             return;
         };
@@ -60,7 +83,12 @@ impl<'a> Teller<'a> {
         let seconds = passed.as_secs();
         if seconds > self.seconds {
             self.seconds = seconds;
-            let _ = eprintln!(self.rt; "agc_watch: {done} of {of} {things}");
+            let (count, expected, name) = (self.count, self.expected, self.counted.name());
+            let _ = if expected == 0 {
+                eprintln!(self.rt; "agc_watch: {count} {name}")
+            } else {
+                eprintln!(self.rt; "agc_watch: {count} of {expected} {name}")
+            };
         }
     }
 }
@@ -70,18 +98,10 @@ impl Progress for Teller<'_> {
         self.expected = self.expected.saturating_add(count);
     }
 
-    fn asked(&mut self) {
-        self.asked = self.asked.saturating_add(1);
-        if self.asked % STEP == 0 {
-            self.tell(self.asked, self.expected, "requests");
-        }
-    }
-}
-
-impl Watches for Teller<'_> {
-    fn ran(&mut self, done: u64, of: u64) {
-        if done < of {
-            self.tell(done, of, "runs");
+    fn done(&mut self) {
+        self.count = self.count.saturating_add(1);
+        if self.count % self.counted.step() == 0 && self.count != self.expected {
+            self.tell();
         }
     }
 }

@@ -4,7 +4,7 @@ use crate::cores::write_core;
 use crate::documents::{bench_in, document_in, scenario_in};
 use crate::files::text_of;
 use crate::page::put_page;
-use crate::progress::Teller;
+use crate::progress::{Counted, Teller};
 use crate::stops::Stop;
 use crate::sweeping::write_sweep;
 use crate::words::{Asked, Input as Source, Show, Sweep, Task};
@@ -206,7 +206,11 @@ pub(crate) fn work<W: Write>(
     writer: &mut W,
 ) -> Result<u8, Stop> {
     let alloc = rt.alloc();
-    let mut progress = Teller::new(rt, asked.has_progress);
+    let counted = match asked.task {
+        Task::Sweep(_asked) => Counted::Runs,
+        _ => Counted::Requests,
+    };
+    let mut progress = Teller::new(rt, counted, asked.has_progress);
     match asked.task {
         Task::Show(show) => show_document(rt, show, text, &mut progress, writer),
         Task::Check => check_document(alloc, text, writer),
