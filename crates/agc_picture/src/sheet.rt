@@ -196,13 +196,15 @@ pub(crate) fn put_stolen(draft: &mut Draft, sheet: Sheet, scale: Scale, rows: &[
 }
 
 /// Where the middle of a number of the axis is, whose line is here: a long one is never cut, nor
-/// over the word to the left of the axis.
+/// does it touch the word to the left of the axis.
 fn number_at(scale: Scale, x: u64, time: u64) -> u64 {
-    let short = if time % 100 == 0 { 1_000_000 } else { 1_000 };
-    if time < short {
-        x
-    } else {
+    let long = if time % 100 == 0 { 1_000_000 } else { 1_000 };
+    if time >= long {
         x.max(LEFT + 28).min(scale.width.saturating_sub(54))
+    } else if time >= 10_000 {
+        x.max(LEFT + 14)
+    } else {
+        x
     }
 }
 
