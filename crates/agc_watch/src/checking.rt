@@ -1,12 +1,12 @@
 //! What is wrong with a document or a script, or else warnings and a summary of its run.
 use crate::documents::looked_at;
+use crate::program::StandardOutput;
 use crate::stops::Stop;
 use agc_check::{add_script_summary, bench_told, report_on, script_findings, script_told};
 use agc_findings::{Document, NoDocument};
 use agc_program::Fault;
 use agc_text::{put, read_script};
 use std::alloc::{AllocError, Global};
-use std::io::Write;
 
 /// Whether a document is the scenario or the bench that it is to be, and the report on it.
 fn document_report(alloc: Global, document: &Document<'_>) -> Result<(bool, String), AllocError> {
@@ -36,9 +36,9 @@ fn script_report(alloc: Global, text: &str) -> Result<(bool, String), AllocError
 }
 
 /// Writes a report. The exit status is 2 where something is wrong.
-fn write_report<W: Write>(
+fn write_report(
     report: Result<(bool, String), AllocError>,
-    writer: &mut W,
+    writer: &mut StandardOutput<'_>,
 ) -> Result<u8, Stop> {
     let (is_well, told) = report?;
     match put(writer, told.as_bytes()) {
@@ -48,19 +48,19 @@ fn write_report<W: Write>(
 }
 
 /// Writes what is wrong with a bench or a scenario, or else what is warned of.
-pub(crate) fn check_document<W: Write>(
+pub(crate) fn check_document(
     alloc: Global,
     text: &str,
-    writer: &mut W,
+    writer: &mut StandardOutput<'_>,
 ) -> Result<u8, Stop> {
     write_report(document_told(alloc, text), writer)
 }
 
 /// Writes what is wrong with a script, or else a summary of its run.
-pub(crate) fn check_script<W: Write>(
+pub(crate) fn check_script(
     alloc: Global,
     text: &str,
-    writer: &mut W,
+    writer: &mut StandardOutput<'_>,
 ) -> Result<u8, Stop> {
     write_report(script_report(alloc, text), writer)
 }

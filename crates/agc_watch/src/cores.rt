@@ -3,14 +3,17 @@ ghost use Rattle.std.specs.Prelude.{◌≡◌, ◌⊎◌, ◌+◌, ◌*◌, ◌<
 ghost use Rattle.agc_core.specs.Map.{HasPlace, HasSet, IsSets, IsWithin};
 
 use crate::files::{read_file, unread};
+use crate::program::StandardOutput;
 use crate::stops::Stop;
 use agc_check::add;
 use agc_core::{AgcMap, address_in, is_within, job_in, rule_in, task_in, word_in};
 use agc_program::Fault;
 use agc_text::Filling::{Number, Octal, Priority, Seconds, Text};
-use agc_text::{Pen, parse_word, read_all};
+use agc_text::{Draft, parse_word, read_all};
+use agc_word::layout::{
+    FAILREG, LAST_SET, LST1, LST2, NEWJOB, OTHERS_SIZE, PHASE_WORDS, SET_SIZE, TIME3, USE_WORDS,
+};
 use std::alloc::Global;
-use std::io::Write;
 use toml::Table;
 
 /// The addresses that a map has to have.
@@ -166,20 +169,24 @@ fn words_of(alloc: Global, text: &str) -> Result<Vec<u16>, Stop> {
     Ok(words)
 }
 
-/// Writes what a place of the words is called.
-fn put_place<W: Write>(pen: &mut Pen<W>, place: usize) {
-    let set = |set: usize| [Text(SET_WORDS[place % 12]), Number(set as u64)];
+/// Adds what a place of the words is called.
+fn put_place(draft: &mut Draft, place: usize) {
+    let set = |set: usize| [Text(SET_WORDS[place % SET_SIZE]), Number(set as u64)];
+    let behind = |first: usize| place.saturating_sub(first) as u64;
     match place {
-        0..=83 => pen.put("{} of core set {}", &set(place / 12)),
-        84..=88 => pen.put("VAC{}USE", &[Number(place as u64 - 83)]),
-        89 => pen.text("NEWJOB"),
-        90 => pen.text("TIME3"),
-        91..=98 => pen.put("LST1+{}", &[Number(place as u64 - 91)]),
-        99..=116 => pen.put("LST2+{}", &[Number(place as u64 - 99)]),
-        117..=128 if place % 2 == 1 => pen.put("-PHASE{}", &[Number((place as u64 - 115) / 2)]),
-        117..=128 => pen.put("PHASE{}", &[Number((place as u64 - 116) / 2)]),
-        129..=131 => pen.put("FAILREG+{}", &[Number(place as u64 - 129)]),
-        _ => pen.put("{} of core set {}", &set(7)),
+        0..USE_WORDS => draft.put("{} of core set {}", &set(place / SET_SIZE)),
+        USE_WORDS..NEWJOB => draft.put("VAC{}USE", &[Number(behind(USE_WORDS - 1))]),
+        NEWJOB => draft.text("NEWJOB"),
+        TIME3 => draft.text("TIME3"),
+        LST1..LST2 => draft.put("LST1+{}", &[Number(behind(LST1))]),
+        LST2..PHASE_WORDS => draft.put("LST2+{}", &[Number(behind(LST2))]),
+        PHASE_WORDS..FAILREG => {
+            let (group, is_phase) = (behind(PHASE_WORDS) / 2 + 1, behind(PHASE_WORDS) % 2 == 1);
+            draft.text(if is_phase { "" } else { "-" });
+            draft.fill("PHASE", Number(group));
+        }
+        FAILREG..LAST_SET => draft.put("FAILREG+{}", &[Number(behind(FAILREG))]),
+        _ => draft.put("{} of core set {}", &set(7)),
     }
 }
 
@@ -204,40 +211,40 @@ fn rule_text(rule: u32) -> &'static str {
     }
 }
 
-/// Writes who holds a core set.
-fn put_set<W: Write>(pen: &mut Pen<W>, memory: &[u16], map: &AgcMap, set: usize)
+/// Adds who holds a core set.
+fn put_set(draft: &mut Draft, memory: &[u16], map: &AgcMap, set: usize)
     requires within { IsWithin map.now (length memory.now) }
     requires set { HasSet map.now set }
 {
-    pen.fill("core set ", Number(set as u64));
+    draft.fill("core set ", Number(set as u64));
     let Some(job) = job_in(memory, map, set) else {
-        return pen.text(": free\n");
+        return draft.text(": free\n");
     };
-    pen.fill(": priority ", Priority(job.priority));
-    pen.text(if job.asleep { ", asleep" } else { "" });
-    pen.put(", LOC {}, BANKSET {}", &[Octal(job.at), Octal(job.bank)]);
+    draft.fill(": priority ", Priority(job.priority));
+    draft.text(if job.asleep { ", asleep" } else { "" });
+    draft.put(", LOC {}, BANKSET {}", &[Octal(job.at), Octal(job.bank)]);
     if job.area != 0 {
-        pen.fill(", VAC area ", Number(u64::from(job.area)));
+        draft.fill(", VAC area ", Number(u64::from(job.area)));
     }
-    pen.text("\n");
+    draft.text("\n");
 }
 
-/// Writes which VAC areas are taken.
-fn put_areas<W: Write>(pen: &mut Pen<W>, memory: &[u16], map: &AgcMap)
+/// Adds which VAC areas are taken.
+fn put_areas(draft: &mut Draft, memory: &[u16], map: &AgcMap)
     requires within { IsWithin map.now (length memory.now) }
     requires sets { HasSet map.now 0 }
 {
-    pen.text("VAC areas taken:");
+    draft.text("VAC areas taken:");
     for area in 0..5usize {
-        if word_in(memory, map, 84 + area) == 0 {
-            pen.fill(" ", Number(area as u64 + 1));
+        if word_in(memory, map, USE_WORDS + area) == 0 {
+            draft.fill(" ", Number(area as u64 + 1));
         }
     }
-    pen.text("\n");
+    draft.text("\n");
 }
 
-/// Writes which tasks wait.
-fn put_tasks<W: Write>(pen: &mut Pen<W>, memory: &[u16], map: &AgcMap)
+/// Adds which tasks wait.
+fn put_tasks(draft: &mut Draft, memory: &[u16], map: &AgcMap)
     requires within { IsWithin map.now (length memory.now) }
     requires sets { HasSet map.now 0 }
 {
@@ -248,41 +255,44 @@ fn put_tasks<W: Write>(pen: &mut Pen<W>, memory: &[u16], map: &AgcMap)
                 Octal(task.bank),
                 Seconds(u64::from(task.left)),
             ];
-            pen.put("task {}/{} in {} s\n", &told);
+            draft.put("task {}/{} in {} s\n", &told);
         }
     }
 }
 
-/// Writes the phases, FAILREG and NEWJOB.
-fn put_base<W: Write>(pen: &mut Pen<W>, memory: &[u16], map: &AgcMap)
+/// Adds the phases, FAILREG and NEWJOB.
+fn put_base(draft: &mut Draft, memory: &[u16], map: &AgcMap)
     requires within { IsWithin map.now (length memory.now) }
     requires sets { HasSet map.now 0 }
 {
-    pen.text("PHASE");
+    draft.text("PHASE");
     for group in 0..6usize {
-        pen.fill(" ", Octal(word_in(memory, map, 118 + 2 * group)));
+        draft.fill(
+            " ",
+            Octal(word_in(memory, map, PHASE_WORDS + 1 + 2 * group)),
+        );
     }
-    pen.text("\nFAILREG");
-    for place in 129..132usize {
-        pen.fill(" ", Octal(word_in(memory, map, place)));
+    draft.text("\nFAILREG");
+    for place in FAILREG..LAST_SET {
+        draft.fill(" ", Octal(word_in(memory, map, place)));
     }
-    pen.fill("\nNEWJOB ", Octal(word_in(memory, map, 89)));
-    pen.text("\n");
+    draft.fill("\nNEWJOB ", Octal(word_in(memory, map, NEWJOB)));
+    draft.text("\n");
 }
 
-/// Writes which words a model wouldn't hold.
-fn put_odd<W: Write>(pen: &mut Pen<W>, memory: &[u16], map: &AgcMap)
+/// Adds which words a model wouldn't hold.
+fn put_odd(draft: &mut Draft, memory: &[u16], map: &AgcMap)
     requires within { IsWithin map.now (length memory.now) }
     requires sets { IsSets map.now.sets }
 {
-    for place in 0..48 + 12 * map.sets as usize {
+    for place in 0..OTHERS_SIZE + SET_SIZE * map.sets as usize {
         let rule = rule_in(memory, map, place);
         if rule != 0 {
-            pen.text("odd: ");
-            put_place(pen, place);
+            draft.text("odd: ");
+            put_place(draft, place);
             let word = word_in(memory, map, place);
             let at = address_in(map, place).min(65535) as u16;
-            pen.put(
+            draft.put(
                 ", at {}, is {}: {}\n",
                 &[Octal(at), Octal(word), Text(rule_text(rule))],
             );
@@ -290,27 +300,27 @@ fn put_odd<W: Write>(pen: &mut Pen<W>, memory: &[u16], map: &AgcMap)
     }
 }
 
-/// Writes what a memory says, by a map.
-fn put_core<W: Write>(pen: &mut Pen<W>, memory: &[u16], map: &AgcMap)
+/// Adds what a memory says, by a map.
+fn put_core(draft: &mut Draft, memory: &[u16], map: &AgcMap)
     requires within { IsWithin map.now (length memory.now) }
     requires sets { IsSets map.now.sets }
 {
     for set in 0..map.sets as usize {
-        put_set(pen, memory, map, set);
+        put_set(draft, memory, map, set);
     }
-    put_areas(pen, memory, map);
-    put_tasks(pen, memory, map);
-    put_base(pen, memory, map);
-    put_odd(pen, memory, map);
+    put_areas(draft, memory, map);
+    put_tasks(draft, memory, map);
+    put_base(draft, memory, map);
+    put_odd(draft, memory, map);
 }
 
 /// Writes what the memory that a text is says, by the map in a file of this name. The exit status
 /// is 0.
-pub(crate) fn write_core<W: Write>(
+pub(crate) fn write_core(
     rt: &HostRuntime,
     name: &str,
     text: &str,
-    writer: &mut W,
+    writer: &mut StandardOutput<'_>,
 ) -> Result<u8, Stop> {
     let alloc = rt.alloc();
     let Read { map, skip } = read_map(rt, name)?;
@@ -319,9 +329,9 @@ pub(crate) fn write_core<W: Write>(
     if (map.sets != 7 && map.sets != 8) || !is_within(&map, memory.len()) {
         return Err(refused(alloc, &[name, ": a table is beyond the end of the memory"]));
     }
-    let mut pen = Pen::new(writer);
-    put_core(&mut pen, memory, &map);
-    match pen.end() {
+    let mut draft = Draft::new(alloc)?;
+    put_core(&mut draft, memory, &map);
+    match draft.send(writer) {
         Ok(()) => Ok(0),
         Err(_failed) => Err(Stop::Fault(Fault::Output)),
     }

@@ -5,7 +5,11 @@ use crate::words::{Asked, asked_for};
 use crate::work::work;
 use agc_play::Manner;
 use agc_program::{buffered, flushed, given_words};
+use std::io::{BufWriter, Printer};
 use std::process::ExitCode;
+
+/// Standard output, as the program writes to it: through a buffer.
+pub(crate) type StandardOutput<'a> = BufWriter<Printer<'a, HostRuntime>>;
 
 /// Does what is asked for of a text, and writes it through a buffer that is flushed at the end.
 /// Returns the exit status.

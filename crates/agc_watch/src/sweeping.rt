@@ -1,4 +1,5 @@
 //! Sweeps: which numbers of a scenario they exchange.
+use crate::program::StandardOutput;
 use crate::progress::Teller;
 use crate::stops::Stop;
 use crate::words::{Sweep, Values, refused_words};
@@ -9,7 +10,6 @@ use agc_text::add_word;
 use arrayvec::ArrayString;
 use std::alloc::{AllocError, Global};
 use std::fmt::Write as Told;
-use std::io::Write;
 
 /// How many jobs and events are listed at most.
 const MOST_KEYS: usize = 20;
@@ -83,12 +83,12 @@ fn axis_of<'a>(alloc: Global, scenario: &Scenario, values: Values<'a>) -> Result
 
 /// Writes what comes of each value of a scenario's number, or of two, or looks for one that raises
 /// an alarm.
-pub(crate) fn write_sweep<W: Write>(
+pub(crate) fn write_sweep(
     alloc: Global,
     asked: Sweep<'_>,
     scenario: &mut Scenario,
     progress: &mut Teller<'_>,
-    writer: &mut W,
+    writer: &mut StandardOutput<'_>,
 ) -> Result<(), Stop> {
     let first = axis_of(alloc, scenario, asked.first)?;
     let csv = asked.csv;

@@ -4,6 +4,7 @@ use crate::cores::write_core;
 use crate::documents::{bench_in, document_in, scenario_in};
 use crate::files::text_of;
 use crate::page::put_page;
+use crate::program::StandardOutput;
 use crate::progress::{Counted, Teller};
 use crate::stops::Stop;
 use crate::sweeping::write_sweep;
@@ -24,11 +25,11 @@ use std::io::{Input, Write};
 const MOST_BYTES: u64 = 1_048_576;
 
 /// Writes the page of a text, which is a document.
-fn write_page<W: Write>(
+fn write_page(
     rt: &HostRuntime,
     named: Option<&str>,
     text: &str,
-    writer: &mut W,
+    writer: &mut StandardOutput<'_>,
 ) -> Result<(), Stop> {
     let workbench = Workbench::found(rt, named)?;
     if put_page(rt.alloc(), workbench.text().as_bytes(), text, writer)? {
@@ -39,12 +40,12 @@ fn write_page<W: Write>(
 }
 
 /// Shows this of a bench or a scenario, which a text is.
-fn show_subject<W: Write>(
+fn show_subject(
     rt: &HostRuntime,
     show: Show<'_>,
     (text, subject): (&str, Subject<'_>),
     progress: &mut Teller<'_>,
-    writer: &mut W,
+    writer: &mut StandardOutput<'_>,
 ) -> Result<(), Stop> {
     let alloc = rt.alloc();
     let shown = match show {
@@ -63,12 +64,12 @@ fn show_subject<W: Write>(
 
 /// Shows this of a bench or a scenario, and says how wide a very wide picture is. The exit status
 /// is 0.
-fn show_document<W: Write>(
+fn show_document(
     rt: &HostRuntime,
     show: Show<'_>,
     text: &str,
     progress: &mut Teller<'_>,
-    writer: &mut W,
+    writer: &mut StandardOutput<'_>,
 ) -> Result<u8, Stop> {
     let is_whole = match show {
         Show::Picture => true,
@@ -83,12 +84,12 @@ fn show_document<W: Write>(
 }
 
 /// Writes the trace of a script. The exit status is 0.
-fn trace_requests<W: Write>(
+fn trace_requests(
     alloc: Global,
     choice: Choice,
     text: &str,
     progress: &mut Teller<'_>,
-    writer: &mut W,
+    writer: &mut StandardOutput<'_>,
 ) -> Result<u8, Stop> {
     match read_script(alloc, text) {
         Err(fault) => Err(Stop::Fault(Fault::Script(fault))),
@@ -103,11 +104,11 @@ fn trace_requests<W: Write>(
 
 /// Says what all orders of a bench come to. The exit status is 4 where an alarm can be reached, and
 /// 3 where that is undecided.
-fn explore_bench<W: Write>(
+fn explore_bench(
     rt: &HostRuntime,
     options: Options,
     text: &str,
-    writer: &mut W,
+    writer: &mut StandardOutput<'_>,
 ) -> Result<u8, Stop> {
     let bench = bench_in(rt.alloc(), text)?;
     match explore(rt.alloc(), &bench, options, &mut Watch::new(rt), writer) {
@@ -129,11 +130,11 @@ fn play_fault(fault: PlayFault) -> Fault {
 }
 
 /// Answers the lines of standard input, from a bench on. The exit status is 0.
-fn play_bench<W: Write>(
+fn play_bench(
     rt: &HostRuntime,
     manner: Manner,
     text: &str,
-    writer: &mut W,
+    writer: &mut StandardOutput<'_>,
 ) -> Result<u8, Stop> {
     let bench = bench_in(rt.alloc(), text)?;
     match play(rt, &bench, manner, &mut rt.reader(), writer) {
@@ -143,7 +144,7 @@ fn play_bench<W: Write>(
 }
 
 /// Writes the bench that a scenario comes to. The exit status is 0.
-fn write_bench<W: Write>(alloc: Global, text: &str, writer: &mut W) -> Result<u8, Stop> {
+fn write_bench(alloc: Global, text: &str, writer: &mut StandardOutput<'_>) -> Result<u8, Stop> {
     let scenario = scenario_in(alloc, text)?;
     let bytes = scenario_bench(alloc, &scenario, writer)?;
     if bytes <= MOST_BYTES {
@@ -156,12 +157,12 @@ fn write_bench<W: Write>(alloc: Global, text: &str, writer: &mut W) -> Result<u8
 }
 
 /// Writes a sweep of a scenario. The exit status is 0.
-fn sweep_scenario<W: Write>(
+fn sweep_scenario(
     alloc: Global,
     asked: Sweep<'_>,
     text: &str,
     progress: &mut Teller<'_>,
-    writer: &mut W,
+    writer: &mut StandardOutput<'_>,
 ) -> Result<u8, Stop> {
     let mut scenario = scenario_in(alloc, text)?;
     write_sweep(alloc, asked, &mut scenario, progress, writer)?;
@@ -175,11 +176,11 @@ fn outcome_in(alloc: Global, text: &str) -> Result<Outcome, Stop> {
 }
 
 /// Writes what differs between a text's document and that of a file. The exit status is 0.
-fn compare_with<W: Write>(
+fn compare_with(
     rt: &HostRuntime,
     second: &str,
     text: &str,
-    writer: &mut W,
+    writer: &mut StandardOutput<'_>,
 ) -> Result<u8, Stop> {
     let input = match second {
         "-" => Source::Standard,
@@ -198,12 +199,12 @@ fn compare_with<W: Write>(
 /// takes: a bench or a scenario where it shows or checks a document, a bench where it explores or
 /// plays, a scenario where it writes a bench or a sweep, two documents where it compares, and else
 /// a script.
-pub(crate) fn work<W: Write>(
+pub(crate) fn work(
     rt: &HostRuntime,
     asked: &Asked<'_>,
     manner: Manner,
     text: &str,
-    writer: &mut W,
+    writer: &mut StandardOutput<'_>,
 ) -> Result<u8, Stop> {
     let alloc = rt.alloc();
     let counted = match asked.task {
