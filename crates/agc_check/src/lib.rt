@@ -23,4 +23,4 @@ pub use saying::{Piece, Said, add, add_decimal, put, said};
 pub use script::{Finding, script_findings, script_told};
 pub use telling::{add_script_summary, report_on};
 pub use warning::Warned;
-pub use warnings::warnings;
+pub use warnings::warnings_of;

@@ -3,7 +3,7 @@ use crate::bench::add_where;
 use crate::ran::{Ran, run_requests, run_subject};
 use crate::saying::{Piece, Said, add_decimal, put};
 use crate::warning::{LOG_FULL, Warned};
-use crate::warnings::warnings;
+use crate::warnings::warnings_of;
 use agc_document::Place;
 use agc_findings::{line_at, places_in};
 use agc_plan::Request;
@@ -103,7 +103,7 @@ pub fn report_on(
     subject: Subject<'_>,
 ) -> Result<String, AllocError> {
     let ran = run_subject(alloc, subject)?.1;
-    let warned = warnings(alloc, subject, &ran)?;
+    let warned = warnings_of(alloc, subject, &ran)?;
     let mut told = warnings_told(alloc, document, warned.as_slice())?;
     match add_summary(&mut told, &ran) {
         Ok(()) => Ok(told),

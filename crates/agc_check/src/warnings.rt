@@ -227,7 +227,11 @@ impl Found {
 /// # Errors
 ///
 /// Where there is no memory.
-pub fn warnings(alloc: Global, subject: Subject<'_>, ran: &Ran) -> Result<Vec<Warned>, AllocError> {
+pub fn warnings_of(
+    alloc: Global,
+    subject: Subject<'_>,
+    ran: &Ran,
+) -> Result<Vec<Warned>, AllocError> {
     let mut found = Found::new(alloc);
     if let Subject::Scenario(scenario) = subject {
         note_timing(alloc, &mut found, scenario)?;
