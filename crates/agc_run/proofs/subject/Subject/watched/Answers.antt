@@ -1,0 +1,6 @@
+use Rattle.std.proofs.Common.{◌∙◌, ap}
+use Rattle.agc_scene.specs.Events.{watching_from}
+use Rattle.agc_run.proofs.subject.Subject.watched.Goals as goal
+
+pub returns-clause-watched : goal.returns-clause-watched
+returns-clause-watched c = c.new.ensures.watched ∙ ap watching_from c.in_ok-machine.ensures.machine
