@@ -21,6 +21,9 @@ const TABLES = {
   0o1203: { text: "Nine tasks wait", part: "tasks" },
 };
 
+/** At most so many percent of idle time are hardly any. */
+const HARDLY = 2;
+
 /** How many letters of a name are shown in a cell. */
 const MOST_LETTERS = 24;
 
@@ -174,9 +177,10 @@ function balance(run, { row, era, begun, ended, step }) {
   if (step === null || step.number === 0o1203) return [];
   const since = era === 0 ? "the beginning" : `the restart of request ${era}`;
   const jobs = `${counted(begun, "job")} began and ${ended} ended`;
-  const idle = run.bench.seconds === undefined ? ""
-    : `, and the computer was idle ${run.idlePercent(era, row)} % of the time`;
-  return [` Since ${since} ${jobs}${idle}.`];
+  if (run.bench.seconds === undefined) return [` Since ${since} ${jobs}.`];
+  const idle = run.idlePercent(era, row);
+  const end = idle <= HARDLY ? " There was hardly any time to end more." : "";
+  return [` Since ${since} ${jobs}, and the computer was idle ${idle} % of the time.${end}`];
 }
 
 /**

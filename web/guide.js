@@ -49,7 +49,8 @@ export class Guide {
         + "pale while it waits, hatched while it sleeps. Press Run.",
       "Time passes. Every two seconds a guidance job begins, and it ends too late: the lanes fill up.",
       "Alarm 1202: all seven core sets were in use as one more job was asked for. “Why?” shows "
-        + "who held them. What would have prevented it? Guess, then move Stolen time to 0.",
+        + "who held them. What would have prevented it? A radar steals 15 % of the time: guess, then move "
+        + "Stolen time to 0.",
       workbench.view.run.alarms.length === 0
         ? "No alarm any more: the guidance now ends in time. Before and after are on the chart. "
           + "Try other numbers, or press New for an empty machine."

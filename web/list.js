@@ -6,7 +6,7 @@
  * @typedef {import("../libagc/js/machine.js").Scene} Scene
  * @typedef {import("./account.js").Names} Names
  */
-import { by, fill, make } from "./dom.js";
+import { by, fill, make, withCode } from "./dom.js";
 import { octal } from "./words.js";
 
 /** How many lines the list has, also where there are fewer rows. */
@@ -198,4 +198,15 @@ export function drawPrinted(run, count, names, [title, outcome, plan], account) 
   const plans = plan === "" ? [] : [make("h2", {}, "Plan"), make("pre", { class: "plan" }, plan)];
   fill("printed", [make("h1", {}, title), make("p", {}, outcome), make("canvas", { id: "printed-chart" }),
     make("h2", {}, "Requests"), ...more, make("table", {}, head, body), ...plans]);
+}
+
+/**
+ * An exercise for paper: its title, its question and its document, and room for what is expected.
+ * @param {string} question
+ * @param {string} document
+ */
+export function printQuestion(question, document) {
+  const [title, ...lines] = question.split("\n");
+  fill("printed", [make("h1", {}, title), make("p", {}, ...withCode(lines.join(" "))), make("pre", {}, document.trim()),
+    make("p", {}, "What I expect: ____________________________________________________________")]);
 }

@@ -13,7 +13,7 @@ import { button, by, closeDialog, fill, make, openDialog, withCode } from "./dom
 import * as files from "./files.js";
 import { drawCommon, drawTurns } from "./forms.js";
 import { History, parting } from "./history.js";
-import { drawList, drawPrinted } from "./list.js";
+import { drawList, drawPrinted, printQuestion } from "./list.js";
 import { openPlan } from "./plan.js";
 import { MOST_ASKED, NO_SOURCE, Run, afterOf } from "./run.js";
 import { Editor } from "./editor.js";
@@ -609,6 +609,12 @@ class Workbench {
 
   print() {
     const { run, count } = this.view;
+    const { question, document } = this.source;
+    // (an exercise whose answer is hidden is printed as it is asked)
+    if (this.isHidden) {
+      printQuestion(question, document);
+      return;
+    }
     const plan = (this.clock.document(run) ?? files.benchOf(run, 0)).trim();
     const outcome = `${new Strip(run, count, 1).text} ${run.about}`;
     drawPrinted(run, count, this.names, [run.title, outcome, plan], (shown) =>

@@ -12,9 +12,17 @@ const MOST_PERIODS = 8;
 
 /**
  * @typedef {import("./run.js").Run} Run
- * @typedef {{ name: string, value: number, min: number, max: number, unit: string,
+ * @typedef {{ name: string, value: number, min: number, max: number, unit: string, what: string,
  *   given: (value: number) => any }} Number
  */
+
+/** What the sliders are about. */
+const WHAT = {
+  stolen: "What part of the computing time is taken away from the jobs",
+  cost: "How much computing time each such job needs before it ends",
+  period: "After how long it comes again",
+  sets: "How many jobs can be alive at once",
+};
 
 /** A line that lists a task once more, from the action of the task itself. */
 const AGAIN = /^list ([0-9]+) ([0-7]{5}) ([0-7]{5})$/;
@@ -29,13 +37,13 @@ function periodsOf({ task, event }) {
     .filter(({ row, found }) => found !== null && found[2] === row.at && found[3] === row.bank)
     .map(({ row, k, n, found }) => ({
       ...{ name: `${visible(row.name ?? row.at)} every`, value: Number(found?.[1]), min: 1 },
-      ...{ max: Math.min(16250, Math.max(400, 2 * Number(found?.[1]))), unit: "cs" },
+      ...{ max: Math.min(16250, Math.max(400, 2 * Number(found?.[1]))), unit: "cs", what: WHAT.period },
       given: (/** @type {number} */ value) => ({ task: task.map((one, m) => (m !== k ? one
         : { ...one, action: one.action.map((it, i) => (i === n ? `list ${value} ${one.at} ${one.bank}` : it)) })) }),
     }));
   const events = event.flatMap((row, k) => (row.every === undefined ? [] : [{
     ...{ name: `${visible(row.name ?? `event ${k + 1}`)} every`, value: row.every, min: 1 },
-    ...{ max: Math.max(400, 2 * row.every), unit: "cs" },
+    ...{ max: Math.max(400, 2 * row.every), unit: "cs", what: WHAT.period },
     given: (/** @type {number} */ every) =>
       ({ event: event.map((one, m) => (m === k ? { ...one, every } : one)) }),
   }]));
@@ -49,16 +57,16 @@ function periodsOf({ task, event }) {
 function numbersOf(bench) {
   const { steal, job } = bench;
   const now = typeof steal === "number" ? steal : steal.at(-1)?.percent ?? 0;
-  const stolen = { name: "Stolen time", value: now, min: 0, max: 100, unit: "%",
+  const stolen = { name: "Stolen time", value: now, min: 0, max: 100, unit: "%", what: WHAT.stolen,
     given: (/** @type {number} */ value) => ({ steal: value }) };
   const costs = job.slice(0, MOST_COSTS).map((it, k) => ({
     ...{ name: visible(it.name ?? it.at), value: it.cost, min: 1, max: Math.max(400, 2 * it.cost) },
-    unit: "cs",
+    ...{ unit: "cs", what: WHAT.cost },
     given: (/** @type {number} */ cost) =>
       ({ job: job.map((one, n) => (n === k ? { ...one, cost } : one)) }),
   }));
   if (bench.seconds === undefined) return [stolen, ...costs];
-  const sets = { name: "Core sets", value: bench.sets ?? 7, min: 7, max: 8, unit: "",
+  const sets = { name: "Core sets", value: bench.sets ?? 7, min: 7, max: 8, unit: "", what: WHAT.sets,
     given: (/** @type {number} */ value) => ({ sets: value }) };
   return [stolen, ...costs, ...periodsOf(bench), sets];
 }
@@ -112,7 +120,7 @@ export class Sliders {
   /** @param {Number} number */
   row(number) {
     const output = make("output", {});
-    const { name, min, max } = number;
+    const { name, min, max, what } = number;
     const field = make("input", { type: "range", min, max, step: 1, "aria-label": name });
     field.value = String(number.value);
     this.shown.set(name, { field, output, number });
@@ -127,7 +135,7 @@ export class Sliders {
       this.ask(name);
       this.moved = null;
     });
-    return make("label", {}, make("span", {}, name), field, output);
+    return make("label", { title: what }, make("span", {}, name), field, output);
   }
 
   /** @param {string} name */

@@ -80,7 +80,7 @@ export class Stage {
   }
 
   /**
-   * Draws all of the run for paper.
+   * Draws for paper what is seen of the run.
    * @param {HTMLCanvasElement} canvas
    */
   print(canvas) {
@@ -88,7 +88,9 @@ export class Stage {
     const isShown = count > 0 && !this.workbench.isHidden;
     canvas.hidden = !isShown;
     if (isShown) {
-      drawLanes(canvas, new Scale(run, count), this.workbench.colours, { high: 16, isBrief: false, width: PAPER_WIDE });
+      const scale = new Scale(run, count);
+      if (this.scale !== null) scale.like(this.scale);
+      drawLanes(canvas, scale, this.workbench.colours, { high: 16, isBrief: false, width: PAPER_WIDE });
     }
   }
 

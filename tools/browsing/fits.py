@@ -137,7 +137,8 @@ def try_why(browser, trial, path):
             time.sleep(0.1)
         trial.expect(f"the account isn't seen at {size}", browser.value(SEEN))
         told = browser.value("document.querySelector('#account li').textContent")
-        trial.expect(f"first is told: {told}", told.startswith("A job is in each core set. Since the beginning 48 jobs began and 41 ended"))
+        trial.expect(f"first is told: {told}", told == "A job is in each core set. Since the beginning 48 jobs began and 41 ended, and the computer was idle 0 % "
+                     "of the time. There was hardly any time to end more. Job 3 ran.")
         light = browser.text("dsky")
         trial.expect(f"at the alarm: {light}", light == "PROG onVERB 05 NOUN 09: 01202 00000 01202")
 

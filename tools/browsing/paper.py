@@ -54,11 +54,44 @@ def paper(browser, folder):
             trial.expect(f"{cells}", last - first == round(100 * (ended - begun)))
     browser.scheme("light")
     print_long(browser, trial)
+    try_question(browser, trial, save(folder, "asked", written(PROGRAM, "page", "")))
+    try_seen(browser, trial, f"{folder}/asked.html")
     for name, most in ("landing-1202", 4), ("landing", 4), ("apollo-11", 8):
         browser.show(save(folder, "paper", written(PROGRAM, "page", "")), f"#{name}")
         pages, first = printed(browser)
         trial.expect(f"{name} is printed on {pages} pages, with {first} first", pages <= most and first.startswith("h1 p canvas h2 "))
     return trial.faults
+
+
+def try_question(browser, trial, path):
+    """An exercise whose answer is hidden is printed as it is asked, and afterwards with what came of it."""
+    browser.show(path, "#exercise-1")
+    browser.value("window.dispatchEvent(new Event('beforeprint'))")
+    told = browser.text("printed")
+    trial.expect(f"an exercise on paper: {told}", told.startswith("Which request raised the alarm?Keep two counts") and "findvac 20 02000" in told
+                 and not re.search("alarm [0-9]|120[0-9]", told))
+    browser.click("show-answer")
+    browser.value("window.dispatchEvent(new Event('beforeprint'))")
+    trial.expect("the answer isn't printed", "alarm 1201" in browser.text("printed"))
+
+
+# How many points of the alarm's red are left of the middle of the printed chart, and right of it.
+RED = """(() => {
+  const it = document.getElementById('printed-chart');
+  const { data } = it.getContext('2d').getImageData(0, 30, it.width, 1);
+  const red = Array.from({ length: it.width }, (_, k) => k).filter((k) => data[4 * k] > 120 && data[4 * k + 1] < 60 && data[4 * k + 2] < 60);
+  return [red.filter((k) => k < it.width / 2).length, red.filter((k) => k >= it.width / 2).length];
+})()"""
+
+
+def try_seen(browser, trial, path):
+    """What is seen of the chart is printed: all of it, or the part around an alarm."""
+    for key, wanted in ("f", (True, False)), ("x", (False, True)):
+        browser.show(path, "#landing-1202")
+        browser.press(key)
+        browser.value("window.dispatchEvent(new Event('beforeprint'))")
+        red = browser.value(RED)
+        trial.expect(f"the printed alarm after {key}: {red}", (red[0] > 0, red[1] > 0) == wanted)
 
 
 def printed(browser):

@@ -37,6 +37,9 @@ def whatif(browser, folder):
 def try_changes(browser, trial):
     names = texts(browser, "#sliders label span")
     trial.expect(f"the sliders: {names}", names == "Stolen time|SERVICER|display|READACCS every|MONITOR every|Core sets")
+    told = browser.value("Array.from(document.querySelectorAll('#sliders label'), (it) => it.title.split(' ').slice(0, 4).join(' ')).join('|')")
+    trial.expect(f"what the sliders are about: {told}", told == "What part of the|How much computing time|How much computing time|"
+                 "After how long it|After how long it|How many jobs can")
     set_slider(browser, 0)
     told = browser.text("outcome"), browser.text("differs")
     trial.expect(f"at the alarm, none stolen: {told}", "Now: no alarm" in told[0] and told[1] == "This run differs from its document: steal 0 % (document: 15 %).")
