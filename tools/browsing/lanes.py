@@ -4,7 +4,7 @@ import re
 import time
 
 from browsing.browser import LAPTOP, PHONE, SIZES
-from browsing.pages import DRAWN, PROGRAM, Trial, go_to, open_text, says, save, table, written
+from browsing.pages import DRAWN, PROGRAM, TOP, Trial, go_to, open_text, says, save, table, written
 
 # Two jobs of different names in turn, one that sleeps, an event with a name, and an alarm at the end.
 LANED = "seconds = 20\nsteal = 20\n" + "".join((
@@ -93,8 +93,34 @@ def lanes(browser, folder):
         runs, waits, ground = browser.value(f"{DRAWN}.then(() => {APART})", True)
         trial.expect(f"{scheme}: runs {runs}, waits {waits}, ground {ground}", abs(runs - ground) > 1.4 * abs(waits - ground) > 20)
     browser.scheme("light")
+    try_alike(browser, trial, save(folder, "alike", written(PROGRAM, "page", "")))
     trial.expect(f"{browser.shown()['broken']}", not browser.shown()["broken"])
     return trial.faults
+
+
+# The boxes of three core sets: their classes, and what colours they have.
+BOXES = """Array.from(document.querySelectorAll('#sets li')).slice(1, 4).map((it) => [it.className.match(/s[1-8]/)[0],
+  '#' + getComputedStyle(it).backgroundColor.match(/[0-9]+/g).map((one) => Number(one).toString(16).padStart(2, '0')).join('')])"""
+
+
+def try_alike(browser, trial, path):
+    """The picture that agc_watch draws of the flight, with time, has the page's lanes, marks and colours, by name."""
+    with open(f"{TOP}/examples/apollo-11.svg", encoding="utf-8") as file:
+        drawn = file.read()
+    texts_of = re.findall(r"<text([^>]*)>([^<]*)", drawn)
+    browser.show(path, "#apollo-11")
+    browser.press("a")
+    for name, (kind, colour) in zip(("waits 1", "waits 2", "waits 3"), browser.value(BOXES)):
+        marked = {mark for given, text in texts_of if text == name for mark in re.findall('class="on-h([1-8])"', given)}
+        trial.expect(f"{name} is {kind} on the page, and {marked} in the picture", marked == {kind[1]})
+        trial.expect(f"{name} is {colour} on the page", f".{kind}{{fill:{colour}}}" in drawn)
+    names = browser.value("Array.from(document.querySelectorAll('#lane-names li'), (it) => it.textContent)")
+    lanes_drawn = [text for _, text in texts_of]
+    trial.expect(f"lanes {names}", len(names) == 12 and all(it in lanes_drawn or it == "areas" for it in names))
+    for it in "area 1", "area 5", "events", "ignition", "V16N68", "P64", "27 %", "1202", "1201", "Bright: the job runs; pale: it waits; hatched: it sleeps.":
+        trial.expect(f"the picture lacks {it}", it in lanes_drawn)
+    for k, colour in enumerate(BRIGHT):
+        trial.expect(f"the picture's colour {k + 1} isn't {colour}", f".j{k + 1}{{fill:{colour}}}" in drawn)
 
 
 # The colours down the lanes at a part of the width, as far as they are plain.
