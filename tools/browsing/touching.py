@@ -173,7 +173,8 @@ def try_flown(browser, trial, path):
 # What the glossary and the model's description both say of the field's words.
 BOTH = {"sets": ("the address at which it begins, its priority and six work words", "The job in core set 0 runs, unless every job is asleep"),
         "areas": ("a longer block of memory",), "tasks": ("There is room for nine",),
-        "phases": ("There are six restart groups, and each has a phase",), "codes": ("FAILREG keeps the codes of alarms",)}
+        "phases": ("There are six restart groups, and each has a phase",), "codes": ("FAILREG keeps the codes of alarms",),
+        "newjob": ("NEWJOB names the job that is more urgent than the running one",)}
 
 
 def try_words(browser, trial, path):
