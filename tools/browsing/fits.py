@@ -114,6 +114,10 @@ def fits(browser, folder):
                 trial.expect(f"{name}, {scheme}: contrast {fault}", False)
     try_why(browser, trial, path)
     try_typing(browser, trial, path)
+    browser.width(1920, 1080)
+    browser.show(path, "#landing-1202&at=3128")
+    left = browser.value("innerWidth - Math.max(...Array.from(document.querySelectorAll('#rows th, #lines td'), (it) => it.getBoundingClientRect().right))")
+    trial.expect(f"the list of a landing at 1920 points: {left} are left", left >= 0)
     browser.width(*LAPTOP)
     trial.expect(f"{browser.shown()['broken']}", not browser.shown()["broken"])
     return trial.faults
