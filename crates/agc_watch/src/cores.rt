@@ -3,7 +3,7 @@ ghost use Rattle.std.specs.Prelude.{◌≡◌, ◌⊎◌, ◌+◌, ◌*◌, ◌<
 ghost use Rattle.agc_core.specs.Map.{HasPlace, HasSet, IsSets, IsWithin};
 
 use crate::files::{read_file, unread};
-use crate::program::StandardOutput;
+use crate::program::Console;
 use crate::stops::Stop;
 use agc_check::add;
 use agc_core::{AgcMap, address_in, is_within, job_in, rule_in, task_in, word_in};
@@ -71,7 +71,10 @@ fn address_at(table: &Table, key: &str) -> Option<u32> {
 fn wanted_at(alloc: Global, name: &str, table: &Table, key: &str) -> Result<u32, Stop> {
     match address_at(table, key) {
         Some(address) => Ok(address),
-        None => Err(refused(alloc, &[name, ": ", key, " has to be five octal digits"])),
+        None if table.contains_key(key) => {
+            Err(refused(alloc, &[name, ": ", key, " has to be five octal digits"]))
+        }
+        None => Err(refused(alloc, &[name, ": the key '", key, "' is missing"])),
     }
 }
 
@@ -316,14 +319,9 @@ fn put_core(draft: &mut Draft, memory: &[u16], map: &AgcMap)
 
 /// Writes what the memory that a text is says, by the map in a file of this name. The exit status
 /// is 0.
-pub(crate) fn write_core(
-    rt: &HostRuntime,
-    name: &str,
-    text: &str,
-    writer: &mut StandardOutput<'_>,
-) -> Result<u8, Stop> {
-    let alloc = rt.alloc();
-    let Read { map, skip } = read_map(rt, name)?;
+pub(crate) fn write_core(console: &mut Console<'_>, name: &str, text: &str) -> Result<u8, Stop> {
+    let alloc = console.rt.alloc();
+    let Read { map, skip } = read_map(console.rt, name)?;
     let words = words_of(alloc, text)?;
     let memory = words.as_slice().get(skip..).unwrap_or(&[]);
     if (map.sets != 7 && map.sets != 8) || !is_within(&map, memory.len()) {
@@ -331,7 +329,7 @@ pub(crate) fn write_core(
     }
     let mut draft = Draft::new(alloc)?;
     put_core(&mut draft, memory, &map);
-    match draft.send(writer) {
+    match draft.send(&mut console.output) {
         Ok(()) => Ok(0),
         Err(_failed) => Err(Stop::Fault(Fault::Output)),
     }

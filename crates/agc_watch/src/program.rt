@@ -1,5 +1,6 @@
 //! What the program does: the words, the reading, the work, in this order.
 use crate::files::text_of;
+use crate::progress::Teller;
 use crate::stops::{Stop, ended_early};
 use crate::words::{Asked, asked_for};
 use crate::work::work;
@@ -11,6 +12,14 @@ use std::process::ExitCode;
 /// Standard output, as the program writes to it: through a buffer.
 pub(crate) type StandardOutput<'a> = BufWriter<Printer<'a, HostRuntime>>;
 
+/// What a command works with: the process, who hears how far it has come, and standard output.
+#[derive(Drop)]
+pub(crate) struct Console<'a> {
+    pub(crate) rt: &'a HostRuntime,
+    pub(crate) progress: Teller<'a>,
+    pub(crate) output: StandardOutput<'a>,
+}
+
 /// Does what is asked for of a text, and writes it through a buffer that is flushed at the end.
 /// Returns the exit status.
 fn work_buffered(
@@ -19,9 +28,13 @@ fn work_buffered(
     manner: Manner,
     text: &str,
 ) -> Result<u8, Stop> {
-    let mut output = buffered(rt)?;
-    let status = work(rt, asked, manner, text, &mut output)?;
-    flushed(&mut output)?;
+    let mut console = Console {
+        rt,
+        progress: Teller::new(rt, asked.task.counted(), asked.has_progress),
+        output: buffered(rt)?,
+    };
+    let status = work(&mut console, asked, manner, text)?;
+    flushed(&mut console.output)?;
     Ok(status)
 }
 

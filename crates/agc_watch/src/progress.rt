@@ -22,11 +22,11 @@ impl Counted {
         }
     }
 
-    /// Of how many one looks at the clock.
-    fn step(self) -> u64 {
+    /// Whether one looks at the clock when so many are done.
+    fn looks_after(self, count: u64) -> bool {
         match self {
-            Counted::Requests => 1024,
-            Counted::Runs => 1,
+            Counted::Requests => count % 1024 == 0,
+            Counted::Runs => true,
         }
     }
 }
@@ -100,7 +100,7 @@ impl Progress for Teller<'_> {
 
     fn done(&mut self) {
         self.count = self.count.saturating_add(1);
-        if self.count % self.counted.step() == 0 && self.count != self.expected {
+        if self.counted.looks_after(self.count) && self.count != self.expected {
             self.tell();
         }
     }

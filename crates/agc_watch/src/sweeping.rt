@@ -1,6 +1,6 @@
 //! Sweeps: which numbers of a scenario they exchange.
-use crate::program::StandardOutput;
-use crate::progress::Teller;
+use crate::documents::scenario_in;
+use crate::program::Console;
 use crate::stops::Stop;
 use crate::words::{Sweep, Values, refused_words};
 use agc_check::add;
@@ -81,25 +81,25 @@ fn axis_of<'a>(alloc: Global, scenario: &Scenario, values: Values<'a>) -> Result
     }
 }
 
-/// Writes what comes of each value of a scenario's number, or of two, or looks for one that raises
-/// an alarm.
+/// Writes what comes of each value of a number of the scenario that a text is, or of two, or looks
+/// for one that raises an alarm. The exit status is 0.
 pub(crate) fn write_sweep(
-    alloc: Global,
+    console: &mut Console<'_>,
     asked: Sweep<'_>,
-    scenario: &mut Scenario,
-    progress: &mut Teller<'_>,
-    writer: &mut StandardOutput<'_>,
-) -> Result<(), Stop> {
-    let first = axis_of(alloc, scenario, asked.first)?;
+    text: &str,
+) -> Result<u8, Stop> {
+    let alloc = console.rt.alloc();
+    let (progress, output) = (&mut console.progress, &mut console.output);
+    let mut scenario = scenario_in(alloc, text)?;
+    let first = axis_of(alloc, &scenario, asked.first)?;
     let csv = asked.csv;
-    let Some(values) = asked.second else {
-        let axes = [first];
-        if asked.finds {
-            return Ok(find_alarm(alloc, scenario, &axes, csv, writer)?);
-        }
-        return Ok(run_sweep(alloc, scenario, &axes, csv, progress, writer)?);
-    };
-    let second = axis_of(alloc, scenario, values)?;
-    let axes = [first, second];
-    Ok(run_sweep(alloc, scenario, &axes, csv, progress, writer)?)
+    if let Some(values) = asked.second {
+        let axes = [first, axis_of(alloc, &scenario, values)?];
+        run_sweep(alloc, &mut scenario, &axes, csv, progress, output)?;
+    } else if asked.finds {
+        find_alarm(alloc, &mut scenario, &[first], csv, output)?;
+    } else {
+        run_sweep(alloc, &mut scenario, &[first], csv, progress, output)?;
+    }
+    Ok(0)
 }

@@ -1,5 +1,6 @@
 //! What the words of the command line ask for.
 use crate::commands::{named_command, whole_command};
+use crate::progress::Counted;
 use crate::stops::Stop;
 use agc_orders::Options;
 use agc_picture::Span;
@@ -72,6 +73,16 @@ pub(crate) enum Task<'a> {
     Compare(&'a str),
     /// To say what the memory of a real computer holds, by the map in this file.
     Core(&'a str),
+}
+
+impl Task<'_> {
+    /// What is counted of it.
+    pub(crate) fn counted(&self) -> Counted {
+        match self {
+            Task::Sweep(_asked) => Counted::Runs,
+            _ => Counted::Requests,
+        }
+    }
 }
 
 /// Where the input is.
