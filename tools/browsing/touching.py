@@ -162,9 +162,14 @@ def try_flown(browser, trial, path):
         for code, minutes, seconds, flown, modelled in rows:
             # (the engine was ignited at 102:33:05)
             trial.expect(f"{name}: {code} at {flown}", 60 * (int(minutes) - 33) + int(seconds) - 5 == int(flown) and abs(float(modelled) - int(flown)) <= 2)
-    with open(f"{TOP}/examples/apollo-11.toml", encoding="utf-8") as file:
-        first = file.readline()
-    trial.expect(first, first.startswith("# Fitted, not explained: "))
+    texts_of = {}
+    for name in "examples/apollo-11.toml", "examples/landing.toml", "docs/LANDING.md":
+        with open(f"{TOP}/{name}", encoding="utf-8") as file:
+            texts_of[name] = " ".join(file.read().replace("\n#", "\n").split())
+    for name, said in (("examples/apollo-11.toml", "# Fitted, not explained: "), ("examples/apollo-11.toml", " sets = 8 "),
+                       ("examples/landing.toml", "seven core sets; Luminary is said to have had eight"),
+                       ("docs/LANDING.md", "| command module (Colossus, Comanche) | seven"), ("docs/LANDING.md", "| lunar module (Luminary), in which the alarms came | eight")):
+        trial.expect(f"{name} doesn't say {said!r}", said in texts_of[name] and (said[0] != "#" or texts_of[name].startswith(said)))
     trial.expect(f"before it is read: {texts(browser, '#dsky span')}", texts(browser, "#dsky span") == "PROG on|VERB 05 NOUN 09: 01202 01202 01202")
     browser.press("Home")
     trial.expect(f"at the beginning: {texts(browser, '#dsky span')}", texts(browser, "#dsky span") == "PROG off|VERB 05 NOUN 09: 00000 00000 00000")
