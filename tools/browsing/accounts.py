@@ -53,7 +53,7 @@ TOLD = {
          "set 2, set 3, area 2"),
     20: ("Job 5 is established at WORK (05000), in core set 4 with VAC area 3. It waits.|Asked by event 2.", "set 4, area 3"),
     24: ("All five VAC areas are owned. Since the beginning 7 jobs began and 0 ended, and the computer was idle 0 % of the "
-         "time. Job 2 ran.|It was asked in the tick of request 24, by action 2 of the task ALPHA (02000): findvac 10 05000 00007.|"
+         "time. There was hardly any time to end more. Job 2 ran.|It was asked in the tick of request 24, by action 2 of the task ALPHA (02000): findvac 10 05000 00007.|"
          "The tables are as they were when the alarm came.|All jobs and tasks are gone. By the phases 0 3 0 0 0 0 these begin again: job 1, priority 15, at 05100; task BETA (02100) "
          "in 9 cs.|These hold them:"
          "|set 1: job 1, priority 20, at 06000, area 1, since request 2|set 2: job 3, priority 10, at WORK (05000), area 2, since "
