@@ -12,7 +12,7 @@ FOUR = (1400, 900), (1920, 1080), TABLET, PHONE
 CUT = """(() => {
   const faults = [];
   if (document.documentElement.scrollWidth > innerWidth) faults.push(`${document.documentElement.scrollWidth} points wide`);
-  for (const it of document.querySelectorAll('button, p, h2, #sliders span, #sliders output, .boxes b, .boxes span, #axis, .dsky span')) {
+  for (const it of document.querySelectorAll('button, p, h1, h2, #sliders span, #sliders output, .boxes b, .boxes span, #axis, .dsky span')) {
     if (it.getClientRects().length === 0 || it.closest('.hidden')) continue;
     const style = getComputedStyle(it);
     const isCut = style.overflowX !== 'visible' && it.scrollWidth > it.clientWidth + 1 && it.id !== 'sentence';
@@ -79,6 +79,8 @@ VIEWS = {
     "document": fault_in_document,
     "touched": touched,
     "flown": lambda browser, path: (browser.show(path, "#apollo-11"), browser.press("a")),
+    "titled": lambda browser, path: browser.show(path, "#race"),
+    "periods": lambda browser, path: browser.show(path, "#exercise-12"),
     "exercise": lambda browser, path: browser.show(path, "#exercise-1"),
     "embedded": lambda browser, path: browser.show(path, "#landing-1202&at=3128&embed"),
     "asked": asked,
