@@ -6,7 +6,8 @@
  * @typedef {{ group: number, phase: number, job?: string, task?: string, name?: string }} PhaseRow
  * @typedef {{ at: string, cost: number, name?: string, then?: string }} JobRow
  * @typedef {{ at: number, do: string[], every?: number, until?: number, name?: string }} EventRow
- * @typedef {{ from: number, to: number, percent: number }} StealRow
+ * @typedef {{ from: number, to: number, percent: number, every?: number,
+ *   until?: number }} StealRow
  * @typedef {{ title?: string, sets?: number, limit: number, allowance: bigint, attends?: number,
  *   key: string[], radar: string[], power?: string[], script: string[], task: TaskRow[],
  *   phase: PhaseRow[], worker: { script: string[] }[],
@@ -14,6 +15,7 @@
  *   job: JobRow[], event: EventRow[] }} Bench
  */
 import { pulseOf } from "../libagc/js/machine.js";
+import { partsOf } from "./stolen.js";
 import { Unread, linesOf, readToml } from "./toml.js";
 import { ACTIONS, JOBS, LISTS, PARTS, REQUESTS, lineFault, nearest } from "./words.js";
 
@@ -80,7 +82,8 @@ export const LEVELS = {
   },
   steal: {
     ...{ from: integer(0, 360_000n, true), to: integer(0, 360_000n, true) },
-    percent: integer(0, 100n, true),
+    ...{ percent: integer(0, 100n, true) },
+    ...{ every: integer(1, 360_000n), until: integer(0, 360_000n) },
   },
 };
 
@@ -276,16 +279,19 @@ export function leftOut(level) {
 }
 
 /**
- * Steal rows may not overlap, and each ends after it begins.
+ * Each row of stolen time ends after it begins, and before it comes again; and those that come only
+ * once may not overlap.
  * @param {Bench} bench
  */
 function checkSteal({ steal }) {
   if (typeof steal === "number") return;
-  const rows = [...steal].sort((a, b) => a.from - b.from);
-  rows.forEach((it, k) => {
-    if (it.to <= it.from) new Place(1, "steal").refuse("a row ends after it begins");
-    if (k > 0 && it.from < rows[k - 1].to) new Place(1, "steal").refuse("two rows overlap");
-  });
+  const place = new Place(1, "steal");
+  for (const { from, to, every = to } of steal) {
+    if (to <= from) place.refuse("a row ends after it begins");
+    if (every < to - from) place.refuse("a row comes again after it ends");
+  }
+  const { once } = partsOf(steal);
+  if (once.some((it, k) => k > 0 && it.from < once[k - 1].to)) place.refuse("two rows overlap");
 }
 
 /**

@@ -8,6 +8,7 @@ import { writeBench } from "./bench.js";
 import { button, by, fill, make } from "./dom.js";
 import { MOST_ROWS, Run } from "./run.js";
 import { Sliders, differencesOf } from "./sliders.js";
+import { stolenSince } from "./stolen.js";
 import { seconds, visible } from "./words.js";
 
 /** How many times real time, and which is chosen first. */
@@ -391,11 +392,9 @@ export class ClockPanel {
   sinceThen(run, at, given) {
     const now = run.ticksAt(at);
     if (given.steal === undefined || now === 0) return given;
-    const { steal } = run.bench;
-    const before = typeof steal === "number" ? [{ from: 0, to: now, percent: steal }]
-      : steal.filter((it) => it.from < now).map((it) => ({ ...it, to: Math.min(it.to, now) }));
     const end = (run.bench.seconds ?? LONGEST) * 100;
-    return now >= end ? {} : { steal: [...before, { from: now, to: end, percent: given.steal }] };
+    const last = { from: now, to: end, percent: given.steal };
+    return now >= end ? {} : { steal: stolenSince(run.bench.steal, now, last) };
   }
 
   /**

@@ -11,7 +11,7 @@ const LABELS = {
   ...{ sets: "Core sets", limit: "Log's limit", allowance: "Allowance" },
   ...{ key: "A key pulse asks for", radar: "A radar pulse asks for" },
   ...{ seconds: "Seconds", title: "Title" },
-  steal: "Stolen percent, or lines: from, to, percent",
+  steal: "Stolen percent, or lines: from, to, percent (every, until)",
   ...{ at: "At", bank: "Bank", action: "Actions", group: "Group", phase: "Phase", job: "Job" },
   ...{ task: "Task", name: "Name", cost: "Cost, cs", then: "Then", do: "Asks for" },
   ...{ every: "Every, cs", until: "Until, cs" },
@@ -27,7 +27,8 @@ const HEADINGS = {
 const LONG = new Set(["action", "do", "key", "radar", "steal"]);
 
 /** A row of stolen time as it is typed. */
-const STOLEN = /^([0-9]+)[ ,]+([0-9]+)[ ,]+([0-9]+)$/;
+const STOLEN = /^[0-9]+([ ,]+[0-9]+){2,4}$/;
+const STOLEN_KEYS = ["from", "to", "percent", "every", "until"];
 
 /**
  * What is typed for a key, of a value.
@@ -36,7 +37,8 @@ const STOLEN = /^([0-9]+)[ ,]+([0-9]+)[ ,]+([0-9]+)$/;
 function typed(value) {
   if (value === undefined) return "";
   if (Array.isArray(value) && value[0]?.percent !== undefined) {
-    return value.map((it) => `${it.from} ${it.to} ${it.percent}`).join("\n");
+    const keysOf = (/** @type {any} */ it) => STOLEN_KEYS.slice(0, it.every === undefined ? 3 : 5);
+    return value.map((it) => keysOf(it).map((key) => it[key] ?? "").join(" ").trim()).join("\n");
   }
   return Array.isArray(value) ? value.join("\n") : String(value);
 }
@@ -76,9 +78,9 @@ function valueOf(text, row) {
   const lines = text.split("\n").map((it) => it.trim()).filter((it) => it !== "");
   if (lines.length === 0) return undefined;
   if (row.kind === "oneOrMore") return lines;
-  const stolen = lines.map((it) => STOLEN.exec(it));
-  if (row.kind === "steal" && stolen.every((it) => it !== null)) {
-    return stolen.map((it) => ({ from: BigInt(it[1]), to: BigInt(it[2]), percent: BigInt(it[3]) }));
+  if (row.kind === "steal" && lines.every((it) => STOLEN.test(it))) {
+    return lines.map((it) => Object.fromEntries(it.split(/[ ,]+/)
+      .map((number, k) => [STOLEN_KEYS[k], BigInt(number)])));
   }
   const isNumber = (row.kind === "integer" || row.kind === "steal") && /^[0-9]+$/.test(lines[0]);
   return isNumber ? BigInt(lines[0]) : text.trim();

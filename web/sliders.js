@@ -4,6 +4,7 @@
  * in one line, with since when.
  */
 import { by, fill, make } from "./dom.js";
+import { partsOf } from "./stolen.js";
 import { seconds, visible } from "./words.js";
 
 /** The most sliders of jobs and of periods. */
@@ -56,7 +57,7 @@ function periodsOf({ task, event }) {
  */
 function numbersOf(bench) {
   const { steal, job } = bench;
-  const now = typeof steal === "number" ? steal : steal.at(-1)?.percent ?? 0;
+  const now = typeof steal === "number" ? steal : partsOf(steal).once.at(-1)?.percent ?? 0;
   const stolen = { name: "Stolen time", value: now, min: 0, max: 100, unit: "%", what: WHAT.stolen,
     given: (/** @type {number} */ value) => ({ steal: value }) };
   const costs = job.slice(0, MOST_COSTS).map((it, k) => ({
@@ -161,14 +162,17 @@ function historyOf(rows) {
 /** @param {import("./bench.js").Bench["steal"]} steal */
 function stealText(steal) {
   if (typeof steal === "number") return String(steal);
+  const { once, beats } = partsOf(steal);
   const rows = [];
   let end = 0;
-  for (const it of [...steal].sort((a, b) => a.from - b.from)) {
+  for (const it of once) {
     if (it.from > end) rows.push({ from: end, value: "0" });
     rows.push({ from: it.from, value: String(it.percent) });
     end = it.to;
   }
-  return historyOf(rows);
+  const told = beats.map((it) => `${it.percent} for ${it.to - it.from} of each ${it.every} cs`);
+  if (beats.length > 0 && rows.length === 0) return told.join(", ");
+  return [...told, historyOf(rows)].join(", else ");
 }
 
 /**

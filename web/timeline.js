@@ -12,6 +12,7 @@ import { sinceOf } from "./account.js";
 import { marksOf } from "./chart.js";
 import { BRIGHT, DIM, INK, PALE } from "./colours.js";
 import { State, lastUpTo } from "./lanes.js";
+import { stolenAt, stolenParts } from "./stolen.js";
 import { octal, seconds, visible } from "./words.js";
 
 /** The least part that is zoomed to: ticks, or requests. */
@@ -319,10 +320,10 @@ class Picture {
   drawStolen() {
     const { scale, parts, pen, wide, ground } = this;
     if (parts.stolen === 0) return;
-    const { steal } = scale.run.bench;
-    const rows = typeof steal === "number" ? [{ from: 0, to: scale.end, percent: steal }] : steal;
+    const { from: first, to: last, run } = scale;
     pen.fillStyle = ground.stolen;
-    for (const { from, to, percent } of rows) {
+    const all = stolenParts(run.bench.steal, first, last, (last - first) / wide);
+    for (const { from, to, percent } of all) {
       const [x, end] = [from, to].map((it) => scale.partOf(it) * wide);
       const tall = (percent / 100) * (parts.broad - 1);
       const left = Math.max(0, x);
@@ -504,10 +505,7 @@ export function tellAt(scale, parts, part, y, names) {
     return { row, text: `${when}: ${isIdle ? "no job runs" : "a job runs"}` };
   }
   if (parts.stolen > 0 && y >= parts.stolen) {
-    const { steal } = run.bench;
-    const at = Math.floor(place);
-    const now = typeof steal === "number" ? steal
-      : steal.find((it) => it.from <= at && at < it.to)?.percent ?? 0;
+    const now = stolenAt(run.bench.steal, Math.floor(place));
     return { row, text: `${when}: ${now} % of the time is stolen` };
   }
   return { row, text: when };

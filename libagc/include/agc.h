@@ -312,8 +312,10 @@ typedef struct {
 } AgcPlan;
 
 /* Stolen time: from centisecond `from` on, before `to`, something else takes `percent`, 0 to 100, of
-   each centisecond. */
-typedef struct { uint32_t from, to, percent; } AgcStolen;
+   each centisecond; and where `every` isn't 0 again each so many centiseconds, as long as the first
+   time, at last from `until` on: never, where that is before `from`. `every` is 0, or at least `to`
+   less `from`. Of two rows that hold at one time the first counts; both may not have `every` 0. */
+typedef struct { uint32_t from, to, percent, every, until; } AgcStolen;
 
 /* What a job costs that stands at an address, in hundredths of a centisecond of computing, 1 to
    100,000,000. Then it ends, where `then` is 0, or sleeps at that address. */

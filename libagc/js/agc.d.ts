@@ -198,11 +198,16 @@ export declare class Machine {
   static of(state: MachineState): Machine;
 }
 
-/** From a centisecond on, and before another, something else takes so many percent of each. */
+/**
+ * From a centisecond on, and before another, something else takes so many percent of each; and with
+ * `every` again each so many centiseconds, at last from `until` on.
+ */
 export interface Stolen {
   from: number;
   to: number;
   percent: number;
+  every?: number;
+  until?: number;
 }
 
 /** What a job at an address costs, in centiseconds; then `"end"` or `"sleep 04000"`. */

@@ -14,7 +14,7 @@
  * @typedef {{ group: number, phase: number, job?: string, task?: string, name?: string }} PlanPhase
  * @typedef {{ task?: PlanTask[], phase?: PlanPhase[] }} Plan
  * @typedef {{ at: number, bank: number }} Task
- * @typedef {{ from: number, to: number, percent: number }} Stolen
+ * @typedef {{ from: number, to: number, percent: number, every?: number, until?: number }} Stolen
  * @typedef {{ at: string | number, cost: number, then?: string, name?: string }} JobCost
  * @typedef {{ at: number, do: string | string[], every?: number, until?: number,
  *   name?: string }} TimedEvent
@@ -916,7 +916,7 @@ export function pulseOf(line, plan = {}) {
   });
 }
 
-const STOLEN = 12;
+const STOLEN = 20;
 const COST = 12;
 const EVENT = 20;
 const REQUEST = 16;
@@ -947,6 +947,20 @@ function centiseconds(seconds) {
   throw new Lacking(Code.TIME_RANGE, told);
 }
 
+/**
+ * After how many centiseconds a row comes again, 0 where it doesn't, and the last time at which it
+ * may.
+ * @param {string} where
+ * @param {{ every?: number, until?: number }} row
+ */
+function again(where, row) {
+  const every = whole(row.every ?? 0);
+  if (row.every !== undefined && every === 0) {
+    throw new Lacking(Code.TIME_RANGE, `${where}: every has to be 1 or more`);
+  }
+  return [every, whole(row.until ?? LAST_TIME)];
+}
+
 /** What a timetable is in the module's memory, one part after the other. */
 class LentTimes {
   /** @param {Timetable} given */
@@ -955,13 +969,14 @@ class LentTimes {
     const { seconds = LAST_TIME / 100, steal = 0 } = given;
     const [job, event] = [rowsOf("job", given.job), rowsOf("event", given.event)];
     const always = steal === 0 ? [] : [{ from: 0, to: 0xffffffff, percent: Number(steal) }];
-    const stolen = Array.isArray(steal) ? steal : always;
+    const stolen = /** @type {Stolen[]} */ (Array.isArray(steal) ? steal : always);
     /** @type {number[][]} */
     const requests = [];
     this.lasts = centiseconds(seconds);
     this.stolen = stolen.map((it, k) => {
-      known(`steal ${k + 1}`, it, ["from", "to", "percent"], ["from", "to", "percent"]);
-      return [whole(it.from), whole(it.to), whole(it.percent)];
+      const needed = ["from", "to", "percent"];
+      known(`steal ${k + 1}`, it, [...needed, "every", "until"], needed);
+      return [whole(it.from), whole(it.to), whole(it.percent), ...again(`steal ${k + 1}`, it)];
     });
     this.costs = job.map((it, k) => {
       known(`job ${k + 1}`, it, ["at", "cost", "then", "name"], ["at", "cost"]);
@@ -975,11 +990,7 @@ class LentTimes {
         read(calls.agc_read_request, line, "request");
         requests.push(Array.from(numbers.subarray(at.request / 4, at.request / 4 + 4)));
       });
-      const every = whole(it.every ?? 0);
-      if (it.every !== undefined && every === 0) {
-        throw new Lacking(Code.TIME_RANGE, `event ${k + 1}: every has to be 1 or more`);
-      }
-      return [whole(it.at), every, whole(it.until ?? LAST_TIME), first, lines.length];
+      return [whole(it.at), ...again(`event ${k + 1}`, it), first, lines.length];
     });
     this.requests = requests;
     this.numbers = Uint32Array.from([this.stolen, this.costs, this.events, requests].flat(2));

@@ -92,7 +92,7 @@ static void take(char *line) {
         it->delay = task.first, it->task_at = task.second, it->task_bank = task.third;
     } else if (!strncmp(line, "steal ", 6)) {
         AgcStolen *it = &stolen[stolen_count++];
-        want(sscanf(rest, "%u %u %u", &it->from, &it->to, &it->percent) == 3, line);
+        want(sscanf(rest, "%u %u %u %u %u", &it->from, &it->to, &it->percent, &it->every, &it->until) == 5, line);
     } else if (!strncmp(line, "job ", 4)) {
         AgcCost *it = &costs[cost_count++];
         want(sscanf(part(&rest), "%o %u", &it->at, &it->hundredths) == 2, line);
@@ -116,13 +116,14 @@ static void refuses(void) {
     AgcClock clock = {7, 1, 2, true, 50, {1, 2, 3, 4, 5, 6, 7, 8}}, was;
     AgcRequest it = {1, 2, 3, 4}, same = it;
     AgcStep step = {0, AGC_TICKED, 0, 0, 0};
-    AgcStolen twice[2] = {{0, 10, 5}, {9, 20, 5}};
+    AgcStolen twice[2] = {{0, 10, 5, 0, 0}, {9, 20, 5, 0, 0}}, beat[2] = {{9, 20, 5, 10, 99}, {9, 20, 5, 11, 99}};
     AgcCost cost[2] = {{1, 1, 0}, {1, 2, 0}}, bad = {1, 1, 16384};
     AgcEvent event = {0, 0, 0, 1, 1};
     memcpy(&was, &clock, sizeof clock);
     agc_clear(words, 7);
     want(agc_clock_next(words, 6, 10, NULL, 0, NULL, 0, NULL, 0, NULL, 0, &clock, &it).code == AGC_NO_SUCH_SETS, "6 sets");
     want(agc_clock_next(words, 7, 10, twice, 2, NULL, 0, NULL, 0, NULL, 0, &clock, &it).code == AGC_STEAL_TWICE, "two rows");
+    want(agc_clock_next(words, 7, 10, beat, 2, NULL, 0, NULL, 0, NULL, 0, &clock, &it).code == AGC_TIME_RANGE, "a beat too quick");
     want(agc_clock_next(words, 7, 10, NULL, 0, cost, 2, NULL, 0, NULL, 0, &clock, &it).code == AGC_COST_TWICE, "two costs");
     want(agc_clock_next(words, 7, 10, NULL, 0, &bad, 1, NULL, 0, NULL, 0, &clock, &it).code == AGC_TIME_RANGE, "a bad cost");
     want(agc_clock_next(words, 7, 10, NULL, 0, NULL, 0, &event, 1, &it, 1, &clock, &it).code == AGC_TIME_RANGE, "a bad event");
@@ -131,6 +132,7 @@ static void refuses(void) {
     want(agc_clock_served(words, 7, &step, &clock) == AGC_UNLAWFUL, "no image");
     want(!memcmp(&was, &clock, sizeof clock) && !memcmp(&same, &it, sizeof it), "a refusal changes nothing");
     want(agc_clock_check(NULL, 0, NULL, 0, NULL, 0, NULL, 0) == AGC_OK, "a timetable of nothing");
+    want(agc_clock_check(beat + 1, 1, NULL, 0, NULL, 0, NULL, 0) == AGC_OK, "a beat without rest");
 }
 
 int main(int argc, char **argv) {

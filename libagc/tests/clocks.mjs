@@ -33,8 +33,10 @@ class Scenario {
     else if (name === "phase") {
       const [job, task] = parts.map((it) => it || undefined);
       this.plan.phase.push({ group: numbers[0], phase: numbers[1], job, task });
-    } else if (name === "steal") this.time.steal.push({ from: numbers[0], to: numbers[1], percent: numbers[2] });
-    else if (name === "job") this.time.job.push({ at: words[0], cost: numbers[1], then: parts[0] });
+    } else if (name === "steal") {
+      const again = numbers[3] ? { every: numbers[3], until: numbers[4] } : {};
+      this.time.steal.push({ from: numbers[0], to: numbers[1], percent: numbers[2], ...again });
+    } else if (name === "job") this.time.job.push({ at: words[0], cost: numbers[1], then: parts[0] });
     else if (name === "event") {
       const again = numbers[1] ? { every: numbers[1], until: numbers[2] } : {};
       this.time.event.push({ at: numbers[0], do: parts, ...again });
@@ -74,6 +76,7 @@ function refuses() {
   const job = { at: "04000", cost: 1 };
   const faults = [
     [Code.TIME_RANGE, { steal: 101 }], [Code.STEAL_TWICE, { steal: [{ from: 0, to: 9, percent: 1 }, { from: 8, to: 9, percent: 1 }] }],
+    [Code.TIME_RANGE, { steal: [{ from: 0, to: 9, percent: 1, every: 8 }] }], [Code.TIME_RANGE, { steal: [{ from: 0, to: 9, percent: 1, every: 0 }] }],
     [Code.COST_TWICE, { job: [job, job] }], [Code.NOT_SPELLED, { job: [{ ...job, then: "tick" }] }],
     [Code.TIME_RANGE, { event: [{ at: 0, do: "tick" }, { at: 360001, do: "tick", every: 1, until: 4 }] }],
     [Code.TIME_RANGE, { event: [{ at: 0, do: "tick" }, { at: 5, do: "tick", every: 0 }] }],
@@ -84,6 +87,7 @@ function refuses() {
     want(found instanceof Lacking && found.code === code, JSON.stringify(timetable));
     const named = timetable.event?.every((it) => it.every !== 0);
     if (code === Code.TIME_RANGE && named) want(found.message.startsWith("event 2: "), found.message);
+    if (Array.isArray(timetable.steal)) want(/^steal [12]: /.test(found.message), found.message);
   }
   const [machine, clock] = [new Machine(), new Clock({ job: [job] })];
   want(machine.run(clock, 10) === 10 && clock.time === 10 && machine.totals.served === 10, "ten ticks");
@@ -116,6 +120,11 @@ function keeps() {
   machine.run(clock, 3);
   want(same(clock.given, [180, 0, 0, 0, 0, 0, 0, 0]), `was given ${clock.given}`);
   want(asks(new Clock(timetable), 9) === "1 novac 20 04000 00005, 4 end", "its end");
+  // The second and fourth centisecond and so on are stolen, and with until 2 only the second.
+  const beat = { from: 2, to: 3, percent: 100, every: 2 };
+  const beaten = (row) => asks(new Clock({ ...timetable, steal: [row], job: [{ at: "04000", cost: 3 }] }), 9);
+  want(beaten(beat) === "1 novac 20 04000 00005, 5 end", beaten(beat));
+  want(beaten({ ...beat, until: 2 }) === "1 novac 20 04000 00005, 4 end", "one beat");
   // Two machines take turns, each with its own clock, which is told of the restart: what the job was given is gone.
   const event = [[1, "novac 20 04000 00005"], [2, "restart"], [3, "novac 20 04000 00005"]].map(([at, line]) => ({ at, do: line }));
   const pairs = [3, 2].map((cost) => [new Machine(), new Clock({ steal: 40, job: [{ at: "04000", cost }], event }), []]);

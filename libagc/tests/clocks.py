@@ -5,8 +5,8 @@
                                   hundredth by hundredth, over `Machine` alone
     clocks.py clock               the same by `Clock`
 
-Lines are `scenario SETS SECONDS`, `task AT BANK|ACTION|..`, `phase GROUP PHASE|JOB|TASK`, `steal FROM TO PERCENT`,
-`job AT COST|THEN`, `event AT EVERY UNTIL|LINE|..`, `run CENTISECONDS`, `hand LINE`. Each request that is asked gets a line:
+Lines are `scenario SETS SECONDS`, `task AT BANK|ACTION|..`, `phase GROUP PHASE|JOB|TASK`, `steal FROM TO PERCENT EVERY
+UNTIL`, `job AT COST|THEN`, `event AT EVERY UNTIL|LINE|..`, `run CENTISECONDS`, `hand LINE`. Each request that is asked gets a line:
 the centisecond, who asks (0 a person, 1 the clock, from 2 on the events), its kind and numbers, and the reply.
 """
 import random
@@ -30,6 +30,13 @@ def a_request(pick, of_plan=False):
     return pick.choice([job, job, job, listing, listing, rouse, f"phase {pick.randint(1, 6)} {pick.randint(0, 2)}", *others])
 
 
+def a_beat(pick):
+    """A row of stolen time that comes again."""
+    begins, long = pick.randint(0, 150), pick.choice([1, 1, 2, 9])
+    every, until = long + pick.choice([0, 1, 3, 20]), max(0, begins + pick.choice([-1, 0, 1, 40, 400]))
+    return f"{begins} {begins + long} {pick.choice([1, 40, 100])} {every} {until}"
+
+
 def make(seed, count):
     for number in range(count):
         pick = random.Random(f"{seed} {number}")
@@ -40,8 +47,10 @@ def make(seed, count):
             job = f"novac {pick.randint(1, 31):02o} {pick.choice(JOBS)} 00005"
             print(f"phase {group} {pick.randint(1, 2)}|{pick.choice(['', job])}|{pick.choice(['', 'list 7 02000 00005'])}")
         edges = sorted(pick.sample(range(0, 400), 6))
-        for k in range(pick.randint(0, 3)):
-            print(f"steal {edges[2 * k]} {edges[2 * k + 1]} {pick.choice([0, 1, 33, 50, 99, 100])}")
+        rows = [f"{edges[2 * k]} {edges[2 * k + 1]} {pick.choice([0, 1, 33, 50, 99, 100])} 0 0" for k in range(pick.randint(0, 3))]
+        rows += [a_beat(pick) for _ in range(pick.randint(0, 2))]
+        for row in pick.sample(rows, len(rows)):
+            print(f"steal {row}")
         for at in pick.sample(JOBS, pick.randint(0, 4)):
             print(f"job {at} {pick.choice([1, 1, 2, 5, 17, 60])}|{pick.choice(['end', 'end', f'sleep {pick.choice(JOBS)}'])}")
         for _ in range(pick.randint(0, 5)):
@@ -75,7 +84,9 @@ class Scenario:
             kept = {key: it for key, it in zip(("job", "task"), parts) if it}
             self.plan["phase"].append({"group": int(words[0]), "phase": int(words[1]), **kept})
         elif name == "steal":
-            self.time["steal"].append(dict(zip(("from", "to", "percent"), map(int, words))))
+            begins, ends, percent, every, until = map(int, words)
+            again = {"every": every, "until": until} if every else {}
+            self.time["steal"].append({"from": begins, "to": ends, "percent": percent, **again})
         elif name == "job":
             self.time["job"].append({"at": words[0], "cost": int(words[1]), "then": parts[0]})
         elif name == "event":
@@ -117,7 +128,10 @@ class Plainly(Scenario):
     """The plain rule: what is left to do is a list, which a centisecond makes anew."""
 
     def start(self):
-        self.now, self.given, self.left = 0, {}, self.events()
+        self.now, self.given, self.left, self.stolen = 0, {}, self.events(), {}
+        for row in reversed(self.time["steal"]):  # (the first row comes last, and counts)
+            for begins in range(row["from"], row["until"] + 1, row["every"]) if "every" in row else [row["from"]]:
+                self.stolen |= dict.fromkeys(range(begins, begins + row["to"] - row["from"]), row["percent"])
 
     def events(self):
         for number, event in enumerate(self.time["event"]):
@@ -135,8 +149,7 @@ class Plainly(Scenario):
         yield from self.events()
         if self.machine.scene().next:
             yield 1, "change"
-        stolen = sum(it["percent"] for it in self.time["steal"] if it["from"] <= self.now < it["to"])
-        for _ in range(100 - stolen):
+        for _ in range(100 - self.stolen.get(self.now, 0)):
             job = self.running()
             cost = job and next((it for it in self.time["job"] if int(it["at"], 8) == job.at), None)
             if cost is None:
@@ -180,7 +193,9 @@ def refuses():
     job, event = {"at": "04000", "cost": 1}, {"at": 0, "do": "tick"}
     wrong = [
         (15, {"steal": 101}), (15, {"steal": [{**row, "to": 0}]}), (16, {"steal": [row, {**row, "from": 9, "to": 11}]}),
-        (0, {"steal": [row, {**row, "from": 10, "to": 11}]}), (15, {"job": [{**job, "cost": 0}]}), (0, {"job": [{**job, "cost": 1000000}]}),
+        (0, {"steal": [row, {**row, "from": 10, "to": 11}]}), (15, {"steal": [{**row, "every": 9}]}), (0, {"steal": [{**row, "every": 10}]}),
+        (0, {"steal": [{**row, "every": 10}, row]}), (0, {"steal": [row, {**row, "every": 10, "until": 0}]}),
+        (15, {"steal": [{**row, "every": 0}]}), (0, {"steal": [{**row, "until": 0}]}), (15, {"job": [{**job, "cost": 0}]}), (0, {"job": [{**job, "cost": 1000000}]}),
         (15, {"job": [{**job, "cost": 1000001}]}), (15, {"job": [{**job, "at": "00000"}]}), (17, {"job": [job, job]}),
         (13, {"job": [{**job, "then": "tick"}]}), (15, {"event": [{**event, "at": 360001}]}), (15, {"event": [{**event, "do": []}]}),
         (15, {"event": [{**event, "do": ["tick"] * 17}]}), (0, {"event": [{**event, "do": ["tick"] * 16}]}),
@@ -217,6 +232,14 @@ def keeps():
     # A job costs two centiseconds, and of each 40 percent are stolen: it has 60, 120, 180 and 200 hundredths.
     steal = {"steal": 40, "job": [{"at": "04000", "cost": 2}], "event": [{"at": 1, "do": "novac 20 04000 00005"}]}
     assert asks(steal, 9) == [(1, "novac", 0o20, 0o4000, 5), (4, "end")]
+    # The second and fourth centisecond and so on are stolen: it is given 100 in the first and third. And with until 2 only
+    # the second.
+    beat = {**steal, "steal": [{"from": 2, "to": 3, "percent": 100, "every": 2}]}
+    assert asks(beat, 9) == [(1, "novac", 0o20, 0o4000, 5), (3, "end")]
+    beat["job"] = [{"at": "04000", "cost": 3}]
+    assert asks(beat, 9)[1:] == [(5, "end")]
+    beat["steal"][0]["until"] = 2
+    assert asks(beat, 9)[1:] == [(4, "end")]
     late = {**steal, "event": [{"at": 2000, "do": "novac 20 04000 00005"}]}
     assert asks(late, 2009) == [(2000, "novac", 0o20, 0o4000, 5), (2003, "end")]
     machine, clock = Machine(), Clock(steal)

@@ -37,7 +37,10 @@ impl Scenario {
             }
             "steal" => {
                 let it = numbers(first);
-                self.timetable = self.timetable.take().map(|all| all.steal(it[0], it[1], it[2]));
+                self.timetable = self.timetable.take().map(|all| match it[3] {
+                    0 => all.steal(it[0], it[1], it[2]),
+                    every => all.steal_every(it[0], it[1], it[2], every, it[4]),
+                });
             }
             "job" => {
                 let all = self.timetable.take().unwrap();
@@ -105,6 +108,12 @@ fn keeps() -> Result<(), Lacking> {
     // The fourth has its end; and how long is asked for may be any number.
     let asked: Vec<u32> = machine.run(&mut clock, u32::MAX)?.iter().map(|it| it.0.request.kind).collect();
     assert_eq!((asked.len(), &asked[..2], clock.time(), clock.given()), (98, &[TICK, END][..], 100, [0; 8]));
+    // The second and fourth centisecond are stolen: the third has its end.
+    let beat = Timetable::new(1).steal_every(2, 3, 100, 2, 100).job(0o4000, 2, "end")?;
+    let (mut machine, mut clock) = (Machine::new(7, Plan::new())?, Clock::new(beat)?);
+    let step = machine.ask("novac 20 04000 00005")?;
+    clock.served(&machine, &step);
+    assert_eq!((machine.run(&mut clock, 2)?.len(), machine.run(&mut clock, 1)?.len(), clock.time()), (2, 2, 3));
     // A run tells its clock of the restart, after which nothing was given to a job that is gone.
     let timetable = Timetable::new(1).job(0o4000, 5, "end")?;
     let timetable = timetable.event(1, 0, 100, &["novac 20 04000 00005"])?.event(2, 0, 100, &["restart"])?;

@@ -115,14 +115,15 @@ def try_examples(browser, trial):
 
 
 # A scenario whose tables have all keys, and its plan as the editor's fields show it, table by table.
-PLANNED = 'seconds = 3\ntitle = "A \\"title\\" \\\\"\nsets = 8\nsteal = [{ from = 0, to = 50, percent = 7 }, { from = 50, to = 60, percent = 9 }]\n' + "".join((
+PLANNED = 'seconds = 3\ntitle = "A \\"title\\" \\\\"\nsets = 8\nsteal = [{ from = 3, to = 4, percent = 9, every = 5 }, ' \
+    '{ from = 0, to = 50, percent = 7 }, { from = 50, to = 60, percent = 9 }]\n' + "".join((
     table("job", name="WORK", at="05000", cost=9, then="sleep 06000"), table("event", name="go", at=1, do=["tick", "change"], every=7, until=90),
     table("task", name="ALPHA", at="02000", bank="00006", action=["nothing", "rouse 06000"]),
     table("phase", name="late", group=2, phase=3, job="novac 15 05100 00007", task="list 9 02000 00006")))
 FIELDS = """Array.from(document.querySelectorAll('#plan-body label'), (it) =>
   `${it.firstChild.textContent}: ${it.lastChild.value.replaceAll('\\n', ';')} ${it.lastChild.placeholder ?? ''}`.trim()).join(', ')"""
 SHOWN_FIELDS = ('Seconds: 3, Title: A "title" \\, Core sets: 8, Log\'s limit:  1000000, Allowance:  any, A key pulse asks for:  nothing, '
-                "A radar pulse asks for:  nothing, Stolen percent, or lines: from, to, percent: 0 50 7;50 60 9 0, "
+                "A radar pulse asks for:  nothing, Stolen percent, or lines: from, to, percent (every, until): 3 4 9 5;0 50 7;50 60 9 0, "
                 "Name: ALPHA, At: 02000, Bank: 00006, Actions: nothing;rouse 06000, Name: WORK, At: 05000, Cost, cs: 9, Then: sleep 06000, "
                 "Name: late, Group: 2, Phase: 3, Job: novac 15 05100 00007, Task: list 9 02000 00006, "
                 "Name: go, At: 1, Asks for: tick;change, Every, cs: 7, Until, cs: 90")
@@ -138,7 +139,7 @@ def try_plans(browser, trial):
     browser.click("plan")
     found = browser.value(FIELDS)
     trial.expect(f"the fields, applied: {found}", found == SHOWN_FIELDS)
-    browser.value("document.querySelector('#plan-fields [name=steal]').value = '60 70 5\\n80 90 6'")
+    browser.value("document.querySelector('#plan-fields [name=steal]').value = '60 70 5\\n80 90 6\\n1 2 3 4 99'")
     browser.value("document.querySelector('#plan-event .fields button').click()")
     browser.value("Array.from(document.querySelectorAll('fieldset > button')).find((it) => it.textContent === 'Add a job').click()")
     browser.click("plan-apply")
@@ -148,7 +149,7 @@ def try_plans(browser, trial):
     browser.click("plan-apply")
     browser.click("plan")
     found = browser.value(FIELDS)
-    trial.expect(f"the fields, changed: {found}", "60 70 5;80 90 6" in found and "Asks for" not in found
+    trial.expect(f"the fields, changed: {found}", "60 70 5;80 90 6;1 2 3 4 99" in found and "Asks for" not in found
                  and "Name: , At: 05100, Cost, cs: 8, Then:" in found.replace(":,", ": ,"))
     browser.press("Escape")
     open_text(browser, "sets = 8\n")

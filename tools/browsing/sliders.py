@@ -59,6 +59,10 @@ def try_sliders(browser, trial):
     browser.click("here")
 
 
+# Of each half second two centiseconds are stolen, of all others 15 percent.
+BEATING = "seconds = 2\n" + table("steal", **{"from": 10, "to": 12, "percent": 100, "every": 50}) + table(
+    "steal", **{"from": 0, "to": 360000, "percent": 15})
+
 # A scenario of two seconds: half of the time is stolen, a job takes 0.2 seconds, and another the rest.
 PANEL = "seconds = 2\nsteal = 50\n" + "".join((
     table("job", at="04000", cost=10, name="WORK"), table("job", at="05000", cost=300),
@@ -121,6 +125,17 @@ def try_panel(browser, trial):
     browser.click("plan")
     told = browser.value("document.querySelector('#plan-fields [name=steal]').value")
     trial.expect(f"stolen time: {told}", told == "0 50 50\n50 100 10\n100 200 20")
+    browser.press("Escape")
+    open_text(browser, BEATING)
+    go_to(browser, "1 s")
+    told = browser.value("document.querySelector('#sliders input').value")
+    trial.expect(f"stolen besides beats: {told}", told == "15")
+    browser.value("(() => { const it = document.querySelector('#sliders input'); it.value = '20'; it.dispatchEvent(new Event('change')); })()")
+    trial.expect(browser.text("differs"), browser.text("differs") == "This run differs from its document: "
+                 "steal 100 for 2 of each 50 cs, else 15 until 1.00 s, then 20 % (document: 100 for 2 of each 50 cs, else 15 %).")
+    browser.click("plan")
+    told = browser.value("document.querySelector('#plan-fields [name=steal]').value")
+    trial.expect(f"stolen time with beats: {told}", told == "100 200 20\n10 12 100 50 99\n0 100 15")
     browser.press("Escape")
     open_text(browser, f"limit = 9999\n{STRIPED}")
     go_to(browser, "51")

@@ -77,12 +77,19 @@ class Library:
         return {job.number for job in self.machine.scene().sets if job and not job.asleep}
 
 
+def holds(row, time):
+    """Whether a row of stolen time holds: since one of the times at which it comes, it is shorter than it lasts."""
+    begins, last = row["from"], min(time, row.get("until", time))
+    starts = range(begins, last + 1, row["every"]) if "every" in row else [begins]
+    return any(start <= time < start + row["to"] - begins for start in starts)
+
+
 def stolen(scenario, time):
     """The percent that is stolen of a centisecond."""
     steal = scenario.get("steal", 0)
     if isinstance(steal, int):
         return steal
-    return next((row["percent"] for row in steal if row["from"] <= time < row["to"]), 0)
+    return next((row["percent"] for row in steal if holds(row, time)), 0)
 
 
 def comes(event, time):
@@ -163,8 +170,19 @@ class Dice(random.Random):
     def steal(self):
         if self.random() < 0.5:
             return self.choice([0, 1, 15, 50, 99, 100, self.randint(0, 100)])
-        ends = sorted(self.sample(range(0, 300), 2 * self.randint(1, 3)))
-        return [{"from": a, "to": b, "percent": self.randint(0, 100)} for a, b in zip(ends[::2], ends[1::2])]
+        ends = sorted(self.sample(range(0, 300), 2 * self.randint(0, 3)))
+        rows = [{"from": a, "to": b, "percent": self.randint(0, 100)} for a, b in zip(ends[::2], ends[1::2])]
+        rows += [self.beat() for _ in range(self.randint(0 if rows else 1, 2))]
+        return self.sample(rows, len(rows))
+
+    def beat(self):
+        """A row of stolen time that comes again."""
+        begins, long = self.choice([0, 1, self.randint(0, 150)]), self.choice([1, 1, 2, 7])
+        row = {"from": begins, "to": begins + long, "percent": self.choice([1, 30, 100, self.randint(0, 100)])}
+        row["every"] = long + self.choice([0, 1, 2, 9, 40])
+        if self.random() < 0.5:
+            row["until"] = max(0, begins + self.choice([-1, 0, row["every"] - 1, row["every"], self.randint(0, 100)]))
+        return row
 
     def job(self, at):
         job = {"at": at, "cost": self.choice([1, 1, 2, 3, 7, 40])}

@@ -1,15 +1,19 @@
-//! What is warned of the jobs and events of a scenario.
+//! What is warned of the stolen time, jobs and events of a scenario.
 use crate::saying::{Piece, Said, said};
 use crate::warning::{
-    AS_LONG_AS_IT_COMES, LATE, NEVER, NOT_AGAIN, NOT_BEGUN, NOTHING_LEFT, TWIN, Warned,
+    AS_LONG_AS_IT_COMES, HIDDEN, LATE, NEVER, NEVER_STOLEN, NOT_AGAIN, NOT_BEGUN, NOTHING_LEFT,
+    TWIN,
 };
 use crate::warnings::{Found, plain};
-use agc_clock::{Then, Timetables};
+use agc_clock::{Stolen, Then, Timetables, stolen_at};
 use agc_document::{Key, Place, ScenarioKey};
 use agc_plan::{Action, Actions, Address, JobStart, PhaseEntry, Request, Task, action_request};
 use agc_scenario::{Scenario, TimedEvent, TimedJob, Timing};
 use std::alloc::{AllocError, Global};
 use std::collections::BTreeSet;
+
+/// The last centisecond of the longest scenario.
+const LAST_TIME: u32 = 360_000;
 
 /// The place of a row, which is numbered from 0.
 fn row_at(key: ScenarioKey, row: usize) -> Place {
@@ -66,17 +70,14 @@ fn is_begun(scenario: &Scenario, at: Address) -> bool {
 
 /// How many percent are stolen in every centisecond, at least.
 fn stolen_always(timing: &Timing) -> u64 {
-    let end = u64::from(timing.lasts()).saturating_add(1);
-    let mut free = end;
     let mut least = 100;
-    for row in timing.stolen() {
-        let (from, to) = (u64::from(row.from).min(end), u64::from(row.to).min(end));
-        if from < to {
-            free = free.saturating_sub(to.saturating_sub(from));
-            least = least.min(u64::from(row.percent));
+    for time in 0..=timing.lasts() {
+        least = stolen_at(timing.stolen(), time).min(least);
+        if least == 0 {
+            return 0;
         }
     }
-    if free == 0 { least } else { 0 }
+    u64::from(least)
 }
 
 /// The lesser of two numbers, if the first is there.
@@ -138,17 +139,37 @@ fn nothing_left(cost: u64, period: u64, stolen: u64) -> Said<'static> {
     (NOTHING_LEFT, [cost, period, stolen, stolen, stolen])
 }
 
-/// What is warned of a job.
-fn job_warning(scenario: &Scenario, job: &TimedJob) -> Option<Said<'static>> {
+/// What is warned of a job, where so many percent are always stolen.
+fn job_warning(scenario: &Scenario, job: &TimedJob, stolen: u64) -> Option<Said<'static>> {
     if !is_begun(scenario, job.at()) {
         return Some(plain(NOT_BEGUN));
     }
     let period = period_at(scenario, job.at())?;
-    let stolen = stolen_always(scenario.timing());
     let cost = u64::from(job.cost());
     let left = period.saturating_mul(100_u64.saturating_sub(stolen));
     if cost.saturating_mul(100) >= left {
         Some(nothing_left(cost, period, stolen))
+    } else {
+        None
+    }
+}
+
+/// Whether a row of stolen time that comes once holds whenever one that comes again would.
+fn hides(row: &Stolen, again: &Stolen, lasts: u32) -> bool {
+    let long = again.to.saturating_sub(again.from);
+    let last = again.until.min(lasts).saturating_add(long);
+    row.every == 0 && again.every != 0 && row.from <= again.from && last <= row.to
+}
+
+/// What is warned of the row of stolen time of this number, from 0.
+fn row_warning(timing: &Timing, number: usize, row: &Stolen) -> Option<Said<'static>> {
+    let mut earlier = timing.stolen().iter().take(number);
+    if row.every == 0 && row.until < LAST_TIME {
+        Some(plain(NOT_AGAIN))
+    } else if row.every != 0 && row.until < row.from {
+        Some(plain(NEVER_STOLEN))
+    } else if earlier.any(|other| hides(other, row, timing.lasts())) {
+        Some(plain(HIDDEN))
     } else {
         None
     }
@@ -177,8 +198,18 @@ fn is_twin<'a>(names: &mut BTreeSet<&'a str>, name: Option<&'a str>) -> Result<b
     }
 }
 
+/// Notes what is warned of the rows of stolen time of a scenario.
+fn note_rows(found: &mut Found, timing: &Timing) {
+    for (k, row) in timing.stolen().iter().enumerate() {
+        if let Some(warning) = row_warning(timing, k, row) {
+            found.note(row_at(ScenarioKey::Steal, k), (warning, None));
+        }
+    }
+}
+
 /// Notes what is warned of the jobs of a scenario.
 fn note_jobs(alloc: Global, found: &mut Found, scenario: &Scenario) -> Result<(), AllocError> {
+    let stolen = stolen_always(scenario.timing());
     let mut names = BTreeSet::new(alloc);
     for (k, job) in scenario.timing().jobs().iter().enumerate() {
         let place = row_at(ScenarioKey::Jobs, k);
@@ -188,7 +219,7 @@ fn note_jobs(alloc: Global, found: &mut Found, scenario: &Scenario) -> Result<()
                 (said(TWIN, Piece::Text("job"), Piece::Text("")), None),
             );
         }
-        if let Some(warning) = job_warning(scenario, job) {
+        if let Some(warning) = job_warning(scenario, job, stolen) {
             found.note(place, (warning, None));
         }
     }
@@ -213,12 +244,13 @@ fn note_events(alloc: Global, found: &mut Found, timing: &Timing) -> Result<(), 
     Ok(())
 }
 
-/// Notes what is warned of the jobs and events of a scenario.
+/// Notes what is warned of the stolen time, jobs and events of a scenario.
 pub(crate) fn note_timing(
     alloc: Global,
     found: &mut Found,
     scenario: &Scenario,
 ) -> Result<(), AllocError> {
+    note_rows(found, scenario.timing());
     note_jobs(alloc, found, scenario)?;
     note_events(alloc, found, scenario.timing())
 }

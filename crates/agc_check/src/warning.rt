@@ -46,6 +46,11 @@ pub(crate) const LATE: &str = "it comes after the end";
 
 pub(crate) const NEVER: &str = "until is before at, so it never comes";
 
+pub(crate) const NEVER_STOLEN: &str = "until is before from, so it never comes";
+
+pub(crate) const HIDDEN: &str =
+    "an earlier row holds whenever this one would, so nothing comes of it";
+
 pub(crate) const NOT_AGAIN: &str = "without every, until says nothing: it comes once";
 
 pub(crate) const TWIN: &str = "an earlier {} has the same name";

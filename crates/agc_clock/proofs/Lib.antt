@@ -1,3 +1,4 @@
+mod Beats
 mod Scanning
 mod Seats
 mod Passing

@@ -1,14 +1,19 @@
 -- What is wanted of time that passes, in the field's words.
-use Rattle.std.specs.Prelude.{◌≡◌, ℕ, ◌+◌, ◌≤◌, List, [], ◌∷◌, Option, Some, None, IsSome}
+use Rattle.std.specs.Prelude.{◌≡◌, ℕ, ◌+◌, ◌*◌, ◌≤◌, List, [], ◌∷◌, Option, Some, None, IsSome}
 use Rattle.std.specs.List.{count_by}
 use Rattle.agc_plan.specs.Jobs.{Jobs}
 use Rattle.agc_clock.specs.declared.asked.Asked.{Asked}
 use Rattle.agc_clock.specs.declared.counting.JobCost.{JobCost}
 use Rattle.agc_clock.specs.declared.timetable.Cost.{Cost}
+use Rattle.agc_clock.specs.declared.timetable.Stolen.{Stolen}
 use Rattle.agc_clock.specs.Counts.{given_to, passed, worker_of}
 use Rattle.agc_clock.specs.Instants.{Instant, Works, is_own_tick}
 use Rattle.agc_clock.specs.Runs.{Serving, Standing, lived}
 use Rattle.agc_clock.specs.Timetables.{cost_at}
+
+-- when a row of stolen time comes, after so many times
+abbrev pub comes_at : Stolen → ℕ → ℕ
+comes_at row times = row.from + times * row.every
 
 -- how many ticks of its own a clock asks for
 abbrev pub own_ticks : List Asked → ℕ

@@ -1,7 +1,7 @@
 -- What is set down for a scenario: how long it lasts, what time is stolen, what jobs cost, and
 -- which events come when.
-use Rattle.std.specs.Prelude.{ℕ, ◌-◌, ◌==◌, ◌&&◌, nat_le, nat_lt, Bool, if◌then◌else◌, List, []}
-use Rattle.std.specs.Prelude.{◌∷◌, Option, Some, None}
+use Rattle.std.specs.Prelude.{ℕ, ◌-◌, ◌%◌, ◌==◌, ◌&&◌, nat_le, nat_lt, Bool, if◌then◌else◌}
+use Rattle.std.specs.Prelude.{List, [], ◌∷◌, Option, Some, None}
 use Rattle.std.specs.Option.{option_map_or}
 use Rattle.agc_plan.specs.declared.request.Request.{Request}
 use Rattle.agc_plan.specs.declared.request.Request.TheVariants.{EndOfJob, Sleep}
@@ -18,9 +18,17 @@ pub record Schedule : Type 0 where
   pub costs : List Cost
   pub events : List Event
 
--- a row of stolen time holds from its first centisecond on, before its last
+-- a row of stolen time that comes again holds so long after it began as at first, if it began at
+-- its last time or before
+abbrev pub holds_again : Stolen → ℕ → ℕ → Bool
+holds_again row time after = nat_lt after (row.to - row.from) && nat_le (time - after) row.until
+
+-- a row of stolen time holds from its first centisecond on, before its last, and again each so many
+-- centiseconds
 abbrev pub holds : Stolen → ℕ → Bool
-holds row time = nat_le row.from time && nat_lt time row.to
+holds row time =
+    nat_le row.from time && (if row.every == 0 then nat_lt time row.to
+    else holds_again row time ((time - row.from) % row.every))
 
 -- the percent that is stolen of a centisecond: that of the first row that holds
 abbrev pub stolen_at : List Stolen → ℕ → ℕ

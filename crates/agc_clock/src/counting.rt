@@ -3,7 +3,7 @@ ghost use Rattle.std.specs.Prelude.{◌≡◌, ◌≤◌, IfSome, ◌-◌, lengt
 ghost use Rattle.agc_exec.specs.Image.{IsLawfulWords, jobs_in};
 ghost use Rattle.agc_clock.specs.Counts.{is_awake, kept, kept_by, runner_of, worker_of};
 ghost use Rattle.agc_clock.specs.Reading.{awake_at};
-ghost use Rattle.agc_clock.specs.Timetables.{cost_at, share_at, stolen_at};
+ghost use Rattle.agc_clock.specs.Timetables.{cost_at, holds, share_at, stolen_at};
 
 use crate::timetable::{Cost, Stolen, Timetables};
 use agc_exec::{Seat, job_at};
@@ -86,12 +86,26 @@ pub(crate) fn worker<T: Timetables>(table: &T, words: &Erasable) -> Option<JobCo
     }
 }
 
-/// The percent that is stolen of a centisecond.
-fn stolen_at(rows: &[Stolen], time: u32) -> u32
+/// Whether a row of stolen time holds at a time.
+fn holds(row: &Stolen, time: u32) -> bool
+    ensures { result ≡ holds row.now time }
+{
+    if time < row.from {
+        return false;
+    }
+    if row.every == 0 {
+        return time < row.to;
+    }
+    let after = (time - row.from) % row.every;
+    after < row.to.saturating_sub(row.from) && time.saturating_sub(after) <= row.until
+}
+
+/// The percent that is stolen of a centisecond: that of the first row that holds. Source: profile.
+pub fn stolen_at(rows: &[Stolen], time: u32) -> u32
     ensures { result ≡ stolen_at rows.now time }
 {
     for row in rows {
-        if row.from <= time && time < row.to {
+        if holds(row, time) {
             return row.percent;
         }
     }

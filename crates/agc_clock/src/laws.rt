@@ -1,14 +1,15 @@
 //! What should hold while time passes, as laws: each is the contract of a function that does
 //! nothing. They hold for a machine in any state, and for any timetable. Source: profile.
-ghost use Rattle.std.specs.Prelude.{◌≡◌, ℕ, ◌+◌, ◌-◌, List, map};
+ghost use Rattle.std.specs.Prelude.{◌≡◌, ◌<◌, ℕ, ◌+◌, ◌-◌, nat_le, nat_lt, ◌&&◌, List, map};
 ghost use Rattle.agc_machine.specs.Machines.{Machined, after_all};
 ghost use Rattle.agc_clock.specs.declared.timetable.Cost.{Cost};
+ghost use Rattle.agc_clock.specs.declared.timetable.Stolen.{Stolen};
 ghost use Rattle.agc_clock.specs.Instants.{Instant, centisecond};
-ghost use Rattle.agc_clock.specs.Laws.{EndsByItsCost, IsEachCostSome, hundredths_given};
+ghost use Rattle.agc_clock.specs.Laws.{EndsByItsCost, IsEachCostSome, comes_at, hundredths_given};
 ghost use Rattle.agc_clock.specs.Laws.{hundredths_left, own_ticks};
 ghost use Rattle.agc_clock.specs.Runs.{Standing, by_machine, lived_all, run};
 ghost use Rattle.agc_clock.specs.Runs.{scenario_requests, standing_at};
-ghost use Rattle.agc_clock.specs.Timetables.{Schedule, stolen_at};
+ghost use Rattle.agc_clock.specs.Timetables.{Schedule, holds, stolen_at};
 
 /// The run of a scenario is the machine's run over exactly the requests that the scenario asks for.
 pub fn a_run_is_that_of_its_requests()
@@ -29,6 +30,14 @@ pub fn each_hundredth_is_given_once()
         → hundredths_given by_machine table.costs at (centisecond table time)
         + hundredths_left by_machine table.costs at (centisecond table time)
         ≡ 100 - stolen_at table.stolen time }
+{}
+
+/// A row of stolen time that comes again holds as long each time as the first time, and comes each
+/// time that is at most its last.
+pub fn stolen_time_comes_again()
+    ensures { (row : Stolen) (times after : ℕ) → after < row.every
+        → holds row (comes_at row times + after)
+        ≡ (nat_lt after (row.to - row.from) && nat_le (comes_at row times) row.until) }
 {}
 
 /// If a job is asked to end, or to sleep, because its cost is used up, the computing time that it

@@ -10,5 +10,6 @@ mod timetable;
 
 pub use asked::{Asked, Source};
 pub use clock::Clock;
+pub use counting::stolen_at;
 pub use times::Times;
 pub use timetable::{Cost, Event, Stolen, Then, Timetable, Timetables};

@@ -7,13 +7,16 @@ use agc_plan::{Address, Request};
 use std::marker::Model;
 
 /// From centisecond `from` on, before `to`, something else takes `percent` of each centisecond; all
-/// of it where that is above 100. Source: profile.
+/// of it where that is above 100. Unless `every` is 0, it does so again each so many centiseconds,
+/// as long as the first time, at last from `until` on. Source: profile.
 #[repr(C)]
 #[derive(Clone, Copy)]
 pub struct Stolen {
     pub from: u32,
     pub to: u32,
     pub percent: u32,
+    pub every: u32,
+    pub until: u32,
 }
 
 /// What a job does that has used up its cost: it ends, or sleeps until this address is called.

@@ -88,7 +88,9 @@ keys_of level.Scenario =
 keys_of level.NamedTask = key.At ∷ key.Bank ∷ key.Action ∷ key.Of scenario.Name ∷ []
 keys_of level.NamedPhase =
     key.Group ∷ key.Phase ∷ key.Job ∷ key.Listing ∷ key.Of scenario.Name ∷ []
-keys_of level.Steal = key.Of scenario.From ∷ key.Of scenario.To ∷ key.Of scenario.Percent ∷ []
+keys_of level.Steal =
+    key.Of scenario.From ∷ key.Of scenario.To ∷ key.Of scenario.Percent ∷ key.Of scenario.Every
+    ∷ key.Of scenario.Until ∷ []
 keys_of level.Job =
     key.At ∷ key.Of scenario.Cost ∷ key.Of scenario.Then ∷ key.Of scenario.Name ∷ []
 keys_of level.Event =

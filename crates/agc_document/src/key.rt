@@ -168,10 +168,12 @@ const NAMED_PHASE: [Key; 5] = [
     Key::Of(ScenarioKey::Name),
 ];
 
-const STEAL: [Key; 3] = [
+const STEAL: [Key; 5] = [
     Key::Of(ScenarioKey::From),
     Key::Of(ScenarioKey::To),
     Key::Of(ScenarioKey::Percent),
+    Key::Of(ScenarioKey::Every),
+    Key::Of(ScenarioKey::Until),
 ];
 
 const JOB: [Key; 4] = [

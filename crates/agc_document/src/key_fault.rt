@@ -15,6 +15,8 @@ pub enum KeyFault {
     Item(Key),
     /// The row of stolen time ends before it begins, or as it does.
     Backward,
+    /// The row of stolen time begins again before it ends.
+    OverlapsItself,
     /// The row of stolen time begins before an earlier one ends.
     Overlap,
     /// An earlier job has the same address.

@@ -122,7 +122,8 @@ fn told_text<'a>(document: &'a str, note: &KeyNote<'a>, spot: Spot) -> &'a str
     match note.fault {
         KeyFault::Unknown(_level) => note.text,
         KeyFault::Missing(_key) => "",
-        KeyFault::Backward | KeyFault::Overlap | KeyFault::JobTwice => "",
+        KeyFault::Backward | KeyFault::OverlapsItself => "",
+        KeyFault::Overlap | KeyFault::JobTwice => "",
         KeyFault::Value(key) | KeyFault::Item(key) => match key.form() {
             Some(Form::Address) | Some(Form::Word) => digits_at(document, spot.value),
             _ => "",

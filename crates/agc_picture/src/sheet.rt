@@ -4,7 +4,7 @@ use crate::held::{Place, put_name};
 use crate::labels::Labels;
 use crate::lane::Strip;
 use crate::scale::{LEFT, Scale, short};
-use agc_clock::Stolen;
+use agc_clock::{Stolen, stolen_at};
 use agc_text::Draft;
 use agc_text::Filling::{Bytes, Number, Seconds, Text};
 
@@ -66,6 +66,9 @@ const TOP: u64 = 142;
 
 /// How high the lanes of events, of stolen and of idle time are.
 const LOW: u64 = 24;
+
+/// Where the longest scenario ends, in centiseconds.
+const LONGEST: u64 = 360_001;
 
 /// Which lanes there are: so many core sets; and if a clock runs, events, stolen and idle time.
 #[derive(Clone, Copy)]
@@ -165,33 +168,98 @@ pub(crate) fn put_ground(draft: &mut Draft, strip: Strip, scale: Scale) {
     draft.text("/>\n");
 }
 
-/// Adds the rows of stolen time: the more is stolen, the higher, and how much, where there is
-/// room for it.
+/// Adds stolen time between two columns, which begins with a time: the more is stolen, the higher,
+/// and how much, where there is room for it.
+fn put_part(draft: &mut Draft, lane: Strip, columns: (u64, u64), time: u64, percent: u64) {
+    let (from, to) = columns;
+    let percent = percent.min(100);
+    let height = (percent * LOW + 99) / 100;
+    let y = lane.y.saturating_add(LOW - height.min(LOW));
+    if from < to && 0 < percent {
+        Strip { y, height, ..lane }.put_path(draft, "v", from, to);
+        draft.put(
+            "><title>stolen: {} %, from {} s</title></path>\n",
+            &[Number(percent), Seconds(time)],
+        );
+    }
+    if from.saturating_add(45) <= to {
+        let x = Number(Scale::x(from).saturating_add(3));
+        let base = Number(lane.y.saturating_add(21));
+        draft.put(
+            "<text x=\"{}\" y=\"{}\">{} %</text>\n",
+            &[x, base, Number(percent)],
+        );
+    }
+}
+
+/// Stolen time that is gathered column by column: where a part of one percent begins, and when; and
+/// what was stolen since the last column, in how many centiseconds.
+#[derive(Clone, Copy)]
+struct Beats {
+    lane: Strip,
+    from: u64,
+    begins: u64,
+    percent: u64,
+    stolen: u64,
+    count: u64,
+}
+
+impl Beats {
+    /// Draws what was gathered up to a column, if it has another percent than what comes behind it.
+    fn part(&mut self, draft: &mut Draft, column: u64, time: u64, percent: u64) {
+        if percent == self.percent {
+            return;
+        }
+        if self.percent > 0 {
+            let columns = (self.from, column);
+            put_part(draft, self.lane, columns, self.begins, self.percent);
+        }
+        (self.from, self.begins, self.percent) = (column, time, percent);
+    }
+
+    /// Takes a centisecond, between two columns.
+    fn take(&mut self, draft: &mut Draft, scale: Scale, time: u64, percent: u64) {
+        let column = scale.column(time);
+        self.stolen = self.stolen.saturating_add(percent);
+        self.count = self.count.saturating_add(1);
+        if column < scale.column(time.saturating_add(1)) {
+            let mean = self.stolen.saturating_add(self.count / 2) / self.count.max(1);
+            let begins = time.saturating_sub(self.count - 1);
+            self.part(draft, scale.column(begins), begins, mean);
+            (self.stolen, self.count) = (0, 0);
+        }
+    }
+}
+
+/// Adds stolen time of which some comes again: in each column what is stolen of its time.
+fn put_beats(draft: &mut Draft, lane: Strip, scale: Scale, rows: &[Stolen]) {
+    let mut beats = Beats {
+        lane,
+        from: 0,
+        begins: scale.from,
+        percent: 0,
+        stolen: 0,
+        count: 0,
+    };
+    let end = scale.to.min(LONGEST);
+    for time in scale.from..end {
+        let percent = u64::from(stolen_at(rows, time as u32)).min(100);
+        beats.take(draft, scale, time, percent);
+    }
+    beats.part(draft, scale.column(end), end, 0);
+}
+
+/// Adds the rows of stolen time.
 pub(crate) fn put_stolen(draft: &mut Draft, sheet: Sheet, scale: Scale, rows: &[Stolen]) {
     let lane = sheet.strip_of(Place::Stolen);
+    if rows.iter().any(|row| row.every != 0) {
+        return put_beats(draft, lane, scale, rows);
+    }
     for row in rows {
         let percent = u64::from(row.percent).min(100);
-        let (from, to) = (
-            scale.column(u64::from(row.from)),
-            scale.column(u64::from(row.to)),
-        );
-        let height = (percent * LOW + 99) / 100;
-        let y = lane.y.saturating_add(LOW - height.min(LOW));
-        if from < to && 0 < percent {
-            Strip { y, height, ..lane }.put_path(draft, "v", from, to);
-            draft.put(
-                "><title>stolen: {} %, from {} s</title></path>\n",
-                &[Number(percent), Seconds(u64::from(row.from))],
-            );
-        }
-        if from.saturating_add(45) <= to {
-            let x = Number(Scale::x(from).saturating_add(3));
-            let base = Number(lane.y.saturating_add(21));
-            draft.put(
-                "<text x=\"{}\" y=\"{}\">{} %</text>\n",
-                &[x, base, Number(percent)],
-            );
-        }
+        let (from, to) = (u64::from(row.from), u64::from(row.to));
+        let columns = (scale.column(from), scale.column(to));
+        put_part(draft, lane, columns, from, percent);
     }
 }
 

@@ -1,7 +1,8 @@
 -- A document's numbers and texts by key, as those of a scenario, before any text is read. None
 -- stands for a fault Key.
 use Rattle.std.specs.Prelude.{ℕ, ℤ, List, [], ◌∷◌, codes, map, Option, Some, None}
-use Rattle.std.specs.Prelude.{Bool, true, false, nat_lt, not, is_some, ◌&&◌, if◌then◌else◌}
+use Rattle.std.specs.Prelude.{Bool, true, false, nat_lt, nat_le, not, is_some, ◌-◌, ◌==◌, ◌&&◌}
+use Rattle.std.specs.Prelude.{◌||◌, if◌then◌else◌}
 use Rattle.std.specs.List.{list_all}
 use Rattle.toml.specs.Data.{Data, Members, as_str, as_integer}
 use Rattle.agc_text.specs.Chain.{◌>>=◌}
@@ -48,22 +49,42 @@ number_in k ms = read_at (number_of k) k ms
 abbrev pub number_if : BenchKey → Members → Option (Option ℕ)
 number_if k ms = read_or None (given (number_of k)) (value_of k ms)
 
--- a row of stolen time that ends after it begins
-abbrev pub forward : Stolen → Option Stolen
-forward row = if nat_lt row.from row.to then Some row else None
+-- whether a row of stolen time comes only once
+abbrev pub comes_once : Stolen → Bool
+comes_once row = row.every == 0
 
--- a row of stolen time
+-- a row of stolen time that ends after it begins, and if it comes again, not before it ends
+abbrev pub forward : Stolen → Option Stolen
+forward row =
+    if nat_lt row.from row.to && (comes_once row || nat_le (row.to - row.from) row.every)
+    then Some row else None
+
+-- a number, or what stands for it where its key is missing
+abbrev pub or_missing : ℕ → Option ℕ → ℕ
+or_missing missing None = missing
+or_missing missing (Some n) = n
+
+-- a row of stolen time: it comes once, or again and again, to its last time or for ever
 unfoldable pub stolen_row : Data → Option Stolen
 stolen_row d = do
   ms ← table_of level.Steal d
   from ← number_in (key.Of of_scenario.From) ms
   to ← number_in (key.Of of_scenario.To) ms
   percent ← number_in (key.Of of_scenario.Percent) ms
-  forward (record { from = from; to = to; percent = percent })
+  every ← number_if (key.Of of_scenario.Every) ms
+  until ← number_if (key.Of of_scenario.Until) ms
+  forward (record {
+    from = from;
+    to = to;
+    percent = percent;
+    every = or_missing 0 every;
+    until = or_missing 360000 until;
+  })
 
 -- one row for all the time that a scenario may last
 abbrev pub always : ℕ → List Stolen
-always percent = record { from = 0; to = 360001; percent = percent } ∷ []
+always percent =
+    record { from = 0; to = 360001; percent = percent; every = 0; until = 360000 } ∷ []
 
 -- the rows of stolen time: a percent alone, or an array of tables
 abbrev pub stolen_by : Option ℤ → Data → Option (List Stolen)
@@ -100,9 +121,10 @@ event d = do
   name ← name_in ms
   Some (record { at = at; requests = requests; every = every; until = until; name = name })
 
--- whether two rows of stolen time hold at some time both
+-- whether two rows of stolen time that come only once hold at some time both
 abbrev pub overlap : Stolen → Stolen → Bool
-overlap a b = nat_lt a.from b.to && nat_lt b.from a.to
+overlap a b =
+    (comes_once a && comes_once b) && (nat_lt a.from b.to && nat_lt b.from a.to)
 
 -- whether no two rows of stolen time do
 abbrev pub are_apart : List Stolen → Bool

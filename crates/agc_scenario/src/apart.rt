@@ -8,11 +8,11 @@ use crate::texts::JobTexts;
 use agc_clock::Stolen;
 use agc_document::{Key, KeyFault, KeyNote, Notes, Place, ScenarioKey};
 
-/// Whether two rows of stolen time hold at some time both.
+/// Whether two rows of stolen time that come only once hold at some time both.
 fn overlap(a: Stolen, b: Stolen) -> bool
     ensures { result ≡ overlap a b }
 {
-    a.from < b.to && b.from < a.to
+    a.every == 0 && b.every == 0 && a.from < b.to && b.from < a.to
 }
 
 /// Whether a row of stolen time overlaps none of these.

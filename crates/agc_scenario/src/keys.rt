@@ -8,6 +8,7 @@ ghost use Rattle.agc_document.specs.declared.key.Key.TheVariants as key_of;
 ghost use Rattle.agc_document.specs.declared.key.ScenarioKey.TheVariants as of_scenario;
 ghost use Rattle.agc_scenario.specs.Keys.{name_in, number_if, forward, stolen_rows, text_or_end};
 ghost use Rattle.agc_scenario.specs.Keys.{named_row, named_entry, stolen_row, job, event};
+ghost use Rattle.agc_scenario.specs.Keys.{or_missing};
 ghost use Rattle.agc_scenario.specs.Keys.{always, ample_settings_in, if_apart, timing_in};
 ghost use Rattle.agc_scenario.specs.Keys.{named_in, texts_with, scenario_in};
 
@@ -84,14 +85,26 @@ impl<'a> FromData<'a> for NamedEntry<'a> {
     }
 }
 
-/// The row of stolen time, if it ends after it begins.
+/// The row of stolen time, if it ends after it begins, and doesn't come again before it ends.
 fn forward<'a>(row: Stolen, place: Place, notes: &mut Notes<'a>) -> Result<StolenRow, Refusal<'a>>
     ensures value { GivesOrKey (λ r. r) result (forward row) }
 {
-    if row.from < row.to {
-        Ok(StolenRow { row })
-    } else {
+    if row.to <= row.from {
         Err(Refusal::Key(notes.key(place, "", KeyFault::Backward)))
+    } else if row.every != 0 && row.every < row.to - row.from {
+        Err(Refusal::Key(notes.key(place, "", KeyFault::OverlapsItself)))
+    } else {
+        Ok(StolenRow { row })
+    }
+}
+
+/// A number, or what stands for it where its key is missing.
+fn or_missing(missing: u32, number: Option<u32>) -> u32
+    ensures { result ≡ or_missing missing number }
+{
+    match number {
+        None => missing,
+        Some(number) => number,
     }
 }
 
@@ -112,10 +125,14 @@ impl<'a> FromData<'a> for StolenRow {
         let from = known.and(number_at(table, Key::Of(ScenarioKey::From), place, notes));
         let to = number_at(table, Key::Of(ScenarioKey::To), place, notes);
         let percent = number_at(table, Key::Of(ScenarioKey::Percent), place, notes);
+        let every = number_if(table, ScenarioKey::Every, place, notes);
+        let until = number_if(table, ScenarioKey::Until, place, notes);
         let row = Stolen {
             from: from? as u32,
             to: to? as u32,
             percent: percent? as u32,
+            every: or_missing(0, every?),
+            until: or_missing(360_000, until?),
         };
         forward(row, place, notes)
     }
@@ -234,6 +251,8 @@ pub(crate) fn always(alloc: Global, percent: u64) -> Result<Vec<Stolen>, AllocEr
         from: 0,
         to: 360_001,
         percent: percent as u32,
+        every: 0,
+        until: 360_000,
     })?;
     Ok(rows)
 }

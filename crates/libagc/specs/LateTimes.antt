@@ -1,6 +1,6 @@
 -- What a caller's timetable lacks.
-use Rattle.std.specs.Prelude.{ℕ, ◌+◌, ◌==◌, nat_lt, nat_le, ◌&&◌, ◌||◌, not, Bool, true, false}
-use Rattle.std.specs.Prelude.{if◌then◌else◌, List, [], ◌∷◌, length, Option, Some, None}
+use Rattle.std.specs.Prelude.{ℕ, ◌+◌, ◌-◌, ◌==◌, nat_lt, nat_le, ◌&&◌, ◌||◌, not, Bool, true}
+use Rattle.std.specs.Prelude.{false, if◌then◌else◌, List, [], ◌∷◌, length, Option, Some, None}
 use Rattle.std.specs.Option.{is_some}
 use Rattle.agc_clock.specs.declared.timetable.Stolen.{Stolen}
 use Rattle.agc_image.specs.declared.asked.AgcRequest.{AgcRequest}
@@ -18,9 +18,15 @@ last_time = 360000
 abbrev pub most_cost : ℕ
 most_cost = 100000000
 
--- from a time to a later one, at most all of each centisecond
+-- whether a row of stolen time comes only once
+abbrev pub comes_once : Stolen → Bool
+comes_once row = row.every == 0
+
+-- from a time to a later one, at most all of each centisecond; it comes again once it has ended
 abbrev pub is_steal : Stolen → Bool
-is_steal row = nat_lt row.from row.to && nat_le row.percent 100
+is_steal row =
+    nat_lt row.from row.to && (nat_le row.percent 100
+    && (comes_once row || nat_le (row.to - row.from) row.every))
 
 -- a job at an address; then it ends, or sleeps at an address
 abbrev pub is_cost : AgcCost → Bool
@@ -56,13 +62,16 @@ abbrev pub are_requests : List AgcRequest → Bool
 are_requests [] = true
 are_requests (r ∷ rs) = is_some (request_told r) && are_requests rs
 
--- whether a row of stolen time holds at a time at which one of these does
+-- whether two rows of stolen time that come only once hold at one time
+abbrev pub meet : Stolen → Stolen → Bool
+meet a b = (comes_once a && comes_once b) && (nat_lt a.from b.to && nat_lt b.from a.to)
+
+-- whether a row does so with one of these
 abbrev pub meets : Stolen → List Stolen → Bool
 meets row [] = false
-meets row (other ∷ others) =
-    (nat_lt row.from other.to && nat_lt other.from row.to) || meets row others
+meets row (other ∷ others) = meet row other || meets row others
 
--- whether two rows hold at one time
+-- whether two of these do
 abbrev pub steals_twice : List Stolen → Bool
 steals_twice [] = false
 steals_twice (row ∷ rows) = meets row rows || steals_twice rows

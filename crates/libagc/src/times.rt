@@ -2,8 +2,8 @@
 ghost use Rattle.std.specs.Prelude.{◌≡◌};
 ghost use Rattle.agc_image.specs.Codes.{code_for};
 ghost use Rattle.libagc.specs.LateTimes.{is_steal, is_cost, is_coming, is_event};
-ghost use Rattle.libagc.specs.LateTimes.{are_steals, are_costs, are_events, are_requests, meets};
-ghost use Rattle.libagc.specs.LateTimes.{steals_twice, has_cost, costs_twice, times_lack};
+ghost use Rattle.libagc.specs.LateTimes.{are_steals, are_costs, are_events, are_requests, meet};
+ghost use Rattle.libagc.specs.LateTimes.{meets, steals_twice, has_cost, costs_twice, times_lack};
 
 use crate::timetable::{AgcCost, AgcEvent};
 use agc_clock::Stolen;
@@ -19,7 +19,7 @@ const MOST_COST: u32 = 100000000;
 fn is_steal(row: &Stolen) -> bool
     ensures { result ≡ is_steal row.now }
 {
-    row.from < row.to && row.percent <= 100
+    row.from < row.to && row.percent <= 100 && (row.every == 0 || row.to - row.from <= row.every)
 }
 
 /// Whether numbers are a cost.
@@ -97,19 +97,26 @@ fn are_requests(requests: &[AgcRequest]) -> bool
     true
 }
 
-/// Whether a row of stolen time holds at a time at which one of these does.
+/// Whether two rows of stolen time that come only once hold at one time.
+fn meet(row: &Stolen, other: &Stolen) -> bool
+    ensures { result ≡ meet row.now other.now }
+{
+    row.every == 0 && other.every == 0 && row.from < other.to && other.from < row.to
+}
+
+/// Whether a row of stolen time meets one of these.
 fn meets(row: &Stolen, others: &[Stolen]) -> bool
     ensures { result ≡ meets row.now others.now }
 {
     for other in others {
-        if row.from < other.to && other.from < row.to {
+        if meet(row, other) {
             return true;
         }
     }
     false
 }
 
-/// Whether two rows hold at one time.
+/// Whether two rows that come only once hold at one time.
 fn steals_twice(rows: &[Stolen]) -> bool
     ensures { result ≡ steals_twice rows.now }
 {
@@ -172,7 +179,8 @@ pub(crate) fn times_lack(
 }
 
 /// Whether rows make a timetable: 0, or the first of 15, a number of them is out of its range, 16,
-/// two rows of stolen time hold at one time, and 17, an address has two costs. Source: profile.
+/// two rows of stolen time that come only once hold at one time, and 17, an address has two costs.
+/// Source: profile.
 #[unsafe(no_mangle)]
 pub extern "C" fn agc_clock_check(
     stolen: &[Stolen],
