@@ -112,6 +112,11 @@ export class Touch {
     const { on, workbench } = this;
     if (on === null) return;
     const { list, k } = on;
+    // (another document may have fewer core sets)
+    if (by(list).children[k] === undefined) {
+      this.close();
+      return;
+    }
     const { shown } = workbench;
     const told = this[list](k, shown);
     by("touch").hidden = false;

@@ -35,12 +35,26 @@ SLID = """(() => {
 })()"""
 
 
+# Goes back or forward; another document doesn't know `isMoved`, and this one is told by an event.
+MOVED = """window.isMoved = false;
+window.addEventListener('popstate', () => { window.isMoved = true; }, { once: true });
+setTimeout(() => { history.KIND(); });"""
+
+
+def heard(browser, text):
+    """What the page says, or nothing while another one comes."""
+    try:
+        return browser.value(text)
+    except OSError:
+        return None
+
+
 def come_back(browser):
     """Waits until the workbench is there again; where Back has left it, Forward comes first."""
     begun = time.monotonic()
-    while browser.value("document.documentElement?.dataset.ready !== 'yes' || document.body.ariaBusy === 'true'"):
-        if browser.value("location.protocol") == "about:":
-            browser.value("history.forward()")
+    while heard(browser, "document.documentElement?.dataset.ready !== 'yes' || document.body.ariaBusy === 'true'") is not False:
+        if heard(browser, "location.protocol") == "about:":
+            heard(browser, "setTimeout(() => { history.forward(); })")
         if time.monotonic() - begun > 60:
             raise OSError(f"the page isn't ready: {browser.value('[location.href, window.broken]')}")
         time.sleep(0.05)
@@ -57,7 +71,11 @@ def travel(browser, dice, path, links):
     elif kind == "saved":
         browser.call("Page.navigate", url=f"file://{path}{dice.choice(links)}")
     else:
-        browser.value(f"history.{kind}()")
+        browser.value(MOVED.replace("KIND", kind))
+        begun = time.monotonic()
+        # (where there is nothing to go to, nothing happens)
+        while heard(browser, "window.isMoved === false") and time.monotonic() - begun < 3:
+            time.sleep(0.05)
     time.sleep(0.05)
     come_back(browser)
     return kind

@@ -172,6 +172,15 @@ def try_flown(browser, trial, path):
         trial.expect(f"{name} doesn't say {said!r}", said in texts_of[name] and (said[0] != "#" or texts_of[name].startswith(said)))
     trial.expect(f"before it is read: {texts(browser, '#dsky span')}", texts(browser, "#dsky span") == "PROG on|VERB 05 NOUN 09: 01202 01202 01202")
     browser.press("Home")
+    touch(browser, "sets", 7)
+    browser.value("location.hash = '#landing'")
+    begun = time.monotonic()
+    while not browser.text("title").startswith("A landing") and time.monotonic() - begun < 10:
+        time.sleep(0.05)
+    time.sleep(0.2)
+    told = browser.value("document.getElementById('touch').hidden"), browser.text("note")
+    trial.expect(f"a core set that isn't there any more: {told}", told == (True, ""))
+    browser.show(path, "#apollo-11")
     trial.expect(f"at the beginning: {texts(browser, '#dsky span')}", texts(browser, "#dsky span") == "PROG off|VERB 05 NOUN 09: 00000 00000 00000")
 
 
