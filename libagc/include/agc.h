@@ -311,10 +311,11 @@ typedef struct {
     size_t entry_count;
 } AgcPlan;
 
-/* Stolen time: from centisecond `from` on, before `to`, something else takes `percent`, 0 to 100, of
-   each centisecond; and where `every` isn't 0 again each so many centiseconds, as long as the first
-   time, at last from `until` on: never, where that is before `from`. `every` is 0, or at least `to`
-   less `from`. Of two rows that hold at one time the first counts; both may not have `every` 0. */
+/* Stolen time: from centisecond `from` until just before `to`, something else takes `percent`, 0 to
+   100, of each centisecond. If `every` isn't 0, this repeats at that interval, for the same length
+   each time; it last begins at `until` or earlier, and if `until` is before `from` it never begins.
+   `every` is 0, or at least `to` less `from`. Two rows with `every` 0 must not overlap; if other
+   rows do, the first one counts. */
 typedef struct { uint32_t from, to, percent, every, until; } AgcStolen;
 
 /* What a job costs that stands at an address, in hundredths of a centisecond of computing, 1 to

@@ -199,8 +199,8 @@ export declare class Machine {
 }
 
 /**
- * From a centisecond on, and before another, something else takes so many percent of each; and with
- * `every` again each so many centiseconds, at last from `until` on.
+ * From one centisecond until just before another, something else takes so many percent of each. With
+ * `every` this repeats at that interval, and last begins at `until` or earlier.
  */
 export interface Stolen {
   from: number;

@@ -146,10 +146,7 @@ fn said_of_key<'a>(fault: KeyFault, text: &'a str) -> Said<'a> {
             _ => ("expected a string", ""),
         },
         KeyFault::Backward => ("\"from\" has to be below \"to\"", ""),
-        KeyFault::OverlapsItself => (
-            "\"every\" has to be at least what \"to\" is above \"from\"",
-            "",
-        ),
+        KeyFault::OverlapsItself => ("\"every\" has to be at least \"to\" minus \"from\"", ""),
         KeyFault::Overlap => ("it overlaps an earlier row", ""),
         KeyFault::JobTwice => ("an earlier job has the same address", ""),
     };

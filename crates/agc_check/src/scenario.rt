@@ -139,7 +139,7 @@ fn nothing_left(cost: u64, period: u64, stolen: u64) -> Said<'static> {
     (NOTHING_LEFT, [cost, period, stolen, stolen, stolen])
 }
 
-/// What is warned of a job, where so many percent are always stolen.
+/// The warning about a job, if any; this many percent are always stolen.
 fn job_warning(scenario: &Scenario, job: &TimedJob, stolen: u64) -> Option<Said<'static>> {
     if !is_begun(scenario, job.at()) {
         return Some(plain(NOT_BEGUN));
@@ -154,14 +154,14 @@ fn job_warning(scenario: &Scenario, job: &TimedJob, stolen: u64) -> Option<Said<
     }
 }
 
-/// Whether a row of stolen time that comes once holds whenever one that comes again would.
+/// Whether a row of stolen time that doesn't repeat always holds when one that repeats would.
 fn hides(row: &Stolen, again: &Stolen, lasts: u32) -> bool {
     let long = again.to.saturating_sub(again.from);
     let last = again.until.min(lasts).saturating_add(long);
     row.every == 0 && again.every != 0 && row.from <= again.from && last <= row.to
 }
 
-/// What is warned of the row of stolen time of this number, from 0.
+/// The warning about a row of stolen time, if any; rows are numbered from 0.
 fn row_warning(timing: &Timing, number: usize, row: &Stolen) -> Option<Said<'static>> {
     let mut earlier = timing.stolen().iter().take(number);
     if row.every == 0 && row.until < LAST_TIME {

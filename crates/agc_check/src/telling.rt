@@ -91,8 +91,8 @@ fn add_summary(told: &mut String, ran: &Ran) -> Result<(), AllocError> {
     add_alarms(told, &ran.alarms)
 }
 
-/// What is said of a document that is a bench or a scenario: what is warned of, and what its run
-/// comes to. Source: profile.
+/// The report on a document that is a bench or a scenario: the warnings, and what its run comes to.
+/// Source: profile.
 ///
 /// # Errors
 ///

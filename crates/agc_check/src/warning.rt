@@ -49,7 +49,7 @@ pub(crate) const NEVER: &str = "until is before at, so it never comes";
 pub(crate) const NEVER_STOLEN: &str = "until is before from, so it never comes";
 
 pub(crate) const HIDDEN: &str =
-    "an earlier row holds whenever this one would, so nothing comes of it";
+    "an earlier row always holds when this one would, so it has no effect";
 
 pub(crate) const NOT_AGAIN: &str = "without every, until says nothing: it comes once";
 

@@ -220,9 +220,9 @@ impl Found {
     }
 }
 
-/// What is warned of in a bench or a scenario that comes to this run: at most twenty times the jobs
-/// and events of a scenario, and then what has no effect, in the order of the bench's keys; and
-/// last, whatever was said before, what is warned of the run. Source: profile.
+/// The warnings about a bench or a scenario whose run came to this: up to twenty about a scenario's
+/// jobs and events, and about what has no effect, in the order of the bench's keys; and after them
+/// all warnings about the run. Source: profile.
 ///
 /// # Errors
 ///

@@ -18,6 +18,15 @@ pub record Schedule : Type 0 where
   pub costs : List Cost
   pub events : List Event
 
+-- whether a row of stolen time doesn't repeat
+abbrev pub comes_once : Stolen → Bool
+comes_once row = row.every == 0
+
+-- whether two rows of stolen time that don't repeat hold at the same time
+abbrev pub overlap : Stolen → Stolen → Bool
+overlap a b =
+    (comes_once a && comes_once b) && (nat_lt a.from b.to && nat_lt b.from a.to)
+
 -- a row of stolen time that comes again holds so long after it began as at first, if it began at
 -- its last time or before
 abbrev pub holds_again : Stolen → ℕ → ℕ → Bool

@@ -1,14 +1,14 @@
 // What is set down for a scenario, wherever it lies.
 ghost use Rattle.std.specs.Prelude.{◌≡◌, length, slice_get, option_map};
-ghost use Rattle.agc_clock.specs.Timetables.{Schedule, asked_then, requests_of};
+ghost use Rattle.agc_clock.specs.Timetables.{Schedule, asked_then, overlap, requests_of};
 
 use crate::times::Times;
 use agc_plan::{Address, Request};
 use std::marker::Model;
 
-/// From centisecond `from` on, before `to`, something else takes `percent` of each centisecond; all
-/// of it where that is above 100. Unless `every` is 0, it does so again each so many centiseconds,
-/// as long as the first time, at last from `until` on. Source: profile.
+/// From centisecond `from` until just before `to`, something else takes `percent` of each
+/// centisecond; all of it if that is above 100. If `every` isn't 0, this repeats at that interval,
+/// for the same length each time, and last begins at `until` or earlier. Source: profile.
 #[repr(C)]
 #[derive(Clone, Copy)]
 pub struct Stolen {
@@ -17,6 +17,15 @@ pub struct Stolen {
     pub percent: u32,
     pub every: u32,
     pub until: u32,
+}
+
+impl Stolen {
+    /// Whether two rows of stolen time that don't repeat hold at the same time. Source: profile.
+    pub fn overlaps(&self, other: &Stolen) -> bool
+        ensures { result ≡ overlap self.now other.now }
+    {
+        self.every == 0 && other.every == 0 && self.from < other.to && other.from < self.to
+    }
 }
 
 /// What a job does that has used up its cost: it ends, or sleeps until this address is called.

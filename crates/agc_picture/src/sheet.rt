@@ -168,8 +168,8 @@ pub(crate) fn put_ground(draft: &mut Draft, strip: Strip, scale: Scale) {
     draft.text("/>\n");
 }
 
-/// Adds stolen time between two columns, which begins with a time: the more is stolen, the higher,
-/// and how much, where there is room for it.
+/// Adds stolen time between two columns, the first of which begins at this time: the more is
+/// stolen, the higher, with the percentage if there is room for it.
 fn put_part(draft: &mut Draft, lane: Strip, columns: (u64, u64), time: u64, percent: u64) {
     let (from, to) = columns;
     let percent = percent.min(100);
@@ -192,8 +192,8 @@ fn put_part(draft: &mut Draft, lane: Strip, columns: (u64, u64), time: u64, perc
     }
 }
 
-/// Stolen time that is gathered column by column: where a part of one percent begins, and when; and
-/// what was stolen since the last column, in how many centiseconds.
+/// Stolen time, gathered column by column: in which column and when the part with the present
+/// percentage begins, and what was stolen since the last column, in how many centiseconds.
 #[derive(Clone, Copy)]
 struct Beats {
     lane: Strip,
@@ -205,7 +205,7 @@ struct Beats {
 }
 
 impl Beats {
-    /// Draws what was gathered up to a column, if it has another percent than what comes behind it.
+    /// Draws what was gathered up to a column, if what follows has another percentage.
     fn part(&mut self, draft: &mut Draft, column: u64, time: u64, percent: u64) {
         if percent == self.percent {
             return;
@@ -231,7 +231,7 @@ impl Beats {
     }
 }
 
-/// Adds stolen time of which some comes again: in each column what is stolen of its time.
+/// Adds stolen time, some of which repeats: each column shows the average of its time.
 fn put_beats(draft: &mut Draft, lane: Strip, scale: Scale, rows: &[Stolen]) {
     let mut beats = Beats {
         lane,

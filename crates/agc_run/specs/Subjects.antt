@@ -9,7 +9,7 @@ use Rattle.agc_run.specs.Runs.{Asking, clock_requests, to_ask}
 use Rattle.agc_run.specs.declared.subject.Subject.{Subject}
 use Rattle.agc_run.specs.declared.subject.Subject.TheVariants.{Bench, Scenario}
 
--- the bench that says on which machine it is run
+-- the bench whose machine it runs on
 abbrev pub bench_of : Subject → Benched
 bench_of (Bench bench) = bench.now
 bench_of (Scenario scenario) = scenario.now.bench
@@ -23,16 +23,17 @@ timing_of (Scenario scenario) = Some scenario.now.timing
 abbrev pub machine_of : Subject → Machined
 machine_of subject = bench_machine (bench_of subject)
 
--- all for which a machine is asked: by a bench as one caller asks, or by the clock of a scenario
+-- all requests for a machine: those of a bench, in the order of one caller, or those of the clock
+-- of a scenario
 abbrev pub requests_of : Subject → Machined → List Request
 requests_of (Bench bench) machine = bench_requests bench.now
 requests_of (Scenario scenario) machine =
     clock_requests (schedule_of scenario.now.timing) machine
 
--- and for which its own is asked
+-- all requests for its own machine
 abbrev pub asked_of : Subject → List Request
 asked_of subject = requests_of subject (machine_of subject)
 
--- what is still to be asked is all for which a subject asks, of whatever machine
+-- what is still to be asked is all requests of a subject, whatever the machine
 abbrev pub IsOf : Subject → Asking → Type 0
 IsOf subject asks = (m : Machined) → to_ask m asks ≡ requests_of subject m

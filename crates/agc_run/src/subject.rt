@@ -21,7 +21,7 @@ pub enum Subject<'a> {
 }
 
 impl<'a> Subject<'a> {
-    /// The bench that says on which machine it is run. Source: profile.
+    /// The bench whose machine it runs on. Source: profile.
     pub fn bench(self) -> &'a Bench
         ensures { result.now ≡ bench_of self.entry }
     {
@@ -41,7 +41,7 @@ impl<'a> Subject<'a> {
         }
     }
 
-    /// Its machine, of which nothing was asked. Source: profile.
+    /// Its machine, before the first request. Source: profile.
     ///
     /// # Errors
     ///
@@ -53,7 +53,7 @@ impl<'a> Subject<'a> {
         machine_of(alloc, self.bench())
     }
 
-    /// All for which a machine is asked. Source: profile.
+    /// All its requests. Source: profile.
     pub fn asks(self) -> Asks<'a>
         ensures { IsOf self.entry result }
     {
@@ -63,7 +63,7 @@ impl<'a> Subject<'a> {
         }
     }
 
-    /// Its run, of which nothing was asked. Source: profile.
+    /// Its run, before the first request. Source: profile.
     ///
     /// # Errors
     ///

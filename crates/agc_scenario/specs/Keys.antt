@@ -2,7 +2,7 @@
 -- stands for a fault Key.
 use Rattle.std.specs.Prelude.{ℕ, ℤ, List, [], ◌∷◌, codes, map, Option, Some, None}
 use Rattle.std.specs.Prelude.{Bool, true, false, nat_lt, nat_le, not, is_some, ◌-◌, ◌==◌, ◌&&◌}
-use Rattle.std.specs.Prelude.{◌||◌, if◌then◌else◌}
+use Rattle.std.specs.Prelude.{◌||◌, if◌then◌else◌, unwrap_or}
 use Rattle.std.specs.List.{list_all}
 use Rattle.toml.specs.Data.{Data, Members, as_str, as_integer}
 use Rattle.agc_text.specs.Chain.{◌>>=◌}
@@ -15,6 +15,7 @@ use Rattle.agc_document.specs.Keys.{is_among, known_to, table_of, value_of, numb
 use Rattle.agc_document.specs.Keys.{read_or, given, items_of, some_texts}
 use Rattle.agc_document.specs.Keys.{row_in, entry_in, settings_in}
 use Rattle.agc_clock.specs.declared.timetable.Stolen.{Stolen}
+use Rattle.agc_clock.specs.Timetables.{comes_once, overlap}
 use Rattle.agc_scenario.specs.Texts.{NamedRow, NamedEntry, NamedTexts, JobTexts, EventTexts}
 use Rattle.agc_scenario.specs.Texts.{TimingTexts, ScenarioTexts}
 
@@ -49,22 +50,13 @@ number_in k ms = read_at (number_of k) k ms
 abbrev pub number_if : BenchKey → Members → Option (Option ℕ)
 number_if k ms = read_or None (given (number_of k)) (value_of k ms)
 
--- whether a row of stolen time comes only once
-abbrev pub comes_once : Stolen → Bool
-comes_once row = row.every == 0
-
 -- a row of stolen time that ends after it begins, and if it comes again, not before it ends
 abbrev pub forward : Stolen → Option Stolen
 forward row =
     if nat_lt row.from row.to && (comes_once row || nat_le (row.to - row.from) row.every)
     then Some row else None
 
--- a number, or what stands for it where its key is missing
-abbrev pub or_missing : ℕ → Option ℕ → ℕ
-or_missing missing None = missing
-or_missing missing (Some n) = n
-
--- a row of stolen time: it comes once, or again and again, to its last time or for ever
+-- a row of stolen time: it comes once, or repeats, up to its last time or to the end
 unfoldable pub stolen_row : Data → Option Stolen
 stolen_row d = do
   ms ← table_of level.Steal d
@@ -77,8 +69,8 @@ stolen_row d = do
     from = from;
     to = to;
     percent = percent;
-    every = or_missing 0 every;
-    until = or_missing 360000 until;
+    every = unwrap_or every 0;
+    until = unwrap_or until 360000;
   })
 
 -- one row for all the time that a scenario may last
@@ -121,12 +113,7 @@ event d = do
   name ← name_in ms
   Some (record { at = at; requests = requests; every = every; until = until; name = name })
 
--- whether two rows of stolen time that come only once hold at some time both
-abbrev pub overlap : Stolen → Stolen → Bool
-overlap a b =
-    (comes_once a && comes_once b) && (nat_lt a.from b.to && nat_lt b.from a.to)
-
--- whether no two rows of stolen time do
+-- whether no two rows of stolen time overlap
 abbrev pub are_apart : List Stolen → Bool
 are_apart [] = true
 are_apart (row ∷ rows) = list_all (λ other. not (overlap row other)) rows && are_apart rows

@@ -2,24 +2,18 @@
 ghost use Rattle.std.specs.Prelude.{◌≡◌, map, not, true, false, IfSome, IfNone};
 ghost use Rattle.std.specs.List.{list_all};
 ghost use Rattle.agc_document.specs.Keys.{is_among};
-ghost use Rattle.agc_scenario.specs.Keys.{overlap, are_apart, are_distinct};
+ghost use Rattle.agc_clock.specs.Timetables.{overlap};
+ghost use Rattle.agc_scenario.specs.Keys.{are_apart, are_distinct};
 
 use crate::texts::JobTexts;
 use agc_clock::Stolen;
 use agc_document::{Key, KeyFault, KeyNote, Notes, Place, ScenarioKey};
 
-/// Whether two rows of stolen time that come only once hold at some time both.
-fn overlap(a: Stolen, b: Stolen) -> bool
-    ensures { result ≡ overlap a b }
-{
-    a.every == 0 && b.every == 0 && a.from < b.to && b.from < a.to
-}
-
 /// Whether a row of stolen time overlaps none of these.
 fn overlaps_none(row: Stolen, others: &[Stolen]) -> bool
     ensures { result ≡ list_all (λ other. not (overlap row other)) others.now }
 {
-    others.iter().all(|other| !overlap(row, *other))
+    others.iter().all(|other| !row.overlaps(other))
 }
 
 /// What is wrong with the first row of stolen time that an earlier one overlaps, of rows of which
@@ -40,7 +34,7 @@ pub(crate) fn overlapping<'a>(
             } else {
                 let later = others
                     .iter()
-                    .take_while(|other| !overlap(*row, **other))
+                    .take_while(|other| !row.overlaps(*other))
                     .count();
                 let place = later_place(ScenarioKey::Steal, number, later);
                 Some(notes.key(place, "", KeyFault::Overlap))

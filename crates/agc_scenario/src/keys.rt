@@ -8,7 +8,6 @@ ghost use Rattle.agc_document.specs.declared.key.Key.TheVariants as key_of;
 ghost use Rattle.agc_document.specs.declared.key.ScenarioKey.TheVariants as of_scenario;
 ghost use Rattle.agc_scenario.specs.Keys.{name_in, number_if, forward, stolen_rows, text_or_end};
 ghost use Rattle.agc_scenario.specs.Keys.{named_row, named_entry, stolen_row, job, event};
-ghost use Rattle.agc_scenario.specs.Keys.{or_missing};
 ghost use Rattle.agc_scenario.specs.Keys.{always, ample_settings_in, if_apart, timing_in};
 ghost use Rattle.agc_scenario.specs.Keys.{named_in, texts_with, scenario_in};
 
@@ -98,16 +97,6 @@ fn forward<'a>(row: Stolen, place: Place, notes: &mut Notes<'a>) -> Result<Stole
     }
 }
 
-/// A number, or what stands for it where its key is missing.
-fn or_missing(missing: u32, number: Option<u32>) -> u32
-    ensures { result ≡ or_missing missing number }
-{
-    match number {
-        None => missing,
-        Some(number) => number,
-    }
-}
-
 impl<'a> FromData<'a> for StolenRow {
     ghost reads = { stolen_row };
 
@@ -131,8 +120,8 @@ impl<'a> FromData<'a> for StolenRow {
             from: from? as u32,
             to: to? as u32,
             percent: percent? as u32,
-            every: or_missing(0, every?),
-            until: or_missing(360_000, until?),
+            every: every?.unwrap_or(0),
+            until: until?.unwrap_or(360_000),
         };
         forward(row, place, notes)
     }

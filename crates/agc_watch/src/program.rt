@@ -12,7 +12,7 @@ use std::process::ExitCode;
 /// Standard output, as the program writes to it: through a buffer.
 pub(crate) type StandardOutput<'a> = BufWriter<Printer<'a, HostRuntime>>;
 
-/// What a command works with: the process, who hears how far it has come, and standard output.
+/// What every command needs: the process, the progress report, and standard output.
 #[derive(Drop)]
 pub(crate) struct Console<'a> {
     pub(crate) rt: &'a HostRuntime,

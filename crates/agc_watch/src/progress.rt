@@ -22,8 +22,8 @@ impl Counted {
         }
     }
 
-    /// Whether one looks at the clock when so many are done.
-    fn looks_after(self, count: u64) -> bool {
+    /// Whether the clock is read when so many are done.
+    fn reads_clock_at(self, count: u64) -> bool {
         match self {
             Counted::Requests => count % 1024 == 0,
             Counted::Runs => true,
@@ -31,8 +31,8 @@ impl Counted {
     }
 }
 
-/// One who says on standard error, each second, how many are done; who says nothing where no time
-/// is known at which the work began.
+/// Reports on standard error, once a second, how many are done. Nothing is reported if it isn't
+/// known when the work began.
 #[derive(Drop)]
 pub(crate) struct Teller<'a> {
     rt: &'a HostRuntime,
@@ -44,8 +44,8 @@ pub(crate) struct Teller<'a> {
 }
 
 impl<'a> Teller<'a> {
-    /// Work begins now, of which this is counted; its progress is reported if that is wanted, and
-    /// wherever standard error is a terminal.
+    /// Starts now, and counts these. Progress is reported if that is wanted, or if standard error
+    /// is a terminal.
     pub(crate) fn new(rt: &'a HostRuntime, counted: Counted, is_wanted: bool) -> Teller<'a> {
         let begun = if is_wanted || rt.stderr().is_terminal() {
             Instant::now(rt).ok()
@@ -62,7 +62,7 @@ impl<'a> Teller<'a> {
         }
     }
 
-    /// Says how many columns a picture has, one for each request, if there are many.
+    /// Reports how many columns a picture has, one for each request, if there are many.
     pub(crate) fn tell_columns(&self) {
         let count = self.count;
         if count > MOST_COLUMNS {
@@ -72,7 +72,7 @@ impl<'a> Teller<'a> {
         }
     }
 
-    /// Says how many are done, where a second has passed.
+    /// Reports how many are done, if a second has passed.
     fn tell(&mut self) {
         let Some(begun) = self.begun else {
             return;
@@ -100,7 +100,7 @@ impl Progress for Teller<'_> {
 
     fn done(&mut self) {
         self.count = self.count.saturating_add(1);
-        if self.counted.looks_after(self.count) && self.count != self.expected {
+        if self.counted.reads_clock_at(self.count) && self.count != self.expected {
             self.tell();
         }
     }

@@ -3,6 +3,7 @@ use Rattle.std.specs.Prelude.{ℕ, ◌+◌, ◌-◌, ◌==◌, nat_lt, nat_le, �
 use Rattle.std.specs.Prelude.{false, if◌then◌else◌, List, [], ◌∷◌, length, Option, Some, None}
 use Rattle.std.specs.Option.{is_some}
 use Rattle.agc_clock.specs.declared.timetable.Stolen.{Stolen}
+use Rattle.agc_clock.specs.Timetables.{comes_once, overlap}
 use Rattle.agc_image.specs.declared.asked.AgcRequest.{AgcRequest}
 use Rattle.agc_image.specs.declared.fault.Fault.{Fault}
 use Rattle.agc_image.specs.declared.fault.Fault.TheVariants.{TimeRange, StealTwice, CostTwice}
@@ -17,10 +18,6 @@ last_time = 360000
 
 abbrev pub most_cost : ℕ
 most_cost = 100000000
-
--- whether a row of stolen time comes only once
-abbrev pub comes_once : Stolen → Bool
-comes_once row = row.every == 0
 
 -- from a time to a later one, at most all of each centisecond; it comes again once it has ended
 abbrev pub is_steal : Stolen → Bool
@@ -62,14 +59,10 @@ abbrev pub are_requests : List AgcRequest → Bool
 are_requests [] = true
 are_requests (r ∷ rs) = is_some (request_told r) && are_requests rs
 
--- whether two rows of stolen time that come only once hold at one time
-abbrev pub meet : Stolen → Stolen → Bool
-meet a b = (comes_once a && comes_once b) && (nat_lt a.from b.to && nat_lt b.from a.to)
-
--- whether a row does so with one of these
+-- whether a row of stolen time overlaps one of these
 abbrev pub meets : Stolen → List Stolen → Bool
 meets row [] = false
-meets row (other ∷ others) = meet row other || meets row others
+meets row (other ∷ others) = overlap row other || meets row others
 
 -- whether two of these do
 abbrev pub steals_twice : List Stolen → Bool

@@ -2,7 +2,7 @@
 ghost use Rattle.std.specs.Prelude.{◌≡◌};
 ghost use Rattle.agc_image.specs.Codes.{code_for};
 ghost use Rattle.libagc.specs.LateTimes.{is_steal, is_cost, is_coming, is_event};
-ghost use Rattle.libagc.specs.LateTimes.{are_steals, are_costs, are_events, are_requests, meet};
+ghost use Rattle.libagc.specs.LateTimes.{are_steals, are_costs, are_events, are_requests};
 ghost use Rattle.libagc.specs.LateTimes.{meets, steals_twice, has_cost, costs_twice, times_lack};
 
 use crate::timetable::{AgcCost, AgcEvent};
@@ -97,26 +97,19 @@ fn are_requests(requests: &[AgcRequest]) -> bool
     true
 }
 
-/// Whether two rows of stolen time that come only once hold at one time.
-fn meet(row: &Stolen, other: &Stolen) -> bool
-    ensures { result ≡ meet row.now other.now }
-{
-    row.every == 0 && other.every == 0 && row.from < other.to && other.from < row.to
-}
-
-/// Whether a row of stolen time meets one of these.
+/// Whether a row of stolen time overlaps one of these.
 fn meets(row: &Stolen, others: &[Stolen]) -> bool
     ensures { result ≡ meets row.now others.now }
 {
     for other in others {
-        if meet(row, other) {
+        if row.overlaps(other) {
             return true;
         }
     }
     false
 }
 
-/// Whether two rows that come only once hold at one time.
+/// Whether two rows of stolen time overlap.
 fn steals_twice(rows: &[Stolen]) -> bool
     ensures { result ≡ steals_twice rows.now }
 {
