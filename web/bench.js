@@ -4,7 +4,7 @@
  *
  * @typedef {{ at: string, bank: string, action: string[], name?: string }} TaskRow
  * @typedef {{ group: number, phase: number, job?: string, task?: string, name?: string }} PhaseRow
- * @typedef {{ at: string, cost: number, name?: string, then?: string }} JobRow
+ * @typedef {{ at: string, cost: number, name?: string, then?: string[] }} JobRow
  * @typedef {{ at: number, do: string[], every?: number, until?: number, name?: string }} EventRow
  * @typedef {{ from: number, to: number, percent: number, every?: number,
  *   until?: number }} StealRow
@@ -17,7 +17,7 @@
 import { pulseOf } from "../libagc/js/machine.js";
 import { partsOf } from "./stolen.js";
 import { Unread, linesOf, readToml } from "./toml.js";
-import { ACTIONS, JOBS, LISTS, PARTS, REQUESTS, lineFault, nearest } from "./words.js";
+import { ACTIONS, JOBS, LISTS, PARTS, REQUESTS, STEPS, lineFault, nearest } from "./words.js";
 
 /** The longest document that is taken, in bytes, as by `agc`. */
 export const MOST_BYTES = 1_048_576;
@@ -74,7 +74,7 @@ export const LEVELS = {
   device: { line: text("device", true), pulses: integer(0, 1_000_000n, true) },
   job: {
     ...{ ...named, at: text("address", true), cost: integer(1, 1_000_000n, true) },
-    then: text("then"),
+    then: some("then", 8n),
   },
   event: {
     ...{ ...named, at: integer(0, 360_000n, true), do: some("request", 16n, true) },
@@ -94,7 +94,7 @@ export const LEVELS = {
  * @returns {string | null}
  */
 export function textFault(form, given) {
-  const lines = { request: REQUESTS, action: ACTIONS, job: JOBS, listing: LISTS };
+  const lines = { request: REQUESTS, action: ACTIONS, job: JOBS, listing: LISTS, step: STEPS };
   if (form in lines) return lineFault(given, lines[/** @type {keyof typeof lines} */ (form)]);
   if (form === "address") return PARTS.A.is(given) ? null : PARTS.A.sentence;
   if (form === "word") return PARTS.W.is(given) ? null : PARTS.W.sentence;
@@ -175,7 +175,9 @@ function textsOf(given, row, place) {
   const lines = linesOf.get(items);
   return items.map((/** @type {any} */ it, /** @type {number} */ k) => {
     const here = new Place(lines?.[k] ?? place.line, place.path);
-    return textOf(it, row, isOne ? here : here.below(`${row.form} ${k + 1}`));
+    const isStep = row.form === "then" && k + 1 < items.length;
+    const its = isStep ? { ...row, form: "step" } : row;
+    return textOf(it, its, isOne ? here : here.below(`${row.form} ${k + 1}`));
   });
 }
 

@@ -24,7 +24,7 @@ const HEADINGS = {
 };
 
 /** Fields with several lines. */
-const LONG = new Set(["action", "do", "key", "radar", "steal"]);
+const LONG = new Set(["action", "do", "key", "radar", "steal", "then"]);
 
 /** A row of stolen time as it is typed. */
 const STOLEN = /^[0-9]+([ ,]+[0-9]+){2,4}$/;

@@ -98,6 +98,7 @@ export const REQUESTS = [...FORMS.keys()];
 export const ACTIONS = ["nothing", "novac", "findvac", "rouse", "list"];
 export const JOBS = ["novac", "findvac"];
 export const LISTS = ["list"];
+export const STEPS = ["novac", "findvac", "prio", "store", "list", "phase"];
 
 /**
  * How a line of this word is written: `novac P A W`.
@@ -138,6 +139,7 @@ const OTHERWISE = new Map([
   [ACTIONS, "an action is nothing, or begins with novac, findvac, rouse or list"],
   [JOBS, "a job begins with novac or findvac"],
   [LISTS, "a task begins with list"],
+  [STEPS, "before its last line a job asks for novac, findvac, prio, store, list or phase"],
 ]);
 
 /**

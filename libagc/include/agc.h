@@ -319,8 +319,11 @@ typedef struct {
 typedef struct { uint32_t from, to, percent, every, until; } AgcStolen;
 
 /* What a job costs that stands at an address, in hundredths of a centisecond of computing, 1 to
-   100,000,000. Then it ends, where `then` is 0, or sleeps at that address. */
-typedef struct { uint32_t at, hundredths, then; } AgcCost;
+   100,000,000. With the last of these it asks for the first of `count` requests, 0 to 7, of those that are
+   handed to the call, from number `first` on; with each hundredth more for the next; and at last it ends,
+   where `then` is 0, or sleeps at that address. A request is AGC_NOVAC, AGC_FINDVAC, AGC_PRIO, AGC_STORE,
+   AGC_LIST or AGC_PHASE. Where both are left out, as in {04000, 17000, 0}, it asks for nothing before. */
+typedef struct { uint32_t at, hundredths, then, first, count; } AgcCost;
 
 /* An event: it comes at a centisecond, 0 to 360,000, and where `every` isn't 0 again each so many
    centiseconds, at last at `until`: never, where that is before the first. Each time it asks for `count` requests, 1 to 16, of those that are
@@ -560,8 +563,8 @@ AGC_USED uint32_t agc_clock_check(const AgcStolen *stolen, size_t stolen_count, 
    first being 2; and then *request is to be asked, and agc_clock_served to be told of it. It is 0 where
    the time is over, and *request stays. Codes: those of the image, then those of agc_clock_check. The
    trusted form looks at neither, and has the condition of other calls: an address that is out of its
-   range then counts as 037777, numbers that are no request as AGC_CHANGE, and of two rows for one time
-   or address the first counts. */
+   range then counts as 037777, numbers that are no request as AGC_CHANGE, a job's requests end before the
+   first that it can't ask for, and of two rows for one time or address the first counts. */
 AGC_USED AgcNumber agc_clock_next(const uint16_t words[AGC_WORDS], uint32_t sets, uint32_t lasts, const AgcStolen *stolen,
                          size_t stolen_count, const AgcCost *costs, size_t cost_count, const AgcEvent *events,
                          size_t event_count, const AgcRequest *requests, size_t request_count, AgcClock *clock,

@@ -210,11 +210,14 @@ export interface Stolen {
   until?: number;
 }
 
-/** What a job at an address costs, in centiseconds; then `"end"` or `"sleep 04000"`. */
+/**
+ * What a job at an address costs, in centiseconds; then `"end"` or `"sleep 04000"`, or several
+ * requests, the last of which is one of these.
+ */
 export interface JobCost {
   at: string | number;
   cost: number;
-  then?: string;
+  then?: string | readonly string[];
   name?: string;
 }
 

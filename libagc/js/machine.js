@@ -15,7 +15,8 @@
  * @typedef {{ task?: PlanTask[], phase?: PlanPhase[] }} Plan
  * @typedef {{ at: number, bank: number }} Task
  * @typedef {{ from: number, to: number, percent: number, every?: number, until?: number }} Stolen
- * @typedef {{ at: string | number, cost: number, then?: string, name?: string }} JobCost
+ * @typedef {{ at: string | number, cost: number, then?: string | string[],
+ *   name?: string }} JobCost
  * @typedef {{ at: number, do: string | string[], every?: number, until?: number,
  *   name?: string }} TimedEvent
  * @typedef {{ seconds?: number, steal?: number | Stolen[], job?: JobCost[],
@@ -917,17 +918,30 @@ export function pulseOf(line, plan = {}) {
 }
 
 const STOLEN = 20;
-const COST = 12;
+const COST = 20;
 const EVENT = 20;
 const REQUEST = 16;
 const LAST_TIME = 360000;
 
+const STEPS = ["novac", "findvac", "prio", "store", "list", "phase"];
+
 /**
- * What a job does that has used up its cost: 0 for its end, or the address at which it sleeps.
- * @param {string | undefined} then
+ * What a job asks for before it leaves.
+ * @param {string} line
+ */
+function stepOf(line) {
+  read(calls.agc_read_request, line, "request");
+  const found = Array.from(numbers.subarray(at.request / 4, at.request / 4 + 4));
+  if (!STEPS.includes(NAMES[found[0] - 1])) notSpelled(line, STEPS.join(", "));
+  return found;
+}
+
+/**
+ * How a job leaves: 0 for its end, or the address at which it sleeps.
+ * @param {string} then
  */
 function thenOf(then) {
-  if (then === undefined || then === "end") return 0;
+  if (then === "end") return 0;
   read(calls.agc_read_request, then, "end or sleep");
   if (NAMES[numbers[at.request / 4] - 1] !== "sleep") notSpelled(then, "end or sleep");
   return numbers[at.request / 4 + 1];
@@ -980,7 +994,15 @@ class LentTimes {
     });
     this.costs = job.map((it, k) => {
       known(`job ${k + 1}`, it, ["at", "cost", "then", "name"], ["at", "cost"]);
-      return [octal(it.at), whole(100 * whole(it.cost)), thenOf(it.then)];
+      const lines = Array.isArray(it.then) ? it.then : [it.then ?? "end"];
+      if (lines.length < 1 || lines.length > 8) {
+        const told = `job ${k + 1}: then has to have 1 to 8 lines, and has ${lines.length}`;
+        throw new Lacking(Code.TIME_RANGE, told);
+      }
+      const first = requests.length;
+      requests.push(...lines.slice(0, -1).map(stepOf));
+      const leaves = thenOf(lines[lines.length - 1]);
+      return [octal(it.at), whole(100 * whole(it.cost)), leaves, first, lines.length - 1];
     });
     this.events = event.map((it, k) => {
       known(`event ${k + 1}`, it, ["at", "do", "every", "until", "name"], ["at", "do"]);

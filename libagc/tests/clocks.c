@@ -97,6 +97,9 @@ static void take(char *line) {
         AgcCost *it = &costs[cost_count++];
         want(sscanf(part(&rest), "%o %u", &it->at, &it->hundredths) == 2, line);
         it->hundredths *= 100;
+        it->first = (uint32_t)request_count;
+        while (strchr(rest, '|')) requests[request_count++] = read(part(&rest), false);
+        it->count = (uint32_t)request_count - it->first;
         it->then = read(rest, false).first;
     } else if (!strncmp(line, "event ", 6)) {
         AgcEvent *it = &events[event_count++];
@@ -117,7 +120,9 @@ static void refuses(void) {
     AgcRequest it = {1, 2, 3, 4}, same = it;
     AgcStep step = {0, AGC_TICKED, 0, 0, 0};
     AgcStolen twice[2] = {{0, 10, 5, 0, 0}, {9, 20, 5, 0, 0}}, beat[2] = {{9, 20, 5, 10, 99}, {9, 20, 5, 11, 99}};
-    AgcCost cost[2] = {{1, 1, 0}, {1, 2, 0}}, bad = {1, 1, 16384};
+    AgcCost cost[2] = {{1, 1, 0, 0, 0}, {1, 2, 0, 0, 0}}, bad = {1, 1, 16384, 0, 0}, asks = {1, 1, 0, 0, 7};
+    AgcRequest steps[9] = {{AGC_PRIO, 7, 0, 0}, {AGC_PHASE, 1, 1, 0}, {AGC_STORE, 1, 2, 0}, {AGC_NOVAC, 7, 1024, 5},
+        {AGC_FINDVAC, 7, 1024, 5}, {AGC_LIST, 7, 1024, 5}, {AGC_PRIO, 7, 0, 0}, {AGC_PRIO, 7, 0, 0}, {AGC_TICK, 0, 0, 0}};
     AgcEvent event = {0, 0, 0, 1, 1};
     memcpy(&was, &clock, sizeof clock);
     agc_clear(words, 7);
@@ -127,6 +132,12 @@ static void refuses(void) {
     want(agc_clock_next(words, 7, 10, NULL, 0, cost, 2, NULL, 0, NULL, 0, &clock, &it).code == AGC_COST_TWICE, "two costs");
     want(agc_clock_next(words, 7, 10, NULL, 0, &bad, 1, NULL, 0, NULL, 0, &clock, &it).code == AGC_TIME_RANGE, "a bad cost");
     want(agc_clock_next(words, 7, 10, NULL, 0, NULL, 0, &event, 1, &it, 1, &clock, &it).code == AGC_TIME_RANGE, "a bad event");
+    want(agc_clock_check(NULL, 0, &asks, 1, NULL, 0, steps, 7) == AGC_OK, "seven requests");
+    want(agc_clock_check(NULL, 0, &asks, 1, NULL, 0, steps, 6) == AGC_TIME_RANGE, "fewer than a job asks for");
+    asks.count = 8;
+    want(agc_clock_check(NULL, 0, &asks, 1, NULL, 0, steps, 9) == AGC_TIME_RANGE, "eight requests");
+    asks.first = 8, asks.count = 1;
+    want(agc_clock_check(NULL, 0, &asks, 1, NULL, 0, steps, 9) == AGC_TIME_RANGE, "a tick");
     words[89] = 12;
     want(agc_clock_next(words, 7, 10, NULL, 0, NULL, 0, NULL, 0, NULL, 0, &clock, &it).code == AGC_UNLAWFUL, "no image");
     want(agc_clock_served(words, 7, &step, &clock) == AGC_UNLAWFUL, "no image");

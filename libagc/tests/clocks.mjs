@@ -36,7 +36,7 @@ class Scenario {
     } else if (name === "steal") {
       const again = numbers[3] ? { every: numbers[3], until: numbers[4] } : {};
       this.time.steal.push({ from: numbers[0], to: numbers[1], percent: numbers[2], ...again });
-    } else if (name === "job") this.time.job.push({ at: words[0], cost: numbers[1], then: parts[0] });
+    } else if (name === "job") this.time.job.push({ at: words[0], cost: numbers[1], then: parts });
     else if (name === "event") {
       const again = numbers[1] ? { every: numbers[1], until: numbers[2] } : {};
       this.time.event.push({ at: numbers[0], do: parts, ...again });
@@ -78,6 +78,8 @@ function refuses() {
     [Code.TIME_RANGE, { steal: 101 }], [Code.STEAL_TWICE, { steal: [{ from: 0, to: 9, percent: 1 }, { from: 8, to: 9, percent: 1 }] }],
     [Code.TIME_RANGE, { steal: [{ from: 0, to: 9, percent: 1, every: 8 }] }], [Code.TIME_RANGE, { steal: [{ from: 0, to: 9, percent: 1, every: 0 }] }],
     [Code.COST_TWICE, { job: [job, job] }], [Code.NOT_SPELLED, { job: [{ ...job, then: "tick" }] }],
+    [Code.NOT_SPELLED, { job: [{ ...job, then: ["change", "end"] }] }], [Code.NOT_SPELLED, { job: [{ ...job, then: ["end", "end"] }] }],
+    [Code.NOT_SPELLED, { job: [{ ...job, then: ["prio 07"] }] }],
     [Code.TIME_RANGE, { event: [{ at: 0, do: "tick" }, { at: 360001, do: "tick", every: 1, until: 4 }] }],
     [Code.TIME_RANGE, { event: [{ at: 0, do: "tick" }, { at: 5, do: "tick", every: 0 }] }],
   ];
@@ -120,6 +122,14 @@ function keeps() {
   machine.run(clock, 3);
   want(same(clock.given, [180, 0, 0, 0, 0, 0, 0, 0]), `was given ${clock.given}`);
   want(asks(new Clock(timetable), 9) === "1 novac 20 04000 00005, 4 end", "its end");
+  // Each step but the first takes a hundredth more: with the 200th, 201st and 202nd.
+  const steps = { job: [{ at: "04000", cost: 2, then: ["phase 1 1", "prio 07", "end"] }], event: timetable.event };
+  want(asks(new Clock(steps), 9) === "1 novac 20 04000 00005, 2 phase 1 1, 3 prio 07, 3 end", "steps");
+  for (const then of [[], [...Array(8).fill("prio 07"), "end"]]) {
+    let found = null;
+    try { new Clock({ job: [{ at: "04000", cost: 2, then }] }); } catch (fault) { found = fault; }
+    want(found?.message === `job 1: then has to have 1 to 8 lines, and has ${then.length}`, `${then.length} steps`);
+  }
   // The second and fourth centisecond and so on are stolen, and with until 2 only the second.
   const beat = { from: 2, to: 3, percent: 100, every: 2 };
   const beaten = (row) => asks(new Clock({ ...timetable, steal: [row], job: [{ at: "04000", cost: 3 }] }), 9);

@@ -6,7 +6,7 @@
     clocks.py clock               the same by `Clock`
 
 Lines are `scenario SETS SECONDS`, `task AT BANK|ACTION|..`, `phase GROUP PHASE|JOB|TASK`, `steal FROM TO PERCENT EVERY
-UNTIL`, `job AT COST|THEN`, `event AT EVERY UNTIL|LINE|..`, `run CENTISECONDS`, `hand LINE`. Each request that is asked gets a line:
+UNTIL`, `job AT COST|THEN|..`, `event AT EVERY UNTIL|LINE|..`, `run CENTISECONDS`, `hand LINE`. Each request that is asked gets a line:
 the centisecond, who asks (0 a person, 1 the clock, from 2 on the events), its kind and numbers, and the reply.
 """
 import random
@@ -37,6 +37,13 @@ def a_beat(pick):
     return f"{begins} {begins + long} {pick.choice([1, 40, 100])} {every} {until}"
 
 
+def a_step(pick):
+    """What a job asks for before it leaves."""
+    job = f"{pick.choice(['novac', 'findvac'])} {pick.randint(1, 31):02o} {pick.choice(JOBS)} 00005"
+    listing = f"list {pick.randint(1, 40)} {pick.choice(TASKS)} 00005"
+    return pick.choice([job, listing, f"prio {pick.randint(1, 31):02o}", f"phase {pick.randint(1, 6)} {pick.randint(0, 2)}", "store 3 12345"])
+
+
 def make(seed, count):
     for number in range(count):
         pick = random.Random(f"{seed} {number}")
@@ -52,7 +59,9 @@ def make(seed, count):
         for row in pick.sample(rows, len(rows)):
             print(f"steal {row}")
         for at in pick.sample(JOBS, pick.randint(0, 4)):
-            print(f"job {at} {pick.choice([1, 1, 2, 5, 17, 60])}|{pick.choice(['end', 'end', f'sleep {pick.choice(JOBS)}'])}")
+            steps = [a_step(pick) for _ in range(pick.choice([0, 0, 1, 2, 7]))]
+            then = [*steps, pick.choice(["end", "end", f"sleep {pick.choice(JOBS)}"])]
+            print(f"job {at} {pick.choice([1, 1, 2, 5, 17, 60])}|" + "|".join(then))
         for _ in range(pick.randint(0, 5)):
             at, every = pick.randint(0, 200), pick.choice([0, 0, 1, 7, 25])
             print(f"event {at} {every} {pick.randint(at, 400)}|" + "|".join(a_request(pick) for _ in range(pick.randint(1, 3))))
@@ -88,7 +97,7 @@ class Scenario:
             again = {"every": every, "until": until} if every else {}
             self.time["steal"].append({"from": begins, "to": ends, "percent": percent, **again})
         elif name == "job":
-            self.time["job"].append({"at": words[0], "cost": int(words[1]), "then": parts[0]})
+            self.time["job"].append({"at": words[0], "cost": int(words[1]), "then": parts})
         elif name == "event":
             at, every, until = map(int, words)
             again = {"every": every, "until": until} if every else {}
@@ -155,9 +164,11 @@ class Plainly(Scenario):
             if cost is None:
                 continue
             self.given[job.number] = self.given.get(job.number, 0) + 1
-            if self.given[job.number] >= 100 * cost["cost"]:
-                self.given[job.number] = 0
-                yield 1, cost["then"]
+            steps = self.given[job.number] - 100 * cost["cost"]
+            if steps >= 0:
+                if steps == len(cost["then"]) - 1:
+                    self.given[job.number] = 0
+                yield 1, cost["then"][steps]
 
     def served(self, source, line):
         step = self.machine.ask(line)
@@ -197,7 +208,10 @@ def refuses():
         (0, {"steal": [{**row, "every": 10}, row]}), (0, {"steal": [row, {**row, "every": 10, "until": 0}]}),
         (15, {"steal": [{**row, "every": 0}]}), (0, {"steal": [{**row, "until": 0}]}), (15, {"job": [{**job, "cost": 0}]}), (0, {"job": [{**job, "cost": 1000000}]}),
         (15, {"job": [{**job, "cost": 1000001}]}), (15, {"job": [{**job, "at": "00000"}]}), (17, {"job": [job, job]}),
-        (13, {"job": [{**job, "then": "tick"}]}), (15, {"event": [{**event, "at": 360001}]}), (15, {"event": [{**event, "do": []}]}),
+        (13, {"job": [{**job, "then": "tick"}]}), (13, {"job": [{**job, "then": ["change", "end"]}]}),
+        (13, {"job": [{**job, "then": ["prio 07"]}]}), (13, {"job": [{**job, "then": ["end", "end"]}]}), (15, {"job": [{**job, "then": []}]}),
+        (15, {"job": [{**job, "then": ["prio 07"] * 8 + ["end"]}]}), (0, {"job": [{**job, "then": ["prio 07"] * 7 + ["end"]}]}),
+        (15, {"event": [{**event, "at": 360001}]}), (15, {"event": [{**event, "do": []}]}),
         (15, {"event": [{**event, "do": ["tick"] * 17}]}), (0, {"event": [{**event, "do": ["tick"] * 16}]}),
         (0, {"event": [{**event, "at": 5, "every": 1, "until": 4}]}), (15, {"event": [{**event, "every": 0}]}),
         (13, {"event": [{**event, "do": "wait"}]}), (0, {}),
@@ -240,6 +254,9 @@ def keeps():
     assert asks(beat, 9)[1:] == [(5, "end")]
     beat["steal"][0]["until"] = 2
     assert asks(beat, 9)[1:] == [(4, "end")]
+    # Each step but the first takes a hundredth more: with the 200th, 201st and 202nd.
+    steps = {"job": [{"at": "04000", "cost": 2, "then": ["phase 1 1", "prio 07", "end"]}], "event": steal["event"]}
+    assert asks(steps, 9)[1:] == [(2, "phase", 1, 1), (3, "prio", 7), (3, "end")]
     late = {**steal, "event": [{"at": 2000, "do": "novac 20 04000 00005"}]}
     assert asks(late, 2009) == [(2000, "novac", 0o20, 0o4000, 5), (2003, "end")]
     machine, clock = Machine(), Clock(steal)

@@ -45,7 +45,8 @@ impl Scenario {
             "job" => {
                 let all = self.timetable.take().unwrap();
                 let cost = first[6..].parse().unwrap();
-                self.timetable = Some(all.job(octal(&first[..5]), cost, parts[0])?);
+                let (then, lines) = parts.split_last().unwrap();
+                self.timetable = Some(all.job_asks(octal(&first[..5]), cost, lines, then)?);
             }
             "event" => {
                 let (all, it) = (self.timetable.take().unwrap(), numbers(first));
@@ -114,6 +115,13 @@ fn keeps() -> Result<(), Lacking> {
     let step = machine.ask("novac 20 04000 00005")?;
     clock.served(&machine, &step);
     assert_eq!((machine.run(&mut clock, 2)?.len(), machine.run(&mut clock, 1)?.len(), clock.time()), (2, 2, 3));
+    // Each step but the first takes a hundredth more: with the 200th, 201st and 202nd.
+    let steps = Timetable::new(1).job_asks(0o4000, 2, &["phase 1 1", "prio 07"], "end")?;
+    let (mut machine, mut clock) = (Machine::new(7, Plan::new())?, Clock::new(steps)?);
+    let step = machine.ask("novac 20 04000 00005")?;
+    clock.served(&machine, &step);
+    let asked: Vec<String> = machine.run(&mut clock, 3)?.iter().map(|it| it.0.request.to_string()).collect();
+    assert_eq!(asked, ["tick", "tick", "phase 1 1", "tick", "prio 07", "end"]);
     // A run tells its clock of the restart, after which nothing was given to a job that is gone.
     let timetable = Timetable::new(1).job(0o4000, 5, "end")?;
     let timetable = timetable.event(1, 0, 100, &["novac 20 04000 00005"])?.event(2, 0, 100, &["restart"])?;
@@ -148,6 +156,9 @@ fn main() -> Result<(), Lacking> {
     let twice = Timetable::new(1).job(0o4000, 1, "end")?.job(0o4000, 2, "end")?;
     assert_eq!(Clock::new(twice).unwrap_err().code, COST_TWICE);
     assert_eq!(Timetable::new(1).job(0o4000, 1, "tick").unwrap_err().code, NOT_SPELLED);
+    assert_eq!(Timetable::new(1).job_asks(0o4000, 1, &["change"], "end").unwrap_err().code, NOT_SPELLED);
+    let eight = Timetable::new(1).job_asks(0o4000, 1, &["prio 07"; 8], "end")?;
+    assert_eq!(Clock::new(eight).unwrap_err().code, TIME_RANGE);
     // 2^32 hundredths and four, and as many centiseconds, aren't cut to four.
     let long = Timetable::new(3600).job(0o4000, 42_949_673, "end")?;
     assert_eq!(Clock::new(long).unwrap_err().code, TIME_RANGE);

@@ -98,8 +98,8 @@ def comes(event, time):
     return event["at"] <= time <= event.get("until", time) and (time - event["at"]) % event["every"] == 0
 
 
-def lines_of(event):
-    return [event["do"]] if isinstance(event["do"], str) else event["do"]
+def listed(lines):
+    return [lines] if isinstance(lines, str) else lines
 
 
 class Passing:
@@ -110,7 +110,7 @@ class Passing:
         self.given, self.asked, self.time = {}, [], 0
         self.costs = {}
         for job in scenario.get("job", []):
-            self.costs.setdefault(int(job["at"], 8), (100 * job["cost"], job.get("then", "end")))
+            self.costs.setdefault(int(job["at"], 8), (100 * job["cost"], listed(job.get("then", "end"))))
 
     def ask(self, who, line):
         self.asked.append((self.time, who, line))
@@ -121,20 +121,26 @@ class Passing:
     def events(self):
         for number, event in enumerate(self.scenario.get("event", [])):
             if comes(event, self.time):
-                for line in lines_of(event):
+                for line in listed(event["do"]):
                     self.ask(number, line)
+
+    def gave(self, number, hundredths):
+        """A job was given so many hundredths."""
+        self.given[number] = self.given.get(number, 0) + hundredths
 
     def compute(self):
         share = 100 - stolen(self.scenario, self.time)
         while share and (runner := self.machine.running()) and runner[1] in self.costs:
             number, at = runner
             cost, then = self.costs[at]
-            least = min(share, cost - self.given.get(number, 0))
-            share -= least
-            self.given[number] = self.given.get(number, 0) + least
-            if self.given[number] == cost:
-                del self.given[number]
-                self.ask(CLOCK, then)
+            more = min(share, max(1, cost - self.given.get(number, 0)))
+            share -= more
+            self.gave(number, more)
+            step = self.given[number] - cost
+            if step >= 0:
+                if step == len(then) - 1:
+                    del self.given[number]
+                self.ask(CLOCK, then[step])
 
     def run(self):
         self.events()

@@ -95,23 +95,17 @@ class Machine(clock.Plain):
 class Passing(clock.Passing):
     """Time that passes, of which it is noted who was given it."""
 
-    def compute(self):
+    def gave(self, number, hundredths):
+        super().gave(number, hundredths)
         book = self.machine.machine
-        share = 100 - clock.stolen(self.scenario, self.time)
-        while share and (runner := self.machine.running()) and runner[1] in self.costs:
-            number, at = runner
-            cost, then = self.costs[at]
-            least = min(share, cost - self.given.get(number, 0))
-            share -= least
-            book.now += least
-            job = book.living[number]
-            job.computed += least
-            book.kind(job).computed += least
-            self.given[number] = self.given.get(number, 0) + least
-            if self.given[number] == cost:
-                del self.given[number]
-                self.ask(clock.CLOCK, then)
-        book.now = 100 * self.time
+        book.now += hundredths
+        job = book.living[number]
+        job.computed += hundredths
+        book.kind(job).computed += hundredths
+
+    def compute(self):
+        super().compute()
+        self.machine.machine.now = 100 * self.time
 
     def ask(self, who, line):
         if who == clock.CLOCK and line == "tick":

@@ -1,5 +1,5 @@
 -- What holds of whole runs.
-use Rattle.std.proofs.Common.{◌≡◌, ℕ, zero, suc, ◌+◌, ◌&&◌, nat_le, is_some, Bool, true, false, cond, List, [], ◌∷◌, ◌++◌, map, replicate, Option, Some, None, refl, sym, ap, ◌∙◌, arith}
+use Rattle.std.proofs.Common.{◌≡◌, ℕ, zero, suc, ◌+◌, ◌-◌, ◌&&◌, nat_le, is_some, Bool, true, false, cond, List, [], ◌∷◌, ◌++◌, map, replicate, Option, Some, None, refl, sym, ap, ◌∙◌, arith}
 use Rattle.std.specs.List.{fold}
 use Rattle.std.proofs.lemmas.List.Sums.{fold_push}
 use Rattle.agc_plan.specs.Jobs.{Jobs}
@@ -9,16 +9,18 @@ use Rattle.agc_machine.specs.Machines.{Machined, after, after_all}
 use Rattle.agc_clock.specs.declared.asked.Asked.{Asked}
 use Rattle.agc_clock.specs.declared.counting.JobCost.{JobCost}
 use Rattle.agc_clock.specs.declared.timetable.Cost.{Cost}
+use Rattle.agc_clock.specs.declared.timetable.Step.{Step}
+use Rattle.agc_clock.specs.declared.timetable.Step.TheVariants as step
 use Rattle.agc_clock.specs.declared.timetable.Then.{Then}
 use Rattle.agc_clock.specs.declared.timetable.Then.TheVariants as then
 use Rattle.agc_exec.specs.Seats.{named_of}
 use Rattle.agc_clock.specs.Coming.{comes}
-use Rattle.agc_clock.specs.Counts.{Passed, given_to, passed, with_given, worked, worker_of}
+use Rattle.agc_clock.specs.Counts.{Passed, counted_on, given_to, passed, with_given, worked, worker_of}
 use Rattle.agc_clock.specs.Events.{Event}
 use Rattle.agc_clock.specs.Instants.{Instant, Asks, Looks, Works, asks_of, by_clock, by_event, centisecond, centiseconds, events_at, instants, is_own_tick, is_tick}
 use Rattle.agc_clock.specs.Laws.{own_ticks, works_for, works_for_nobody, hundredths_given, hundredths_left}
 use Rattle.agc_clock.specs.Runs.{Serving, Standing, by_machine, goes_on, lived, lived_all, run, scenario_requests, standing_at}
-use Rattle.agc_clock.specs.Timetables.{Schedule, asked_then, share_at}
+use Rattle.agc_clock.specs.Timetables.{Schedule, asked_of, needs, share_at, step_at}
 
 -- the state is that after all that was asked
 abbrev Follows : {S : Type 0} → Serving S → S → Standing S → Type 0
@@ -65,19 +67,25 @@ one_asked : {S : Type 0} (by : Serving S) (o : Option Asked) (given : List ℕ) 
 one_asked by None given at = omega arith
 one_asked by (Some a) given at = fold_push (λ (n : ℕ) (x : Asked). n + tick_in x) 0 at.asked a
 
-abbrev spent : JobCost → List ℕ → ℕ → Bool → Passed
-spent w given got b = cond b (record { asked = Some (by_clock (asked_then w.cost.then)); given = with_given w.number 0 given }) (record { asked = None; given = with_given w.number got given })
+abbrev spent : JobCost → List ℕ → ℕ → Option Step → Bool → Passed
+spent w given got o b = cond b (record { asked = Some (by_clock (asked_of o w.cost.then)); given = with_given w.number (counted_on o got) given }) (record { asked = None; given = with_given w.number got given })
 
-spent_ticks : (w : JobCost) (given : List ℕ) (got : ℕ) (b : Bool) → tick_asked (spent w given got b).asked ≡ 0
-spent_ticks w given got false = refl
-spent_ticks w given got true = by_then w.cost.then where
-  by_then : (t : Then) → tick_in (by_clock (asked_then t)) ≡ 0
-  by_then then.End = refl
-  by_then (then.Sleep at) = refl
+spent_ticks : (w : JobCost) (given : List ℕ) (got : ℕ) (o : Option Step) (b : Bool) → tick_asked (spent w given got o b).asked ≡ 0
+spent_ticks w given got o false = refl
+spent_ticks w given got o true = by_step o w.cost.then where
+  by_step : (o : Option Step) (t : Then) → tick_in (by_clock (asked_of o t)) ≡ 0
+  by_step None then.End = refl
+  by_step None (then.Sleep at) = refl
+  by_step (Some (step.Novac priority entry)) t = refl
+  by_step (Some (step.Findvac priority entry)) t = refl
+  by_step (Some (step.Prio priority)) t = refl
+  by_step (Some (step.Store place word)) t = refl
+  by_step (Some (step.List delay task)) t = refl
+  by_step (Some (step.SetPhase group phase)) t = refl
 
 worked_ticks : (o : Option JobCost) (given : List ℕ) → tick_asked (worked o given).asked ≡ 0
 worked_ticks None given = refl
-worked_ticks (Some w) given = spent_ticks w given (given_to w.number given + 1) (nat_le w.cost.hundredths (given_to w.number given + 1))
+worked_ticks (Some w) given = spent_ticks w given (given_to w.number given + 1) (step_at w.cost (given_to w.number given + 1 - needs w.cost)) (nat_le (needs w.cost) (given_to w.number given + 1))
 
 looked_ticks : (b : Bool) → tick_asked (cond b (Some (by_clock Change)) None) ≡ 0
 looked_ticks true = refl

@@ -1,6 +1,7 @@
--- What each job was given is less than its cost, and nothing where it is not awake.
-use Rattle.std.proofs.Common.{◌≡◌, ℕ, ◌+◌, ◌-◌, ◌<◌, ◌≤◌, nat_le, Bool, true, false, not, cond, if◌then◌else◌, List, [], ◌∷◌, length, length-set, Option, Some, None, option_map, is_some, IsSome, slice_index, slice_index_or, slice_set, get_or-set_same, get_or-set_other, refl, sym, ap, subst, ◌∙◌, inl, inr, arith}
-use Rattle.std.specs.Option.{option_map_or}
+-- What each job was given is less than it needs in all, and nothing where it is not awake.
+use Rattle.std.proofs.Common.{◌≡◌, ℕ, zero, suc, ◌+◌, ◌-◌, ◌<◌, ◌≤◌, nat_le, min, Bool, true, false, not, cond, if◌then◌else◌, List, [], ◌∷◌, length, length-set, Option, Some, None, option_map, is_some, slice_get, slice_index, slice_index_or, slice_set, get_or-set_same, get_or-set_other, refl, sym, ap, subst, ◌∙◌, inl, inr, arith}
+use Rattle.std.specs.Option.{option_and_then, option_map_or}
+use Rattle.std.proofs.Math.Nat.{le-max_left}
 use Rattle.std.proofs.lemmas.Bool.{cases_eq, cases_lt}
 use Rattle.std.proofs.lemmas.Grind.{common_steps}
 use Rattle.std.proofs.lemmas.List.{get_or_past, get_or-replicate}
@@ -8,20 +9,33 @@ use Rattle.std.proofs.lemmas.List.FromFn.{get_or-map-range_with_len}
 use Rattle.std.proofs.lemmas.Option.{same_Some}
 use Rattle.agc_plan.specs.Jobs.{Job, Jobs, job_in}
 use Rattle.agc_plan.specs.Laws.{IsRunnerAwake}
+use Rattle.agc_plan.specs.declared.request.Request.{Request}
+use Rattle.agc_plan.specs.declared.request.Request.TheVariants.{EndOfJob, Sleep}
 use Rattle.agc_plan.proofs.Steady.{reached_runner}
 use Rattle.agc_machine.specs.Machines.{Machined, after, answer_of, plain_of}
 use Rattle.agc_clock.specs.declared.asked.Asked.{Asked}
 use Rattle.agc_clock.specs.declared.counting.JobCost.{JobCost}
 use Rattle.agc_clock.specs.declared.timetable.Cost.{Cost}
-use Rattle.agc_clock.specs.Counts.{given_to, is_awake, kept, kept_by, none_given, passed, worked, worker_of}
-use Rattle.agc_clock.specs.Instants.{Instant, Asks, Looks, Works}
-use Rattle.agc_clock.specs.Laws.{EndsByItsCost, IsEachCostSome}
+use Rattle.agc_clock.specs.declared.timetable.Step.{Step}
+use Rattle.agc_clock.specs.declared.timetable.Step.TheVariants as step
+use Rattle.agc_clock.specs.declared.timetable.Then.{Then}
+use Rattle.agc_clock.specs.declared.timetable.Then.TheVariants as then
+use Rattle.agc_clock.specs.Counts.{counted_on, given_to, is_awake, kept, kept_by, none_given, passed, worked, worker_of}
+use Rattle.agc_clock.specs.Instants.{Instant, Asks, Looks, Works, by_clock}
+use Rattle.agc_clock.specs.Laws.{LeavesByItsCost, steps_in}
 use Rattle.agc_clock.specs.Runs.{Standing, begins_with, by_machine, goes_on, lived, lived_all, standing_at}
-use Rattle.agc_clock.specs.Timetables.{cost_at}
+use Rattle.agc_clock.specs.Timetables.{asked_of, asked_step, asked_then, cost_at, needs, step_at}
 use Rattle.agc_clock.proofs.Keeping.{Keep, machine_keeps, stand_of, stands}
 
+-- what a job is given in all before it leaves
+abbrev all_of : Cost → ℕ
+all_of cost = needs cost + steps_in cost.steps
+
+needs_some : (cost : Cost) → 1 ≤ needs cost
+needs_some cost = le-max_left 1 (min cost.hundredths 4000000000)
+
 record IsCounted (costs : List Cost) (slots : List (Option Job)) (given : List ℕ) : Type 0 where
-  less : (k at : ℕ) (cost : Cost) → stands slots k ≡ Some at → cost_at costs at ≡ Some cost → slice_index given k < cost.hundredths
+  less : (k at : ℕ) (cost : Cost) → stands slots k ≡ Some at → cost_at costs at ≡ Some cost → slice_index given k < all_of cost
   none : (k : ℕ) → stands slots k ≡ None → slice_index given k ≡ 0
 
 nothing_given : (k : ℕ) → slice_index none_given k ≡ 0
@@ -30,9 +44,9 @@ nothing_given k = elim (cases_lt k 8) [
   | inr ge ↦ get_or_past none_given k 0 ge
 ]
 
-start_counted : (costs : List Cost) (slots : List (Option Job)) → IsEachCostSome costs → IsCounted costs slots none_given
-start_counted costs slots some = record {
-  less = λ k at cost stand is. let low = some at cost is in let zero_is = nothing_given k in omega arith;
+start_counted : (costs : List Cost) (slots : List (Option Job)) → IsCounted costs slots none_given
+start_counted costs slots = record {
+  less = λ k at cost stand is. let low = needs_some cost in let zero_is = nothing_given k in omega arith;
   none = λ k stand. nothing_given k;
 }
 
@@ -58,9 +72,9 @@ kept_here began jobs given k lt =
 kept_past : (began : Bool) (jobs : Jobs) (given : List ℕ) (k : ℕ) → 8 ≤ k → slice_index (kept began jobs given) k ≡ 0
 kept_past began jobs given k ge = get_or_past (kept began jobs given) k 0 ge
 
-kept_counted : (costs : List Cost) (began : Bool) (old : List (Option Job)) (jobs : Jobs) (given : List ℕ) → IsEachCostSome costs → (began ≡ false → Keep old jobs.slots) → IsCounted costs old given → IsCounted costs jobs.slots (kept began jobs given)
-kept_counted costs began old jobs given some keeps counted = record {
-  less = λ k at cost stand is. let low : 1 ≤ cost.hundredths = some at cost is in elim (cases_lt k 8) [
+kept_counted : (costs : List Cost) (began : Bool) (old : List (Option Job)) (jobs : Jobs) (given : List ℕ) → (began ≡ false → Keep old jobs.slots) → IsCounted costs old given → IsCounted costs jobs.slots (kept began jobs given)
+kept_counted costs began old jobs given keeps counted = record {
+  less = λ k at cost stand is. let low : 1 ≤ all_of cost = (let some = needs_some cost in omega arith) in elim (cases_lt k 8) [
     | inl lt ↦ rw (kept_here began jobs given k lt, stand) (each began refl k at cost low stand is)
     | inr ge ↦ let zero_is = kept_past began jobs given k ge in omega arith
   ];
@@ -74,13 +88,13 @@ kept_counted costs began old jobs given some keeps counted = record {
     nobody true = refl
     nobody false = refl
 
-    was : (o : Option ℕ) (k at : ℕ) (cost : Cost) → stands old k ≡ o → began ≡ false → 1 ≤ cost.hundredths → stands jobs.slots k ≡ Some at → cost_at costs at ≡ Some cost → slice_index given k < cost.hundredths
+    was : (o : Option ℕ) (k at : ℕ) (cost : Cost) → stands old k ≡ o → began ≡ false → 1 ≤ all_of cost → stands jobs.slots k ≡ Some at → cost_at costs at ≡ Some cost → slice_index given k < all_of cost
     was None k at cost before not_begun low stand is = let zero_is = counted.none k before in omega arith
     was (Some a) k at cost before not_begun low stand is =
         let same : at ≡ a = keeps not_begun k a at before stand in
         counted.less k a cost before (ap (cost_at costs) (sym same) ∙ is)
 
-    each : (b : Bool) → began ≡ b → (k at : ℕ) (cost : Cost) → 1 ≤ cost.hundredths → stands jobs.slots k ≡ Some at → cost_at costs at ≡ Some cost → (if b then 0 else slice_index given k) < cost.hundredths
+    each : (b : Bool) → began ≡ b → (k at : ℕ) (cost : Cost) → 1 ≤ all_of cost → stands jobs.slots k ≡ Some at → cost_at costs at ≡ Some cost → (if b then 0 else slice_index given k) < all_of cost
     each true q k at cost low stand is = low
     each false q k at cost low stand is = was (stands old k) k at cost refl q low stand is
 
@@ -124,14 +138,14 @@ set_value given k v most lt = elim (cases_lt k (length given)) [
       omega arith
 ]
 
-given_counted : (costs : List Cost) (slots : List (Option Job)) (given : List ℕ) (k at v : ℕ) (cost : Cost) → IsCounted costs slots given → stands slots k ≡ Some at → cost_at costs at ≡ Some cost → v < cost.hundredths → IsCounted costs slots (slice_set given k v)
+given_counted : (costs : List Cost) (slots : List (Option Job)) (given : List ℕ) (k at v : ℕ) (cost : Cost) → IsCounted costs slots given → stands slots k ≡ Some at → cost_at costs at ≡ Some cost → v < all_of cost → IsCounted costs slots (slice_set given k v)
 given_counted costs slots given k at v cost counted stand is lt = record {
   less = λ i there c stand_i is_i. elim (cases_eq i k) [
     | inl same ↦
         let at_is : there ≡ at = same_Some there at (sym stand_i ∙ ap (stands slots) same ∙ stand) in
         let cost_is : c ≡ cost = same_Some c cost (sym is_i ∙ ap (cost_at costs) at_is ∙ is) in
-        let most : v < c.hundredths = rw cost_is lt in
-        rw same (set_value given k v c.hundredths most)
+        let most : v < all_of c = rw cost_is lt in
+        rw same (set_value given k v (all_of c) most)
     | inr ne ↦ rw (get_or-set_other given k i v 0 ne) (counted.less i there c stand_i is_i)
   ];
   none = λ i nobody. elim (cases_eq i k) [
@@ -140,19 +154,42 @@ given_counted costs slots given k at v cost counted stand is lt = record {
   ];
 }
 
+-- a step of a number, if there is one
+abbrev its_step : List (Option Step) → ℕ → Option Step
+its_step steps number = option_and_then (λ (o : Option Step). o) (slice_get steps number)
+
+step_before : (steps : List (Option Step)) (number : ℕ) (its : Step) → its_step steps number ≡ Some its → number ≤ steps_in steps → number < steps_in steps
+step_before [] number its is le = absurd (cc)
+step_before (None ∷ steps) zero its is le = absurd (cc)
+step_before (None ∷ steps) (suc number) its is le = absurd (omega arith)
+step_before (Some one ∷ steps) zero its is le = omega arith
+step_before (Some one ∷ steps) (suc number) its is le = let lt = step_before steps number its is (omega arith) in omega arith
+
+no_step_left : (steps : List (Option Step)) (number : ℕ) → its_step steps number ≡ None → number ≤ steps_in steps → number ≡ steps_in steps
+no_step_left [] number is le = omega arith
+no_step_left (None ∷ steps) number is le = omega arith
+no_step_left (Some one ∷ steps) zero is le = absurd (cc)
+no_step_left (Some one ∷ steps) (suc number) is le = let same = no_step_left steps number is (omega arith) in omega arith
+
 worked_counted : (costs : List Cost) (jobs : Jobs) (given : List ℕ) → IsRunnerAwake jobs → IsCounted costs jobs.slots given → IsCounted costs jobs.slots (worked (worker_of costs jobs) given).given
 worked_counted costs jobs given awake counted = go (worker_of costs jobs) refl where
-  spent : (w : JobCost) → IsWorking costs jobs w → (b : Bool) → nat_le w.cost.hundredths (given_to w.number given + 1) ≡ b → IsCounted costs jobs.slots (worked (Some w) given).given
+  counts : (w : JobCost) → (got : ℕ) → got < all_of w.cost + 1 → needs w.cost ≤ got → (o : Option Step) → step_at w.cost (got - needs w.cost) ≡ o → counted_on o got < all_of w.cost
+  counts w got most used None is = let some = needs_some w.cost in omega arith
+  counts w got most used (Some its) is = let lt = step_before w.cost.steps (got - needs w.cost) its is (omega arith) in omega arith
+
+  spent : (w : JobCost) → IsWorking costs jobs w → (b : Bool) → nat_le (needs w.cost) (given_to w.number given + 1) ≡ b → IsCounted costs jobs.slots (worked (Some w) given).given
   spent w is true q = rw q (
+      let got = given_to w.number given + 1 in
       let less = counted.less (w.number - 1) is.at w.cost is.stand is.cost_is in
-      given_counted costs jobs.slots given (w.number - 1) is.at 0 w.cost counted is.stand is.cost_is (omega arith))
+      let used : needs w.cost ≤ given_to w.number given + 1 = grind (arith, common_steps) in
+      given_counted costs jobs.slots given (w.number - 1) is.at (counted_on (step_at w.cost (got - needs w.cost)) got) w.cost counted is.stand is.cost_is (counts w got (omega arith) used (step_at w.cost (got - needs w.cost)) refl))
   spent w is false q = rw q (
-      let more : given_to w.number given + 1 < w.cost.hundredths = grind (arith, common_steps) in
-      given_counted costs jobs.slots given (w.number - 1) is.at (given_to w.number given + 1) w.cost counted is.stand is.cost_is more)
+      let more : given_to w.number given + 1 < needs w.cost = grind (arith, common_steps) in
+      given_counted costs jobs.slots given (w.number - 1) is.at (given_to w.number given + 1) w.cost counted is.stand is.cost_is (omega arith))
 
   go : (o : Option JobCost) → worker_of costs jobs ≡ o → IsCounted costs jobs.slots (worked o given).given
   go None q = counted
-  go (Some w) q = spent w (working costs jobs w awake q) (nat_le w.cost.hundredths (given_to w.number given + 1)) refl
+  go (Some w) q = spent w (working costs jobs w awake q) (nat_le (needs w.cost) (given_to w.number given + 1)) refl
 
 abbrev jobs_of : Machined → Jobs
 jobs_of m = (plain_of m).work.jobs
@@ -162,30 +199,59 @@ passed_counted costs m (Asks a) given counted = counted
 passed_counted costs m Looks given counted = counted
 passed_counted costs m Works given counted = worked_counted costs (jobs_of m) given (reached_runner m.plan m.base m.log) counted
 
-on_counted : (costs : List Cost) (o : Option Asked) (given : List ℕ) (at : Standing Machined) → IsEachCostSome costs → IsCounted costs (jobs_of at.state).slots given → IsCounted costs (jobs_of (goes_on by_machine o given at).state).slots (goes_on by_machine o given at).given
-on_counted costs None given at some counted = counted
-on_counted costs (Some a) given at some counted =
-    kept_counted costs (begins_with (answer_of at.state a.request)) (jobs_of at.state).slots (jobs_of (after at.state a.request)) given some (machine_keeps at.state a.request) counted
+on_counted : (costs : List Cost) (o : Option Asked) (given : List ℕ) (at : Standing Machined) → IsCounted costs (jobs_of at.state).slots given → IsCounted costs (jobs_of (goes_on by_machine o given at).state).slots (goes_on by_machine o given at).given
+on_counted costs None given at counted = counted
+on_counted costs (Some a) given at counted =
+    kept_counted costs (begins_with (answer_of at.state a.request)) (jobs_of at.state).slots (jobs_of (after at.state a.request)) given (machine_keeps at.state a.request) counted
 
-all_counted : (costs : List Cost) (at : Standing Machined) (all : List Instant) → IsEachCostSome costs → IsCounted costs (jobs_of at.state).slots at.given → IsCounted costs (jobs_of (lived_all by_machine costs at all).state).slots (lived_all by_machine costs at all).given
-all_counted costs at [] some counted = counted
-all_counted costs at (i ∷ all) some counted =
+all_counted : (costs : List Cost) (at : Standing Machined) (all : List Instant) → IsCounted costs (jobs_of at.state).slots at.given → IsCounted costs (jobs_of (lived_all by_machine costs at all).state).slots (lived_all by_machine costs at all).given
+all_counted costs at [] counted = counted
+all_counted costs at (i ∷ all) counted =
     let did = passed costs (jobs_of at.state) i at.given in
-    all_counted costs (lived by_machine costs at i) all some (on_counted costs did.asked did.given at some (passed_counted costs at.state i at.given counted))
+    all_counted costs (lived by_machine costs at i) all (on_counted costs did.asked did.given at (passed_counted costs at.state i at.given counted))
 
-ends_here : (costs : List Cost) (jobs : Jobs) (given : List ℕ) → IsRunnerAwake jobs → IsCounted costs jobs.slots given → EndsByItsCost costs jobs given
-ends_here costs jobs given awake counted w is asked = go (nat_le w.cost.hundredths (given_to w.number given + 1)) refl (subst (λ (o : Option JobCost). IsSome (worked o given).asked) is asked) where
-  go : (b : Bool) → nat_le w.cost.hundredths (given_to w.number given + 1) ≡ b → IsSome (worked (Some w) given).asked → given_to w.number given + 1 ≡ w.cost.hundredths
-  go true q ends =
+-- a job leaves by no request of a step
+abbrev leaves_by : Request → Bool
+leaves_by EndOfJob = true
+leaves_by (Sleep at) = true
+leaves_by request = false
+
+then_leaves : (t : Then) → leaves_by (asked_then t) ≡ true
+then_leaves then.End = refl
+then_leaves (then.Sleep at) = refl
+
+step_stays : (its : Step) → leaves_by (asked_step its) ≡ false
+step_stays (step.Novac priority entry) = refl
+step_stays (step.Findvac priority entry) = refl
+step_stays (step.Prio priority) = refl
+step_stays (step.Store place word) = refl
+step_stays (step.List delay task) = refl
+step_stays (step.SetPhase group phase) = refl
+
+leaves_here : (costs : List Cost) (jobs : Jobs) (given : List ℕ) → IsRunnerAwake jobs → IsCounted costs jobs.slots given → LeavesByItsCost costs jobs given
+leaves_here costs jobs given awake counted w is asked = go (nat_le (needs w.cost) got) refl (ap (λ (o : Option JobCost). (worked o given).asked) (sym is) ∙ asked) where
+  got : ℕ
+  got = given_to w.number given + 1
+
+  ends : (o : Option Step) → step_at w.cost (got - needs w.cost) ≡ o → got - needs w.cost ≤ steps_in w.cost.steps → Some (by_clock (asked_of o w.cost.then)) ≡ Some (by_clock (asked_then w.cost.then)) → got - needs w.cost ≡ steps_in w.cost.steps
+  ends None q le same = no_step_left w.cost.steps (got - needs w.cost) q le
+  ends (Some its) q le same = absurd (
+      let request : asked_step its ≡ asked_then w.cost.then = ap (λ (a : Asked). a.request) (same_Some (by_clock (asked_step its)) (by_clock (asked_then w.cost.then)) same) in
+      let never : false ≡ true = sym (step_stays its) ∙ ap leaves_by request ∙ then_leaves w.cost.then in
+      cc)
+
+  go : (b : Bool) → nat_le (needs w.cost) got ≡ b → (worked (Some w) given).asked ≡ Some (by_clock (asked_then w.cost.then)) → got ≡ needs w.cost + steps_in w.cost.steps
+  go true q leaves =
       let its = working costs jobs w awake is in
       let less = counted.less (w.number - 1) its.at w.cost its.stand its.cost_is in
-      let used : w.cost.hundredths ≤ given_to w.number given + 1 = grind (arith, common_steps) in
+      let used : needs w.cost ≤ got = grind (arith, common_steps) in
+      let same = ends (step_at w.cost (got - needs w.cost)) refl (omega arith) (rw q at leaves) in
       omega arith
-  go false q ends = absurd (let never : false ≡ true = rw q at ends in cc)
+  go false q leaves = absurd (let never : None ≡ Some (by_clock (asked_then w.cost.then)) = rw q at leaves in cc)
 
-pub ends_by_cost : (costs : List Cost) (m : Machined) (before : List Instant) → IsEachCostSome costs → (at : Standing Machined) → at ≡ lived_all by_machine costs (standing_at m) before → EndsByItsCost costs (by_machine.jobs at.state) at.given
-ends_by_cost costs m before some at is =
+pub leaves_by_cost : (costs : List Cost) (m : Machined) (before : List Instant) → (at : Standing Machined) → at ≡ lived_all by_machine costs (standing_at m) before → LeavesByItsCost costs (by_machine.jobs at.state) at.given
+leaves_by_cost costs m before at is =
     let there = lived_all by_machine costs (standing_at m) before in
-    subst (λ (x : Standing Machined). EndsByItsCost costs (jobs_of x.state) x.given) (sym is)
-    (ends_here costs (jobs_of there.state) there.given (reached_runner there.state.plan there.state.base there.state.log)
-    (all_counted costs (standing_at m) before some (start_counted costs (jobs_of m).slots some)))
+    subst (λ (x : Standing Machined). LeavesByItsCost costs (jobs_of x.state) x.given) (sym is)
+    (leaves_here costs (jobs_of there.state) there.given (reached_runner there.state.plan there.state.base there.state.log)
+    (all_counted costs (standing_at m) before (start_counted costs (jobs_of m).slots)))

@@ -1,5 +1,5 @@
 -- Hundredths of computing time, one after the other.
-use Rattle.std.proofs.Common.{◌≡◌, ℕ, zero, suc, ◌+◌, ◌-◌, ◌<◌, ◌≤◌, nat_le, max, true, false, List, ◌∷◌, ◌++◌, length, length-set, replicate, Some, None, get_or-set_same, refl, sym, ap, ◌∙◌, inl, inr, arith}
+use Rattle.std.proofs.Common.{◌≡◌, ℕ, zero, suc, ◌+◌, ◌-◌, ◌<◌, ◌≤◌, nat_le, max, true, false, List, ◌∷◌, ◌++◌, length, length-set, replicate, Option, Some, None, get_or-set_same, refl, sym, ap, ◌∙◌, inl, inr, arith}
 use Rattle.std.proofs.Math.Nat.{le_refl, le-max_left, le-max_right, max-le}
 use Rattle.std.proofs.lemmas.Grind.{common_steps}
 use Rattle.std.proofs.lemmas.Bool.{cases_lt}
@@ -7,12 +7,15 @@ use Rattle.std.proofs.lemmas.List.{set-set, set-get_or}
 use Rattle.agc_plan.specs.Jobs.{Jobs}
 use Rattle.agc_clock.specs.declared.counting.JobCost.{JobCost}
 use Rattle.agc_clock.specs.declared.timetable.Cost.{Cost}
+use Rattle.agc_clock.specs.declared.timetable.Step.{Step}
+use Rattle.agc_clock.specs.declared.timetable.Step.TheVariants as step
 use Rattle.agc_clock.specs.declared.timetable.Then.{Then}
 use Rattle.agc_clock.specs.declared.timetable.Then.TheVariants as then
+use Rattle.agc_clock.specs.declared.asked.Asked.{Asked}
 use Rattle.agc_clock.specs.Clocks.{AsksNext, Clocked, next_of, time_after, to_come}
-use Rattle.agc_clock.specs.Counts.{given_to, with_given, worker_of}
+use Rattle.agc_clock.specs.Counts.{counted_on, given_to, with_given, worker_of}
 use Rattle.agc_clock.specs.Instants.{Instant, Works, by_clock, centiseconds}
-use Rattle.agc_clock.specs.Timetables.{Schedule, asked_then}
+use Rattle.agc_clock.specs.Timetables.{Schedule, asked_of, needs, step_at}
 use Rattle.agc_clock.specs.Reading.{Passes}
 use Rattle.agc_clock.proofs.Passing.{behind_is, next_asks}
 
@@ -21,43 +24,50 @@ pub idle : (costs : List Cost) (jobs : Jobs) (left : ℕ) (after : List Instant)
 idle costs jobs zero after given none = refl
 idle costs jobs (suc left) after given none = rw none (idle costs jobs left after given none)
 
+-- what a worker is asked that has got so much, and what it then counts
+abbrev pub its_request : JobCost → ℕ → Asked
+its_request w got = by_clock (asked_of (step_at w.cost (got - needs w.cost)) w.cost.then)
+
+abbrev pub its_count : JobCost → ℕ → ℕ
+its_count w got = counted_on (step_at w.cost (got - needs w.cost)) got
+
 -- one that uses up the cost
-last_one : (costs : List Cost) (jobs : Jobs) (w : JobCost) (after : List Instant) (given : List ℕ) → worker_of costs jobs ≡ Some w → w.cost.hundredths ≤ given_to w.number given + 1 → next_of costs jobs (Works ∷ after) given ≡ record { asked = Some (by_clock (asked_then w.cost.then)); behind = after; given = with_given w.number 0 given }
-last_one costs jobs w after given works used =
-    let yes : nat_le w.cost.hundredths (given_to w.number given + 1) ≡ true = grind (arith, common_steps) in
-    rw (works, yes) refl
+last_one : (costs : List Cost) (jobs : Jobs) (w : JobCost) (after : List Instant) (given : List ℕ) (got : ℕ) → worker_of costs jobs ≡ Some w → got ≡ given_to w.number given + 1 → needs w.cost ≤ got → next_of costs jobs (Works ∷ after) given ≡ record { asked = Some (its_request w got); behind = after; given = with_given w.number (its_count w got) given }
+last_one costs jobs w after given got works is used =
+    let yes : nat_le (needs w.cost) got ≡ true = grind (arith, common_steps) in
+    rw (works, sym is, yes) refl
 
 -- and one that does not
-one_more : (costs : List Cost) (jobs : Jobs) (w : JobCost) (after : List Instant) (given : List ℕ) → worker_of costs jobs ≡ Some w → given_to w.number given + 1 < w.cost.hundredths → next_of costs jobs (Works ∷ after) given ≡ next_of costs jobs after (with_given w.number (given_to w.number given + 1) given)
+one_more : (costs : List Cost) (jobs : Jobs) (w : JobCost) (after : List Instant) (given : List ℕ) → worker_of costs jobs ≡ Some w → given_to w.number given + 1 < needs w.cost → next_of costs jobs (Works ∷ after) given ≡ next_of costs jobs after (with_given w.number (given_to w.number given + 1) given)
 one_more costs jobs w after given works less =
-    let no : nat_le w.cost.hundredths (given_to w.number given + 1) ≡ false = grind (arith, common_steps) in
+    let no : nat_le (needs w.cost) (given_to w.number given + 1) ≡ false = grind (arith, common_steps) in
     rw (works, no) refl
 
-pub ends : (costs : List Cost) (jobs : Jobs) (w : JobCost) (after : List Instant) (left rest : ℕ) (given : List ℕ) → worker_of costs jobs ≡ Some w → w.number - 1 < length given → 1 ≤ rest → rest ≤ left → w.cost.hundredths ≤ given_to w.number given + rest → (1 < rest → given_to w.number given + rest ≡ w.cost.hundredths) → next_of costs jobs (replicate left Works ++ after) given ≡ record { asked = Some (by_clock (asked_then w.cost.then)); behind = replicate (left - rest) Works ++ after; given = with_given w.number 0 given }
-ends costs jobs w after zero rest given works place some few used exact = absurd (omega arith)
-ends costs jobs w after (suc left) rest given works place some few used exact = elim (cases_lt 1 rest) [
+pub ends : (costs : List Cost) (jobs : Jobs) (w : JobCost) (after : List Instant) (left rest got : ℕ) (given : List ℕ) → worker_of costs jobs ≡ Some w → w.number - 1 < length given → 1 ≤ rest → rest ≤ left → got ≡ given_to w.number given + rest → needs w.cost ≤ got → (1 < rest → got ≡ needs w.cost) → next_of costs jobs (replicate left Works ++ after) given ≡ record { asked = Some (its_request w got); behind = replicate (left - rest) Works ++ after; given = with_given w.number (its_count w got) given }
+ends costs jobs w after zero rest got given works place some few is used exact = absurd (omega arith)
+ends costs jobs w after (suc left) rest got given works place some few is used exact = elim (cases_lt 1 rest) [
   | inl more ↦
-      let less : given_to w.number given + 1 < w.cost.hundredths = (let e = exact more in omega arith) in
+      let less : given_to w.number given + 1 < needs w.cost = (let e = exact more in omega arith) in
       let then = with_given w.number (given_to w.number given + 1) given in
-      let got : given_to w.number then ≡ given_to w.number given + 1 = get_or-set_same given (w.number - 1) (given_to w.number given + 1) 0 place in
+      let has : given_to w.number then ≡ given_to w.number given + 1 = get_or-set_same given (w.number - 1) (given_to w.number given + 1) 0 place in
       let inside : w.number - 1 < length then = rw (length-set given (w.number - 1) (given_to w.number given + 1)) place in
       let same : left - (rest - 1) ≡ suc left - rest = omega arith in
       one_more costs jobs w (replicate left Works ++ after) given works less
-      ∙ ends costs jobs w after left (rest - 1) then works inside (omega arith) (omega arith) (omega arith) (λ again. let e = exact more in omega arith)
-      ∙ ap (λ (n : ℕ). record { asked = Some (by_clock (asked_then w.cost.then)); behind = replicate n Works ++ after; given = with_given w.number 0 then }) same
-      ∙ ap (λ (l : List ℕ). record { asked = Some (by_clock (asked_then w.cost.then)); behind = replicate (suc left - rest) Works ++ after; given = l }) (set-set given (w.number - 1) (given_to w.number given + 1) 0)
+      ∙ ends costs jobs w after left (rest - 1) got then works inside (omega arith) (omega arith) (omega arith) used (λ again. exact more)
+      ∙ ap (λ (n : ℕ). record { asked = Some (its_request w got); behind = replicate n Works ++ after; given = with_given w.number (its_count w got) then }) same
+      ∙ ap (λ (l : List ℕ). record { asked = Some (its_request w got); behind = replicate (suc left - rest) Works ++ after; given = l }) (set-set given (w.number - 1) (given_to w.number given + 1) (its_count w got))
   | inr one ↦
       let same : left ≡ suc left - rest = omega arith in
-      last_one costs jobs w (replicate left Works ++ after) given works (omega arith)
-      ∙ ap (λ (n : ℕ). record { asked = Some (by_clock (asked_then w.cost.then)); behind = replicate n Works ++ after; given = with_given w.number 0 given }) same
+      last_one costs jobs w (replicate left Works ++ after) given got works (omega arith) used
+      ∙ ap (λ (n : ℕ). record { asked = Some (its_request w got); behind = replicate n Works ++ after; given = with_given w.number (its_count w got) given }) same
 ]
 
-pub works_on : (costs : List Cost) (jobs : Jobs) (w : JobCost) (after : List Instant) (left : ℕ) (given : List ℕ) → worker_of costs jobs ≡ Some w → w.number - 1 < length given → (0 < left → given_to w.number given + left < w.cost.hundredths) → next_of costs jobs (replicate left Works ++ after) given ≡ next_of costs jobs after (with_given w.number (given_to w.number given + left) given)
+pub works_on : (costs : List Cost) (jobs : Jobs) (w : JobCost) (after : List Instant) (left : ℕ) (given : List ℕ) → worker_of costs jobs ≡ Some w → w.number - 1 < length given → (0 < left → given_to w.number given + left < needs w.cost) → next_of costs jobs (replicate left Works ++ after) given ≡ next_of costs jobs after (with_given w.number (given_to w.number given + left) given)
 works_on costs jobs w after zero given works place less =
     let none : given_to w.number given + zero ≡ given_to w.number given = omega arith in
     ap (next_of costs jobs after) (sym (ap (λ (n : ℕ). with_given w.number n given) none ∙ set-get_or given (w.number - 1) 0))
 works_on costs jobs w after (suc left) given works place less =
-    let all : given_to w.number given + suc left < w.cost.hundredths = less (omega arith) in
+    let all : given_to w.number given + suc left < needs w.cost = less (omega arith) in
     let then = with_given w.number (given_to w.number given + 1) given in
     let got : given_to w.number then ≡ given_to w.number given + 1 = get_or-set_same given (w.number - 1) (given_to w.number given + 1) 0 place in
     let inside : w.number - 1 < length then = rw (length-set given (w.number - 1) (given_to w.number given + 1)) place in
@@ -84,20 +94,26 @@ worked_left : (table : Schedule) (old new : Clocked) (left : ℕ) (given : List 
 worked_left table old new left given passed is =
     worked_comes table new (let e : new.event ≡ old.event = is.event_is in omega arith) is.looks_is ∙ rw (is.left_is, is.time_is) refl
 
-leaves_no_tick : (time : ℕ) (t : Then) → time_after time (Some (by_clock (asked_then t))) ≡ time
-leaves_no_tick time then.End = refl
-leaves_no_tick time (then.Sleep at) = refl
+asks_no_tick : (time : ℕ) (o : Option Step) (t : Then) → time_after time (Some (by_clock (asked_of o t))) ≡ time
+asks_no_tick time None then.End = refl
+asks_no_tick time None (then.Sleep at) = refl
+asks_no_tick time (Some (step.Novac priority entry)) t = refl
+asks_no_tick time (Some (step.Findvac priority entry)) t = refl
+asks_no_tick time (Some (step.Prio priority)) t = refl
+asks_no_tick time (Some (step.Store place word)) t = refl
+asks_no_tick time (Some (step.List delay task)) t = refl
+asks_no_tick time (Some (step.SetPhase group phase)) t = refl
 
-pub give_ends : (table : Schedule) (jobs : Jobs) (w : JobCost) (old new : Clocked) (rest : ℕ) → length table.events ≤ old.event → old.looks ≡ false → worker_of table.costs jobs ≡ Some w → w.number - 1 < length old.given → 1 ≤ rest → rest ≤ old.left → w.cost.hundredths ≤ given_to w.number old.given + rest → (1 < rest → given_to w.number old.given + rest ≡ w.cost.hundredths) → IsWorked old new (old.left - rest) (with_given w.number 0 old.given) → AsksNext table jobs old (Some (by_clock (asked_then w.cost.then))) new
-give_ends table jobs w old new rest passed looked works place some few used exact is =
-    next_asks table jobs old new (Some (by_clock (asked_then w.cost.then)))
+pub give_ends : (table : Schedule) (jobs : Jobs) (w : JobCost) (old new : Clocked) (rest got : ℕ) → length table.events ≤ old.event → old.looks ≡ false → worker_of table.costs jobs ≡ Some w → w.number - 1 < length old.given → 1 ≤ rest → rest ≤ old.left → got ≡ given_to w.number old.given + rest → needs w.cost ≤ got → (1 < rest → got ≡ needs w.cost) → IsWorked old new (old.left - rest) (with_given w.number (its_count w got) old.given) → AsksNext table jobs old (Some (its_request w got)) new
+give_ends table jobs w old new rest got passed looked works place some few sum used exact is =
+    next_asks table jobs old new (Some (its_request w got))
     (ap (λ (l : List Instant). next_of table.costs jobs l old.given) (worked_comes table old passed looked)
-    ∙ ends table.costs jobs w (after_it table old) old.left rest old.given works place some few used exact
-    ∙ ap (λ (l : List Instant). record { asked = Some (by_clock (asked_then w.cost.then)); behind = l; given = with_given w.number 0 old.given }) (sym (worked_left table old new (old.left - rest) (with_given w.number 0 old.given) passed is))
-    ∙ ap (λ (g : List ℕ). record { asked = Some (by_clock (asked_then w.cost.then)); behind = to_come table new; given = g }) (sym is.given_is))
-    (is.time_is ∙ sym (leaves_no_tick old.time w.cost.then))
+    ∙ ends table.costs jobs w (after_it table old) old.left rest got old.given works place some few sum used exact
+    ∙ ap (λ (l : List Instant). record { asked = Some (its_request w got); behind = l; given = with_given w.number (its_count w got) old.given }) (sym (worked_left table old new (old.left - rest) (with_given w.number (its_count w got) old.given) passed is))
+    ∙ ap (λ (g : List ℕ). record { asked = Some (its_request w got); behind = to_come table new; given = g }) (sym is.given_is))
+    (is.time_is ∙ sym (asks_no_tick old.time (step_at w.cost (got - needs w.cost)) w.cost.then))
 
-pub give_passes : (table : Schedule) (jobs : Jobs) (w : JobCost) (old new : Clocked) → length table.events ≤ old.event → old.looks ≡ false → worker_of table.costs jobs ≡ Some w → w.number - 1 < length old.given → (0 < old.left → given_to w.number old.given + old.left < w.cost.hundredths) → IsWorked old new 0 (with_given w.number (given_to w.number old.given + old.left) old.given) → Passes table jobs old new
+pub give_passes : (table : Schedule) (jobs : Jobs) (w : JobCost) (old new : Clocked) → length table.events ≤ old.event → old.looks ≡ false → worker_of table.costs jobs ≡ Some w → w.number - 1 < length old.given → (0 < old.left → given_to w.number old.given + old.left < needs w.cost) → IsWorked old new 0 (with_given w.number (given_to w.number old.given + old.left) old.given) → Passes table jobs old new
 give_passes table jobs w old new passed looked works place less is = record {
   next_is =
       ap (λ (l : List Instant). next_of table.costs jobs l old.given) (worked_comes table old passed looked)
@@ -139,3 +155,19 @@ rest_is cost given rest is =
             omega arith
       ];
     }
+
+-- which step that is, and how much was given with it
+pub record IsMore (needed given rest more : ℕ) : Type 0 where
+  pub number : more ≡ given + rest - needed
+  pub got : needed + more ≡ given + rest
+
+pub more_is : (needed given rest more : ℕ) → IsRest needed given rest → 1 ≤ needed → more ≡ given - (needed - 1) → IsMore needed given rest more
+more_is needed given rest more is some same =
+    let few : 1 ≤ rest = is.some in
+    let used : needed ≤ given + rest = is.used in
+    elim (cases_lt 1 rest) [
+      | inl lt ↦
+          let exact : given + rest ≡ needed = is.exact lt in
+          record { number = omega arith; got = omega arith }
+      | inr le ↦ record { number = omega arith; got = omega arith }
+    ]

@@ -11,8 +11,9 @@ use Rattle.agc_clock.specs.declared.asked.Asked.{Asked}
 use Rattle.agc_clock.specs.declared.counting.JobAt.{JobAt}
 use Rattle.agc_clock.specs.declared.counting.JobCost.{JobCost}
 use Rattle.agc_clock.specs.declared.timetable.Cost.{Cost}
+use Rattle.agc_clock.specs.declared.timetable.Step.{Step}
 use Rattle.agc_clock.specs.Instants.{Instant, Asks, Looks, Works, by_clock}
-use Rattle.agc_clock.specs.Timetables.{asked_then, cost_at}
+use Rattle.agc_clock.specs.Timetables.{asked_of, cost_at, needs, step_at}
 
 -- the hundredths that a job was given, by its number, from 1; and the list with other ones
 abbrev pub given_to : ℕ → List ℕ → ℕ
@@ -44,16 +45,22 @@ pub record Passed : Type 0 where
   pub asked : Option Asked
   pub given : List ℕ
 
--- a hundredth goes to a job with a cost: where that is used up, the job is asked to end or to
--- sleep, and counts anew
+-- a job counts on at a step, and anew where it leaves
+abbrev pub counted_on : Option Step → ℕ → ℕ
+counted_on None got = 0
+counted_on (Some step) got = got
+
+-- a hundredth goes to a job with a cost: with the one that uses it up, the job is asked for its
+-- first step, with each further one for the next, and then to end or to sleep
 abbrev pub worked : Option JobCost → List ℕ → Passed
 worked None given = record { asked = None; given = given }
 worked (Some worker) given =
     let got = given_to worker.number given + 1 in
-    if nat_le worker.cost.hundredths got
+    let step = step_at worker.cost (got - needs worker.cost) in
+    if nat_le (needs worker.cost) got
     then record {
-      asked = Some (by_clock (asked_then worker.cost.then));
-      given = with_given worker.number 0 given;
+      asked = Some (by_clock (asked_of step worker.cost.then));
+      given = with_given worker.number (counted_on step got) given;
     }
     else record { asked = None; given = with_given worker.number got given }
 

@@ -1,15 +1,16 @@
 -- What is wanted of time that passes, in the field's words.
-use Rattle.std.specs.Prelude.{◌≡◌, ℕ, ◌+◌, ◌*◌, ◌≤◌, List, [], ◌∷◌, Option, Some, None, IsSome}
+use Rattle.std.specs.Prelude.{◌≡◌, ℕ, ◌+◌, ◌*◌, List, [], ◌∷◌, Option, Some, None}
 use Rattle.std.specs.List.{count_by}
 use Rattle.agc_plan.specs.Jobs.{Jobs}
 use Rattle.agc_clock.specs.declared.asked.Asked.{Asked}
 use Rattle.agc_clock.specs.declared.counting.JobCost.{JobCost}
 use Rattle.agc_clock.specs.declared.timetable.Cost.{Cost}
+use Rattle.agc_clock.specs.declared.timetable.Step.{Step}
 use Rattle.agc_clock.specs.declared.timetable.Stolen.{Stolen}
 use Rattle.agc_clock.specs.Counts.{given_to, passed, worker_of}
-use Rattle.agc_clock.specs.Instants.{Instant, Works, is_own_tick}
+use Rattle.agc_clock.specs.Instants.{Instant, Works, by_clock, is_own_tick}
 use Rattle.agc_clock.specs.Runs.{Serving, Standing, lived}
-use Rattle.agc_clock.specs.Timetables.{cost_at}
+use Rattle.agc_clock.specs.Timetables.{asked_then, needs}
 
 -- when a row of stolen time comes, after so many times
 abbrev pub comes_at : Stolen → ℕ → ℕ
@@ -43,14 +44,15 @@ hundredths_left by costs at (instant ∷ instants) =
     works_for_nobody instant (worker_of costs (by.jobs at.state))
     + hundredths_left by costs (lived by costs at instant) instants
 
--- each cost is something
-abbrev pub IsEachCostSome : List Cost → Type 0
-IsEachCostSome costs =
-    (at : ℕ) (cost : Cost) → cost_at costs at ≡ Some cost → 1 ≤ cost.hundredths
+-- how many steps a job goes through before it leaves
+abbrev pub steps_in : List (Option Step) → ℕ
+steps_in [] = 0
+steps_in (None ∷ steps) = 0
+steps_in (Some step ∷ steps) = 1 + steps_in steps
 
--- where a job is asked to end or to sleep by a hundredth, it was given its cost with it, and no
--- more
-abbrev pub EndsByItsCost : List Cost → Jobs → List ℕ → Type 0
-EndsByItsCost costs jobs given = (worker : JobCost) → worker_of costs jobs ≡ Some worker
-    → IsSome (passed costs jobs Works given).asked
-    → given_to worker.number given + 1 ≡ worker.cost.hundredths
+-- where a job is asked to end or to sleep by a hundredth, it was given with it what it needs, one
+-- more for each step, and no more
+abbrev pub LeavesByItsCost : List Cost → Jobs → List ℕ → Type 0
+LeavesByItsCost costs jobs given = (worker : JobCost) → worker_of costs jobs ≡ Some worker
+    → (passed costs jobs Works given).asked ≡ Some (by_clock (asked_then worker.cost.then))
+    → given_to worker.number given + 1 ≡ needs worker.cost + steps_in worker.cost.steps

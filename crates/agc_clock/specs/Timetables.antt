@@ -1,11 +1,15 @@
 -- What is set down for a scenario: how long it lasts, what time is stolen, what jobs cost, and
 -- which events come when.
-use Rattle.std.specs.Prelude.{ℕ, ◌-◌, ◌%◌, ◌==◌, ◌&&◌, nat_le, nat_lt, Bool, if◌then◌else◌}
-use Rattle.std.specs.Prelude.{List, [], ◌∷◌, Option, Some, None}
-use Rattle.std.specs.Option.{option_map_or}
+use Rattle.std.specs.Prelude.{ℕ, ◌-◌, ◌%◌, ◌==◌, ◌&&◌, nat_le, nat_lt, min, max, Bool}
+use Rattle.std.specs.Prelude.{if◌then◌else◌, List, [], ◌∷◌, Option, Some, None, slice_get}
+use Rattle.std.specs.Option.{option_and_then, option_map_or}
 use Rattle.agc_plan.specs.declared.request.Request.{Request}
-use Rattle.agc_plan.specs.declared.request.Request.TheVariants.{EndOfJob, Sleep}
+use Rattle.agc_plan.specs.declared.request.Request.TheVariants.{EndOfJob, List as Lists, Prio}
+use Rattle.agc_plan.specs.declared.request.Request.TheVariants.{Findvac, Novac, SetPhase, Sleep}
+use Rattle.agc_plan.specs.declared.request.Request.TheVariants.{Store}
 use Rattle.agc_clock.specs.declared.timetable.Cost.{Cost}
+use Rattle.agc_clock.specs.declared.timetable.Step.{Step}
+use Rattle.agc_clock.specs.declared.timetable.Step.TheVariants as step
 use Rattle.agc_clock.specs.declared.timetable.Stolen.{Stolen}
 use Rattle.agc_clock.specs.declared.timetable.Then.{Then}
 use Rattle.agc_clock.specs.declared.timetable.Then.TheVariants as then
@@ -53,10 +57,43 @@ abbrev pub cost_at : List Cost → ℕ → Option Cost
 cost_at [] at = None
 cost_at (cost ∷ costs) at = if cost.at == at then Some cost else cost_at costs at
 
--- what a job is asked that has used up its cost
+-- the hundredths of a centisecond that a job needs before it is asked anything: its cost, but at
+-- least one, and at most so many that a few more can be counted
+abbrev pub needs : Cost → ℕ
+needs cost = max 1 (min cost.hundredths 4000000000)
+
+-- the step of this number, from 0, that a job goes through before it leaves, if there is one
+abbrev pub step_at : Cost → ℕ → Option Step
+step_at cost number = option_and_then (λ step. step) (slice_get cost.steps number)
+
+-- what a job is asked for a step
+abbrev pub asked_step : Step → Request
+asked_step (step.Novac priority entry) = Novac priority entry
+asked_step (step.Findvac priority entry) = Findvac priority entry
+asked_step (step.Prio priority) = Prio priority
+asked_step (step.Store place word) = Store place word
+asked_step (step.List delay task) = Lists delay task
+asked_step (step.SetPhase group phase) = SetPhase group phase
+
+-- the step that a request is, if it is one
+abbrev pub step_of : Request → Option Step
+step_of (Novac priority entry) = Some (step.Novac priority entry)
+step_of (Findvac priority entry) = Some (step.Findvac priority entry)
+step_of (Prio priority) = Some (step.Prio priority)
+step_of (Store place word) = Some (step.Store place word)
+step_of (Lists delay task) = Some (step.List delay task)
+step_of (SetPhase group phase) = Some (step.SetPhase group phase)
+step_of request = None
+
+-- what a job is asked that leaves
 abbrev pub asked_then : Then → Request
 asked_then then.End = EndOfJob
 asked_then (then.Sleep at) = Sleep at
+
+-- what a job is asked that has used up its cost: its step, or to leave, where there is none
+abbrev pub asked_of : Option Step → Then → Request
+asked_of None leaves = asked_then leaves
+asked_of (Some step) leaves = asked_step step
 
 -- what the event of a number asks for, in order
 abbrev pub requests_of : Option Event → List Request

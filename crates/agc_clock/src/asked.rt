@@ -4,8 +4,8 @@ ghost use Rattle.agc_clock.specs.Instants.{by_clock};
 
 use agc_plan::Request;
 
-/// Who asks: the clock itself (for a tick, for a look at NEWJOB, for the end or the sleep of a job
-/// that has used up its cost), or the event of this number, from 0. Source: profile.
+/// Who asks: the clock itself (for a tick, for a look at NEWJOB, for what a job does that has used
+/// up its cost), or the event of this number, from 0. Source: profile.
 #[derive(Clone, Copy, PartialEq, Eq)]
 pub enum Source {
     Clock,

@@ -9,8 +9,8 @@ ghost use Rattle.agc_clock.specs.Reading.{AsksOrPasses, first_of};
 ghost use Rattle.agc_clock.specs.Timetables.{Schedule};
 
 use crate::asked::{Asked, Source, by_clock};
-use crate::counting::{JobCost, kept, share_at, worker};
-use crate::timetable::{Timetables, asked_then};
+use crate::counting::{JobCost, kept, needs, share_at, spend, worker};
+use crate::timetable::Timetables;
 use agc_exec::named_job;
 use agc_plan::Request;
 use agc_word::Erasable;
@@ -154,7 +154,7 @@ impl Clock {
         }
     }
 
-    /// Gives the computing time that is left to a job with a cost, up to its end.
+    /// Gives the computing time that is left to a job with a cost, up to the next request.
     fn give(&mut self, worker: &JobCost) -> Option<Asked>
         requires number { (1 ≤ worker.now.number) × (worker.now.number ≤ 8) }
         requires looked { self.old.looks ≡ false }
@@ -167,11 +167,14 @@ impl Clock {
     {
         let place = usize::from(worker.number) - 1;
         let given = self.given[place];
-        let rest = worker.cost.hundredths.saturating_sub(given).max(1);
+        let needed = needs(&worker.cost);
+        let rest = needed.saturating_sub(given).max(1);
         if rest <= self.left {
+            let more = given.saturating_sub(needed - 1);
+            let spent = spend(&worker.cost, more);
             self.left -= rest;
-            self.given[place] = 0;
-            Some(by_clock(asked_then(worker.cost.then)))
+            self.given[place] = spent.counted;
+            Some(by_clock(spent.request))
         } else {
             self.given[place] = given + self.left;
             self.left = 0;
@@ -220,7 +223,7 @@ impl Clock {
     /// The next request, and who asks for it, with these words of the machine, which were not
     /// changed since the last [`served`](Clock::served) was told of them; None when the time is
     /// over. Each centisecond: a tick; the events of its time; where NEWJOB names a set, a change
-    /// of job; then the running job's end or sleep, each time its cost is used up. Source: profile.
+    /// of job; then what the running job does, each time its cost is used up. Source: profile.
     pub fn next<T: Timetables>(&mut self, words: &Erasable, table: &T) -> Option<Asked>
         requires { IsLawfulWords words.now }
         ensures { AsksNext (T.set_down table.now) (jobs_in words.now) self.old result self.new }

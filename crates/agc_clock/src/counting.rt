@@ -1,12 +1,15 @@
 // Who is given computing time.
-ghost use Rattle.std.specs.Prelude.{◌≡◌, ◌≤◌, IfSome, ◌-◌, length, if◌then◌else◌, ◌||◌, not};
+ghost use Rattle.std.specs.Prelude.{◌≡◌, ◌≤◌, ◌<◌, IfSome, ◌+◌, ◌-◌, length, if◌then◌else◌, not};
 ghost use Rattle.agc_exec.specs.Image.{IsLawfulWords, jobs_in};
-ghost use Rattle.agc_clock.specs.Counts.{is_awake, kept, kept_by, runner_of, worker_of};
+ghost use Rattle.agc_clock.specs.Counts.{counted_on, is_awake, kept, kept_by, runner_of};
+ghost use Rattle.agc_clock.specs.Counts.{worker_of};
 ghost use Rattle.agc_clock.specs.Reading.{awake_at};
-ghost use Rattle.agc_clock.specs.Timetables.{cost_at, holds, share_at, stolen_at};
+ghost use Rattle.agc_clock.specs.Timetables.{asked_of, cost_at, holds, needs, share_at, step_at};
+ghost use Rattle.agc_clock.specs.Timetables.{stolen_at};
 
-use crate::timetable::{Cost, Stolen, Timetables};
+use crate::timetable::{Cost, Step, Stolen, Timetables, asked_step, asked_then};
 use agc_exec::{Seat, job_at};
+use agc_plan::Request;
 use agc_word::Erasable;
 
 /// A job's number, and its address.
@@ -82,6 +85,50 @@ pub(crate) fn worker<T: Timetables>(table: &T, words: &Erasable) -> Option<JobCo
                 number: runner.number,
                 cost,
             }),
+        },
+    }
+}
+
+/// The hundredths that a job needs before it is asked anything.
+pub(crate) fn needs(cost: &Cost) -> u32
+    ensures value { result ≡ needs cost.now }
+    ensures some { 1 ≤ result }
+    ensures few { result ≤ 4000000000 }
+{
+    cost.hundredths.min(4_000_000_000).max(1)
+}
+
+/// The step of a number, if there is one.
+fn step_at(cost: &Cost, number: u32) -> Option<Step>
+    ensures value { result ≡ step_at cost.now number }
+    ensures few { IfSome result (λ _. number < 7) }
+{
+    match cost.steps.get(number as usize) {
+        None => None,
+        Some(step) => *step,
+    }
+}
+
+/// What a job is asked that has used up its cost, and what it counts then.
+#[derive(Clone, Copy)]
+pub(crate) struct Spent {
+    pub(crate) request: Request,
+    pub(crate) counted: u32,
+}
+
+/// What a job is asked that needs no more, with the hundredth that follows on so many more.
+pub(crate) fn spend(cost: &Cost, more: u32) -> Spent
+    ensures request { result.request ≡ asked_of (step_at cost.now more) cost.now.then }
+    ensures counted { result.counted ≡ counted_on (step_at cost.now more) (needs cost.now + more) }
+{
+    match step_at(cost, more) {
+        None => Spent {
+            request: asked_then(cost.then),
+            counted: 0,
+        },
+        Some(step) => Spent {
+            request: asked_step(step),
+            counted: needs(cost) + more,
         },
     }
 }

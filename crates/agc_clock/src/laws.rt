@@ -5,7 +5,7 @@ ghost use Rattle.agc_machine.specs.Machines.{Machined, after_all};
 ghost use Rattle.agc_clock.specs.declared.timetable.Cost.{Cost};
 ghost use Rattle.agc_clock.specs.declared.timetable.Stolen.{Stolen};
 ghost use Rattle.agc_clock.specs.Instants.{Instant, centisecond};
-ghost use Rattle.agc_clock.specs.Laws.{EndsByItsCost, IsEachCostSome, comes_at, hundredths_given};
+ghost use Rattle.agc_clock.specs.Laws.{LeavesByItsCost, comes_at, hundredths_given};
 ghost use Rattle.agc_clock.specs.Laws.{hundredths_left, own_ticks};
 ghost use Rattle.agc_clock.specs.Runs.{Standing, by_machine, lived_all, run};
 ghost use Rattle.agc_clock.specs.Runs.{scenario_requests, standing_at};
@@ -41,10 +41,10 @@ pub fn stolen_time_comes_again()
 {}
 
 /// If a job is asked to end, or to sleep, because its cost is used up, the computing time that it
-/// was given is exactly its cost, to the hundredth: at each hundredth, whatever came before.
-pub fn a_job_ends_when_its_cost_is_used_up()
+/// was given is exactly what it needs, and a hundredth more for each step before: at each
+/// hundredth, whatever came before.
+pub fn a_job_leaves_when_its_cost_is_used_up()
     ensures { (costs : List Cost) (m : Machined) (before : List Instant)
-        → IsEachCostSome costs → (at : Standing Machined)
-        → at ≡ lived_all by_machine costs (standing_at m) before
-        → EndsByItsCost costs (by_machine.jobs at.state) at.given }
+        → (at : Standing Machined) → at ≡ lived_all by_machine costs (standing_at m) before
+        → LeavesByItsCost costs (by_machine.jobs at.state) at.given }
 {}

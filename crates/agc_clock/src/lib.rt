@@ -12,4 +12,4 @@ pub use asked::{Asked, Source};
 pub use clock::Clock;
 pub use counting::stolen_at;
 pub use times::Times;
-pub use timetable::{Cost, Event, Stolen, Then, Timetable, Timetables};
+pub use timetable::{Cost, Event, Step, Stolen, Then, Timetable, Timetables, step_of};

@@ -1,9 +1,11 @@
 // What is set down for a scenario, wherever it lies.
 ghost use Rattle.std.specs.Prelude.{◌≡◌, length, slice_get, option_map};
-ghost use Rattle.agc_clock.specs.Timetables.{Schedule, asked_then, overlap, requests_of};
+ghost use Rattle.agc_clock.specs.Timetables.{Schedule, asked_step, asked_then, overlap};
+ghost use Rattle.agc_clock.specs.Timetables.{requests_of, step_of};
 
 use crate::times::Times;
-use agc_plan::{Address, Request};
+use agc_plan::{Address, Delay, Entry, Group, Phase, Place, Priority, Request, Task};
+use agc_word::Word;
 use std::marker::Model;
 
 /// From centisecond `from` until just before `to`, something else takes `percent` of each
@@ -28,15 +30,54 @@ impl Stolen {
     }
 }
 
-/// What a job does that has used up its cost: it ends, or sleeps until this address is called.
-/// Source: profile.
+/// What a job is asked for before it leaves: one of the requests of this name. Source: profile.
+#[derive(Clone, Copy, PartialEq, Eq)]
+pub enum Step {
+    Novac(Priority, Entry),
+    Findvac(Priority, Entry),
+    Prio(Priority),
+    Store(Place, Word),
+    List(Delay, Task),
+    SetPhase(Group, Phase),
+}
+
+/// The request of a step.
+pub(crate) fn asked_step(step: Step) -> Request
+    ensures { result ≡ asked_step step }
+{
+    match step {
+        Step::Novac(priority, entry) => Request::Novac(priority, entry),
+        Step::Findvac(priority, entry) => Request::Findvac(priority, entry),
+        Step::Prio(priority) => Request::Prio(priority),
+        Step::Store(place, word) => Request::Store(place, word),
+        Step::List(delay, task) => Request::List(delay, task),
+        Step::SetPhase(group, phase) => Request::SetPhase(group, phase),
+    }
+}
+
+/// The step that a request is, if it is one. Source: profile.
+pub fn step_of(request: &Request) -> Option<Step>
+    ensures { result ≡ step_of request.now }
+{
+    match *request {
+        Request::Novac(priority, entry) => Some(Step::Novac(priority, entry)),
+        Request::Findvac(priority, entry) => Some(Step::Findvac(priority, entry)),
+        Request::Prio(priority) => Some(Step::Prio(priority)),
+        Request::Store(place, word) => Some(Step::Store(place, word)),
+        Request::List(delay, task) => Some(Step::List(delay, task)),
+        Request::SetPhase(group, phase) => Some(Step::SetPhase(group, phase)),
+        _ => None,
+    }
+}
+
+/// How a job leaves: it ends, or sleeps until this address is called. Source: profile.
 #[derive(Clone, Copy, PartialEq, Eq)]
 pub enum Then {
     End,
     Sleep(Address),
 }
 
-/// The request of a job that has used up its cost.
+/// The request of a job that leaves.
 pub(crate) fn asked_then(then: Then) -> Request
     ensures { result ≡ asked_then then }
 {
@@ -47,11 +88,14 @@ pub(crate) fn asked_then(then: Then) -> Request
 }
 
 /// What a job at an address costs, in hundredths of a centisecond of computing time, from 1 on (0
-/// costs as much as 1), and what it does when that is used up. Source: profile.
+/// costs as much as 1, and more than 4,000,000,000 as much as these), and what it does when that is
+/// used up: steps in order, up to the first that is missing, and then how it leaves. Each request
+/// but the first takes one hundredth more. Source: profile.
 #[derive(Clone, Copy)]
 pub struct Cost {
     pub at: Address,
     pub hundredths: u32,
+    pub steps: [Option<Step>; 7],
     pub then: Then,
 }
 

@@ -1,5 +1,6 @@
 -- A scenario: its values, their ranges and their texts.
-use Rattle.std.specs.Prelude.{◌≡◌, ◌≤◌, ℕ, ◌*◌, Bool, true, List, map, Option, Some, None}
+use Rattle.std.specs.Prelude.{◌≡◌, ◌≤◌, ℕ, ◌*◌, Bool, true, List, map, replicate, Option, Some}
+use Rattle.std.specs.Prelude.{None}
 use Rattle.std.specs.Option.{option_map}
 use Rattle.std.specs.List.{AllByRecursion, list_all}
 use Rattle.agc_plan.specs.declared.request.Request.{Request}
@@ -68,7 +69,12 @@ event_of lasts e =
 
 -- what a job costs, in hundredths of a centisecond
 abbrev pub cost_of : TimedJob → Cost
-cost_of j = record { at = j.at; hundredths = j.cost * 100; then = j.leaves }
+cost_of j = record {
+  at = j.at;
+  hundredths = j.cost * 100;
+  steps = replicate 7 None;
+  then = j.leaves;
+}
 
 -- what is set down for a clock
 abbrev pub schedule_of : Timed → Schedule

@@ -97,6 +97,7 @@ impl TimedJob {
         Cost {
             at: self.at,
             hundredths: self.cost * 100,
+            steps: [None; 7],
             then: self.leaves,
         }
     }

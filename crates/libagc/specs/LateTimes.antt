@@ -1,9 +1,9 @@
 -- What a caller's timetable lacks.
 use Rattle.std.specs.Prelude.{ℕ, ◌+◌, ◌-◌, ◌==◌, nat_lt, nat_le, ◌&&◌, ◌||◌, not, Bool, true}
 use Rattle.std.specs.Prelude.{false, if◌then◌else◌, List, [], ◌∷◌, length, Option, Some, None}
-use Rattle.std.specs.Option.{is_some}
+use Rattle.std.specs.Option.{is_some, option_and_then}
 use Rattle.agc_clock.specs.declared.timetable.Stolen.{Stolen}
-use Rattle.agc_clock.specs.Timetables.{comes_once, overlap}
+use Rattle.agc_clock.specs.Timetables.{comes_once, overlap, step_of}
 use Rattle.agc_image.specs.declared.asked.AgcRequest.{AgcRequest}
 use Rattle.agc_image.specs.declared.fault.Fault.{Fault}
 use Rattle.agc_image.specs.declared.fault.Fault.TheVariants.{TimeRange, StealTwice, CostTwice}
@@ -11,6 +11,7 @@ use Rattle.agc_image.specs.Asked.{request_told}
 use Rattle.agc_image.specs.Told.{address_told}
 use Rattle.libagc.specs.declared.timetable.AgcCost.{AgcCost}
 use Rattle.libagc.specs.declared.timetable.AgcEvent.{AgcEvent}
+use Rattle.libagc.specs.LentTimes.{asked_by}
 
 -- the last centisecond of the longest scenario, and the greatest cost in hundredths
 abbrev pub last_time : ℕ
@@ -25,12 +26,23 @@ is_steal row =
     nat_lt row.from row.to && (nat_le row.percent 100
     && (comes_once row || nat_le (row.to - row.from) row.every))
 
--- a job at an address; then it ends, or sleeps at an address
-abbrev pub is_cost : AgcCost → Bool
-is_cost row =
+-- a request that is a step of a job
+abbrev pub is_step : AgcRequest → Bool
+is_step r = is_some (option_and_then step_of (request_told r))
+
+abbrev pub are_steps : List AgcRequest → Bool
+are_steps [] = true
+are_steps (r ∷ rs) = is_step r && are_steps rs
+
+-- a job at an address; at last it ends, or sleeps at an address, and before it asks for at most
+-- seven of the requests
+abbrev pub is_cost : List AgcRequest → AgcCost → Bool
+is_cost requests row =
     is_some (address_told row.at)
     && (nat_lt 0 row.hundredths && (nat_le row.hundredths most_cost
-    && ((row.then == 0) || is_some (address_told row.then))))
+    && (((row.then == 0) || is_some (address_told row.then))
+    && (nat_le row.count 7 && (nat_le (row.first + row.count) (length requests)
+    && are_steps (asked_by requests row.first row.count))))))
 
 -- once, or again up to a time: never, where that is before the first
 abbrev pub is_coming : AgcEvent → Bool
@@ -47,9 +59,9 @@ abbrev pub are_steals : List Stolen → Bool
 are_steals [] = true
 are_steals (row ∷ rows) = is_steal row && are_steals rows
 
-abbrev pub are_costs : List AgcCost → Bool
-are_costs [] = true
-are_costs (row ∷ rows) = is_cost row && are_costs rows
+abbrev pub are_costs : List AgcRequest → List AgcCost → Bool
+are_costs requests [] = true
+are_costs requests (row ∷ rows) = is_cost requests row && are_costs requests rows
 
 abbrev pub are_events : ℕ → List AgcEvent → Bool
 are_events requests [] = true
@@ -83,7 +95,7 @@ costs_twice (row ∷ rows) = has_cost row.at rows || costs_twice rows
 abbrev pub times_lack : List Stolen → List AgcCost → List AgcEvent → List AgcRequest → Option Fault
 times_lack stolen costs events requests =
     if not (are_steals stolen) then Some TimeRange
-    else if not (are_costs costs) then Some TimeRange
+    else if not (are_costs requests costs) then Some TimeRange
     else if not (are_events (length requests) events) then Some TimeRange
     else if not (are_requests requests) then Some TimeRange
     else if steals_twice stolen then Some StealTwice

@@ -1,15 +1,18 @@
 -- What a caller's timetable has set down.
 use Rattle.std.specs.Prelude.{ℕ, ◌==◌, nat_lt, ◌&&◌, if◌then◌else◌, List, map, take, drop}
-use Rattle.std.specs.Option.{option_map_or}
+use Rattle.std.specs.Prelude.{Option, slice_get}
+use Rattle.std.specs.List.{range_with_len}
+use Rattle.std.specs.Option.{option_and_then, option_map_or}
 use Rattle.agc_plan.specs.declared.request.Request.{Request}
 use Rattle.agc_plan.specs.declared.request.Request.TheVariants.{Change}
 use Rattle.agc_clock.specs.Coming.{Coming}
 use Rattle.agc_clock.specs.declared.timetable.Cost.{Cost}
+use Rattle.agc_clock.specs.declared.timetable.Step.{Step}
 use Rattle.agc_clock.specs.declared.timetable.Stolen.{Stolen}
 use Rattle.agc_clock.specs.declared.timetable.Then.{Then}
 use Rattle.agc_clock.specs.declared.timetable.Then.TheVariants as then
 use Rattle.agc_clock.specs.Events.{Event}
-use Rattle.agc_clock.specs.Timetables.{Schedule}
+use Rattle.agc_clock.specs.Timetables.{Schedule, step_of}
 use Rattle.agc_image.specs.declared.asked.AgcRequest.{AgcRequest}
 use Rattle.agc_image.specs.Asked.{request_told}
 use Rattle.libagc.specs.declared.timetable.AgcCost.{AgcCost}
@@ -23,13 +26,6 @@ address_for n = if nat_lt 0 n && nat_lt n 16384 then n else 16383
 abbrev pub then_told : ℕ → Then
 then_told n = if n == 0 then then.End else then.Sleep (address_for n)
 
-abbrev pub cost_told : AgcCost → Cost
-cost_told row = record {
-  at = address_for row.at;
-  hundredths = row.hundredths;
-  then = then_told row.then;
-}
-
 -- an event comes once where it comes each 0 centiseconds
 abbrev pub times_told : AgcEvent → Coming
 times_told row =
@@ -40,14 +36,32 @@ times_told row =
 abbrev pub request_for : AgcRequest → Request
 request_for r = option_map_or (λ q. q) (request_told r) Change
 
--- an event asks for so many of the requests, from its first on
-abbrev pub asked_by : List AgcRequest → AgcEvent → List AgcRequest
-asked_by requests row = take row.count (drop row.first requests)
+-- so many of the requests, from the first on
+abbrev pub asked_by : List AgcRequest → (first count : ℕ) → List AgcRequest
+asked_by requests first count = take count (drop first requests)
+
+-- the step of a number; a request that is none ends them
+abbrev pub step_in : List AgcRequest → ℕ → Option Step
+step_in requests number =
+    option_and_then (λ r. step_of (request_for r)) (slice_get requests number)
+
+-- the steps of a job, at most seven
+abbrev pub steps_told : List AgcRequest → AgcCost → List (Option Step)
+steps_told requests row =
+    map (step_in (asked_by requests row.first row.count)) (range_with_len 0 7)
+
+abbrev pub cost_told : List AgcRequest → AgcCost → Cost
+cost_told requests row = record {
+  at = address_for row.at;
+  hundredths = row.hundredths;
+  steps = steps_told requests row;
+  then = then_told row.then;
+}
 
 abbrev pub event_told : List AgcRequest → AgcEvent → Event
 event_told requests row = record {
   times = times_told row;
-  requests = map request_for (asked_by requests row);
+  requests = map request_for (asked_by requests row.first row.count);
 }
 
 abbrev pub timetable_told : ℕ → List Stolen → List AgcCost → List AgcEvent → List AgcRequest
@@ -55,6 +69,6 @@ abbrev pub timetable_told : ℕ → List Stolen → List AgcCost → List AgcEve
 timetable_told lasts stolen costs events requests = record {
   lasts = lasts;
   stolen = stolen;
-  costs = map cost_told costs;
+  costs = map (cost_told requests) costs;
   events = map (event_told requests) events;
 }

@@ -1,12 +1,13 @@
 // What a caller's timetable lacks.
 ghost use Rattle.std.specs.Prelude.{◌≡◌};
 ghost use Rattle.agc_image.specs.Codes.{code_for};
-ghost use Rattle.libagc.specs.LateTimes.{is_steal, is_cost, is_coming, is_event};
+ghost use Rattle.libagc.specs.LateTimes.{is_steal, is_step, are_steps, is_cost, is_coming};
+ghost use Rattle.libagc.specs.LateTimes.{is_event};
 ghost use Rattle.libagc.specs.LateTimes.{are_steals, are_costs, are_events, are_requests};
 ghost use Rattle.libagc.specs.LateTimes.{meets, steals_twice, has_cost, costs_twice, times_lack};
 
-use crate::timetable::{AgcCost, AgcEvent};
-use agc_clock::Stolen;
+use crate::timetable::{AgcCost, AgcEvent, asked_by};
+use agc_clock::{Stolen, step_of};
 use agc_image::{AgcRequest, Fault, address, request_of};
 
 /// The last centisecond of the longest scenario.
@@ -22,14 +23,39 @@ fn is_steal(row: &Stolen) -> bool
     row.from < row.to && row.percent <= 100 && (row.every == 0 || row.to - row.from <= row.every)
 }
 
-/// Whether numbers are a cost.
-fn is_cost(row: &AgcCost) -> bool
-    ensures { result ≡ is_cost row.now }
+/// Whether numbers are a request that is a step of a job.
+fn is_step(numbers: &AgcRequest) -> bool
+    ensures { result ≡ is_step numbers.now }
+{
+    match request_of(numbers) {
+        None => false,
+        Some(request) => step_of(&request).is_some(),
+    }
+}
+
+/// Whether all these are.
+fn are_steps(requests: &[AgcRequest]) -> bool
+    ensures { result ≡ are_steps requests.now }
+{
+    for request in requests {
+        if !is_step(request) {
+            return false;
+        }
+    }
+    true
+}
+
+/// Whether numbers are a cost, of a job that asks for some of these requests.
+fn is_cost(row: &AgcCost, requests: &[AgcRequest]) -> bool
+    ensures { result ≡ is_cost requests.now row.now }
 {
     address(row.at).is_some()
         && 0 < row.hundredths
         && row.hundredths <= MOST_COST
         && (row.then == 0 || address(row.then).is_some())
+        && row.count <= 7
+        && row.first as usize + row.count as usize <= requests.len()
+        && are_steps(asked_by(requests, row.first, row.count))
 }
 
 /// Whether an event's times are in range.
@@ -62,11 +88,11 @@ fn are_steals(rows: &[Stolen]) -> bool
 }
 
 /// Whether all costs are.
-fn are_costs(rows: &[AgcCost]) -> bool
-    ensures { result ≡ are_costs rows.now }
+fn are_costs(rows: &[AgcCost], requests: &[AgcRequest]) -> bool
+    ensures { result ≡ are_costs requests.now rows.now }
 {
     for row in rows {
-        if !is_cost(row) {
+        if !is_cost(row, requests) {
             return false;
         }
     }
@@ -156,7 +182,7 @@ pub(crate) fn times_lack(
 {
     if !are_steals(stolen) {
         Some(Fault::TimeRange)
-    } else if !are_costs(costs) {
+    } else if !are_costs(costs, requests) {
         Some(Fault::TimeRange)
     } else if !are_events(events, requests.len()) {
         Some(Fault::TimeRange)

@@ -1,13 +1,15 @@
 // A timetable in memory of a caller's own.
 ghost use Rattle.std.specs.Prelude.{◌≡◌};
 ghost use Rattle.libagc.specs.LentTimes.{address_for, then_told, cost_told, times_told};
-ghost use Rattle.libagc.specs.LentTimes.{request_for, asked_by, timetable_told};
+ghost use Rattle.libagc.specs.LentTimes.{request_for, asked_by, step_in, steps_told};
+ghost use Rattle.libagc.specs.LentTimes.{timetable_told};
 
-use agc_clock::{Cost, Stolen, Then, Times, Timetables};
+use agc_clock::{Cost, Step, Stolen, Then, Times, Timetables, step_of};
 use agc_image::{AgcRequest, address, request_of};
 use agc_plan::{Address, Request};
 
-/// What a job at an address costs, and what it does when that is used up. Source: profile.
+/// What a job at an address costs, and what it does when that is used up: it asks for some of the
+/// requests that are handed to the call, and leaves. Source: profile.
 #[repr(C)]
 #[derive(Clone, Copy)]
 pub struct AgcCost {
@@ -15,8 +17,12 @@ pub struct AgcCost {
     pub at: u32,
     /// The cost in hundredths of a centisecond of computing, 1 to 100,000,000.
     pub hundredths: u32,
-    /// 0 where the job then ends; else the address at which it sleeps, 1 to 16383.
+    /// 0 where the job at last ends; else the address at which it sleeps, 1 to 16383.
     pub then: u32,
+    /// The place of the first request that it asks for before, from 0.
+    pub first: u32,
+    /// How many these are, 0 to 7.
+    pub count: u32,
 }
 
 /// When an event comes, in centiseconds since the start, 0 to 360,000, and what it then asks for.
@@ -37,7 +43,8 @@ pub struct AgcEvent {
 }
 
 /// A timetable whose rows lie in memory of a caller's own: an address out of its range counts as
-/// 16383, numbers that are no request as a change of job. Source: profile.
+/// 16383, numbers that are no request as a change of job, which is no step of a job. Source:
+/// profile.
 #[derive(Clone, Copy)]
 pub(crate) struct LentTimes<'a> {
     /// How many centiseconds it lasts.
@@ -48,7 +55,7 @@ pub(crate) struct LentTimes<'a> {
     pub(crate) costs: &'a [AgcCost],
     /// The events.
     pub(crate) events: &'a [AgcEvent],
-    /// What the events ask for.
+    /// What events and jobs ask for.
     pub(crate) requests: &'a [AgcRequest],
 }
 
@@ -83,17 +90,6 @@ fn then_of(number: u32) -> Then
     }
 }
 
-/// What a job costs.
-fn cost_of(row: &AgcCost) -> Cost
-    ensures { result ≡ cost_told row.now }
-{
-    Cost {
-        at: address_for(row.at),
-        hundredths: row.hundredths,
-        then: then_of(row.then),
-    }
-}
-
 /// When an event comes.
 fn times_of(row: &AgcEvent) -> Times
     ensures { result ≡ times_told row.now }
@@ -114,14 +110,52 @@ fn request_for(numbers: &AgcRequest) -> Request
     }
 }
 
-/// The numbers of what an event asks for.
-fn asked_by<'a>(requests: &'a [AgcRequest], row: &AgcEvent) -> &'a [AgcRequest]
-    ensures { result.now ≡ asked_by requests.now row.now }
+/// So many requests, from the first on.
+pub(crate) fn asked_by(requests: &[AgcRequest], first: u32, count: u32) -> &[AgcRequest]
+    ensures { result.now ≡ asked_by requests.now first count }
 {
-    let first = (row.first as usize).min(requests.len());
+    let first = (first as usize).min(requests.len());
     let rest = &requests[first..];
-    let count = (row.count as usize).min(rest.len());
+    let count = (count as usize).min(rest.len());
     &rest[..count]
+}
+
+/// The step of a number, up to the first request that is none.
+fn step_in(requests: &[AgcRequest], number: usize) -> Option<Step>
+    ensures { result ≡ step_in requests.now number }
+{
+    match requests.get(number) {
+        None => None,
+        Some(numbers) => step_of(&request_for(numbers)),
+    }
+}
+
+/// The steps of a job.
+fn steps_of(requests: &[AgcRequest], row: &AgcCost) -> [Option<Step>; 7]
+    ensures { result ≡ steps_told requests.now row.now }
+{
+    let asked = asked_by(requests, row.first, row.count);
+    [
+        step_in(asked, 0),
+        step_in(asked, 1),
+        step_in(asked, 2),
+        step_in(asked, 3),
+        step_in(asked, 4),
+        step_in(asked, 5),
+        step_in(asked, 6),
+    ]
+}
+
+/// What a job costs.
+fn cost_of(requests: &[AgcRequest], row: &AgcCost) -> Cost
+    ensures { result ≡ cost_told requests.now row.now }
+{
+    Cost {
+        at: address_for(row.at),
+        hundredths: row.hundredths,
+        steps: steps_of(requests, row),
+        then: then_of(row.then),
+    }
 }
 
 impl<'a> Timetables for LentTimes<'a> {
@@ -143,7 +177,7 @@ impl<'a> Timetables for LentTimes<'a> {
     fn cost(&self, row: usize) -> Option<Cost> {
         match self.costs.get(row) {
             None => None,
-            Some(row) => Some(cost_of(row)),
+            Some(row) => Some(cost_of(self.requests, row)),
         }
     }
 
@@ -161,14 +195,14 @@ impl<'a> Timetables for LentTimes<'a> {
     fn requests(&self, event: usize) -> usize {
         match self.events.get(event) {
             None => 0,
-            Some(row) => asked_by(self.requests, row).len(),
+            Some(row) => asked_by(self.requests, row.first, row.count).len(),
         }
     }
 
     fn request(&self, event: usize, index: usize) -> Option<Request> {
         match self.events.get(event) {
             None => None,
-            Some(row) => match asked_by(self.requests, row).get(index) {
+            Some(row) => match asked_by(self.requests, row.first, row.count).get(index) {
                 None => None,
                 Some(numbers) => Some(request_for(numbers)),
             },
