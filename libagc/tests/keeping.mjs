@@ -5,7 +5,7 @@
 import { pathToFileURL } from "node:url";
 
 const agc = await import(pathToFileURL(process.argv[2]).href);
-const { Clock, Code, Kind, Lacking, Machine, VERSION, pulseOf, refusalOf, replyText, sceneOf } = agc;
+const { Clock, Code, Kind, Lacking, Machine, VERSION, pulseOf, readCore, refusalOf, replyText, sceneOf } = agc;
 
 const SERVICER = {
   steal: 15,
@@ -48,12 +48,31 @@ function anEventMayNeverCome() {
   want(same([...texts], ["tick null"]), "an event that never comes");
 }
 
+/** Its last time is 0, and not missing. */
+function anEventMayComeAtTheStartAlone() {
+  let count = 0;
+  const clock = new Clock({ event: [{ at: 0, every: 2, until: 0, do: "restart" }] });
+  new Machine().run(clock, 9, (asked) => { count += Number(asked.text === "restart"); });
+  want(count === 1, `an event that comes at the start alone comes ${count} times`);
+}
+
+/** As many as `skip` says. */
+function numbersBeforeAMemoryArePassedOver() {
+  const map = { sets: 7, mpac: 0, vac1use: "00124", newjob: "00470", time3: "00471", lst1: "00472",
+    lst2: "00502", phase1: "00524", failreg: "00540" };
+  const memory = Array.from({ length: 400 }, (_, k) => k);
+  const told = readCore(memory, map);
+  want(same(told, readCore([9, 9, 9, ...memory], { ...map, skip: 3 })), "a memory behind three numbers");
+  want(!same(told, readCore(memory.slice(3), map)), "a memory that lacks three numbers");
+}
+
 /** By the rule of `agc`: the allowance is looked at first, and a full log serves what starts over. */
 function boundsRefuse() {
   const most = 2n ** 64n - 1n;
   for (const [counts, code, lines] of [
     [[0, 1, 0, 1], Code.OK, ["change", "tick", "restart"]],
     [[most - 1n, most, 999999, 1000000], Code.OK, ["novac 20 02000 00005"]],
+    [[5, 2 ** 32, 0, 5], Code.OK, ["tick"]],
     [[9, 10, 5, 5], Code.OK, ["restart", "fresh"]],
     [[9, 10, 5, 5], Code.LOG_FULL, ["tick", "novac 20 02000 00005"]],
     [[10, 10, 5, 5], Code.SPENT, ["tick", "fresh"]],
@@ -95,6 +114,7 @@ function keysAreKnown() {
   thrown(TypeError, () => new Clock().change({ stael: 15 }));
   thrown(TypeError, () => new Clock({ job: [job, { ...job, costs: 1 }] }), 'job 2 has no key "costs", only at, cost, then, name');
   thrown(TypeError, () => new Clock({ job: [{ at: "04000" }] }), 'job 1 has to have "cost"');
+  thrown(Lacking, () => new Clock({ job: [{ at: "04000", cost: 1, then: " end" }] }), '" end" is no end or sleep');
   thrown(TypeError, () => new Clock({ job: [{ ...job, cost: 0.5 }] }), "a number has to be an integer, and this is 0.5");
   thrown(TypeError, () => new Clock({ job }), 'job has to be an array, and this is {"at":"04000","cost":1}');
   thrown(TypeError, () => new Clock({ event: [{ do: "tick" }] }), 'event 1 has to have "at"');
@@ -113,6 +133,7 @@ function faultsNameTheirRow() {
   const [row, entry] = [{ at: "02000", bank: "00005", action: "nothing" }, { group: 1, phase: 1 }];
   const others = Array.from({ length: 39 }, (_, k) => ({ ...row, at: 0o2001 + k }));
   const range = "a number of the plan is out of its range";
+  thrown(Lacking, () => new Machine({ plan: { task: [{ ...row, at: "00000" }, row] } }), `task 1: ${range}`);
   thrown(Lacking, () => new Machine({ plan: { task: [row, { ...row, at: "00000" }, row] } }), `task 2: ${range}`);
   thrown(Lacking, () => new Machine({ plan: { task: [row, ...others, row, row] } }), "task 41: a task has two rows of the plan");
   thrown(Lacking, () => new Machine({ plan: { task: others, phase: [entry, { ...entry, phase: 128 }] } }), `phase 2: ${range}`);
@@ -162,6 +183,8 @@ function areKept() {
 
 timeGoesOn();
 anEventMayNeverCome();
+anEventMayComeAtTheStartAlone();
+numbersBeforeAMemoryArePassedOver();
 boundsRefuse();
 pulsesAsk();
 keysAreKnown();

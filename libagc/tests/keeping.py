@@ -52,6 +52,20 @@ def an_event_may_never_come():
     assert {(it.text, it.event) for it, _ in machine.run(clock, 20)} == {("tick", None)}
 
 
+def an_event_may_come_at_the_start_alone():
+    """Its last time is 0, and not missing."""
+    clock, machine = Clock({"event": [{"at": 0, "every": 2, "until": 0, "do": "restart"}]}), Machine()
+    assert [it.text for it, _ in machine.run(clock, 9)].count("restart") == 1
+
+
+def numbers_before_a_memory_are_passed_over():
+    """As many as `skip` says."""
+    where = {"sets": 7, "mpac": 0, "vac1use": "00124", "newjob": "00470", "time3": "00471", "lst1": "00472"}
+    where.update({"lst2": "00502", "phase1": "00524", "failreg": "00540"})
+    told = agc.read_core(range(400), where)
+    assert told == agc.read_core([9, 9, 9, *range(400)], {**where, "skip": 3}) != agc.read_core(range(3, 400), where)
+
+
 def bounds_refuse():
     """By the rule of `agc`: the allowance is looked at first, and a full log serves what starts over."""
     for counts, lines in [
@@ -110,6 +124,7 @@ def a_fault_names_its_row():
     row, entry = {"at": "02000", "bank": "00005", "action": "nothing"}, {"group": 1, "phase": 1}
     others = [{**row, "at": 0o2000 + k} for k in range(1, 40)]
     for call, told in [
+        (lambda: Machine(plan={"task": [{**row, "at": "00000"}, row]}), "task 1: a number of the plan is out of its range"),
         (lambda: Machine(plan={"task": [row, {**row, "at": "00000"}, row]}), "task 2: a number of the plan is out of its range"),
         (lambda: Machine(plan={"task": [row, *others, row, row]}), "task 41: a task has two rows of the plan"),
         (lambda: Machine(plan={"task": others, "phase": [entry, {**entry, "phase": 128}]}), "phase 2: a number of the plan is out of its range"),
@@ -209,6 +224,8 @@ def main():
         time_goes_on,
         an_hour_is_the_longest,
         an_event_may_never_come,
+        an_event_may_come_at_the_start_alone,
+        numbers_before_a_memory_are_passed_over,
         bounds_refuse,
         pulses_ask,
         keys_are_known,

@@ -40,6 +40,14 @@ def read(words, sets):
     )
 
 
+def last_set_is_named(sets):
+    """The job in the last core set is more urgent than that which runs, and NEWJOB names it."""
+    machine = Machine(sets)
+    for k in range(sets):
+        machine.ask(f"novac {21 if k + 1 == sets else 20} 02000 00005")
+    assert read(machine.words, sets) == scene_of(machine.words) and machine.scene().next == sets
+
+
 def out_of_range(words, sets):
     """The first number beyond each range has code 4, and nothing is told."""
     array = array_of(words)
@@ -192,6 +200,7 @@ def main():
     seed, count = map(int, sys.argv[1:])
     chance, rules, faults = random.Random(seed), set(), 0
     for sets in (7, 8):
+        last_set_is_named(sets)
         machine = Machine(sets)
         for k in range(count):
             machine.ask(requests.line(chance))
