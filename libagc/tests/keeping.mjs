@@ -181,6 +181,21 @@ function areKept() {
   thrown(Lacking, () => Clock.of({ ...clock.state, at: [2 ** 32, ...new Array(12).fill(0)] }));
 }
 
+/** A clock that is kept after each request goes on as one that isn't: after a tick it still looks at NEWJOB. */
+function areKeptAfterEachRequest() {
+  const plan = { task: [{ at: "02000", bank: 5, action: "novac 30 05000 00005" }] };
+  const times = { job: [{ at: "04000", cost: 9 }, { at: "05000", cost: 2 }],
+    event: [{ at: 0, do: ["novac 20 04000 00005", "list 3 02000 00005"] }] };
+  const [wanted, texts] = [[], []];
+  new Machine({ plan }).run(new Clock(times), 20, (asked, step) => { wanted.push(`${asked}: ${step}`); });
+  let [machine, clock] = [new Machine({ plan }), new Clock(times)];
+  const one = (asked, step) => { texts.push(`${asked}: ${step}`); return false; };
+  while (machine.run(clock, 20 - clock.time, one) > 0) {
+    [machine, clock] = [Machine.of(machine.state), Clock.of(clock.state)];
+  }
+  want(same(texts, wanted) && wanted.includes("change: runs 2"), `kept after each request: ${texts}`);
+}
+
 timeGoesOn();
 anEventMayNeverCome();
 anEventMayComeAtTheStartAlone();
@@ -191,4 +206,5 @@ keysAreKnown();
 faultsNameTheirRow();
 foreignWordsHaveNoScene();
 areKept();
+areKeptAfterEachRequest();
 want(/^\d+\.\d+\.\d+$/.test(VERSION) && replyText(Kind.ALARMED) === "a table is full: an alarm" && Code.OK === 0, "texts");

@@ -181,6 +181,24 @@ def machines_and_clocks_are_kept():
     assert type(pickle.loads(pickle.dumps(machine.totals))) is agc.Totals
 
 
+# A task begins a more urgent job, which takes over as the clock looks at NEWJOB.
+TAKEN_OVER = {"task": [{"at": "02000", "bank": 5, "action": "novac 30 05000 00005"}]}
+TAKING_OVER = {
+    "job": [{"at": "04000", "cost": 9}, {"at": "05000", "cost": 2}],
+    "event": [{"at": 0, "do": ["novac 20 04000 00005", "list 3 02000 00005"]}],
+}
+
+
+def clocks_are_kept_after_each_request():
+    """They go on as one that isn't: after a tick there is still the look at NEWJOB."""
+    wanted = [(str(asked), str(step)) for asked, step in Machine(plan=TAKEN_OVER).run(Clock(TAKING_OVER), 20)]
+    machine, clock, found = Machine(plan=TAKEN_OVER), Clock(TAKING_OVER), []
+    while one := next(machine.run(clock, 20 - clock.time), None):
+        found.append((str(one[0]), str(one[1])))
+        machine, clock = Machine.of_state(machine.state), Clock.of_state(clock.state)
+    assert found == wanted and ("change", "runs 2") in wanted, (found, wanted)
+
+
 def threads_take_turns():
     """Six threads ask one machine, two of them by many at once: each request is served, and counted once."""
     machine, steps = Machine(), [[] for _ in range(6)]
@@ -232,6 +250,7 @@ def main():
         a_fault_names_its_row,
         foreign_words_have_no_scene,
         machines_and_clocks_are_kept,
+        clocks_are_kept_after_each_request,
         threads_take_turns,
         many_at_once,
         versions,
