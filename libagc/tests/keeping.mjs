@@ -177,6 +177,8 @@ function areKept() {
   thrown(Lacking, () => Machine.of({ ...state, words: state.words.map(() => 0) }));
   thrown(Lacking, () => Machine.of({ ...state, moment: state.moment.map(() => 0) }));
   thrown(Lacking, () => Machine.of({ ...state, totals: { ...state.totals, served: -1 } }));
+  const many = Machine.of({ ...state, totals: { ...state.totals, served: 2 ** 40 + 5 } });
+  want(many.report().includes("\nSERVED 1099511627781\n"), "a count above 32 bits");
   thrown(TypeError, () => Machine.of({ sets: 8 }));
   thrown(Lacking, () => Clock.of({ ...clock.state, at: [2 ** 32, ...new Array(12).fill(0)] }));
 }

@@ -176,6 +176,8 @@ def machines_and_clocks_are_kept():
         assert (machine.words, machine.moment, machine.totals, clock.time, clock.given) == was, name
     for change in ({"words": [0] * 144}, {"moment": [0] * 144}, {"totals": [-1, [0, 0, 0], 0]}):
         raised(Lacking, lambda: Machine.of_state({**machine.state, **change}))
+    many = Machine.of_state({**machine.state, "totals": [2**40 + 5, [0, 0, 0], 0]})
+    assert "\nSERVED 1099511627781\n" in many.report()
     raised(TypeError, lambda: Machine.of_state({"sets": 8}))
     raised(Lacking, lambda: Clock.of_state({**clock.state, "at": [2**32] + [0] * 12}))
     assert type(pickle.loads(pickle.dumps(machine.totals))) is agc.Totals
