@@ -1,1 +1,4 @@
 pub mod Scripts
+pub mod Findings
+pub mod Documents
+pub mod Checks

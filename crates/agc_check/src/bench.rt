@@ -1,16 +1,21 @@
 //! What is said of what was found in a bench.
+use crate::finding::Finding;
 use crate::kind::{ACTIONS, JOBS, Kind, LEAVINGS, LISTINGS, NO_REQUEST, Part, REQUESTS};
 use crate::line::{LineFault, fault_of};
 use crate::names::{Named, called, meant_by};
 use crate::saying::{Piece, Said, put, said};
 use crate::script::MOST_TOLD;
+use crate::wrong::Wrong;
+use agc_document::rows::{BENCH_KEYS, DEVICE_KEYS, PHASE_KEYS, TASK_KEYS, WORKER_KEYS};
 use agc_document::{Form, Key, KeyFault, Kind as Valued, Level, Place};
-use agc_findings::{Finding, Wrong};
+use agc_scenario::rows::{
+    EVENT_KEYS, JOB_KEYS, NAMED_PHASE_KEYS, NAMED_TASK_KEYS, SCENARIO_KEYS, STEAL_KEYS,
+};
 use std::alloc::{AllocError, Global};
 
 impl Named for Key {
     fn name(self) -> &'static str {
-        self.row().name
+        Key::name(self)
     }
 }
 
@@ -81,17 +86,16 @@ fn range(low: u64, high: u64, name: Piece<'static>) -> [Piece<'static>; 5] {
 
 /// What the value of a key has to be.
 fn expected_value(key: Key) -> Said<'static> {
-    let row = key.row();
-    let name = Piece::Text(row.name);
-    match row.kind {
+    let name = Piece::Text(key.name());
+    match key.kind() {
         Valued::Integer(low, high) => (INTEGER, range(low, high, name)),
         Valued::Text(_form) => said("expected a string", NONE, NONE),
         Valued::OneOrMore(_form, low, high) => (ONE_OR_MORE, range(low, high, name)),
         Valued::Texts(_form, 0, _most) => said("expected an array of strings", NONE, NONE),
         Valued::Texts(_form, count, _most) => said(TEXTS, Piece::Number(count), NONE),
-        Valued::IntegerOrTables(_level, low, high) => (INTEGER_OR_TABLES, range(low, high, name)),
-        Valued::Tables(_level, _least, u64::MAX) => said(TABLES, name, NONE),
-        Valued::Tables(_level, _least, most) => said(FEW_TABLES, Piece::Number(most), name),
+        Valued::IntegerOrTables(low, high) => (INTEGER_OR_TABLES, range(low, high, name)),
+        Valued::Tables(_least, u64::MAX) => said(TABLES, name, NONE),
+        Valued::Tables(_least, most) => said(FEW_TABLES, Piece::Number(most), name),
     }
 }
 
@@ -117,17 +121,42 @@ fn add_quoted(told: &mut String, wrong: Wrong, text: &str) -> Result<(), AllocEr
     put(told, ": write \"{}{}\"", &digits)
 }
 
+/// The keys of a table of this level.
+fn keys_of(level: Level) -> &'static [Key] {
+    match level {
+        Level::Bench => &BENCH_KEYS,
+        Level::Task => &TASK_KEYS,
+        Level::Phase => &PHASE_KEYS,
+        Level::Worker => &WORKER_KEYS,
+        Level::Device => &DEVICE_KEYS,
+        Level::Scenario => &SCENARIO_KEYS,
+        Level::NamedTask => &NAMED_TASK_KEYS,
+        Level::NamedPhase => &NAMED_PHASE_KEYS,
+        Level::Steal => &STEAL_KEYS,
+        Level::Job => &JOB_KEYS,
+        Level::Event => &EVENT_KEYS,
+    }
+}
+
+/// The level of the document that has tables of this level.
+fn top_of(level: Level) -> Level {
+    match level {
+        Level::Bench | Level::Task | Level::Phase | Level::Worker | Level::Device => Level::Bench,
+        _ => Level::Scenario,
+    }
+}
+
 /// What is said of a key that is unknown in a table of this level.
 fn said_of_unknown<'a>(level: Level, name: &'a str) -> Said<'a> {
-    let is_key_of = |level: Level| called(name, level.keys()).is_some();
-    let (text, meant) = if level != level.top() && is_key_of(level.top()) {
+    let is_key_of = |level: Level| called(name, keys_of(level)).is_some();
+    let (text, meant) = if level != top_of(level) && is_key_of(top_of(level)) {
         (ABOVE_TABLES, "")
     } else if level == Level::Bench && is_key_of(Level::Scenario) {
         (OF_SCENARIO, "")
     } else if level == Level::Scenario && is_key_of(Level::Bench) {
         (OF_BENCH, "")
     } else {
-        match meant_by(name, level.keys()) {
+        match meant_by(name, keys_of(level)) {
             Some(key) => ("unknown key \"{}\"; did you mean \"{}\"?", key.name()),
             None => ("unknown key \"{}\"", ""),
         }
@@ -141,7 +170,7 @@ fn said_of_key<'a>(fault: KeyFault, text: &'a str) -> Said<'a> {
         KeyFault::Unknown(level) => return said_of_unknown(level, text),
         KeyFault::Value(key) => return expected_value(key),
         KeyFault::Missing(key) => ("the key \"{}\" is missing", key.name()),
-        KeyFault::Item(key) => match key.row().kind {
+        KeyFault::Item(key) => match key.kind() {
             Valued::Tables(..) | Valued::IntegerOrTables(..) => ("expected a table", ""),
             _ => ("expected a string", ""),
         },

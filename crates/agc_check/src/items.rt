@@ -1,8 +1,12 @@
 //! What a bench lists and sets, place by place.
-use agc_document::{Bench, Key, Place, ScenarioKey};
+use agc_document::rows::{
+    ACTION, DEVICES, KEY, LINE, LISTING, PHASES, RADAR, REQUESTS, SCRIPT, TASKS, WORKERS,
+};
+use agc_document::{Bench, Place};
 use agc_plan::{Action, Group, Line, Phase, Request, Task};
 use agc_run::Subject;
 use agc_scenario::Timing;
+use agc_scenario::rows::{DO, EVENTS};
 use std::alloc::{AllocError, Global};
 
 /// What a bench says at one place.
@@ -72,14 +76,14 @@ impl Items {
     fn add_plan(&mut self, bench: &Bench) {
         for (k, (task, actions)) in bench.rows().iter().enumerate() {
             let number = k as u64 + 1;
-            let at = Place::Field(Key::Tasks, number, Key::Action);
+            let at = Place::Field(TASKS, number, ACTION);
             self.add_actions(at, &Some(*task), actions.as_slice());
-            self.add(Place::Table(Key::Tasks, number), Item::Row(*task));
+            self.add(Place::Table(TASKS, number), Item::Row(*task));
         }
         for (k, entry) in bench.entries().iter().enumerate() {
             if let Some((_delay, task)) = entry.task() {
                 let number = k as u64 + 1;
-                let place = Place::Field(Key::Phases, number, Key::Listing);
+                let place = Place::Field(PHASES, number, LISTING);
                 self.add(place, Item::Lists(task, None));
             }
         }
@@ -87,18 +91,18 @@ impl Items {
 
     /// Adds the items of a bench, in the order of its keys.
     fn add_bench(&mut self, bench: &Bench) {
-        self.add_actions(Place::Value(Key::Key), &None, bench.key().as_slice());
-        self.add_actions(Place::Value(Key::Radar), &None, bench.radar().as_slice());
-        self.add_requests(Place::Value(Key::Script), bench.script());
+        self.add_actions(Place::Value(KEY), &None, bench.key().as_slice());
+        self.add_actions(Place::Value(RADAR), &None, bench.radar().as_slice());
+        self.add_requests(Place::Value(SCRIPT), bench.script());
         self.add_plan(bench);
         for (k, worker) in bench.workers().iter().enumerate() {
             let number = k as u64 + 1;
-            let at = Place::Field(Key::Workers, number, Key::Requests);
+            let at = Place::Field(WORKERS, number, REQUESTS);
             self.add_requests(at, worker.as_slice());
         }
         for (k, (line, _pulses)) in bench.devices().iter().enumerate() {
             let number = k as u64 + 1;
-            let place = Place::Field(Key::Devices, number, Key::Line);
+            let place = Place::Field(DEVICES, number, LINE);
             self.add(place, Item::Device(*line));
         }
     }
@@ -107,8 +111,7 @@ impl Items {
     fn add_events(&mut self, timing: &Timing) {
         for (k, event) in timing.all_events().iter().enumerate() {
             let number = (k as u64).saturating_add(1);
-            let events = Key::Of(ScenarioKey::Events);
-            let at = Place::Field(events, number, Key::Of(ScenarioKey::Do));
+            let at = Place::Field(EVENTS, number, DO);
             self.add_requests(at, event.requests());
         }
     }

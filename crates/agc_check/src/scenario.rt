@@ -6,8 +6,9 @@ use crate::warning::{
 };
 use crate::warnings::{Found, plain};
 use agc_clock::{Stolen, Then, Timetables, stolen_at};
-use agc_document::{Key, Place, ScenarioKey};
+use agc_document::{Key, Place};
 use agc_plan::{Action, Actions, Address, JobStart, PhaseEntry, Request, Task, action_request};
+use agc_scenario::rows::{EVENTS, JOBS, STEAL};
 use agc_scenario::{Scenario, TimedEvent, TimedJob, Timing};
 use std::alloc::{AllocError, Global};
 use std::collections::BTreeSet;
@@ -16,8 +17,8 @@ use std::collections::BTreeSet;
 const LAST_TIME: u32 = 360_000;
 
 /// The place of a row, which is numbered from 0.
-fn row_at(key: ScenarioKey, row: usize) -> Place {
-    Place::Table(Key::Of(key), (row as u64).saturating_add(1))
+fn row_at(key: Key, row: usize) -> Place {
+    Place::Table(key, (row as u64).saturating_add(1))
 }
 
 /// Whether a job may begin at an address by this request, or be awakened there.
@@ -202,7 +203,7 @@ fn is_twin<'a>(names: &mut BTreeSet<&'a str>, name: Option<&'a str>) -> Result<b
 fn note_rows(found: &mut Found, timing: &Timing) {
     for (k, row) in timing.stolen().iter().enumerate() {
         if let Some(warning) = row_warning(timing, k, row) {
-            found.note(row_at(ScenarioKey::Steal, k), (warning, None));
+            found.note(row_at(STEAL, k), (warning, None));
         }
     }
 }
@@ -212,7 +213,7 @@ fn note_jobs(alloc: Global, found: &mut Found, scenario: &Scenario) -> Result<()
     let stolen = stolen_always(scenario.timing());
     let mut names = BTreeSet::new(alloc);
     for (k, job) in scenario.timing().jobs().iter().enumerate() {
-        let place = row_at(ScenarioKey::Jobs, k);
+        let place = row_at(JOBS, k);
         if is_twin(&mut names, job.name())? {
             found.note(
                 place,
@@ -230,7 +231,7 @@ fn note_jobs(alloc: Global, found: &mut Found, scenario: &Scenario) -> Result<()
 fn note_events(alloc: Global, found: &mut Found, timing: &Timing) -> Result<(), AllocError> {
     let mut names = BTreeSet::new(alloc);
     for (k, event) in timing.all_events().iter().enumerate() {
-        let place = row_at(ScenarioKey::Events, k);
+        let place = row_at(EVENTS, k);
         if is_twin(&mut names, event.name())? {
             found.note(
                 place,

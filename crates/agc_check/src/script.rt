@@ -15,13 +15,13 @@ pub(crate) const MOST_TOLD: usize = 20;
 /// A line by its number, from 1, its text, and what is wrong with it. Contracts see the number.
 /// Source: profile.
 #[derive(Drop)]
-pub struct Finding<'a> {
+pub struct LineFinding<'a> {
     pub line: u64,
     pub text: &'a str,
     pub fault: LineFault,
 }
 
-impl<'a> Model for Finding<'a> {
+impl<'a> Model for LineFinding<'a> {
     ghost use Rattle.std.specs.Prelude.{ℕ};
 
     ghost Value = { ℕ };
@@ -30,10 +30,10 @@ impl<'a> Model for Finding<'a> {
 }
 
 /// What is wrong with a line of this number.
-fn finding_of<'a>(line: u64, text: &'a str) -> Finding<'a>
+fn finding_of<'a>(line: u64, text: &'a str) -> LineFinding<'a>
     ensures { result ≡ line }
 {
-    Finding {
+    LineFinding {
         line,
         text,
         fault: script_fault(text),
@@ -45,7 +45,7 @@ fn others_behind<'a>(
     alloc: Global,
     text: &'a str,
     count: u64,
-) -> Result<Vec<Finding<'a>>, AllocError> {
+) -> Result<Vec<LineFinding<'a>>, AllocError> {
     let mut findings = Vec::new(alloc);
     for (number, line) in (1u64..).zip(text.split_terminator('\n')) {
         if findings.len() + 1 >= MOST_TOLD {
@@ -59,7 +59,11 @@ fn others_behind<'a>(
 }
 
 /// The line of this number, which is no request, and those behind it that are none.
-fn found_from<'a>(alloc: Global, text: &'a str, number: u64) -> Result<Vec<Finding<'a>>, AllocError>
+fn found_from<'a>(
+    alloc: Global,
+    text: &'a str,
+    number: u64,
+) -> Result<Vec<LineFinding<'a>>, AllocError>
     ensures { IfOk result (λ v. (lines : List (List ℕ))
         → IsFirstRefused lines number → IsTold lines v.items) }
 {
@@ -78,7 +82,7 @@ fn found_from<'a>(alloc: Global, text: &'a str, number: u64) -> Result<Vec<Findi
 /// # Errors
 ///
 /// Where there is no memory.
-pub fn script_findings<'a>(alloc: Global, text: &'a str) -> Result<Vec<Finding<'a>>, AllocError>
+pub fn script_findings<'a>(alloc: Global, text: &'a str) -> Result<Vec<LineFinding<'a>>, AllocError>
     // Nothing is found where the text is a script; else first its first line that is no request.
     ensures { IfOk result (λ v. IsTold (lines_of text.now) v.items) }
 {
@@ -90,7 +94,7 @@ pub fn script_findings<'a>(alloc: Global, text: &'a str) -> Result<Vec<Finding<'
 }
 
 /// Tells of a line of a script.
-fn add_finding(told: &mut String, finding: &Finding<'_>) -> Result<(), AllocError> {
+fn add_finding(told: &mut String, finding: &LineFinding<'_>) -> Result<(), AllocError> {
     let shown = [Piece::Number(finding.line), Piece::Front(finding.text)];
     put(told, "line {}: \"{}\": ", &shown)?;
     let (text, pieces) = finding.fault.said();
@@ -103,7 +107,7 @@ fn add_finding(told: &mut String, finding: &Finding<'_>) -> Result<(), AllocErro
 /// # Errors
 ///
 /// Where there is no memory.
-pub fn script_told(alloc: Global, findings: &[Finding<'_>]) -> Result<String, AllocError> {
+pub fn script_told(alloc: Global, findings: &[LineFinding<'_>]) -> Result<String, AllocError> {
     let mut told = String::new(alloc);
     for finding in findings {
         let is_of_bench = matches!(finding.fault, LineFault::OfBench);

@@ -1,11 +1,12 @@
 //! The lines that tell of warnings, and what a run comes to, in one line.
 use crate::bench::add_where;
+use crate::finding::line_at;
+use crate::locate::places_in;
 use crate::ran::{Ran, run_requests, run_subject};
 use crate::saying::{Piece, Said, add_decimal, put};
 use crate::warning::{LOG_FULL, Warned};
 use crate::warnings::warnings_of;
 use agc_document::Place;
-use agc_findings::{line_at, places_in};
 use agc_plan::Request;
 use agc_run::Subject;
 use std::alloc::{AllocError, Global};

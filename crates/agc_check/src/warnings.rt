@@ -6,7 +6,8 @@ use crate::scenario::note_timing;
 use crate::warning::{
     CUT, LOG_FULL, NEVER_LISTED, NO_ENTRY, NO_REQUEST, NO_ROW, NO_ROWS, OTHER_BANK, SPENT, Warned,
 };
-use agc_document::{Bench, Key, Place};
+use agc_document::rows::{ALLOWANCE, LIMIT};
+use agc_document::{Bench, Place};
 use agc_plan::{Group, Line, Phase, PhaseEntry, Task};
 use agc_run::Subject;
 use agc_session::asks_nothing;
@@ -198,12 +199,12 @@ impl Found {
         if let Some(first) = ran.log_full {
             let limit = Piece::Number(u64::from(bench.limit().get()));
             let warning = said(LOG_FULL, Piece::Number(first), limit);
-            self.add(Place::Value(Key::Limit), (warning, None));
+            self.add(Place::Value(LIMIT), (warning, None));
         }
         if let Some(first) = ran.spent {
             let allowance = Piece::Number(bench.allowance());
             let warning = said(SPENT, Piece::Number(first), allowance);
-            self.add(Place::Value(Key::Allowance), (warning, None));
+            self.add(Place::Value(ALLOWANCE), (warning, None));
         }
         if ran.is_cut {
             self.add(Place::Whole, (plain(CUT), None));

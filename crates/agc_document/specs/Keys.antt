@@ -1,16 +1,16 @@
 -- A document's numbers and texts by key, before any text is read. None stands for a fault Key.
-use Rattle.std.specs.Prelude.{ℕ, ℤ, pos, negsuc, List, [], ◌∷◌, codes, length, Option, Some, None}
+use Rattle.std.specs.Prelude.{ℕ, ℤ, pos, negsuc, List, [], ◌∷◌, codes, map, length, Option, Some, None}
 use Rattle.std.specs.Prelude.{Bool, true, false, is_some, nat_lt, ◌&&◌, ◌||◌}
 use Rattle.std.specs.Prelude.{if◌then◌else◌}
 use Rattle.std.specs.Str.{bytes_eq}
 use Rattle.toml.specs.Data.{Data, Items, no_items, item, Members, no_members, member, get_member}
 use Rattle.toml.specs.Data.{as_str, as_integer, as_array, as_table}
 use Rattle.agc_text.specs.Chain.{◌>>=◌}
-use Rattle.agc_document.specs.declared.key.Key.{Key as BenchKey}
-use Rattle.agc_document.specs.declared.key.Key.TheVariants as key
-use Rattle.agc_document.specs.declared.key.Level.{Level}
-use Rattle.agc_document.specs.declared.key.Level.TheVariants as level
-use Rattle.agc_document.specs.Rows.{row_of, bounds_of, names_of}
+use Rattle.agc_document.specs.declared.key.Key.{Key as AnyKey}
+use Rattle.agc_document.specs.declared.key.Kind.{Kind}
+use Rattle.agc_document.specs.declared.key.Kind.TheVariants as kind
+use Rattle.agc_document.specs.declared.rows.TheConstants as key
+use Rattle.agc_document.specs.Rows.{name_of, kind_of, bounds_of}
 use Rattle.agc_document.specs.Texts.{RowTexts, EntryTexts, DeviceTexts, Settings, Lists, Texts}
 
 -- whether a key is one of these
@@ -23,24 +23,24 @@ abbrev pub has_only : List (List ℕ) → Members → Bool
 has_only names no_members = true
 has_only names (member k d ms) = is_among names k && has_only names ms
 
--- the members of a table, where they have the keys of a level and no others
-abbrev pub known_to : Level → Members → Option Members
-known_to l ms = if has_only (names_of l) ms then Some ms else None
+-- the members of a table, where they have these keys and no others
+abbrev pub known_to : List AnyKey → Members → Option Members
+known_to ks ms = if has_only (map name_of ks) ms then Some ms else None
 
 -- a table that has these keys and no others
-abbrev pub table_of : Level → Data → Option Members
-table_of l d = as_table d >>= known_to l
+abbrev pub table_of : List AnyKey → Data → Option Members
+table_of ks d = as_table d >>= known_to ks
 
 -- the value of a key
-abbrev pub value_of : BenchKey → Members → Option Data
-value_of k ms = get_member (row_of k).name ms
+abbrev pub value_of : AnyKey → Members → Option Data
+value_of k ms = get_member (name_of k) ms
 
--- the least and the most that the row of a key allows
-abbrev pub least : BenchKey → ℕ
-least k = (bounds_of (row_of k).kind).0
+-- the least and the most that a key allows
+abbrev pub least : AnyKey → ℕ
+least k = (bounds_of (kind_of k)).0
 
-abbrev pub most : BenchKey → ℕ
-most k = (bounds_of (row_of k).kind).1
+abbrev pub most : AnyKey → ℕ
+most k = (bounds_of (kind_of k)).1
 
 -- an integer, from low to high
 abbrev pub between : ℕ → ℕ → ℤ → Option ℕ
@@ -48,92 +48,107 @@ between low high (pos n) = if nat_lt n low || nat_lt high n then None else Some 
 between low high (negsuc n) = None
 
 -- a value that is an integer in the range of a key
-abbrev pub number_of : BenchKey → Data → Option ℕ
+abbrev pub number_of : AnyKey → Data → Option ℕ
 number_of k d = as_integer d >>= between (least k) (most k)
 
--- what reading gives of a required key's value
-abbrev pub read_at : {X : Type 0} → (Data → Option X) → BenchKey → Members → Option X
-read_at read k ms = value_of k ms >>= read
-
--- what reading gives of a key's value, and what stands for it where the key is missing
-abbrev pub read_or : {X : Type 0} → X → (Data → Option X) → Option Data → Option X
-read_or missing read None = Some missing
-read_or missing read (Some d) = read d
-
--- what reading gives of a value that might be missing, and is there
-abbrev pub given : {X : Type 0} → (Data → Option X) → Data → Option (Option X)
-given read d = read d >>= λ x. Some (Some x)
+-- a value that is a text
+abbrev pub text_of : AnyKey → Data → Option (List ℕ)
+text_of k d = as_str d
 
 -- what reading gives of each item in turn
 abbrev pub each : {X : Type 0} → (Data → Option X) → Items → Option (List X)
 each read no_items = Some []
 each read (item d ds) = read d >>= λ x. each read ds >>= λ xs. Some (x ∷ xs)
 
--- the items of an array, as many as the row of a key allows
-abbrev pub items_of : {X : Type 0} → (Data → Option X) → BenchKey → Data → Option (List X)
-items_of read k d = (as_array d >>= each read) >>= λ xs.
+-- items, if the key allows so many
+abbrev pub counted : {X : Type 0} → AnyKey → List X → Option (List X)
+counted k xs =
     if nat_lt (length xs) (least k) || nat_lt (most k) (length xs) then None else Some xs
 
+-- the items of an array, as many as a key allows
+abbrev pub items_of : {X : Type 0} → (Data → Option X) → AnyKey → Data → Option (List X)
+items_of read k d = (as_array d >>= each read) >>= counted k
+
+-- a text alone, where a key may have one
+abbrev pub one_in : Kind → Data → Option (List ℕ)
+one_in (kind.OneOrMore form low high) d = as_str d
+one_in _ d = None
+
 -- some texts, or one alone
-abbrev pub some_texts : BenchKey → Data → Option (List (List ℕ))
-some_texts k d = elim (as_str d) [ Some text ↦ Some (text ∷ []) | None ↦ items_of as_str k d ]
+abbrev pub texts_of : AnyKey → Data → Option (List (List ℕ))
+texts_of k d =
+    elim (one_in (kind_of k) d) [ Some text ↦ counted k (text ∷ []) | None ↦ items_of as_str k d ]
+
+-- what reading gives of a required key
+abbrev pub read_at : {X : Type 0} → (AnyKey → Data → Option X) → AnyKey → Members → Option X
+read_at read k ms = value_of k ms >>= read k
+
+-- what reading gives of a key, and what stands for it where it is missing
+abbrev pub read_or : {X : Type 0} → X → (AnyKey → Data → Option X) → AnyKey → Members → Option X
+read_or missing read k ms = elim (value_of k ms) [ Some d ↦ read k d | None ↦ Some missing ]
+
+-- what reading gives of a key, if it is there
+abbrev pub read_if : {X : Type 0} → (AnyKey → Data → Option X) → AnyKey → Members
+    → Option (Option X)
+read_if read k ms =
+    elim (value_of k ms) [ Some d ↦ read k d >>= λ x. Some (Some x) | None ↦ Some None ]
 
 -- the texts of the row that a table has
 unfoldable pub row_in : Members → Option RowTexts
 row_in ms = do
-  at ← read_at as_str key.At ms
-  bank ← read_at as_str key.Bank ms
-  actions ← read_at (some_texts key.Action) key.Action ms
+  at ← read_at text_of key.AT ms
+  bank ← read_at text_of key.BANK ms
+  actions ← read_at texts_of key.ACTION ms
   Some (record { at = at; bank = bank; actions = actions })
 
 -- the texts of a row
 unfoldable pub row : Data → Option RowTexts
-row d = table_of level.Task d >>= row_in
+row d = table_of key.TASK_KEYS d >>= row_in
 
 -- the numbers and texts of the phase entry that a table has
 unfoldable pub entry_in : Members → Option EntryTexts
 entry_in ms = do
-  group ← read_at (number_of key.Group) key.Group ms
-  phase ← read_at (number_of key.Phase) key.Phase ms
-  job ← read_or None (given as_str) (value_of key.Job ms)
-  task ← read_or None (given as_str) (value_of key.Listing ms)
+  group ← read_at number_of key.GROUP ms
+  phase ← read_at number_of key.PHASE ms
+  job ← read_if text_of key.JOB ms
+  task ← read_if text_of key.LISTING ms
   Some (record { group = group; phase = phase; job = job; task = task })
 
 -- the numbers and texts of a phase entry
 unfoldable pub entry : Data → Option EntryTexts
-entry d = table_of level.Phase d >>= entry_in
+entry d = table_of key.PHASE_KEYS d >>= entry_in
 
 -- the script of a worker
 unfoldable pub worker : Data → Option (List (List ℕ))
-worker d = table_of level.Worker d >>= read_at (items_of as_str key.Requests) key.Requests
+worker d = table_of key.WORKER_KEYS d >>= read_at texts_of key.REQUESTS
 
 -- the text and number of a device
 unfoldable pub device : Data → Option DeviceTexts
 device d = do
-  ms ← table_of level.Device d
-  line ← read_at as_str key.Line ms
-  pulses ← read_at (number_of key.Pulses) key.Pulses ms
+  ms ← table_of key.DEVICE_KEYS d
+  line ← read_at text_of key.LINE ms
+  pulses ← read_at number_of key.PULSES ms
   Some (record { line = line; pulses = pulses })
 
 -- the numbers of a bench
 unfoldable pub numbers_in : Members → Option (ℕ × ℕ × ℕ × ℕ)
 numbers_in ms = do
-  sets ← read_or 7 (number_of key.Sets) (value_of key.Sets ms)
-  limit ← read_or 1000 (number_of key.Limit) (value_of key.Limit ms)
-  allowance ← read_or 1000000 (number_of key.Allowance) (value_of key.Allowance ms)
-  attends ← read_or 16 (number_of key.Attends) (value_of key.Attends ms)
+  sets ← read_or 7 number_of key.SETS ms
+  limit ← read_or 1000 number_of key.LIMIT ms
+  allowance ← read_or 1000000 number_of key.ALLOWANCE ms
+  attends ← read_or 16 number_of key.ATTENDS ms
   Some (sets, limit, allowance, attends)
 
 -- what a bench has once
 unfoldable pub settings_in : Members → Option Settings
 settings_in ms = do
   numbers ← numbers_in ms
-  pressed ← read_or (codes "nothing" ∷ []) (some_texts key.Key) (value_of key.Key ms)
-  radar ← read_or (codes "nothing" ∷ []) (some_texts key.Radar) (value_of key.Radar ms)
-  power ← read_or None (given (items_of as_str key.Power)) (value_of key.Power ms)
+  pressed ← read_or (codes "nothing" ∷ []) texts_of key.KEY ms
+  radar ← read_or (codes "nothing" ∷ []) texts_of key.RADAR ms
+  power ← read_if texts_of key.POWER ms
   Some (record {
     sets = numbers.0;
-    names_sets = is_some (value_of key.Sets ms);
+    names_sets = is_some (value_of key.SETS ms);
     limit = numbers.1;
     allowance = numbers.2;
     attends = numbers.3;
@@ -145,17 +160,17 @@ settings_in ms = do
 -- what a bench has many of
 unfoldable pub lists_in : Members → Option Lists
 lists_in ms = do
-  first ← read_or [] (items_of as_str key.Script) (value_of key.Script ms)
-  rows ← read_or [] (items_of row key.Tasks) (value_of key.Tasks ms)
-  phases ← read_or [] (items_of entry key.Phases) (value_of key.Phases ms)
-  askers ← read_or [] (items_of worker key.Workers) (value_of key.Workers ms)
-  lines ← read_or [] (items_of device key.Devices) (value_of key.Devices ms)
+  first ← read_or [] texts_of key.SCRIPT ms
+  rows ← read_or [] (items_of row) key.TASKS ms
+  phases ← read_or [] (items_of entry) key.PHASES ms
+  askers ← read_or [] (items_of worker) key.WORKERS ms
+  lines ← read_or [] (items_of device) key.DEVICES ms
   Some (record { script = first; rows = rows; entries = phases; workers = askers; devices = lines })
 
 -- the numbers and texts of a bench
 unfoldable pub texts_in : Members → Option Texts
 texts_in ms = do
-  known ← known_to level.Bench ms
+  known ← known_to key.BENCH_KEYS ms
   settings ← settings_in known
   lists ← lists_in known
   Some (record { settings = settings; lists = lists })

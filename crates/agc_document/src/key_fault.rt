@@ -1,5 +1,22 @@
 //! What is wrong with a key.
-use crate::key::{Key, Level};
+use crate::key::Key;
+
+/// Which table a key belongs to: the bench or scenario itself, or a table of an array. Source:
+/// profile.
+#[derive(Clone, Copy, PartialEq, Eq)]
+pub enum Level {
+    Bench,
+    Task,
+    Phase,
+    Worker,
+    Device,
+    Scenario,
+    NamedTask,
+    NamedPhase,
+    Steal,
+    Job,
+    Event,
+}
 
 /// What is wrong with a key. Source: profile.
 #[derive(Clone, Copy)]

@@ -1,42 +1,40 @@
 //! The numbers and texts of a bench, by the table of keys.
-ghost use Rattle.std.specs.Prelude.{◌≡◌, ◌≤◌, [], ◌∷◌, codes, length, Some, None, is_some, IfOk};
-ghost use Rattle.std.specs.Option.{option_map};
-ghost use Rattle.toml.specs.Data.{as_str};
+ghost use Rattle.std.specs.Prelude.{◌≡◌, ◌≤◌, is_some, IfOk};
 ghost use Rattle.toml.specs.View.{table_view};
 ghost use Rattle.agc_word.specs.Profiles.{count_of};
 ghost use Rattle.agc_plan.specs.Ranges.{IsBetween};
 ghost use Rattle.agc_document.specs.Gives.{GivesOrKey};
-ghost use Rattle.agc_document.specs.Keys.{least, most, value_of, read_at, read_or, items_of};
-ghost use Rattle.agc_document.specs.Keys.{given, some_texts, row, row_in, entry, entry_in};
-ghost use Rattle.agc_document.specs.Keys.{worker, device, numbers_in, settings_in, lists_in};
-ghost use Rattle.agc_document.specs.Keys.{texts_in};
-ghost use Rattle.agc_document.specs.declared.key.Key.TheVariants as key_of;
+ghost use Rattle.agc_document.specs.Keys.{value_of, row, row_in, entry, entry_in, worker, device};
+ghost use Rattle.agc_document.specs.Keys.{numbers_in, settings_in, lists_in, texts_in};
+ghost use Rattle.agc_document.specs.declared.rows.TheConstants as key_of;
 
-use crate::key::{Key, Level};
+use crate::key_fault::Level;
 use crate::notes::Notes;
 use crate::place::Place;
 use crate::refusal::Refusal;
-use crate::tables::{
-    FromData, has_only, items_of, items_or_none, number_at, number_or, one_text, optional_text,
-    some_texts, some_texts_at, table_at, text_at, value_at, value_of,
+use crate::rows::{
+    ACTION, ALLOWANCE, AT, ATTENDS, BANK, BENCH_KEYS, DEVICE_KEYS, DEVICES, GROUP, JOB, KEY, LIMIT,
+    LINE, LISTING, PHASE, PHASE_KEYS, PHASES, POWER, PULSES, RADAR, REQUESTS, SCRIPT, SETS,
+    TASK_KEYS, TASKS, WORKER_KEYS, WORKERS,
 };
-use crate::texts::{DeviceTexts, EntryTexts, Lists, RowTexts, Settings, Text, Texts, WorkerTexts};
+use crate::tables::{
+    FromData, Placed, Site, has_only, items_or_none, read_at, read_if, read_or, table_in, value_of,
+};
+use crate::texts::{
+    DeviceTexts, EntryTexts, Lists, RowTexts, Settings, TextList, Texts, WorkerTexts,
+};
 use agc_word::Sets;
 use std::alloc::Global;
-use toml::{Table, Value};
+use toml::Table;
+
 /// The texts of the row that a table has.
 #[tactic(auto, unfolding(crate::specs::Keys::row_in))]
-pub fn row_in<'a>(
-    alloc: Global,
-    table: &'a Table,
-    place: Place,
-    notes: &mut Notes<'a>,
-) -> Result<RowTexts<'a>, Refusal<'a>>
-    ensures value { GivesOrKey (λ t. t) result (row_in (table_view table.now)) }
+pub fn row_in<'a>(site: Site<'a>, notes: &mut Notes<'a>) -> Result<RowTexts<'a>, Refusal<'a>>
+    ensures value { GivesOrKey (λ t. t) result (row_in (table_view site.entry.table.now)) }
 {
-    let at = text_at(table, Key::At, place, notes);
-    let bank = text_at(table, Key::Bank, place, notes);
-    let actions = some_texts_at(alloc, table, Key::Action, place, notes);
+    let at = read_at(site, AT, notes);
+    let bank = read_at(site, BANK, notes);
+    let actions = read_at(site, ACTION, notes);
     Ok(RowTexts {
         at: at?,
         bank: bank?,
@@ -45,36 +43,31 @@ pub fn row_in<'a>(
 }
 
 impl<'a> FromData<'a> for RowTexts<'a> {
-    ghost reads = { row };
+    ghost reads = { λ k. row };
+
+    ghost IsAllowed = { λ k t. Unit {0} };
 
     #[tactic(auto, unfolding(crate::specs::Keys::row))]
     fn from_value(
         alloc: Global,
-        value: &'a Value,
-        key: Key,
-        place: Place,
+        placed: Placed<'a>,
         notes: &mut Notes<'a>,
     ) -> Result<RowTexts<'a>, Refusal<'a>> {
-        let table = table_at(value, key, place, notes)?;
-        let place = place.of_table();
-        let known = has_only(table, Level::Task, place, notes);
-        known.and(row_in(alloc, table, place, notes))
+        let site = table_in(alloc, placed, notes)?;
+        let known = has_only(site, &TASK_KEYS, Level::Task, notes);
+        known.and(row_in(site, notes))
     }
 }
 
 /// The numbers and texts of the phase entry that a table has.
 #[tactic(auto, unfolding(crate::specs::Keys::entry_in))]
-pub fn entry_in<'a>(
-    table: &'a Table,
-    place: Place,
-    notes: &mut Notes<'a>,
-) -> Result<EntryTexts<'a>, Refusal<'a>>
-    ensures value { GivesOrKey (λ t. t) result (entry_in (table_view table.now)) }
+pub fn entry_in<'a>(site: Site<'a>, notes: &mut Notes<'a>) -> Result<EntryTexts<'a>, Refusal<'a>>
+    ensures value { GivesOrKey (λ t. t) result (entry_in (table_view site.entry.table.now)) }
 {
-    let group = number_at(table, Key::Group, place, notes);
-    let phase = number_at(table, Key::Phase, place, notes);
-    let job = optional_text(table, Key::Job, place, notes);
-    let task = optional_text(table, Key::Listing, place, notes);
+    let group: Result<u64, Refusal<'a>> = read_at(site, GROUP, notes);
+    let phase: Result<u64, Refusal<'a>> = read_at(site, PHASE, notes);
+    let job = read_if(site, JOB, notes);
+    let task = read_if(site, LISTING, notes);
     Ok(EntryTexts {
         group: group? as u8,
         phase: phase? as u8,
@@ -84,116 +77,59 @@ pub fn entry_in<'a>(
 }
 
 impl<'a> FromData<'a> for EntryTexts<'a> {
-    ghost reads = { entry };
+    ghost reads = { λ k. entry };
+
+    ghost IsAllowed = { λ k t. Unit {0} };
 
     #[tactic(auto, unfolding(crate::specs::Keys::entry))]
     fn from_value(
-        _alloc: Global,
-        value: &'a Value,
-        key: Key,
-        place: Place,
+        alloc: Global,
+        placed: Placed<'a>,
         notes: &mut Notes<'a>,
     ) -> Result<EntryTexts<'a>, Refusal<'a>> {
-        let table = table_at(value, key, place, notes)?;
-        let place = place.of_table();
-        let known = has_only(table, Level::Phase, place, notes);
-        known.and(entry_in(table, place, notes))
+        let site = table_in(alloc, placed, notes)?;
+        let known = has_only(site, &PHASE_KEYS, Level::Phase, notes);
+        known.and(entry_in(site, notes))
     }
 }
 
 impl<'a> FromData<'a> for WorkerTexts<'a> {
-    ghost reads = { worker };
+    ghost reads = { λ k. worker };
+
+    ghost IsAllowed = { λ k t. Unit {0} };
 
     #[tactic(auto, unfolding(crate::specs::Keys::worker))]
     fn from_value(
         alloc: Global,
-        value: &'a Value,
-        key: Key,
-        place: Place,
+        placed: Placed<'a>,
         notes: &mut Notes<'a>,
     ) -> Result<WorkerTexts<'a>, Refusal<'a>> {
-        let table = table_at(value, key, place, notes)?;
-        let place = place.of_table();
-        let known = has_only(table, Level::Worker, place, notes);
-        let script = known.and(script_at(alloc, table, place, notes))?;
+        let site = table_in(alloc, placed, notes)?;
+        let known = has_only(site, &WORKER_KEYS, Level::Worker, notes);
+        let script = known.and(read_at(site, REQUESTS, notes))?;
         Ok(WorkerTexts { script })
     }
 }
 
 impl<'a> FromData<'a> for DeviceTexts<'a> {
-    ghost reads = { device };
+    ghost reads = { λ k. device };
+
+    ghost IsAllowed = { λ k t. Unit {0} };
 
     #[tactic(auto, unfolding(crate::specs::Keys::device))]
     fn from_value(
-        _alloc: Global,
-        value: &'a Value,
-        key: Key,
-        place: Place,
+        alloc: Global,
+        placed: Placed<'a>,
         notes: &mut Notes<'a>,
     ) -> Result<DeviceTexts<'a>, Refusal<'a>> {
-        let table = table_at(value, key, place, notes)?;
-        let place = place.of_table();
-        let known = has_only(table, Level::Device, place, notes);
-        let line = known.and(text_at(table, Key::Line, place, notes));
-        let pulses = number_at(table, Key::Pulses, place, notes);
+        let site = table_in(alloc, placed, notes)?;
+        let known = has_only(site, &DEVICE_KEYS, Level::Device, notes);
+        let line = known.and(read_at(site, LINE, notes));
+        let pulses: Result<u64, Refusal<'a>> = read_at(site, PULSES, notes);
         Ok(DeviceTexts {
             line: line?,
             pulses: pulses? as u32,
         })
-    }
-}
-
-/// The texts of the script of a worker.
-fn script_at<'a>(
-    alloc: Global,
-    table: &'a Table,
-    place: Place,
-    notes: &mut Notes<'a>,
-) -> Result<Vec<Text<'a>>, Refusal<'a>>
-    ensures value { GivesOrKey (λ v. v.items) result
-        (read_at (items_of as_str key_of.Requests) key_of.Requests (table_view table.now)) }
-{
-    let key = Key::Requests;
-    let value = value_at(table, key, place, notes)?;
-    items_of(alloc, value, key, place.of_value(key), notes)
-}
-
-/// The texts of the actions of a pulse: `nothing` alone where the key is missing.
-fn pulse_at<'a>(
-    alloc: Global,
-    table: &'a Table,
-    key: Key,
-    notes: &mut Notes<'a>,
-) -> Result<Vec<Text<'a>>, Refusal<'a>>
-    requires low { least key ≤ 1 }
-    requires high { 1 ≤ most key }
-    ensures value { GivesOrKey (λ v. v.items) result
-        (read_or (codes "nothing" ∷ []) (some_texts key) (value_of key (table_view table.now))) }
-    ensures few { IfOk result (λ v. IsBetween (least key) (most key) (length v.items)) }
-{
-    match value_of(table, key) {
-        None => one_text(alloc, "nothing"),
-        Some(value) => some_texts(alloc, value, key, Place::Value(key), notes),
-    }
-}
-
-/// The twelve texts of the phase words, if their key is there.
-fn power_at<'a>(
-    alloc: Global,
-    table: &'a Table,
-    notes: &mut Notes<'a>,
-) -> Result<Option<Vec<Text<'a>>>, Refusal<'a>>
-    ensures value { GivesOrKey (λ o. option_map (λ v. v.items) o) result
-        (read_or None (given (items_of as_str key_of.Power))
-        (value_of key_of.Power (table_view table.now))) }
-{
-    let key = Key::Power;
-    match value_of(table, key) {
-        None => Ok(None),
-        Some(value) => {
-            let texts: Vec<Text<'a>> = items_of(alloc, value, key, Place::Value(key), notes)?;
-            Ok(Some(texts))
-        }
     }
 }
 
@@ -211,45 +147,43 @@ fn sets_for(number: u64) -> Sets
 
 /// Whether the bench says how many core sets there are.
 fn names_sets(table: &Table) -> bool
-    ensures { result ≡ is_some (value_of key_of.Sets (table_view table.now)) }
+    ensures { result ≡ is_some (value_of key_of.SETS (table_view table.now)) }
 {
-    value_of(table, Key::Sets).is_some()
+    value_of(table, SETS).is_some()
 }
 
 /// The numbers of a bench: its core sets, its limit, its allowance, and how often a thread attends.
 #[tactic(auto, unfolding(crate::specs::Keys::numbers_in))]
 fn numbers_in<'a>(
-    table: &'a Table,
+    site: Site<'a>,
     notes: &mut Notes<'a>,
 ) -> Result<(Sets, u32, u64, u32), Refusal<'a>>
     ensures value { GivesOrKey (λ n. (count_of n.0, n.1, n.2, n.3)) result
-        (numbers_in (table_view table.now)) }
+        (numbers_in (table_view site.entry.table.now)) }
     ensures range { IfOk result (λ n. (n.2 ≤ 9223372036854775807) × (n.3 ≤ 1000)) }
 {
-    let sets = number_or(table, Key::Sets, 7, notes);
-    let limit = number_or(table, Key::Limit, 1000, notes);
-    let allowance = number_or(table, Key::Allowance, 1_000_000, notes);
-    let attends = number_or(table, Key::Attends, 16, notes);
+    let sets: Result<u64, Refusal<'a>> = read_or(site, SETS, 7, notes);
+    let limit: Result<u64, Refusal<'a>> = read_or(site, LIMIT, 1000, notes);
+    let allowance: Result<u64, Refusal<'a>> = read_or(site, ALLOWANCE, 1_000_000, notes);
+    let attends: Result<u64, Refusal<'a>> = read_or(site, ATTENDS, 16, notes);
     Ok((sets_for(sets?), limit? as u32, allowance?, attends? as u32))
 }
 
 /// What a bench has once, of the table of a document.
 #[tactic(auto, unfolding(crate::specs::Keys::settings_in))]
-pub fn settings_in<'a>(
-    alloc: Global,
-    table: &'a Table,
-    notes: &mut Notes<'a>,
-) -> Result<Settings<'a>, Refusal<'a>>
-    ensures value { GivesOrKey (λ s. s) result (settings_in (table_view table.now)) }
+pub fn settings_in<'a>(site: Site<'a>, notes: &mut Notes<'a>) -> Result<Settings<'a>, Refusal<'a>>
+    ensures value { GivesOrKey (λ s. s) result (settings_in (table_view site.entry.table.now)) }
 {
-    let numbers = numbers_in(table, notes);
-    let key = pulse_at(alloc, table, Key::Key, notes);
-    let radar = pulse_at(alloc, table, Key::Radar, notes);
-    let power = power_at(alloc, table, notes);
+    let nothing = TextList::of(site.alloc, "nothing")?;
+    let numbers = numbers_in(site, notes);
+    let key = read_or(site, KEY, nothing, notes);
+    let nothing = TextList::of(site.alloc, "nothing")?;
+    let radar = read_or(site, RADAR, nothing, notes);
+    let power = read_if(site, POWER, notes);
     let (sets, limit, allowance, attends) = numbers?;
     Ok(Settings {
         sets,
-        names_sets: names_sets(table),
+        names_sets: names_sets(site.table),
         limit,
         allowance,
         attends,
@@ -260,18 +194,14 @@ pub fn settings_in<'a>(
 }
 
 #[tactic(auto, unfolding(crate::specs::Keys::lists_in))]
-fn lists_in<'a>(
-    alloc: Global,
-    table: &'a Table,
-    notes: &mut Notes<'a>,
-) -> Result<Lists<'a>, Refusal<'a>>
-    ensures value { GivesOrKey (λ l. l) result (lists_in (table_view table.now)) }
+fn lists_in<'a>(site: Site<'a>, notes: &mut Notes<'a>) -> Result<Lists<'a>, Refusal<'a>>
+    ensures value { GivesOrKey (λ l. l) result (lists_in (table_view site.entry.table.now)) }
 {
-    let script = items_or_none(alloc, table, Key::Script, notes);
-    let rows = items_or_none(alloc, table, Key::Tasks, notes);
-    let entries = items_or_none(alloc, table, Key::Phases, notes);
-    let workers = items_or_none(alloc, table, Key::Workers, notes);
-    let devices = items_or_none(alloc, table, Key::Devices, notes);
+    let script = read_or(site, SCRIPT, TextList::none(site.alloc), notes);
+    let rows = items_or_none(site, TASKS, notes);
+    let entries = items_or_none(site, PHASES, notes);
+    let workers = items_or_none(site, WORKERS, notes);
+    let devices = items_or_none(site, DEVICES, notes);
     Ok(Lists {
         script: script?,
         rows: rows?,
@@ -291,9 +221,14 @@ pub(crate) fn texts_in<'a>(
 ) -> Result<Texts<'a>, Refusal<'a>>
     ensures { GivesOrKey (λ t. t) result (texts_in (table_view table.now)) }
 {
-    let known = has_only(table, Level::Bench, Place::Whole, notes);
-    let settings = settings_in(alloc, table, notes);
-    let lists = lists_in(alloc, table, notes);
+    let site = Site {
+        alloc,
+        table,
+        place: Place::Whole,
+    };
+    let known = has_only(site, &BENCH_KEYS, Level::Bench, notes);
+    let settings = settings_in(site, notes);
+    let lists = lists_in(site, notes);
     known?;
     Ok(Texts {
         settings: settings?,

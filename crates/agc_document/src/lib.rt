@@ -10,6 +10,7 @@ mod keys;
 mod notes;
 mod place;
 mod refusal;
+pub mod rows;
 mod tables;
 mod texts;
 mod twice;
@@ -19,16 +20,16 @@ mod writing;
 pub use agc_plan::Line;
 pub use bench::{Bench, bench_from, bench_of, or_line, read_bench};
 pub use fault::BenchFault;
-pub use key::{Form, Key, Kind, Level, Row, ScenarioKey};
-pub use key_fault::KeyFault;
+pub use key::{ANY, Form, Key, KeyName, Kind};
+pub use key_fault::{KeyFault, Level};
 pub use keys::{entry_in, row_in, settings_in};
 pub use notes::{KeyNote, Notes, TextNote};
 pub use place::Place;
 pub use refusal::Refusal;
 pub use tables::{
-    FromData, has_only, items_of, items_or_none, number_at, number_of, number_or, optional_number,
-    optional_text, some_texts_at, table_at, text_at, value_of,
+    FromData, Placed, Site, has_only, items_of, items_or_none, read_at, read_if, read_or, table_in,
+    value_of,
 };
-pub use texts::{EntryTexts, Lists, RowTexts, Settings, Text, Texts};
+pub use texts::{EntryTexts, Lists, RowTexts, Settings, Text, TextList, Texts};
 pub use values::{Spelled, all_spelled, is_name};
 pub use writing::{put_bench, put_script_line, put_settings, put_tables};

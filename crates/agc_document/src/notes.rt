@@ -8,6 +8,7 @@ use crate::key::{Form, Key};
 use crate::key_fault::KeyFault;
 use crate::place::Place;
 use crate::refusal::Refusal;
+use crate::rows::SETS;
 use arrayvec::ArrayVec;
 
 /// How many faults of either kind are noted.
@@ -26,7 +27,7 @@ impl<'a> Default for KeyNote<'a> {
         KeyNote {
             place: Place::Whole,
             text: "",
-            fault: KeyFault::Value(Key::Sets),
+            fault: KeyFault::Value(SETS),
         }
     }
 }

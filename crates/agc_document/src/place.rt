@@ -1,5 +1,6 @@
 //! Where in a bench something stands.
 use crate::key::Key;
+use crate::key_fault::KeyFault;
 
 /// Where in a bench something stands. Numbers are from 1, in the order of the document. Source:
 /// profile.
@@ -42,6 +43,16 @@ impl Place {
         match self {
             Place::Item(key, number) => Place::Table(key, number),
             _ => self,
+        }
+    }
+
+    /// What is wrong with the value of a key, or with an item of it, that stands here. Source:
+    /// profile.
+    pub fn fault(self, key: Key) -> KeyFault {
+        match self {
+            Place::Item(_key, _item) => KeyFault::Item(key),
+            Place::FieldItem(_tables, _table, _field, _item) => KeyFault::Item(key),
+            _ => KeyFault::Value(key),
         }
     }
 }

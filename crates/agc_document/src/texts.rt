@@ -1,7 +1,8 @@
 //! The numbers and texts of a bench, which borrow from its document.
-ghost use Rattle.std.specs.Prelude.{◌≡◌};
+ghost use Rattle.std.specs.Prelude.{◌≡◌, [], ◌∷◌, IfOk};
 
 use agc_word::Sets;
+use std::alloc::{AllocError, Global};
 use std::marker::Model;
 
 /// A text of a list. Contracts see its bytes, where they would see a `&str` as a reference.
@@ -32,12 +33,57 @@ impl<'a> Text<'a> {
     }
 }
 
+/// The texts of a key, one alone or an array of them. Contracts see each one's bytes.
+#[derive(Drop)]
+pub struct TextList<'a> {
+    pub(crate) texts: Vec<Text<'a>>,
+}
+
+impl<'a> Model for TextList<'a> {
+    ghost use Rattle.std.specs.Prelude.{ℕ, List};
+
+    ghost Value = { List (List ℕ) };
+
+    ghost view = { λ t. t.texts.items };
+}
+
+impl<'a> TextList<'a> {
+    /// No texts. Source: profile.
+    pub fn none(alloc: Global) -> TextList<'a>
+        ensures { result ≡ [] }
+    {
+        TextList {
+            texts: Vec::new(alloc),
+        }
+    }
+
+    /// This text alone. Source: profile.
+    ///
+    /// # Errors
+    ///
+    /// Where there is no memory.
+    pub fn of(alloc: Global, text: &'a str) -> Result<TextList<'a>, AllocError>
+        ensures { IfOk result (λ t. t ≡ text.now ∷ []) }
+    {
+        let mut texts = Vec::new(alloc);
+        texts.push(Text::new(text))?;
+        Ok(TextList { texts })
+    }
+
+    /// The texts, in order. Source: profile.
+    pub fn as_slice(&self) -> &[Text<'a>]
+        ensures { result.now ≡ self.now }
+    {
+        self.texts.as_slice()
+    }
+}
+
 /// The texts of a task's row.
 #[derive(Drop)]
 pub struct RowTexts<'a> {
-    pub at: &'a str,
-    pub bank: &'a str,
-    pub actions: Vec<Text<'a>>,
+    pub at: Text<'a>,
+    pub bank: Text<'a>,
+    pub actions: TextList<'a>,
 }
 
 impl<'a> Model for RowTexts<'a> {
@@ -47,9 +93,9 @@ impl<'a> Model for RowTexts<'a> {
 
     ghost Value = { Texts };
 
-    ghost view = { λ t. record { at = t.at.now; bank = t.bank.now; actions = t.actions.items } };
+    ghost view = { λ t. record { at = t.at; bank = t.bank; actions = t.actions } };
 
-    ghost invariant = { λ t. IsBetween 1 4 (length t.actions.items) };
+    ghost invariant = { λ t. IsBetween 1 4 (length t.actions) };
 }
 
 /// A phase entry: its numbers, and the texts of its job and its task.
@@ -57,28 +103,22 @@ impl<'a> Model for RowTexts<'a> {
 pub struct EntryTexts<'a> {
     pub group: u8,
     pub phase: u8,
-    pub job: Option<&'a str>,
-    pub task: Option<&'a str>,
+    pub job: Option<Text<'a>>,
+    pub task: Option<Text<'a>>,
 }
 
 impl<'a> Model for EntryTexts<'a> {
-    ghost use Rattle.std.specs.Option.{option_map};
     ghost use Rattle.agc_document.specs.Texts.{EntryTexts as Texts};
 
     ghost Value = { Texts };
 
-    ghost view = { λ t. record {
-      group = t.group;
-      phase = t.phase;
-      job = option_map (λ s. s.now) t.job;
-      task = option_map (λ s. s.now) t.task;
-    } };
+    ghost view = { λ t. record { group = t.group; phase = t.phase; job = t.job; task = t.task } };
 }
 
 /// A worker: the texts of its script.
 #[derive(Drop)]
 pub struct WorkerTexts<'a> {
-    pub script: Vec<Text<'a>>,
+    pub script: TextList<'a>,
 }
 
 impl<'a> Model for WorkerTexts<'a> {
@@ -86,13 +126,13 @@ impl<'a> Model for WorkerTexts<'a> {
 
     ghost Value = { List (List ℕ) };
 
-    ghost view = { λ t. t.script.items };
+    ghost view = { λ t. t.script };
 }
 
 /// A device: the text of its line, and its pulses.
 #[derive(Drop)]
 pub struct DeviceTexts<'a> {
-    pub line: &'a str,
+    pub line: Text<'a>,
     pub pulses: u32,
 }
 
@@ -102,7 +142,7 @@ impl<'a> Model for DeviceTexts<'a> {
 
     ghost Value = { Texts };
 
-    ghost view = { λ t. record { line = t.line.now; pulses = t.pulses } };
+    ghost view = { λ t. record { line = t.line; pulses = t.pulses } };
 
     ghost invariant = { λ t. t.pulses ≤ 1000000 };
 }
@@ -116,14 +156,13 @@ pub struct Settings<'a> {
     pub limit: u32,
     pub allowance: u64,
     pub attends: u32,
-    pub key: Vec<Text<'a>>,
-    pub radar: Vec<Text<'a>>,
-    pub power: Option<Vec<Text<'a>>>,
+    pub key: TextList<'a>,
+    pub radar: TextList<'a>,
+    pub power: Option<TextList<'a>>,
 }
 
 impl<'a> Model for Settings<'a> {
     ghost use Rattle.std.specs.Prelude.{◌≤◌, length};
-    ghost use Rattle.std.specs.Option.{option_map};
     ghost use Rattle.agc_word.specs.Profiles.{count_of};
     ghost use Rattle.agc_plan.specs.Ranges.{IsBetween};
     ghost use Rattle.agc_document.specs.Texts.{Settings as Texts};
@@ -136,20 +175,20 @@ impl<'a> Model for Settings<'a> {
       limit = t.limit;
       allowance = t.allowance;
       attends = t.attends;
-      key = t.key.items;
-      radar = t.radar.items;
-      power = option_map (λ v. v.items) t.power;
+      key = t.key;
+      radar = t.radar;
+      power = t.power;
     } };
 
     ghost invariant = { λ t. IsBetween 7 8 (count_of t.sets)
         × (t.allowance ≤ 9223372036854775807) × (t.attends ≤ 1000)
-        × IsBetween 1 4 (length t.key.items) × IsBetween 1 4 (length t.radar.items) };
+        × IsBetween 1 4 (length t.key) × IsBetween 1 4 (length t.radar) };
 }
 
 /// What a bench has many of.
 #[derive(Drop)]
 pub struct Lists<'a> {
-    pub script: Vec<Text<'a>>,
+    pub script: TextList<'a>,
     pub rows: Vec<RowTexts<'a>>,
     pub entries: Vec<EntryTexts<'a>>,
     pub workers: Vec<WorkerTexts<'a>>,
@@ -163,7 +202,7 @@ impl<'a> Model for Lists<'a> {
     ghost Value = { Texts };
 
     ghost view = { λ t. record {
-      script = t.script.items;
+      script = t.script;
       rows = t.rows.items;
       entries = t.entries.items;
       workers = t.workers.items;

@@ -1,6 +1,7 @@
 //! Where rows and entries make no plan.
 use crate::key::Key;
 use crate::place::Place;
+use crate::rows::{PHASES, TASKS};
 use agc_plan::{Actions, PhaseEntry, PlanFault, Task};
 use std::alloc::{AllocError, Global};
 
@@ -41,7 +42,7 @@ pub(crate) fn refused_at(
             for (k, row) in rows.iter().enumerate() {
                 tables.push((row.0.at.get(), row.0.bank.bits(), k as u64 + 1))?;
             }
-            place_of(Key::Tasks, &mut tables)
+            place_of(TASKS, &mut tables)
         }
         PlanFault::PhaseTwice => {
             for (k, entry) in entries.iter().enumerate() {
@@ -49,8 +50,8 @@ pub(crate) fn refused_at(
                 let phase = u16::from(entry.phase().get());
                 tables.push((group, phase, k as u64 + 1))?;
             }
-            place_of(Key::Phases, &mut tables)
+            place_of(PHASES, &mut tables)
         }
-        _ => Ok(Place::Value(Key::Phases)),
+        _ => Ok(Place::Value(PHASES)),
     }
 }

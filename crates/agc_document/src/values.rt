@@ -20,7 +20,7 @@ ghost use Rattle.agc_document.specs.Gives.{RefusedLine};
 
 use crate::bench::or_line;
 use crate::fault::BenchFault;
-use crate::texts::{DeviceTexts, EntryTexts, RowTexts, Text, WorkerTexts};
+use crate::texts::{DeviceTexts, EntryTexts, RowTexts, Text, TextList, WorkerTexts};
 use agc_plan::{Actions, Delay, Group, JobStart, Line, Phase, PhaseEntry, Request, Task};
 use agc_text::{parse_action, parse_address, parse_line, parse_word};
 use agc_word::Word;
@@ -93,8 +93,8 @@ fn row_of(texts: &RowTexts<'_>) -> Option<(Task, Actions)>
     ensures found { IfSome result (λ r. IsRow r × (texts.now ≡ row_texts r)) }
     ensures only { IfNone result ((r : Task × List Action) → IsRow r → texts.now ≢ row_texts r) }
 {
-    let at = parse_address(texts.at)?;
-    let bank = parse_word(texts.bank)?;
+    let at = parse_address(texts.at.as_str())?;
+    let bank = parse_word(texts.bank.as_str())?;
     let actions = actions_of(texts.actions.as_slice())?;
     Some((Task { at, bank }, actions))
 }
@@ -152,17 +152,17 @@ pub fn is_name(text: &str) -> bool
 }
 
 /// The job of a phase entry, if its text is there. None where that text spells none.
-fn parse_job(text: Option<&str>) -> Option<Option<JobStart>>
+fn parse_job(text: &Option<Text<'_>>) -> Option<Option<JobStart>>
     ensures found { IfSome result (λ j. IfSome j (λ x. IsRequest (job_request x))
-        × (option_map (λ s. s.now) text.entry ≡ option_map (λ x. line_of (job_request x)) j)) }
+        × (text.now ≡ option_map (λ x. line_of (job_request x)) j)) }
     ensures only { IfNone result ((j : Option JobStart)
         → IfSome j (λ x. IsRequest (job_request x))
-        → option_map (λ s. s.now) text.entry ≢ option_map (λ x. line_of (job_request x)) j) }
+        → text.now ≢ option_map (λ x. line_of (job_request x)) j) }
 {
     match text {
         None => Some(None),
         Some(text) => {
-            let request = parse_line(text)?;
+            let request = parse_line(text.as_str())?;
             let job = job_of(&request)?;
             Some(Some(job))
         }
@@ -170,17 +170,17 @@ fn parse_job(text: Option<&str>) -> Option<Option<JobStart>>
 }
 
 /// The task of a phase entry, if its text is there. None where that text spells none.
-fn parse_timed(text: Option<&str>) -> Option<Option<(Delay, Task)>>
+fn parse_timed(text: &Option<Text<'_>>) -> Option<Option<(Delay, Task)>>
     ensures found { IfSome result (λ t. IfSome t (λ x. IsRequest (timed_request x))
-        × (option_map (λ s. s.now) text.entry ≡ option_map (λ x. line_of (timed_request x)) t)) }
+        × (text.now ≡ option_map (λ x. line_of (timed_request x)) t)) }
     ensures only { IfNone result ((t : Option (ℕ × Task))
         → IfSome t (λ x. IsRequest (timed_request x))
-        → option_map (λ s. s.now) text.entry ≢ option_map (λ x. line_of (timed_request x)) t) }
+        → text.now ≢ option_map (λ x. line_of (timed_request x)) t) }
 {
     match text {
         None => Some(None),
         Some(text) => {
-            let request = parse_line(text)?;
+            let request = parse_line(text.as_str())?;
             let timed = timed_of(&request)?;
             Some(Some(timed))
         }
@@ -194,8 +194,8 @@ fn entry_of(texts: &EntryTexts<'_>) -> Option<PhaseEntry>
 {
     let group = Group::new(texts.group)?;
     let phase = Phase::new(texts.phase)?;
-    let job = parse_job(texts.job)?;
-    let task = parse_timed(texts.task)?;
+    let job = parse_job(&texts.job)?;
+    let task = parse_timed(&texts.task)?;
     PhaseEntry::new(group, phase, job, task)
 }
 
@@ -247,7 +247,7 @@ fn device_of(texts: &DeviceTexts<'_>) -> Option<(Line, u32)>
     ensures found { IfSome result (λ d. IsDevice d × (texts.now ≡ device_texts d)) }
     ensures only { IfNone result ((d : Line × ℕ) → IsDevice d → texts.now ≢ device_texts d) }
 {
-    let line = parse_kind(texts.line)?;
+    let line = parse_kind(texts.line.as_str())?;
     Some((line, texts.pulses))
 }
 
@@ -280,11 +280,11 @@ fn words_of(texts: &[Text<'_>]) -> Option<[Word; 12]>
 }
 
 /// The phase words of a power-up, if their texts are there. None where one of these spells no word.
-pub(crate) fn power_of(texts: &Option<Vec<Text<'_>>>) -> Option<Option<[Word; 12]>>
+pub(crate) fn power_of(texts: &Option<TextList<'_>>) -> Option<Option<[Word; 12]>>
     ensures found { IfSome result (λ p. IfSome p IsPower
-        × (option_map (λ v. v.items) texts.now ≡ option_map (map (octal 5)) p)) }
+        × (texts.now ≡ option_map (map (octal 5)) p)) }
     ensures only { IfNone result ((p : Option (List ℕ)) → IfSome p IsPower
-        → option_map (λ v. v.items) texts.now ≢ option_map (map (octal 5)) p) }
+        → texts.now ≢ option_map (map (octal 5)) p) }
 {
     match texts {
         None => Some(None),

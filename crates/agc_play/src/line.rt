@@ -1,5 +1,5 @@
 //! What a line asks for, and what is said of one that asks for nothing.
-use agc_check::{Finding, LineFault, script_findings, script_told};
+use agc_check::{LineFault, LineFinding, script_findings, script_told};
 use agc_plan::Request;
 use agc_text::Filling::{Number, Text};
 use agc_text::{Draft, parse_line};
@@ -85,7 +85,11 @@ pub(crate) fn tell_line(draft: &mut Draft, number: u64, sentence: &str) {
 
 /// Says of a line, which may have been meant as a request, what `check --script` says; and where no
 /// request begins with its first word, which may be meant as a command, how commands are found.
-fn tell_fault(alloc: Global, finding: Finding<'_>, draft: &mut Draft) -> Result<(), AllocError> {
+fn tell_fault(
+    alloc: Global,
+    finding: LineFinding<'_>,
+    draft: &mut Draft,
+) -> Result<(), AllocError> {
     let is_unknown = matches!(finding.fault, LineFault::Unknown(_));
     let told = script_told(alloc, &[finding])?;
     draft.text(told.as_str());
@@ -113,7 +117,7 @@ pub(crate) fn tell_wrong(
             Ok(())
         }
         fault => {
-            let finding = Finding {
+            let finding = LineFinding {
                 line: number,
                 text,
                 fault,

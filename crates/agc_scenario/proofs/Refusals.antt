@@ -1,10 +1,8 @@
--- What comes of a text as a scenario: it is refused, or it is one. And why a scenario is refused,
--- from why its bench is.
-use Rattle.std.proofs.Common.{◌≡◌, ℕ, List, [], true, Some, None, refl, ap, subst, sym}
+-- Why a scenario is refused, from why its bench is.
+use Rattle.std.proofs.Common.{◌≡◌, true, Some, refl, ap, subst}
 use Rattle.std.specs.List.{list_all}
 use Rattle.std.specs.Option.{option_map}
 use Rattle.toml.specs.Data.{Members}
-use Rattle.toml.specs.Parse.{parse_document}
 use Rattle.agc_plan.specs.Plans.{fault_of}
 use Rattle.agc_document.specs.declared.fault.BenchFault.{BenchFault}
 use Rattle.agc_document.specs.declared.fault.BenchFault.TheVariants as refusal
@@ -15,10 +13,8 @@ use Rattle.agc_document.specs.Benches.{IsInRange as IsInRangeBench}
 use Rattle.agc_document.specs.Faults as bench
 use Rattle.agc_scenario.specs.Texts.{ScenarioTexts, TimingTexts}
 use Rattle.agc_scenario.specs.Keys.{scenario_in}
-use Rattle.agc_scenario.specs.Scenarios.{Scenarioed, Timed, IsInRange, IsScenario, IsTimed, can_be_shown, scenario_texts, timing_texts}
+use Rattle.agc_scenario.specs.Scenarios.{Scenarioed, Timed, IsInRange, IsTimed, can_be_shown, scenario_texts, timing_texts}
 use Rattle.agc_scenario.specs.Faults.{HasTexts, RefusesTexts, RefusesScenario}
-use Rattle.agc_findings.specs.Findings.{Found, AreFindings}
-use Rattle.agc_scenario.specs.Checks.{ChecksAsScenario}
 
 -- texts, with others of their parts
 with_parts : (texts : ScenarioTexts) (b : Texts) (t : TimingTexts) → texts.bench ≡ b → texts.timing ≡ t → texts ≡ record { bench = b; row_names = texts.row_names; entry_names = texts.entry_names; timing = t }
@@ -58,9 +54,3 @@ refused_texts ms texts Line t h = (texts, (ms, refl, t), h)
 refused_texts ms texts TaskTwice t h = (texts, (ms, refl, t), h)
 refused_texts ms texts PhaseTwice t h = (texts, (ms, refl, t), h)
 refused_texts ms texts TooManyAreas t h = (texts, (ms, refl, t), h)
-
-pub refused : (text : List ℕ) (ms : Members) (k : BenchFault) (fs : List Found) → parse_document text ≡ Some ms → RefusesScenario (Some ms) k → AreFindings text k fs → ChecksAsScenario text None fs
-refused text ms k fs is why h = (k, subst (λ d. RefusesScenario d k) (sym is) why, h)
-
-pub accepted : (text : List ℕ) (ms : Members) (s : Scenarioed) (fs : List Found) → parse_document text ≡ Some ms → fs ≡ [] → IsScenario s → HasTexts (Some ms) (scenario_texts s) → ChecksAsScenario text (Some s) fs
-accepted text ms s fs is none h has = (none, h, subst (λ d. HasTexts d (scenario_texts s)) (sym is) has)

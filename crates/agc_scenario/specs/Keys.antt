@@ -4,51 +4,35 @@ use Rattle.std.specs.Prelude.{ℕ, ℤ, List, [], ◌∷◌, codes, map, Option,
 use Rattle.std.specs.Prelude.{Bool, true, false, nat_lt, nat_le, not, is_some, ◌-◌, ◌==◌, ◌&&◌}
 use Rattle.std.specs.Prelude.{◌||◌, if◌then◌else◌, unwrap_or}
 use Rattle.std.specs.List.{list_all}
-use Rattle.toml.specs.Data.{Data, Members, as_str, as_integer}
+use Rattle.toml.specs.Data.{Data, Members, as_integer}
 use Rattle.agc_text.specs.Chain.{◌>>=◌}
-use Rattle.agc_document.specs.declared.key.Key.{Key as BenchKey}
-use Rattle.agc_document.specs.declared.key.Key.TheVariants as key
-use Rattle.agc_document.specs.declared.key.ScenarioKey.TheVariants as of_scenario
-use Rattle.agc_document.specs.declared.key.Level.TheVariants as level
+use Rattle.agc_document.specs.declared.key.Key.{Key as AnyKey}
+use Rattle.agc_document.specs.declared.rows.TheConstants as key
+use Rattle.agc_scenario.specs.declared.rows.TheConstants as own
 use Rattle.agc_document.specs.Texts.{Lists, Settings, Texts}
-use Rattle.agc_document.specs.Keys.{is_among, known_to, table_of, value_of, number_of, read_at}
-use Rattle.agc_document.specs.Keys.{read_or, given, items_of, some_texts}
+use Rattle.agc_document.specs.Keys.{is_among, known_to, table_of, value_of, number_of, text_of}
+use Rattle.agc_document.specs.Keys.{texts_of, read_at, read_or, read_if, items_of}
 use Rattle.agc_document.specs.Keys.{row_in, entry_in, settings_in}
 use Rattle.agc_clock.specs.declared.timetable.Stolen.{Stolen}
 use Rattle.agc_clock.specs.Timetables.{comes_once, overlap}
 use Rattle.agc_scenario.specs.Texts.{NamedRow, NamedEntry, NamedTexts, JobTexts, EventTexts}
 use Rattle.agc_scenario.specs.Texts.{TimingTexts, ScenarioTexts}
 
-abbrev pub name_key : BenchKey
-name_key = key.Of of_scenario.Name
-
--- the name of what a table has, if it is there
-abbrev pub name_in : Members → Option (Option (List ℕ))
-name_in ms = read_or None (given as_str) (value_of name_key ms)
-
 -- the texts of a task's row, and its name
 unfoldable pub named_row : Data → Option NamedRow
 named_row d = do
-  ms ← table_of level.NamedTask d
+  ms ← table_of own.NAMED_TASK_KEYS d
   row ← row_in ms
-  name ← name_in ms
+  name ← read_if text_of own.NAME ms
   Some (record { row = row; name = name })
 
 -- the numbers and texts of a phase entry, and its name
 unfoldable pub named_entry : Data → Option NamedEntry
 named_entry d = do
-  ms ← table_of level.NamedPhase d
+  ms ← table_of own.NAMED_PHASE_KEYS d
   entry ← entry_in ms
-  name ← name_in ms
+  name ← read_if text_of own.NAME ms
   Some (record { entry = entry; name = name })
-
--- a required integer of a table
-abbrev pub number_in : BenchKey → Members → Option ℕ
-number_in k ms = read_at (number_of k) k ms
-
--- an integer of a table, if it is there
-abbrev pub number_if : BenchKey → Members → Option (Option ℕ)
-number_if k ms = read_or None (given (number_of k)) (value_of k ms)
 
 -- a row of stolen time that ends after it begins, and if it comes again, not before it ends
 abbrev pub forward : Stolen → Option Stolen
@@ -59,12 +43,12 @@ forward row =
 -- a row of stolen time: it comes once, or repeats, up to its last time or to the end
 unfoldable pub stolen_row : Data → Option Stolen
 stolen_row d = do
-  ms ← table_of level.Steal d
-  from ← number_in (key.Of of_scenario.From) ms
-  to ← number_in (key.Of of_scenario.To) ms
-  percent ← number_in (key.Of of_scenario.Percent) ms
-  every ← number_if (key.Of of_scenario.Every) ms
-  until ← number_if (key.Of of_scenario.Until) ms
+  ms ← table_of own.STEAL_KEYS d
+  from ← read_at number_of own.FROM ms
+  to ← read_at number_of own.TO ms
+  percent ← read_at number_of own.PERCENT ms
+  every ← read_if number_of own.EVERY ms
+  until ← read_if number_of own.UNTIL ms
   forward (record {
     from = from;
     to = to;
@@ -79,38 +63,31 @@ always percent =
     record { from = 0; to = 360001; percent = percent; every = 0; until = 360000 } ∷ []
 
 -- the rows of stolen time: a percent alone, or an array of tables
-abbrev pub stolen_by : Option ℤ → Data → Option (List Stolen)
-stolen_by (Some n) d =
-    number_of (key.Of of_scenario.Steal) d >>= λ percent. Some (always percent)
-stolen_by None d = items_of stolen_row (key.Of of_scenario.Steal) d
-
-abbrev pub stolen_rows : Data → Option (List Stolen)
-stolen_rows d = stolen_by (as_integer d) d
-
--- a text, or `end` in its place
-abbrev pub text_or_end : Option (List ℕ) → List ℕ
-text_or_end None = codes "end"
-text_or_end (Some text) = text
+abbrev pub stolen_rows : AnyKey → Data → Option (List Stolen)
+stolen_rows k d = elim (as_integer d) [
+  | Some n ↦ number_of k d >>= λ percent. Some (always percent)
+  | None ↦ items_of stolen_row k d
+]
 
 -- what a job costs
 unfoldable pub job : Data → Option JobTexts
 job d = do
-  ms ← table_of level.Job d
-  at ← read_at as_str key.At ms
-  cost ← number_in (key.Of of_scenario.Cost) ms
-  leaving ← read_or None (given as_str) (value_of (key.Of of_scenario.Then) ms)
-  name ← name_in ms
-  Some (record { at = at; cost = cost; leaving = text_or_end leaving; name = name })
+  ms ← table_of own.JOB_KEYS d
+  at ← read_at text_of key.AT ms
+  cost ← read_at number_of own.COST ms
+  leaving ← read_or (codes "end") text_of own.THEN ms
+  name ← read_if text_of own.NAME ms
+  Some (record { at = at; cost = cost; leaving = leaving; name = name })
 
 -- an event
 unfoldable pub event : Data → Option EventTexts
 event d = do
-  ms ← table_of level.Event d
-  at ← number_in (key.Of of_scenario.Moment) ms
-  requests ← read_at (some_texts (key.Of of_scenario.Do)) (key.Of of_scenario.Do) ms
-  every ← number_if (key.Of of_scenario.Every) ms
-  until ← number_if (key.Of of_scenario.Until) ms
-  name ← name_in ms
+  ms ← table_of own.EVENT_KEYS d
+  at ← read_at number_of own.MOMENT ms
+  requests ← read_at texts_of own.DO ms
+  every ← read_if number_of own.EVERY ms
+  until ← read_if number_of own.UNTIL ms
+  name ← read_if text_of own.NAME ms
   Some (record { at = at; requests = requests; every = every; until = until; name = name })
 
 -- whether no two rows of stolen time overlap
@@ -131,13 +108,11 @@ if_apart t =
 -- how time passes
 unfoldable pub timing_in : Members → Option TimingTexts
 timing_in ms = do
-  seconds ← number_in (key.Of of_scenario.Seconds) ms
-  title ← read_or None (given as_str) (value_of (key.Of of_scenario.Title) ms)
-  stolen ← read_or [] stolen_rows (value_of (key.Of of_scenario.Steal) ms)
-  jobs ← read_or [] (items_of job (key.Of of_scenario.Jobs))
-      (value_of (key.Of of_scenario.Jobs) ms)
-  events ← read_or [] (items_of event (key.Of of_scenario.Events))
-      (value_of (key.Of of_scenario.Events) ms)
+  seconds ← read_at number_of own.SECONDS ms
+  title ← read_if text_of own.TITLE ms
+  stolen ← read_or [] stolen_rows own.STEAL ms
+  jobs ← read_or [] (items_of job) own.JOBS ms
+  events ← read_or [] (items_of event) own.EVENTS ms
   if_apart (record {
     seconds = seconds;
     title = title;
@@ -149,10 +124,8 @@ timing_in ms = do
 -- the tasks and phases
 unfoldable pub named_in : Members → Option NamedTexts
 named_in ms = do
-  rows ← read_or [] (items_of named_row (key.Of of_scenario.NamedTasks))
-      (value_of (key.Of of_scenario.NamedTasks) ms)
-  entries ← read_or [] (items_of named_entry (key.Of of_scenario.NamedPhases))
-      (value_of (key.Of of_scenario.NamedPhases) ms)
+  rows ← read_or [] (items_of named_row) own.NAMED_TASKS ms
+  entries ← read_or [] (items_of named_entry) own.NAMED_PHASES ms
   Some (record { rows = rows; entries = entries })
 
 -- the lists of a bench that has these tasks and phases, and asks for nothing by itself
@@ -181,20 +154,19 @@ texts_with settings named timing =
 unfoldable pub ample_settings_in : Members → Option Settings
 ample_settings_in ms = do
   settings ← settings_in ms
-  limit ← read_or 1000000 (number_of key.Limit) (value_of key.Limit ms)
-  allowance ← read_or 9223372036854775807 (number_of key.Allowance) (value_of key.Allowance ms)
+  limit ← read_or 1000000 number_of key.LIMIT ms
+  allowance ← read_or 9223372036854775807 number_of key.ALLOWANCE ms
   Some (record settings { limit = limit; allowance = allowance })
 
 -- the numbers and texts of a scenario
 unfoldable pub scenario_in : Members → Option ScenarioTexts
 scenario_in ms = do
-  known ← known_to level.Scenario ms
+  known ← known_to own.SCENARIO_KEYS ms
   settings ← ample_settings_in known
   named ← named_in known
   timing ← timing_in known
   Some (texts_with settings named timing)
 
 -- whether a document has the key `seconds`, and so should be a scenario
-abbrev pub has_seconds : Option Members → Bool
-has_seconds None = false
-has_seconds (Some ms) = is_some (value_of (key.Of of_scenario.Seconds) ms)
+abbrev pub has_seconds : Members → Bool
+has_seconds ms = is_some (value_of own.SECONDS ms)

@@ -6,10 +6,9 @@ use Rattle.std.specs.Option.{option_or}
 use Rattle.std.specs.List.{position}
 use Rattle.std.specs.Str.{bytes_eq}
 use Rattle.agc_text.specs.Numbers.{octal}
-use Rattle.agc_document.specs.declared.key.Key.{Key as BenchKey}
-use Rattle.agc_document.specs.declared.key.Key.TheVariants as key
-use Rattle.agc_document.specs.declared.key.ScenarioKey.TheVariants as of_scenario
+use Rattle.agc_document.specs.declared.key.Key.{Key as AnyKey}
 use Rattle.agc_document.specs.Keys.{least, most}
+use Rattle.agc_scenario.specs.declared.rows.TheConstants as own
 use Rattle.agc_scenario.specs.declared.changing.Number.{Number}
 use Rattle.agc_scenario.specs.declared.changing.Number.TheVariants as number
 use Rattle.agc_scenario.specs.Scenarios.{TimedJob, TimedEvent, Timed}
@@ -53,13 +52,13 @@ NamesNumber t text (number.Every k) = NamesEvent t.events (codes ".every") text 
 NamesNumber t text (number.Until k) = NamesEvent t.events (codes ".until") text k
 
 -- the key of a number
-abbrev pub key_of : Number → BenchKey
-key_of number.Steal = key.Of of_scenario.Steal
-key_of number.Seconds = key.Of of_scenario.Seconds
-key_of (number.Cost k) = key.Of of_scenario.Cost
-key_of (number.Moment k) = key.Of of_scenario.Moment
-key_of (number.Every k) = key.Of of_scenario.Every
-key_of (number.Until k) = key.Of of_scenario.Until
+abbrev pub key_of : Number → AnyKey
+key_of number.Steal = own.STEAL
+key_of number.Seconds = own.SECONDS
+key_of (number.Cost k) = own.COST
+key_of (number.Moment k) = own.MOMENT
+key_of (number.Every k) = own.EVERY
+key_of (number.Until k) = own.UNTIL
 
 -- the number in its range that is nearest to a value
 abbrev pub nearest : Number → ℕ → ℕ

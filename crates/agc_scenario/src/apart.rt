@@ -5,9 +5,10 @@ ghost use Rattle.agc_document.specs.Keys.{is_among};
 ghost use Rattle.agc_clock.specs.Timetables.{overlap};
 ghost use Rattle.agc_scenario.specs.Keys.{are_apart, are_distinct};
 
+use crate::rows::{JOBS, STEAL};
 use crate::texts::JobTexts;
 use agc_clock::Stolen;
-use agc_document::{Key, KeyFault, KeyNote, Notes, Place, ScenarioKey};
+use agc_document::{Key, KeyFault, KeyNote, Notes, Place};
 
 /// Whether a row of stolen time overlaps none of these.
 fn overlaps_none(row: Stolen, others: &[Stolen]) -> bool
@@ -36,7 +37,7 @@ pub(crate) fn overlapping<'a>(
                     .iter()
                     .take_while(|other| !row.overlaps(*other))
                     .count();
-                let place = later_place(ScenarioKey::Steal, number, later);
+                let place = later_place(STEAL, number, later);
                 Some(notes.key(place, "", KeyFault::Overlap))
             }
         }
@@ -44,9 +45,9 @@ pub(crate) fn overlapping<'a>(
 }
 
 /// The place of a table of a key's array, so many and one behind the one of this number.
-fn later_place(key: ScenarioKey, number: u64, later: usize) -> Place {
+fn later_place(key: Key, number: u64, later: usize) -> Place {
     let number = number.saturating_add(later as u64).saturating_add(1);
-    Place::Table(Key::Of(key), number)
+    Place::Table(key, number)
 }
 
 /// Whether one of these jobs has this address.
@@ -55,7 +56,7 @@ fn is_listed(jobs: &[JobTexts<'_>], at: &str) -> bool
 {
     match jobs {
         [] => false,
-        [job, others @ ..] => job.at == at || is_listed(others, at),
+        [job, others @ ..] => job.at.as_str() == at || is_listed(others, at),
     }
 }
 
@@ -72,9 +73,12 @@ pub(crate) fn listed_twice<'a>(
     match jobs {
         [] => None,
         [job, others @ ..] => {
-            if is_listed(others, job.at) {
-                let later = others.iter().take_while(|other| other.at != job.at).count();
-                let place = later_place(ScenarioKey::Jobs, number, later);
+            if is_listed(others, job.at.as_str()) {
+                let later = others
+                    .iter()
+                    .take_while(|other| other.at.as_str() != job.at.as_str())
+                    .count();
+                let place = later_place(JOBS, number, later);
                 Some(notes.key(place, "", KeyFault::JobTwice))
             } else {
                 listed_twice(others, number.saturating_add(1), notes)

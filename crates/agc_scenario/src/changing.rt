@@ -11,9 +11,10 @@ ghost use Rattle.agc_scenario.specs.Numbers.{NamesEvent, NamesNumber, key_of, ne
 ghost use Rattle.agc_scenario.specs.Numbers.{job_with, event_with, exchanged, FitsIn};
 
 use crate::keys::always;
+use crate::rows::{COST, EVERY, MOMENT, SECONDS, STEAL, UNTIL};
 use crate::scenario::Scenario;
 use crate::timing::{Name, TimedEvent, TimedJob, Timing};
-use agc_document::{Key, ScenarioKey};
+use agc_document::Key;
 use agc_text::parse_address;
 use std::alloc::{AllocError, Global};
 
@@ -35,12 +36,12 @@ impl Number {
         ensures { result ≡ key_of self }
     {
         match self {
-            Number::Steal => Key::Of(ScenarioKey::Steal),
-            Number::Seconds => Key::Of(ScenarioKey::Seconds),
-            Number::Cost(_) => Key::Of(ScenarioKey::Cost),
-            Number::Moment(_) => Key::Of(ScenarioKey::Moment),
-            Number::Every(_) => Key::Of(ScenarioKey::Every),
-            Number::Until(_) => Key::Of(ScenarioKey::Until),
+            Number::Steal => STEAL,
+            Number::Seconds => SECONDS,
+            Number::Cost(_) => COST,
+            Number::Moment(_) => MOMENT,
+            Number::Every(_) => EVERY,
+            Number::Until(_) => UNTIL,
         }
     }
 

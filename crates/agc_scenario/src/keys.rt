@@ -1,59 +1,48 @@
 //! The numbers and texts of a scenario, by the table of keys.
-ghost use Rattle.std.specs.Prelude.{◌≡◌, ◌≤◌, [], map, Some, None, IfOk, IfSome};
-ghost use Rattle.std.specs.Option.{option_map};
+ghost use Rattle.std.specs.Prelude.{◌≡◌, ◌≤◌, [], map, IfOk, IfSome};
 ghost use Rattle.toml.specs.View.{view, table_view};
+ghost use Rattle.agc_document.specs.declared.key.Key.{Key as AnyKey};
 ghost use Rattle.agc_document.specs.Gives.{GivesOrKey};
-ghost use Rattle.agc_document.specs.Keys.{least, most, read_or, value_of};
-ghost use Rattle.agc_document.specs.declared.key.Key.TheVariants as key_of;
-ghost use Rattle.agc_document.specs.declared.key.ScenarioKey.TheVariants as of_scenario;
-ghost use Rattle.agc_scenario.specs.Keys.{name_in, number_if, forward, stolen_rows, text_or_end};
-ghost use Rattle.agc_scenario.specs.Keys.{named_row, named_entry, stolen_row, job, event};
-ghost use Rattle.agc_scenario.specs.Keys.{always, ample_settings_in, if_apart, timing_in};
-ghost use Rattle.agc_scenario.specs.Keys.{named_in, texts_with, scenario_in};
+ghost use Rattle.agc_document.specs.Keys.{least, most, number_of, read_if, read_or};
+ghost use Rattle.agc_scenario.specs.declared.rows.TheConstants as key_of;
+ghost use Rattle.agc_scenario.specs.Keys.{forward, stolen_rows, named_row, named_entry};
+ghost use Rattle.agc_scenario.specs.Keys.{stolen_row, job, event, always, ample_settings_in};
+ghost use Rattle.agc_scenario.specs.Keys.{if_apart, timing_in, named_in, texts_with, scenario_in};
 
 use crate::apart::{listed_twice, overlapping};
+use crate::rows::{
+    COST, DO, EVENT_KEYS, EVENTS, EVERY, FROM, JOB_KEYS, JOBS, MOMENT, NAME, NAMED_PHASE_KEYS,
+    NAMED_PHASES, NAMED_TASK_KEYS, NAMED_TASKS, PERCENT, SCENARIO_KEYS, SECONDS, STEAL, STEAL_KEYS,
+    THEN, TITLE, TO, UNTIL,
+};
 use crate::texts::{
-    EventTexts, JobTexts, NameText, NamedEntry, NamedRow, NamedTexts, ScenarioTexts, StolenRow,
-    TimingTexts,
+    EventTexts, JobTexts, NamedEntry, NamedRow, NamedTexts, ScenarioTexts, StolenRow, TimingTexts,
 };
 use agc_clock::Stolen;
+use agc_document::rows::{ALLOWANCE, AT, LIMIT};
 use agc_document::{
-    EntryTexts, FromData, Key, KeyFault, Level, Lists, Notes, Place, Refusal, RowTexts,
-    ScenarioKey, Settings, Texts, entry_in, has_only, items_of, items_or_none, number_at,
-    number_of, number_or, optional_number, optional_text, row_in, settings_in, some_texts_at,
-    table_at, text_at, value_of,
+    EntryTexts, FromData, Key, KeyFault, Level, Lists, Notes, Place, Placed, Refusal, RowTexts,
+    Settings, Site, Text, TextList, Texts, entry_in, has_only, items_of, items_or_none, read_at,
+    read_if, read_or, row_in, settings_in, table_in, value_of,
 };
 use std::alloc::{AllocError, Global};
 use toml::{Table, Value};
 
-/// The name of what a table has, if it is there.
-fn name_in<'a>(
-    table: &'a Table,
-    place: Place,
-    notes: &mut Notes<'a>,
-) -> Result<NameText<'a>, Refusal<'a>>
-    ensures value { GivesOrKey (λ n. n) result (name_in (table_view table.now)) }
-{
-    let text = optional_text(table, Key::Of(ScenarioKey::Name), place, notes)?;
-    Ok(NameText { text })
-}
-
 impl<'a> FromData<'a> for NamedRow<'a> {
-    ghost reads = { named_row };
+    ghost reads = { λ k. named_row };
+
+    ghost IsAllowed = { λ k t. Unit {0} };
 
     #[tactic(auto, unfolding(crate::specs::Keys::named_row))]
     fn from_value(
         alloc: Global,
-        value: &'a Value,
-        key: Key,
-        place: Place,
+        placed: Placed<'a>,
         notes: &mut Notes<'a>,
     ) -> Result<NamedRow<'a>, Refusal<'a>> {
-        let table = table_at(value, key, place, notes)?;
-        let place = place.of_table();
-        let known = has_only(table, Level::NamedTask, place, notes);
-        let row = known.and(row_in(alloc, table, place, notes));
-        let name = name_in(table, place, notes);
+        let site = table_in(alloc, placed, notes)?;
+        let known = has_only(site, &NAMED_TASK_KEYS, Level::NamedTask, notes);
+        let row = known.and(row_in(site, notes));
+        let name = read_if(site, NAME, notes);
         Ok(NamedRow {
             row: row?,
             name: name?,
@@ -62,21 +51,20 @@ impl<'a> FromData<'a> for NamedRow<'a> {
 }
 
 impl<'a> FromData<'a> for NamedEntry<'a> {
-    ghost reads = { named_entry };
+    ghost reads = { λ k. named_entry };
+
+    ghost IsAllowed = { λ k t. Unit {0} };
 
     #[tactic(auto, unfolding(crate::specs::Keys::named_entry))]
     fn from_value(
-        _alloc: Global,
-        value: &'a Value,
-        key: Key,
-        place: Place,
+        alloc: Global,
+        placed: Placed<'a>,
         notes: &mut Notes<'a>,
     ) -> Result<NamedEntry<'a>, Refusal<'a>> {
-        let table = table_at(value, key, place, notes)?;
-        let place = place.of_table();
-        let known = has_only(table, Level::NamedPhase, place, notes);
-        let entry = known.and(entry_in(table, place, notes));
-        let name = name_in(table, place, notes);
+        let site = table_in(alloc, placed, notes)?;
+        let known = has_only(site, &NAMED_PHASE_KEYS, Level::NamedPhase, notes);
+        let entry = known.and(entry_in(site, notes));
+        let name = read_if(site, NAME, notes);
         Ok(NamedEntry {
             entry: entry?,
             name: name?,
@@ -97,73 +85,6 @@ fn forward<'a>(row: Stolen, place: Place, notes: &mut Notes<'a>) -> Result<Stole
     }
 }
 
-impl<'a> FromData<'a> for StolenRow {
-    ghost reads = { stolen_row };
-
-    #[tactic(auto, unfolding(crate::specs::Keys::stolen_row))]
-    fn from_value(
-        _alloc: Global,
-        value: &'a Value,
-        key: Key,
-        place: Place,
-        notes: &mut Notes<'a>,
-    ) -> Result<StolenRow, Refusal<'a>> {
-        let table = table_at(value, key, place, notes)?;
-        let place = place.of_table();
-        let known = has_only(table, Level::Steal, place, notes);
-        let from = known.and(number_at(table, Key::Of(ScenarioKey::From), place, notes));
-        let to = number_at(table, Key::Of(ScenarioKey::To), place, notes);
-        let percent = number_at(table, Key::Of(ScenarioKey::Percent), place, notes);
-        let every = number_if(table, ScenarioKey::Every, place, notes);
-        let until = number_if(table, ScenarioKey::Until, place, notes);
-        let row = Stolen {
-            from: from? as u32,
-            to: to? as u32,
-            percent: percent? as u32,
-            every: every?.unwrap_or(0),
-            until: until?.unwrap_or(360_000),
-        };
-        forward(row, place, notes)
-    }
-}
-
-/// This text, or `end` in its place.
-fn text_or_end<'a>(text: Option<&'a str>) -> &'a str
-    ensures { result.now ≡ text_or_end (option_map (λ s. s.now) text.entry) }
-{
-    match text {
-        Some(text) => text,
-        None => "end",
-    }
-}
-
-impl<'a> FromData<'a> for JobTexts<'a> {
-    ghost reads = { job };
-
-    #[tactic(auto, unfolding(crate::specs::Keys::job))]
-    fn from_value(
-        _alloc: Global,
-        value: &'a Value,
-        key: Key,
-        place: Place,
-        notes: &mut Notes<'a>,
-    ) -> Result<JobTexts<'a>, Refusal<'a>> {
-        let table = table_at(value, key, place, notes)?;
-        let place = place.of_table();
-        let known = has_only(table, Level::Job, place, notes);
-        let at = known.and(text_at(table, Key::At, place, notes));
-        let cost = number_at(table, Key::Of(ScenarioKey::Cost), place, notes);
-        let leaving = optional_text(table, Key::Of(ScenarioKey::Then), place, notes);
-        let name = name_in(table, place, notes);
-        Ok(JobTexts {
-            at: at?,
-            cost: cost? as u32,
-            leaving: text_or_end(leaving?),
-            name: name?,
-        })
-    }
-}
-
 /// A number in fewer bits.
 fn small(number: Option<u64>) -> Option<u32>
     requires { IfSome number (λ n. n ≤ 360000) }
@@ -177,38 +98,92 @@ fn small(number: Option<u64>) -> Option<u32>
 
 /// An integer of a table, if it is there.
 fn number_if<'a>(
-    table: &'a Table,
-    key: ScenarioKey,
-    place: Place,
+    site: Site<'a>,
+    key: Key,
     notes: &mut Notes<'a>,
 ) -> Result<Option<u32>, Refusal<'a>>
-    requires { most (key_of.Of key) ≤ 360000 }
-    ensures value { GivesOrKey (λ o. o) result (number_if (key_of.Of key) (table_view table.now)) }
-    ensures range { IfOk result (λ o. IfSome o (λ n. least (key_of.Of key) ≤ n)) }
+    requires { most key ≤ 360000 }
+    ensures value { GivesOrKey (λ o. o) result
+        (read_if number_of key (table_view site.entry.table.now)) }
+    ensures range { IfOk result (λ o. IfSome o (λ n. least key ≤ n)) }
 {
-    let number = optional_number(table, Key::Of(key), place, notes)?;
+    let number = read_if(site, key, notes)?;
     Ok(small(number))
 }
 
+impl<'a> FromData<'a> for StolenRow {
+    ghost reads = { λ k. stolen_row };
+
+    ghost IsAllowed = { λ k t. Unit {0} };
+
+    #[tactic(auto, unfolding(crate::specs::Keys::stolen_row))]
+    fn from_value(
+        alloc: Global,
+        placed: Placed<'a>,
+        notes: &mut Notes<'a>,
+    ) -> Result<StolenRow, Refusal<'a>> {
+        let site = table_in(alloc, placed, notes)?;
+        let known = has_only(site, &STEAL_KEYS, Level::Steal, notes);
+        let from: Result<u64, Refusal<'a>> = known.and(read_at(site, FROM, notes));
+        let to: Result<u64, Refusal<'a>> = read_at(site, TO, notes);
+        let percent: Result<u64, Refusal<'a>> = read_at(site, PERCENT, notes);
+        let every = number_if(site, EVERY, notes);
+        let until = number_if(site, UNTIL, notes);
+        let row = Stolen {
+            from: from? as u32,
+            to: to? as u32,
+            percent: percent? as u32,
+            every: every?.unwrap_or(0),
+            until: until?.unwrap_or(360_000),
+        };
+        forward(row, site.place, notes)
+    }
+}
+
+impl<'a> FromData<'a> for JobTexts<'a> {
+    ghost reads = { λ k. job };
+
+    ghost IsAllowed = { λ k t. Unit {0} };
+
+    #[tactic(auto, unfolding(crate::specs::Keys::job))]
+    fn from_value(
+        alloc: Global,
+        placed: Placed<'a>,
+        notes: &mut Notes<'a>,
+    ) -> Result<JobTexts<'a>, Refusal<'a>> {
+        let site = table_in(alloc, placed, notes)?;
+        let known = has_only(site, &JOB_KEYS, Level::Job, notes);
+        let at = known.and(read_at(site, AT, notes));
+        let cost: Result<u64, Refusal<'a>> = read_at(site, COST, notes);
+        let leaving = read_or(site, THEN, Text::new("end"), notes);
+        let name = read_if(site, NAME, notes);
+        Ok(JobTexts {
+            at: at?,
+            cost: cost? as u32,
+            leaving: leaving?,
+            name: name?,
+        })
+    }
+}
+
 impl<'a> FromData<'a> for EventTexts<'a> {
-    ghost reads = { event };
+    ghost reads = { λ k. event };
+
+    ghost IsAllowed = { λ k t. Unit {0} };
 
     #[tactic(auto, unfolding(crate::specs::Keys::event))]
     fn from_value(
         alloc: Global,
-        value: &'a Value,
-        key: Key,
-        place: Place,
+        placed: Placed<'a>,
         notes: &mut Notes<'a>,
     ) -> Result<EventTexts<'a>, Refusal<'a>> {
-        let table = table_at(value, key, place, notes)?;
-        let place = place.of_table();
-        let known = has_only(table, Level::Event, place, notes);
-        let at = known.and(number_at(table, Key::Of(ScenarioKey::Moment), place, notes));
-        let requests = some_texts_at(alloc, table, Key::Of(ScenarioKey::Do), place, notes);
-        let every = number_if(table, ScenarioKey::Every, place, notes);
-        let until = number_if(table, ScenarioKey::Until, place, notes);
-        let name = name_in(table, place, notes);
+        let site = table_in(alloc, placed, notes)?;
+        let known = has_only(site, &EVENT_KEYS, Level::Event, notes);
+        let at: Result<u64, Refusal<'a>> = known.and(read_at(site, MOMENT, notes));
+        let requests = read_at(site, DO, notes);
+        let every = number_if(site, EVERY, notes);
+        let until = number_if(site, UNTIL, notes);
+        let name = read_if(site, NAME, notes);
         Ok(EventTexts {
             at: at? as u32,
             requests: requests?,
@@ -252,17 +227,21 @@ fn stolen_rows<'a>(
     value: &'a Value,
     notes: &mut Notes<'a>,
 ) -> Result<Vec<Stolen>, Refusal<'a>>
-    ensures value { GivesOrKey (λ v. v.items) result (stolen_rows (view value.now)) }
+    ensures value { GivesOrKey (λ v. v.items) result (stolen_rows key_of.STEAL (view value.now)) }
 {
-    let key = Key::Of(ScenarioKey::Steal);
+    let placed = Placed {
+        value,
+        key: STEAL,
+        place: Place::Value(STEAL),
+    };
     match value.as_integer() {
         Some(_percent) => {
-            let percent = number_of(value, key, Place::Whole, notes)?;
+            let percent: u64 = u64::from_value(alloc, placed, notes)?;
             let rows = always(alloc, percent)?;
             Ok(rows)
         }
         None => {
-            let rows: Vec<StolenRow> = items_of(alloc, value, key, Place::Value(key), notes)?;
+            let rows: Vec<StolenRow> = items_of(alloc, placed, notes)?;
             let stolen = rows_of(alloc, rows.as_slice())?;
             Ok(stolen)
         }
@@ -270,17 +249,13 @@ fn stolen_rows<'a>(
 }
 
 /// The rows of stolen time of a document, none where it has none.
-fn stolen_in<'a>(
-    alloc: Global,
-    table: &'a Table,
-    notes: &mut Notes<'a>,
-) -> Result<Vec<Stolen>, Refusal<'a>>
+fn stolen_in<'a>(site: Site<'a>, notes: &mut Notes<'a>) -> Result<Vec<Stolen>, Refusal<'a>>
     ensures value { GivesOrKey (λ v. v.items) result
-        (read_or [] stolen_rows (value_of (key_of.Of of_scenario.Steal) (table_view table.now))) }
+        (read_or [] stolen_rows key_of.STEAL (table_view site.entry.table.now)) }
 {
-    match value_of(table, Key::Of(ScenarioKey::Steal)) {
-        None => Ok(Vec::new(alloc)),
-        Some(value) => stolen_rows(alloc, value, notes),
+    match value_of(site.table, STEAL) {
+        None => Ok(Vec::new(site.alloc)),
+        Some(value) => stolen_rows(site.alloc, value, notes),
     }
 }
 
@@ -301,21 +276,17 @@ fn if_apart<'a>(
 
 /// How time passes.
 #[tactic(auto, unfolding(crate::specs::Keys::timing_in))]
-fn timing_in<'a>(
-    alloc: Global,
-    table: &'a Table,
-    notes: &mut Notes<'a>,
-) -> Result<TimingTexts<'a>, Refusal<'a>>
-    ensures value { GivesOrKey (λ t. t) result (timing_in (table_view table.now)) }
+fn timing_in<'a>(site: Site<'a>, notes: &mut Notes<'a>) -> Result<TimingTexts<'a>, Refusal<'a>>
+    ensures value { GivesOrKey (λ t. t) result (timing_in (table_view site.entry.table.now)) }
 {
-    let seconds = number_at(table, Key::Of(ScenarioKey::Seconds), Place::Whole, notes);
-    let title = optional_text(table, Key::Of(ScenarioKey::Title), Place::Whole, notes);
-    let stolen = stolen_in(alloc, table, notes);
-    let jobs = items_or_none(alloc, table, Key::Of(ScenarioKey::Jobs), notes);
-    let events = items_or_none(alloc, table, Key::Of(ScenarioKey::Events), notes);
+    let seconds: Result<u64, Refusal<'a>> = read_at(site, SECONDS, notes);
+    let title = read_if(site, TITLE, notes);
+    let stolen = stolen_in(site, notes);
+    let jobs = items_or_none(site, JOBS, notes);
+    let events = items_or_none(site, EVENTS, notes);
     let texts = TimingTexts {
         seconds: seconds? as u32,
-        title: NameText { text: title? },
+        title: title?,
         stolen: stolen?,
         jobs: jobs?,
         events: events?,
@@ -325,15 +296,11 @@ fn timing_in<'a>(
 
 /// The tasks and phases.
 #[tactic(auto, unfolding(crate::specs::Keys::named_in))]
-fn named_in<'a>(
-    alloc: Global,
-    table: &'a Table,
-    notes: &mut Notes<'a>,
-) -> Result<NamedTexts<'a>, Refusal<'a>>
-    ensures value { GivesOrKey (λ t. t) result (named_in (table_view table.now)) }
+fn named_in<'a>(site: Site<'a>, notes: &mut Notes<'a>) -> Result<NamedTexts<'a>, Refusal<'a>>
+    ensures value { GivesOrKey (λ t. t) result (named_in (table_view site.entry.table.now)) }
 {
-    let rows = items_or_none(alloc, table, Key::Of(ScenarioKey::NamedTasks), notes);
-    let entries = items_or_none(alloc, table, Key::Of(ScenarioKey::NamedPhases), notes);
+    let rows = items_or_none(site, NAMED_TASKS, notes);
+    let entries = items_or_none(site, NAMED_PHASES, notes);
     Ok(NamedTexts {
         rows: rows?,
         entries: entries?,
@@ -344,7 +311,7 @@ fn named_in<'a>(
 fn rows_apart<'a>(
     alloc: Global,
     named: Vec<NamedRow<'a>>,
-) -> Result<(Vec<RowTexts<'a>>, Vec<NameText<'a>>), AllocError>
+) -> Result<(Vec<RowTexts<'a>>, Vec<Option<Text<'a>>>), AllocError>
     ensures rows { IfOk result (λ r. r.0.items ≡ map (λ n. n.row) named.entry.items) }
     ensures names { IfOk result (λ r. r.1.items ≡ map (λ n. n.name) named.entry.items) }
 {
@@ -362,7 +329,7 @@ fn rows_apart<'a>(
 fn entries_apart<'a>(
     alloc: Global,
     named: Vec<NamedEntry<'a>>,
-) -> Result<(Vec<EntryTexts<'a>>, Vec<NameText<'a>>), AllocError>
+) -> Result<(Vec<EntryTexts<'a>>, Vec<Option<Text<'a>>>), AllocError>
     ensures entries { IfOk result (λ r. r.0.items ≡ map (λ n. n.entry) named.entry.items) }
     ensures names { IfOk result (λ r. r.1.items ≡ map (λ n. n.name) named.entry.items) }
 {
@@ -388,7 +355,7 @@ fn texts_with<'a>(
     let (rows, row_names) = rows_apart(alloc, named.rows)?;
     let (entries, entry_names) = entries_apart(alloc, named.entries)?;
     let lists = Lists {
-        script: Vec::new(alloc),
+        script: TextList::none(alloc),
         rows,
         entries,
         workers: Vec::new(alloc),
@@ -405,16 +372,14 @@ fn texts_with<'a>(
 /// What a scenario has once, as a bench has it; without a limit or an allowance there are the
 /// greatest.
 #[tactic(auto, unfolding(crate::specs::Keys::ample_settings_in))]
-fn ample_settings_in<'a>(
-    alloc: Global,
-    table: &'a Table,
-    notes: &mut Notes<'a>,
-) -> Result<Settings<'a>, Refusal<'a>>
-    ensures value { GivesOrKey (λ s. s) result (ample_settings_in (table_view table.now)) }
+fn ample_settings_in<'a>(site: Site<'a>, notes: &mut Notes<'a>) -> Result<Settings<'a>, Refusal<'a>>
+    ensures value { GivesOrKey (λ s. s) result
+        (ample_settings_in (table_view site.entry.table.now)) }
 {
-    let settings = settings_in(alloc, table, notes)?;
-    let limit = number_or(table, Key::Limit, 1_000_000, notes);
-    let allowance = number_or(table, Key::Allowance, 9_223_372_036_854_775_807, notes);
+    let settings = settings_in(site, notes)?;
+    let limit: Result<u64, Refusal<'a>> = read_or(site, LIMIT, 1_000_000, notes);
+    let most = 9_223_372_036_854_775_807;
+    let allowance: Result<u64, Refusal<'a>> = read_or(site, ALLOWANCE, most, notes);
     Ok(Settings {
         sets: settings.sets,
         names_sets: settings.names_sets,
@@ -437,10 +402,15 @@ pub(crate) fn scenario_in<'a>(
 ) -> Result<ScenarioTexts<'a>, Refusal<'a>>
     ensures { GivesOrKey (λ t. t) result (scenario_in (table_view table.now)) }
 {
-    let known = has_only(table, Level::Scenario, Place::Whole, notes);
-    let settings = ample_settings_in(alloc, table, notes);
-    let named = named_in(alloc, table, notes);
-    let timing = timing_in(alloc, table, notes);
+    let site = Site {
+        alloc,
+        table,
+        place: Place::Whole,
+    };
+    let known = has_only(site, &SCENARIO_KEYS, Level::Scenario, notes);
+    let settings = ample_settings_in(site, notes);
+    let named = named_in(site, notes);
+    let timing = timing_in(site, notes);
     known?;
     let texts = texts_with(alloc, settings?, named?, timing?)?;
     Ok(texts)

@@ -4,14 +4,13 @@
 
 mod apart;
 mod changing;
-mod checks;
 mod keys;
+pub mod rows;
 mod scenario;
 mod texts;
 mod timing;
 mod values;
 
 pub use changing::Number;
-pub use checks::{CheckedScenario, scenario_findings};
 pub use scenario::{Scenario, is_scenario, read_scenario, scenario_of};
 pub use timing::{Name, TimedEvent, TimedJob, Timing};

@@ -11,13 +11,11 @@ ghost use Rattle.agc_scenario.specs.Scenarios.{IsScenario, IsTimed, Timed, can_b
 ghost use Rattle.agc_scenario.specs.Scenarios.{scenario_texts, timing_texts};
 
 use crate::keys::scenario_in;
-use crate::texts::{NameText, TimingTexts};
+use crate::rows::SECONDS;
+use crate::texts::ScenarioTexts;
 use crate::timing::{Name, Timing};
 use crate::values::{all_copied, can_all_be_shown, timing_of};
-use agc_document::{
-    Bench, BenchFault, Key, Notes, Refusal, ScenarioKey, Texts, bench_from, value_of,
-};
-use agc_findings::Document;
+use agc_document::{Bench, BenchFault, Notes, Refusal, Text, bench_from, value_of};
 use std::alloc::Global;
 use std::marker::Model;
 use toml::Table;
@@ -76,7 +74,7 @@ impl Scenario {
 }
 
 /// Copies names. A fault `Line` where one can't be shown.
-fn names_of(alloc: Global, names: &[NameText<'_>]) -> Result<Vec<Name>, BenchFault>
+fn names_of(alloc: Global, names: &[Option<Text<'_>>]) -> Result<Vec<Name>, BenchFault>
     ensures found { IfOk result (λ v. (v.items ≡ names.now)
         × (list_all can_be_shown names.now ≡ true)) }
     ensures refused { IfErr result (RefusedLine (list_all can_be_shown names.now ≢ true)) }
@@ -92,31 +90,18 @@ fn names_of(alloc: Global, names: &[NameText<'_>]) -> Result<Vec<Name>, BenchFau
 #[tactic(auto, using(crate::proofs::Refusals::refused_bench))]
 fn spelled<'a>(
     alloc: Global,
-    bench: &Texts<'_>,
-    row_names: &[NameText<'_>],
-    entry_names: &[NameText<'_>],
-    timing: TimingTexts<'_>,
+    texts: ScenarioTexts<'_>,
     notes: &Notes<'a>,
 ) -> Result<Scenario, Refusal<'a>>
-    ensures found { IfOk result (λ s. IsScenario s × (scenario_texts s ≡ record {
-      bench = bench.now;
-      row_names = row_names.now;
-      entry_names = entry_names.now;
-      timing = timing.entry;
-    })) }
-    ensures refused { IfErr result (λ r. RefusesTexts (record {
-      bench = bench.now;
-      row_names = row_names.now;
-      entry_names = entry_names.now;
-      timing = timing.entry;
-    }) (fault_of_refusal r)) }
+    ensures found { IfOk result (λ s. IsScenario s × (scenario_texts s ≡ texts.entry)) }
+    ensures refused { IfErr result (λ r. RefusesTexts texts.entry (fault_of_refusal r)) }
 {
-    let row_names = names_of(alloc, row_names);
-    let entry_names = names_of(alloc, entry_names);
-    let timing = timing_of(alloc, timing);
+    let row_names = names_of(alloc, texts.row_names.as_slice());
+    let entry_names = names_of(alloc, texts.entry_names.as_slice());
+    let timing = timing_of(alloc, texts.timing);
     match (row_names, entry_names, timing) {
         (Ok(row_names), Ok(entry_names), Ok(timing)) => {
-            match bench_from(alloc, bench, notes) {
+            match bench_from(alloc, &texts.bench, notes) {
                 Ok(bench) => Ok(Scenario {
                     bench,
                     row_names,
@@ -148,9 +133,7 @@ pub fn scenario_of<'a>(
         RefusesScenario (Some (table_view table.now)) (fault_of_refusal r)) }
 {
     let texts = scenario_in(alloc, table, notes)?;
-    let timing = texts.timing;
-    let (row_names, entry_names) = (texts.row_names.as_slice(), texts.entry_names.as_slice());
-    spelled(alloc, &texts.bench, row_names, entry_names, timing, notes)
+    spelled(alloc, texts, notes)
 }
 
 /// The scenario that a TOML document is: its values, and for each key that is missing the value
@@ -185,8 +168,8 @@ pub fn read_scenario(alloc: Global, text: &str) -> Result<Scenario, BenchFault>
 }
 
 /// Whether a document has the key `seconds`, and so should be a scenario. Source: profile.
-pub fn is_scenario(document: &Document<'_>) -> bool
-    ensures { result ≡ has_seconds (parse_document document.now) }
+pub fn is_scenario(table: &Table) -> bool
+    ensures { result ≡ has_seconds (table_view table.now) }
 {
-    value_of(document.table(), Key::Of(ScenarioKey::Seconds)).is_some()
+    value_of(table, SECONDS).is_some()
 }

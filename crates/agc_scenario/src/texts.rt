@@ -1,28 +1,13 @@
 //! The numbers and texts of a scenario, which borrow from its document.
 use agc_clock::Stolen;
-use agc_document::{EntryTexts, RowTexts, Text, Texts};
+use agc_document::{EntryTexts, RowTexts, Text, TextList, Texts};
 use std::marker::Model;
-
-/// The text of a name, if it is there.
-#[derive(Drop)]
-pub(crate) struct NameText<'a> {
-    pub(crate) text: Option<&'a str>,
-}
-
-impl<'a> Model for NameText<'a> {
-    ghost use Rattle.std.specs.Prelude.{ℕ, List, Option};
-    ghost use Rattle.std.specs.Option.{option_map};
-
-    ghost Value = { Option (List ℕ) };
-
-    ghost view = { λ n. option_map (λ s. s.now) n.text };
-}
 
 /// A task's row and its name.
 #[derive(Drop)]
 pub(crate) struct NamedRow<'a> {
     pub(crate) row: RowTexts<'a>,
-    pub(crate) name: NameText<'a>,
+    pub(crate) name: Option<Text<'a>>,
 }
 
 impl<'a> Model for NamedRow<'a> {
@@ -37,7 +22,7 @@ impl<'a> Model for NamedRow<'a> {
 #[derive(Drop)]
 pub(crate) struct NamedEntry<'a> {
     pub(crate) entry: EntryTexts<'a>,
-    pub(crate) name: NameText<'a>,
+    pub(crate) name: Option<Text<'a>>,
 }
 
 impl<'a> Model for NamedEntry<'a> {
@@ -81,10 +66,10 @@ impl Model for StolenRow {
 /// cost.
 #[derive(Drop)]
 pub(crate) struct JobTexts<'a> {
-    pub(crate) at: &'a str,
+    pub(crate) at: Text<'a>,
     pub(crate) cost: u32,
-    pub(crate) leaving: &'a str,
-    pub(crate) name: NameText<'a>,
+    pub(crate) leaving: Text<'a>,
+    pub(crate) name: Option<Text<'a>>,
 }
 
 impl<'a> Model for JobTexts<'a> {
@@ -93,12 +78,7 @@ impl<'a> Model for JobTexts<'a> {
 
     ghost Value = { Texts };
 
-    ghost view = { λ t. record {
-      at = t.at.now;
-      cost = t.cost;
-      leaving = t.leaving.now;
-      name = t.name;
-    } };
+    ghost view = { λ t. record { at = t.at; cost = t.cost; leaving = t.leaving; name = t.name } };
 
     ghost invariant = { λ t. t.cost ≤ 1000000 };
 }
@@ -107,10 +87,10 @@ impl<'a> Model for JobTexts<'a> {
 #[derive(Drop)]
 pub(crate) struct EventTexts<'a> {
     pub(crate) at: u32,
-    pub(crate) requests: Vec<Text<'a>>,
+    pub(crate) requests: TextList<'a>,
     pub(crate) every: Option<u32>,
     pub(crate) until: Option<u32>,
-    pub(crate) name: NameText<'a>,
+    pub(crate) name: Option<Text<'a>>,
 }
 
 impl<'a> Model for EventTexts<'a> {
@@ -121,7 +101,7 @@ impl<'a> Model for EventTexts<'a> {
 
     ghost view = { λ t. record {
       at = t.at;
-      requests = t.requests.items;
+      requests = t.requests;
       every = t.every;
       until = t.until;
       name = t.name;
@@ -134,7 +114,7 @@ impl<'a> Model for EventTexts<'a> {
 #[derive(Drop)]
 pub(crate) struct TimingTexts<'a> {
     pub(crate) seconds: u32,
-    pub(crate) title: NameText<'a>,
+    pub(crate) title: Option<Text<'a>>,
     pub(crate) stolen: Vec<Stolen>,
     pub(crate) jobs: Vec<JobTexts<'a>>,
     pub(crate) events: Vec<EventTexts<'a>>,
@@ -161,8 +141,8 @@ impl<'a> Model for TimingTexts<'a> {
 #[derive(Drop)]
 pub(crate) struct ScenarioTexts<'a> {
     pub(crate) bench: Texts<'a>,
-    pub(crate) row_names: Vec<NameText<'a>>,
-    pub(crate) entry_names: Vec<NameText<'a>>,
+    pub(crate) row_names: Vec<Option<Text<'a>>>,
+    pub(crate) entry_names: Vec<Option<Text<'a>>>,
     pub(crate) timing: TimingTexts<'a>,
 }
 

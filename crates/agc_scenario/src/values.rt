@@ -10,10 +10,10 @@ ghost use Rattle.agc_scenario.specs.Scenarios.{Timed, can_be_shown, then_of};
 ghost use Rattle.agc_scenario.specs.Scenarios.{event_texts, job_texts};
 ghost use Rattle.agc_scenario.specs.Scenarios.{timing_texts, IsTimed, IsTimedEvent, IsTimedJob};
 
-use crate::texts::{EventTexts, JobTexts, NameText, TimingTexts};
+use crate::texts::{EventTexts, JobTexts, TimingTexts};
 use crate::timing::{Name, TimedEvent, TimedJob, Timing};
 use agc_clock::Then;
-use agc_document::{BenchFault, Spelled, all_spelled, is_name, or_line};
+use agc_document::{BenchFault, Spelled, Text, all_spelled, is_name, or_line};
 use agc_plan::Request;
 use agc_text::{parse_address, parse_line};
 use std::alloc::{AllocError, Global};
@@ -41,34 +41,34 @@ fn parse_then(text: &str) -> Option<Then>
 }
 
 /// Whether a name can be shown, if it is there.
-fn can_be_shown(name: &NameText<'_>) -> bool
+fn can_be_shown(name: &Option<Text<'_>>) -> bool
     ensures { result ≡ can_be_shown name.now }
 {
-    match name.text {
+    match name {
         None => true,
-        Some(text) => is_name(text),
+        Some(text) => is_name(text.as_str()),
     }
 }
 
 /// Whether each of these names can be shown.
-pub(crate) fn can_all_be_shown(names: &[NameText<'_>]) -> bool
+pub(crate) fn can_all_be_shown(names: &[Option<Text<'_>>]) -> bool
     ensures { result ≡ list_all can_be_shown names.now }
 {
     names.iter().all(|name| can_be_shown(name))
 }
 
 /// A name in memory of its own.
-fn copied(alloc: Global, name: &NameText<'_>) -> Result<Name, AllocError>
+fn copied(alloc: Global, name: &Option<Text<'_>>) -> Result<Name, AllocError>
     ensures { IfOk result (λ n. n ≡ name.now) }
 {
-    match name.text {
+    match name {
         None => Ok(Name::of(None)),
-        Some(text) => Ok(Name::of(Some(String::from_str(alloc, text)?))),
+        Some(text) => Ok(Name::of(Some(String::from_str(alloc, text.as_str())?))),
     }
 }
 
 /// Names in memory of their own.
-pub(crate) fn all_copied(alloc: Global, names: &[NameText<'_>]) -> Result<Vec<Name>, AllocError>
+pub(crate) fn all_copied(alloc: Global, names: &[Option<Text<'_>>]) -> Result<Vec<Name>, AllocError>
     ensures { IfOk result (λ v. v.items ≡ names.now) }
 {
     let mut all: Vec<Name> = Vec::new(alloc);
@@ -80,7 +80,7 @@ pub(crate) fn all_copied(alloc: Global, names: &[NameText<'_>]) -> Result<Vec<Na
 }
 
 /// The name that a text is. A fault `Line` where it can't be shown.
-fn name_of(alloc: Global, name: &NameText<'_>) -> Result<Name, BenchFault>
+fn name_of(alloc: Global, name: &Option<Text<'_>>) -> Result<Name, BenchFault>
     ensures found { IfOk result (λ n. (n ≡ name.now) × (can_be_shown name.now ≡ true)) }
     ensures refused { IfErr result (RefusedLine (can_be_shown name.now ≢ true)) }
 {
@@ -97,8 +97,8 @@ impl<'a> Spelled<JobTexts<'a>> for TimedJob {
     ghost IsLawful = { IsTimedJob };
 
     fn spelled_by(alloc: Global, texts: &JobTexts<'a>) -> Result<TimedJob, BenchFault> {
-        let at = or_line(parse_address(texts.at))?;
-        let leaves = or_line(parse_then(texts.leaving))?;
+        let at = or_line(parse_address(texts.at.as_str()))?;
+        let leaves = or_line(parse_then(texts.leaving.as_str()))?;
         let name = name_of(alloc, &texts.name)?;
         Ok(TimedJob {
             at,

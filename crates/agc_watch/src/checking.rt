@@ -2,8 +2,9 @@
 use crate::documents::looked_at;
 use crate::program::StandardOutput;
 use crate::stops::Stop;
-use agc_check::{add_script_summary, bench_told, report_on, script_findings, script_told};
-use agc_findings::{Document, NoDocument};
+use agc_check::{
+    Document, NoDocument, add_script_summary, bench_told, report_on, script_findings, script_told,
+};
 use agc_program::Fault;
 use agc_text::{put, read_script};
 use std::alloc::{AllocError, Global};

@@ -1,11 +1,13 @@
 //! The document that a text is. Of one that is none it is said what is wrong with it.
 use crate::stops::Stop;
-use agc_check::bench_told;
+use agc_check::{
+    Checked, CheckedScenario, Document, Finding, NoDocument, bench_findings, bench_told,
+    scenario_findings,
+};
 use agc_document::{Bench, BenchFault};
-use agc_findings::{Checked, Document, Finding, NoDocument, bench_findings};
 use agc_program::Fault;
 use agc_run::Subject;
-use agc_scenario::{CheckedScenario, Scenario, is_scenario, scenario_findings};
+use agc_scenario::{Scenario, is_scenario};
 use std::alloc::{AllocError, Global};
 
 /// What a document is that is shown.
@@ -52,7 +54,7 @@ pub(crate) fn looked_at(
     alloc: Global,
     document: &Document<'_>,
 ) -> Result<Result<Shown, Vec<Finding>>, AllocError> {
-    if is_scenario(document) {
+    if is_scenario(document.table()) {
         let CheckedScenario { scenario, findings } = scenario_findings(alloc, document)?;
         Ok(scenario.map(Shown::Scenario).ok_or(findings))
     } else {
@@ -73,7 +75,7 @@ pub(crate) fn document_in(alloc: Global, text: &str) -> Result<Shown, Stop> {
 /// The bench that a text is.
 pub(crate) fn bench_in(alloc: Global, text: &str) -> Result<Bench, Stop> {
     let document = parsed(alloc, text)?;
-    if is_scenario(&document) {
+    if is_scenario(document.table()) {
         return Err(Stop::IsScenario);
     }
     let Checked { bench, findings } = bench_findings(alloc, &document)?;

@@ -12,4 +12,4 @@ for_none (Some x) P p = tt
 pub returns-in_err-actions-clause-only : goal.returns-in_err-actions-clause-only
 returns-in_err-actions-clause-only c =
     for_none c.from_residual-in_err-actions.result ((r : Task × List Action) → IsRow r → c.args.texts.now ≢ row_texts r)
-    (λ r h e. c.in_err-actions.ensures.only r.1 h.1.0 (c.as_slice.ensures.value ∙ ap (λ (t : RowTexts). t.actions) (c.texts.view_is ∙ e)))
+    (λ r h e. c.in_err-actions.ensures.only r.1 h.1.0 (c.as_slice.ensures ∙ ap (λ (t : RowTexts). t.actions) (c.texts.view_is ∙ e)))

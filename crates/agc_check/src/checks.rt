@@ -1,10 +1,12 @@
 //! A scenario, or what is wrong with the document that should be one.
 ghost use Rattle.std.specs.Prelude.{IfOk};
-ghost use Rattle.agc_scenario.specs.Checks.{ChecksAsScenario};
+ghost use Rattle.agc_check.specs.Checks.{ChecksAsScenario};
 
-use crate::scenario::{Scenario, scenario_of};
+use crate::document::Document;
+use crate::finding::Finding;
+use crate::reading::found_in;
 use agc_document::Notes;
-use agc_findings::{Document, Finding, found_in};
+use agc_scenario::{Scenario, scenario_of};
 use std::alloc::{AllocError, Global};
 
 /// The scenario that a document is, or else what is wrong with it.
@@ -22,7 +24,7 @@ pub struct CheckedScenario {
 /// # Errors
 ///
 /// Where there is no memory.
-#[tactic(auto, using(crate::proofs::Refusals::refused, crate::proofs::Refusals::accepted))]
+#[tactic(auto, using(crate::proofs::Scenarios::refused, crate::proofs::Scenarios::accepted))]
 pub fn scenario_findings(
     alloc: Global,
     document: &Document<'_>,

@@ -2,7 +2,7 @@
 ghost use Rattle.std.specs.Prelude.{◌≡◌, Some, IfOk, IfErr};
 ghost use Rattle.toml.specs.Parse.{parse_document};
 ghost use Rattle.toml.specs.View.{table_view};
-ghost use Rattle.agc_findings.specs.Documents.{IsNoDocument};
+ghost use Rattle.agc_check.specs.Documents.{IsNoDocument};
 
 use crate::finding::Finding;
 use crate::reading::found_no_document;
@@ -39,9 +39,9 @@ pub enum NoDocument {
 
 impl From<AllocError> for NoDocument {
     ghost use Rattle.std.specs.Prelude.{◌≡◌};
-    ghost use Rattle.agc_findings.specs.declared.document.NoDocument.TheVariants.{NoMemory as OutOfMemory};
+    ghost use Rattle.agc_check.specs.declared.document.NoDocument.TheVariants as no;
 
-    ghost from_gives = { λ _ e. e ≡ OutOfMemory };
+    ghost from_gives = { λ _ e. e ≡ no.NoMemory };
 
     fn from(_error: AllocError) -> NoDocument {
         NoDocument::NoMemory

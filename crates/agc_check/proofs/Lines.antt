@@ -1,6 +1,6 @@
 -- The lines of a text.
 use Rattle.std.proofs.Common.{ℕ, zero, suc, ◌≤◌, ◌==◌, Bool, true, false, if◌then◌else◌, List, [], ◌∷◌, take, arith}
-use Rattle.agc_findings.specs.Findings.{line_ends}
+use Rattle.agc_check.specs.Findings.{line_ends}
 
 -- no more lines end in the front of a text
 pub ends_before : (k : ℕ) (text : List ℕ) → line_ends (take k text) ≤ line_ends text

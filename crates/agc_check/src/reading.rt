@@ -2,9 +2,9 @@
 ghost use Rattle.std.specs.Prelude.{◌≡◌, ◌≤◌, [], ◌∷◌, ◌++◌, length, map, Some, IfOk};
 ghost use Rattle.std.specs.List.Sorted.{IsPermutation};
 ghost use Rattle.agc_document.specs.Faults.{bench_fault, fault_of_refusal};
-ghost use Rattle.agc_findings.specs.Findings.{AreFindings, ChecksAs, refusal_of};
-ghost use Rattle.agc_findings.specs.Findings.{alone, say, said, of_key, of_text};
-ghost use Rattle.agc_findings.specs.Findings.{or_alone, say_plan, to_say};
+ghost use Rattle.agc_check.specs.Findings.{AreFindings, ChecksAs, refusal_of};
+ghost use Rattle.agc_check.specs.Findings.{alone, say, said, of_key, of_text};
+ghost use Rattle.agc_check.specs.Findings.{or_alone, say_plan, to_say};
 ghost use Rattle.agc_document.specs.declared.fault.BenchFault.TheVariants as refusal;
 
 use crate::document::{Document, NoDocument};

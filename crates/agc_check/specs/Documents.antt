@@ -2,9 +2,9 @@
 use Rattle.std.specs.Prelude.{◌≡◌, ℕ, List, None}
 use Rattle.toml.specs.Parse.{parse_document}
 use Rattle.agc_document.specs.declared.fault.BenchFault.TheVariants.{NotToml}
-use Rattle.agc_findings.specs.declared.document.NoDocument.{NoDocument}
-use Rattle.agc_findings.specs.declared.document.NoDocument.TheVariants as refused
-use Rattle.agc_findings.specs.Findings.{AreFindings}
+use Rattle.agc_check.specs.declared.document.NoDocument.{NoDocument}
+use Rattle.agc_check.specs.declared.document.NoDocument.TheVariants as refused
+use Rattle.agc_check.specs.Findings.{AreFindings}
 
 -- the text is no document, of which this is found; want of memory aside
 abbrev pub IsNoDocument : List ℕ → NoDocument → Type 0

@@ -2,7 +2,7 @@
 use Rattle.std.specs.Prelude.{◌≡◌, ℕ, List, [], Option, Some, None}
 use Rattle.toml.specs.Parse.{parse_document}
 use Rattle.agc_document.specs.declared.fault.BenchFault.{BenchFault}
-use Rattle.agc_findings.specs.Findings.{Found, AreFindings}
+use Rattle.agc_check.specs.Findings.{Found, AreFindings}
 use Rattle.agc_scenario.specs.Scenarios.{Scenarioed, IsScenario, scenario_texts}
 use Rattle.agc_scenario.specs.Faults.{HasTexts, RefusesScenario}
 

@@ -1,6 +1,6 @@
 use Rattle.std.proofs.Common.{rules}
 use Rattle.std.proofs.lemmas.List.Sorted.{IsNonDecreasingBy-from_sort_by_key}
-use Rattle.agc_findings.proofs.finding.put_in_order.Goals as goal
+use Rattle.agc_check.proofs.finding.put_in_order.Goals as goal
 
 pub returns-clause-order : goal.returns-clause-order
 returns-clause-order c = IsNonDecreasingBy-from_sort_by_key (λ f. f.at) _ c.in_ok-sort_by_key.ensures.sorted (λ a r q k. search rules)

@@ -15,8 +15,8 @@ use Rattle.agc_document.specs.declared.refusal.Refusal.{Refusal}
 use Rattle.agc_document.specs.declared.refusal.Refusal.TheVariants as no
 use Rattle.agc_plan.specs.declared.plan.PlanFault.{PlanFault}
 use Rattle.agc_plan.specs.declared.plan.PlanFault.TheVariants as plan
-use Rattle.agc_findings.specs.declared.wrong.Wrong.{Wrong}
-use Rattle.agc_findings.specs.declared.wrong.Wrong.TheVariants as wrong
+use Rattle.agc_check.specs.declared.wrong.Wrong.{Wrong}
+use Rattle.agc_check.specs.declared.wrong.Wrong.TheVariants as wrong
 use Rattle.agc_document.specs.Benches.{Benched, IsBench, bench_texts}
 use Rattle.agc_document.specs.Faults.{HasTexts, RefusesBench}
 

@@ -2,9 +2,9 @@
 ghost use Rattle.std.specs.Prelude.{◌≡◌, ◌≤◌, length, map, IfOk, OnOk};
 ghost use Rattle.std.specs.List.{All};
 ghost use Rattle.std.specs.List.Sorted.{IsNonDecreasingBy, IsPermutation};
-ghost use Rattle.agc_findings.specs.Findings.{line_ends, line_of, StandsIn, refusal_of};
-ghost use Rattle.agc_findings.specs.Findings.{IsFound, AreFound, say, said, of_key, of_text};
-ghost use Rattle.agc_findings.specs.declared.wrong.Wrong.TheVariants as wrong_of;
+ghost use Rattle.agc_check.specs.Findings.{line_ends, line_of, StandsIn, refusal_of};
+ghost use Rattle.agc_check.specs.Findings.{IsFound, AreFound, say, said, of_key, of_text};
+ghost use Rattle.agc_check.specs.declared.wrong.Wrong.TheVariants as wrong_of;
 ghost use Rattle.agc_document.specs.declared.fault.BenchFault.TheVariants as refusal;
 
 use crate::locate::{Spot, spots_of_keys, spots_of_texts};
@@ -26,7 +26,7 @@ pub struct Finding {
 
 impl Model for Finding {
     ghost use Rattle.std.specs.Prelude.{string_bytes};
-    ghost use Rattle.agc_findings.specs.Findings.{Found};
+    ghost use Rattle.agc_check.specs.Findings.{Found};
 
     ghost Value = { Found };
 

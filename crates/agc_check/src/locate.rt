@@ -19,7 +19,7 @@ struct Way<'a> {
 }
 
 fn name<'a>(key: Key) -> Option<Step<'a>> {
-    Some(Step::Name(key.row().name))
+    Some(Step::Name(key.name()))
 }
 
 fn number<'a>(number: u64) -> Option<Step<'a>> {

@@ -12,7 +12,7 @@ use Rattle.agc_document.specs.declared.fault.BenchFault.TheVariants as refusal
 use Rattle.agc_document.specs.declared.fault.BenchFault.TheVariants.{NoMemory, NotToml, Key, Line, TaskTwice, PhaseTwice, TooManyAreas}
 use Rattle.agc_document.specs.Benches.{Benched, IsBench, bench_texts}
 use Rattle.agc_document.specs.Faults.{HasTexts, RefusesBench}
-use Rattle.agc_findings.specs.Findings.{Found, IsFound, AreFound, most_of, AreFindings, Said, said, ChecksAs}
+use Rattle.agc_check.specs.Findings.{Found, IsFound, AreFound, most_of, AreFindings, Said, said, ChecksAs}
 use Rattle.agc_document.proofs.Refusals.{refused_in, texts_of}
 
 -- brought in order

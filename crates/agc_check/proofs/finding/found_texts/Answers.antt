@@ -1,7 +1,7 @@
 use Rattle.agc_document.specs.declared.fault.BenchFault.TheVariants as refusal
-use Rattle.agc_findings.specs.Findings.{of_text}
-use Rattle.agc_findings.proofs.Found.{found_more, more_found, says_more}
-use Rattle.agc_findings.proofs.finding.found_texts.Goals as goal
+use Rattle.agc_check.specs.Findings.{of_text}
+use Rattle.agc_check.proofs.Found.{found_more, more_found, says_more}
+use Rattle.agc_check.proofs.finding.found_texts.Goals as goal
 
 pub loop-note-preserved : goal.loop-note-preserved
 loop-note-preserved c = record {

@@ -1,6 +1,6 @@
 //! Why a document is no bench.
 ghost use Rattle.std.specs.Prelude.{◌≡◌};
-ghost use Rattle.agc_findings.specs.Findings.{refusal_of};
+ghost use Rattle.agc_check.specs.Findings.{refusal_of};
 
 use agc_document::{BenchFault, Form, KeyFault};
 

@@ -1,6 +1,6 @@
 use Rattle.std.proofs.Common.{◌≡◌, ◌+◌, ◌≤◌, drop}
-use Rattle.agc_findings.specs.Findings.{line_ends}
-use Rattle.agc_findings.proofs.finding.line_ends.Given as goal
+use Rattle.agc_check.specs.Findings.{line_ends}
+use Rattle.agc_check.proofs.finding.line_ends.Given as goal
 
 abbrev pub invariant-loop-byte : goal.invariant-loop-byte
 invariant-loop-byte l = record {

@@ -1,0 +1,71 @@
+//! The table of keys of a scenario: each with what its value is, and whether it must be there.
+use agc_document::rows::{
+    ACTION, ALLOWANCE, AT, BANK, GROUP, JOB, KEY, LIMIT, LISTING, PHASE, POWER, RADAR, SETS,
+};
+use agc_document::{ANY, Form, Key, KeyName, Kind};
+
+pub const SECONDS: Key = Key::Required(KeyName::Seconds, Kind::Integer(1, 3600));
+
+pub const TITLE: Key = Key::Optional(KeyName::Title, Kind::Text(Form::Name));
+
+pub const STEAL: Key = Key::Optional(KeyName::Steal, Kind::IntegerOrTables(0, 100));
+
+pub const NAMED_TASKS: Key = Key::Optional(KeyName::Task, Kind::Tables(0, ANY));
+
+pub const NAMED_PHASES: Key = Key::Optional(KeyName::Phase, Kind::Tables(0, ANY));
+
+pub const JOBS: Key = Key::Optional(KeyName::Job, Kind::Tables(0, 100));
+
+pub const EVENTS: Key = Key::Optional(KeyName::Event, Kind::Tables(0, 1000));
+
+/// The keys of a scenario itself.
+pub const SCENARIO_KEYS: [Key; 13] = [
+    SECONDS,
+    TITLE,
+    SETS,
+    LIMIT,
+    ALLOWANCE,
+    KEY,
+    RADAR,
+    POWER,
+    STEAL,
+    NAMED_TASKS,
+    NAMED_PHASES,
+    JOBS,
+    EVENTS,
+];
+
+pub const NAME: Key = Key::Optional(KeyName::Name, Kind::Text(Form::Name));
+
+/// The keys of a task's row.
+pub const NAMED_TASK_KEYS: [Key; 4] = [AT, BANK, ACTION, NAME];
+
+/// The keys of a phase entry.
+pub const NAMED_PHASE_KEYS: [Key; 5] = [GROUP, PHASE, JOB, LISTING, NAME];
+
+pub const FROM: Key = Key::Required(KeyName::From, Kind::Integer(0, 360_000));
+
+pub const TO: Key = Key::Required(KeyName::To, Kind::Integer(0, 360_000));
+
+pub const PERCENT: Key = Key::Required(KeyName::Percent, Kind::Integer(0, 100));
+
+pub const EVERY: Key = Key::Optional(KeyName::Every, Kind::Integer(1, 360_000));
+
+pub const UNTIL: Key = Key::Optional(KeyName::Until, Kind::Integer(0, 360_000));
+
+/// The keys of a row of stolen time.
+pub const STEAL_KEYS: [Key; 5] = [FROM, TO, PERCENT, EVERY, UNTIL];
+
+pub const COST: Key = Key::Required(KeyName::Cost, Kind::Integer(1, 1_000_000));
+
+pub const THEN: Key = Key::Optional(KeyName::Then, Kind::Text(Form::Leaving));
+
+/// The keys of what a job costs.
+pub const JOB_KEYS: [Key; 4] = [AT, COST, THEN, NAME];
+
+pub const MOMENT: Key = Key::Required(KeyName::At, Kind::Integer(0, 360_000));
+
+pub const DO: Key = Key::Required(KeyName::Do, Kind::OneOrMore(Form::Request, 1, 16));
+
+/// The keys of an event.
+pub const EVENT_KEYS: [Key; 5] = [MOMENT, DO, EVERY, UNTIL, NAME];
