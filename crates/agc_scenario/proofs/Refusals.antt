@@ -5,7 +5,6 @@ use Rattle.std.specs.Option.{option_map}
 use Rattle.toml.specs.Data.{Members}
 use Rattle.agc_plan.specs.Plans.{fault_of}
 use Rattle.agc_document.specs.declared.fault.BenchFault.{BenchFault}
-use Rattle.agc_document.specs.declared.fault.BenchFault.TheVariants as refusal
 use Rattle.agc_document.specs.declared.fault.BenchFault.TheVariants.{NoMemory, NotToml, Key, Line, TaskTwice, PhaseTwice, TooManyAreas}
 use Rattle.agc_document.specs.Texts.{Texts}
 use Rattle.agc_document.specs.Benches.{Benched, bench_texts}
@@ -14,7 +13,7 @@ use Rattle.agc_document.specs.Faults as bench
 use Rattle.agc_scenario.specs.Texts.{ScenarioTexts, TimingTexts}
 use Rattle.agc_scenario.specs.Keys.{scenario_in}
 use Rattle.agc_scenario.specs.Scenarios.{Scenarioed, Timed, IsInRange, IsTimed, can_be_shown, scenario_texts, timing_texts}
-use Rattle.agc_scenario.specs.Faults.{HasTexts, RefusesTexts, RefusesScenario}
+use Rattle.agc_scenario.specs.Faults.{RefusesTexts, RefusesScenario}
 
 -- texts, with others of their parts
 with_parts : (texts : ScenarioTexts) (b : Texts) (t : TimingTexts) → texts.bench ≡ b → texts.timing ≡ t → texts ≡ record { bench = b; row_names = texts.row_names; entry_names = texts.entry_names; timing = t }

@@ -1,7 +1,7 @@
 -- A document's numbers and texts by key, as those of a scenario, before any text is read. None
 -- stands for a fault Key.
-use Rattle.std.specs.Prelude.{ℕ, ℤ, List, [], ◌∷◌, codes, map, Option, Some, None}
-use Rattle.std.specs.Prelude.{Bool, true, false, nat_lt, nat_le, not, is_some, ◌-◌, ◌==◌, ◌&&◌}
+use Rattle.std.specs.Prelude.{ℕ, List, [], ◌∷◌, codes, map, Option, Some, None}
+use Rattle.std.specs.Prelude.{Bool, true, nat_lt, nat_le, not, is_some, ◌-◌, ◌&&◌}
 use Rattle.std.specs.Prelude.{◌||◌, if◌then◌else◌, unwrap_or}
 use Rattle.std.specs.List.{list_all}
 use Rattle.toml.specs.Data.{Data, Members, as_integer}
@@ -9,7 +9,7 @@ use Rattle.agc_text.specs.Chain.{◌>>=◌}
 use Rattle.agc_document.specs.declared.key.Key.{Key as AnyKey}
 use Rattle.agc_document.specs.declared.rows.TheConstants as key
 use Rattle.agc_scenario.specs.declared.rows.TheConstants as own
-use Rattle.agc_document.specs.Texts.{Lists, Settings, Texts}
+use Rattle.agc_document.specs.Texts.{Lists, Settings}
 use Rattle.agc_document.specs.Keys.{is_among, known_to, table_of, value_of, number_of, text_of}
 use Rattle.agc_document.specs.Keys.{texts_of, read_at, read_or, read_if, items_of}
 use Rattle.agc_document.specs.Keys.{row_in, entry_in, settings_in}
