@@ -4,3 +4,7 @@ pub mod Told
 pub mod Asked
 pub mod Written
 pub mod Lacking
+pub mod Map
+pub mod Jobs
+pub mod Tasks
+pub mod Rules

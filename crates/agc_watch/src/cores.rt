@@ -1,12 +1,12 @@
 //! What the memory of a real computer says, by a map of its addresses.
 ghost use Rattle.std.specs.Prelude.{◌≡◌, ◌⊎◌, ◌+◌, ◌*◌, ◌<◌, length};
-ghost use Rattle.agc_core.specs.Map.{HasPlace, HasSet, IsSets, IsWithin};
+ghost use Rattle.agc_image.specs.Map.{HasPlace, HasSet, IsSets, IsWithin};
 
 use crate::files::{read_file, unread};
 use crate::program::Console;
 use crate::stops::Stop;
 use agc_check::add;
-use agc_core::{AgcMap, address_in, is_within, job_in, rule_in, task_in, word_in};
+use agc_image::{AgcMap, address_in, is_within, job_in, rule_in, task_in, word_in};
 use agc_program::Fault;
 use agc_text::Filling::{Number, Octal, Priority, Seconds, Text};
 use agc_text::{Draft, parse_word, read_all};

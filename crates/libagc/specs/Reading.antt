@@ -1,11 +1,11 @@
 -- What is told of a real computer's words.
 use Rattle.std.specs.Prelude.{◌≡◌, ◌↔◌, ℕ, ◌+◌, nat_lt, if◌then◌else◌, List, Option, Some, None}
 use Rattle.std.specs.Prelude.{replicate}
-use Rattle.agc_core.specs.declared.map.AgcMap.{AgcMap}
-use Rattle.agc_core.specs.declared.jobs.Job.{Job}
-use Rattle.agc_core.specs.declared.tasks.Waiting.{Waiting}
-use Rattle.agc_core.specs.Map.{IsSets, IsWithin, address_in, word_at}
-use Rattle.agc_core.specs.Rules.{rule_at}
+use Rattle.agc_image.specs.declared.map.AgcMap.{AgcMap}
+use Rattle.agc_image.specs.declared.jobs.Job.{Job}
+use Rattle.agc_image.specs.declared.tasks.Waiting.{Waiting}
+use Rattle.agc_image.specs.Map.{IsSets, IsWithin, address_in, word_at}
+use Rattle.agc_image.specs.Rules.{rule_at}
 use Rattle.libagc.specs.declared.reading.AgcCell.{AgcCell}
 use Rattle.libagc.specs.declared.tables.AgcJob.{AgcJob}
 use Rattle.libagc.specs.declared.tables.AgcWaiting.{AgcWaiting}

@@ -1,12 +1,12 @@
 // The tables of a real computer, whose memory is read by a map of addresses.
 ghost use Rattle.std.specs.Prelude.{◌≡◌, ◌+◌, ◌*◌, ◌<◌, IsTrue, length};
-ghost use Rattle.agc_core.specs.Jobs.{job_told};
-ghost use Rattle.agc_core.specs.Tasks.{task_told};
+ghost use Rattle.agc_image.specs.Jobs.{job_told};
+ghost use Rattle.agc_image.specs.Tasks.{task_told};
 ghost use Rattle.libagc.specs.Reading.{MapCoded, cell_told, held_told, no_cell, waiting_told};
 ghost use Rattle.libagc.specs.Tables.{no_job, no_task};
 
 use crate::tables::{AgcJob, AgcWaiting};
-use agc_core::{AgcMap, Job, Waiting, address_in, is_within, job_in, rule_in, task_in, word_in};
+use agc_image::{AgcMap, Job, Waiting, address_in, is_within, job_in, rule_in, task_in, word_in};
 
 /// A word of a real computer's tables. Source: profile.
 #[repr(C)]

@@ -1,6 +1,6 @@
 use Rattle.std.proofs.Common.{◌≡◌, ◌≤◌, ◌*◌, ◌+◌}
-use Rattle.agc_core.specs.Tasks.{left_in}
-use Rattle.agc_core.proofs.tasks.left_in.Given as goal
+use Rattle.agc_image.specs.Tasks.{left_in}
+use Rattle.agc_image.proofs.tasks.left_in.Given as goal
 
 abbrev pub invariant-loop-k : goal.invariant-loop-k
 invariant-loop-k l = record {

@@ -3,9 +3,9 @@ use Rattle.std.specs.Prelude.{ℕ, ◌+◌, ◌-◌, ◌*◌, ◌/◌, ◌%◌, 
 use Rattle.std.specs.Prelude.{false, if◌then◌else◌, List, Option, Some, None}
 use Rattle.std.specs.Option.{option_map_or}
 use Rattle.agc_word.specs.Layout.{set_place, area_size}
-use Rattle.agc_core.specs.declared.map.AgcMap.{AgcMap}
-use Rattle.agc_core.specs.declared.jobs.Job.{Job}
-use Rattle.agc_core.specs.Map.{word_at}
+use Rattle.agc_image.specs.declared.map.AgcMap.{AgcMap}
+use Rattle.agc_image.specs.declared.jobs.Job.{Job}
+use Rattle.agc_image.specs.Map.{word_at}
 
 -- PRIORITY with its sign taken off
 abbrev pub urgency_of : ℕ → ℕ

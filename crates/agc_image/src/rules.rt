@@ -1,9 +1,9 @@
 // Which rule of lawful words a word breaks.
 ghost use Rattle.std.specs.Prelude.{◌≡◌, ◌<◌, ◌≤◌, length};
-ghost use Rattle.agc_core.specs.Map.{HasPlace, HasSet, IsWithin};
-ghost use Rattle.agc_core.specs.Rules.{address_rule, area_rule, code_rule, early_rule, gap_rule};
-ghost use Rattle.agc_core.specs.Rules.{gap_with, late_rule, names, newjob_rule, phase_rule};
-ghost use Rattle.agc_core.specs.Rules.{rule_at, set_rule, task_rule, word_rule};
+ghost use Rattle.agc_image.specs.Map.{HasPlace, HasSet, IsWithin};
+ghost use Rattle.agc_image.specs.Rules.{address_rule, area_rule, code_rule, early_rule, gap_rule};
+ghost use Rattle.agc_image.specs.Rules.{gap_with, late_rule, names, newjob_rule, phase_rule};
+ghost use Rattle.agc_image.specs.Rules.{rule_at, set_rule, task_rule, word_rule};
 
 use crate::jobs::{area_of, is_owned, job_in, urgency_of};
 use crate::map::{AgcMap, word_in};

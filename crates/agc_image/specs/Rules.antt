@@ -4,10 +4,10 @@ use Rattle.std.specs.Prelude.{false, if◌then◌else◌, List}
 use Rattle.std.specs.Option.{option_map_or}
 use Rattle.agc_word.specs.Layout.{set_place, area_size, use_words, newjob, time3, lst1, lst2}
 use Rattle.agc_word.specs.Layout.{phase_words, failreg, last_set}
-use Rattle.agc_core.specs.declared.map.AgcMap.{AgcMap}
-use Rattle.agc_core.specs.Map.{word_at}
-use Rattle.agc_core.specs.Jobs.{area_of, is_owned, job_told, urgency_of}
-use Rattle.agc_core.specs.Tasks.{is_task}
+use Rattle.agc_image.specs.declared.map.AgcMap.{AgcMap}
+use Rattle.agc_image.specs.Map.{word_at}
+use Rattle.agc_image.specs.Jobs.{area_of, is_owned, job_told, urgency_of}
+use Rattle.agc_image.specs.Tasks.{is_task}
 
 -- by PRIORITY of a set: LOC (4), no priority (5), or an address of no area (6)
 abbrev pub word_rule : AgcMap → ℕ → ℕ → ℕ → ℕ

@@ -3,7 +3,7 @@ use Rattle.std.specs.Prelude.{◌≡◌, ◌⊎◌, ℕ, ◌+◌, ◌-◌, ◌*�
 use Rattle.std.specs.Prelude.{slice_index}
 use Rattle.agc_word.specs.Layout.{use_words, newjob, time3, lst1, lst2, phase_words, failreg}
 use Rattle.agc_word.specs.Layout.{last_set, set_size, others_size, area_size}
-use Rattle.agc_core.specs.declared.map.AgcMap.{AgcMap}
+use Rattle.agc_image.specs.declared.map.AgcMap.{AgcMap}
 
 -- seven core sets, or eight
 abbrev pub IsSets : ℕ → Type 0

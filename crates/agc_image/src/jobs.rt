@@ -1,7 +1,7 @@
 // Who holds which core set.
 ghost use Rattle.std.specs.Prelude.{◌≡◌, ◌<◌, ◌≤◌, length};
-ghost use Rattle.agc_core.specs.Map.{HasSet, IsWithin};
-ghost use Rattle.agc_core.specs.Jobs.{area_of, area_end, job_told, owns, is_owned, urgency_of};
+ghost use Rattle.agc_image.specs.Map.{HasSet, IsWithin};
+ghost use Rattle.agc_image.specs.Jobs.{area_of, area_end, job_told, owns, is_owned, urgency_of};
 
 use crate::map::{AgcMap, word_in};
 use agc_word::layout::{AREA_SIZE, set_place};

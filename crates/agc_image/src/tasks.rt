@@ -1,7 +1,7 @@
 // Which tasks wait.
 ghost use Rattle.std.specs.Prelude.{◌≡◌, ◌<◌, ◌≤◌, length};
-ghost use Rattle.agc_core.specs.Map.{HasSet, IsWithin};
-ghost use Rattle.agc_core.specs.Tasks.{first_left, gap_of, is_task, left_in, task_told};
+ghost use Rattle.agc_image.specs.Map.{HasSet, IsWithin};
+ghost use Rattle.agc_image.specs.Tasks.{first_left, gap_of, is_task, left_in, task_told};
 
 use crate::map::{AgcMap, word_in};
 use agc_word::layout::{LST1, LST2, TIME3};

@@ -1,6 +1,6 @@
 // Where a program keeps its tables.
 ghost use Rattle.std.specs.Prelude.{◌≡◌, ◌↔◌, ◌+◌, ◌*◌, ◌<◌, ℕ, IsTrue, length};
-ghost use Rattle.agc_core.specs.Map.{HasPlace, IsWithin, address_in, word_at};
+ghost use Rattle.agc_image.specs.Map.{HasPlace, IsWithin, address_in, word_at};
 
 use agc_word::layout::{
     AREA_SIZE, FAILREG, LAST_SET, LST1, LST2, NEWJOB, PHASE_WORDS, TIME3, USE_WORDS,

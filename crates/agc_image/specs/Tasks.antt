@@ -2,9 +2,9 @@
 use Rattle.std.specs.Prelude.{ℕ, zero, suc, ◌+◌, ◌-◌, ◌*◌, ◌==◌, nat_lt, ◌&&◌, not, Bool}
 use Rattle.std.specs.Prelude.{if◌then◌else◌, List, Option, Some, None}
 use Rattle.agc_word.specs.Layout.{time3, lst1, lst2}
-use Rattle.agc_core.specs.declared.map.AgcMap.{AgcMap}
-use Rattle.agc_core.specs.declared.tasks.Waiting.{Waiting}
-use Rattle.agc_core.specs.Map.{word_at}
+use Rattle.agc_image.specs.declared.map.AgcMap.{AgcMap}
+use Rattle.agc_image.specs.declared.tasks.Waiting.{Waiting}
+use Rattle.agc_image.specs.Map.{word_at}
 
 -- how far the first task is, by TIME3
 abbrev pub first_left : ℕ → ℕ

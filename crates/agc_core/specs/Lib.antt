@@ -1,4 +1,0 @@
-pub mod Map
-pub mod Jobs
-pub mod Tasks
-pub mod Rules
