@@ -1,13 +1,11 @@
 // A lane of a picture over time: what is in it, column by column.
+use crate::canvas::Canvas;
 use crate::held::{Held, Place, put_job, put_name};
 use crate::labels::Labels;
 use crate::palette::Origin;
-use crate::scale::{COLUMN, Scale};
+use crate::scale::{COLUMN, LETTER, Scale, Stretch};
 use agc_text::Draft;
 use agc_text::Filling::{Number, Seconds, Text};
-
-/// How wide a letter of a name may be, in points.
-const LETTER: u64 = 18;
 
 /// A lane's name, how far down it begins, and how high it is, in points.
 #[derive(Clone, Copy)]
@@ -19,10 +17,10 @@ pub(crate) struct Strip {
 
 /// One thing that is in a lane, where its job began, if it is one, and since when it is there.
 #[derive(Clone, Copy)]
-struct Block {
-    held: Held,
-    origin: Option<Origin>,
-    since: u64,
+pub(crate) struct Block {
+    pub(crate) held: Held,
+    pub(crate) origin: Option<Origin>,
+    pub(crate) since: u64,
 }
 
 /// What columns show, from one on, before another: one thing; or several, of which none fills a
@@ -33,8 +31,7 @@ struct Run {
     is_joined: bool,
     has_gap: bool,
     most: u64,
-    from: u64,
-    to: u64,
+    columns: Stretch,
 }
 
 impl Run {
@@ -48,11 +45,6 @@ impl Run {
         } else {
             block.held.is_same(its.held) && block.origin == its.origin && block.since == its.since
         }
-    }
-
-    /// How many columns it has.
-    fn length(self) -> u64 {
-        self.to.saturating_sub(self.from)
     }
 }
 
@@ -72,7 +64,7 @@ pub(crate) struct Lane {
 
 /// Whether there is room in these columns for the name of a job at this address, or the address.
 fn has_room(labels: &Labels, at: u16, run: Run) -> bool {
-    let width = run.length().saturating_mul(COLUMN);
+    let width = run.columns.length().saturating_mul(COLUMN);
     labels.letters(at).saturating_mul(LETTER).saturating_add(6) <= width
 }
 
@@ -133,9 +125,9 @@ impl Strip {
     }
 
     /// Adds the rectangle of columns, of this class.
-    pub(crate) fn put_path(self, draft: &mut Draft, class: &str, from: u64, to: u64) {
-        let width = Number(to.saturating_sub(from).saturating_mul(COLUMN));
-        let (x, y) = (Number(Scale::x(from)), Number(self.y));
+    pub(crate) fn put_path(self, draft: &mut Draft, class: &str, columns: Stretch) {
+        let width = Number(columns.length().saturating_mul(COLUMN));
+        let (x, y) = (Number(Scale::x(columns.from)), Number(self.y));
         draft.put(
             "<path class=\"{}\" d=\"M{} {}h{}v{}h-{}z\"",
             &[Text(class), x, y, width, Number(self.height), width],
@@ -144,9 +136,10 @@ impl Strip {
 
     /// Adds how many tasks wait, above their bar, and the name of a job, or its address, in its
     /// block, if these columns have room for it.
-    fn put_label(self, draft: &mut Draft, labels: &Labels, run: Run) {
+    fn put_label(self, canvas: &mut Canvas, run: Run) {
         let Block { held, origin, .. } = run.block;
-        let x = Scale::x(run.from).saturating_add(3);
+        let x = Scale::x(run.columns.from).saturating_add(3);
+        let (draft, labels) = (&mut canvas.draft, &canvas.labels);
         match origin {
             Some(Origin { at, .. }) if has_room(labels, at, run) => {
                 let base = self.y.saturating_add(self.height / 2 + 9);
@@ -169,7 +162,8 @@ impl Strip {
     }
 
     /// Adds what a block tells: a title, and a number or name where there is room for it.
-    fn put_told(self, draft: &mut Draft, labels: &Labels, run: Run) {
+    fn put_told(self, canvas: &mut Canvas, run: Run) {
+        let draft = &mut canvas.draft;
         draft.text("><title>");
         put_name(draft, self.place);
         match self.place {
@@ -177,19 +171,19 @@ impl Strip {
             Place::Tasks => draft.put(": {}", &[Number(run.block.held.number)]),
             _ => {
                 draft.text(": ");
-                put_job(draft, labels, run.block.held);
+                put_job(draft, &canvas.labels, run.block.held);
             }
         }
         draft.put(", from {} s</title></path>\n", &[Seconds(run.block.since)]);
-        if run.length() >= 11 {
-            self.put_label(draft, labels, run);
+        if run.columns.length() >= 11 {
+            self.put_label(canvas, run);
         }
     }
 
     /// Adds a run of columns. Nothing is written where nothing is there, or no column.
-    fn put_run(self, draft: &mut Draft, labels: &Labels, run: Run) {
+    fn put_run(self, canvas: &mut Canvas, run: Run) {
         let held = run.block.held;
-        if run.from >= run.to || (held.number == 0 && !run.is_joined) {
+        if run.columns.length() == 0 || (held.number == 0 && !run.is_joined) {
             return;
         }
         let (class, tasks) = match (run.is_joined, run.has_gap) {
@@ -197,11 +191,12 @@ impl Strip {
             (true, true) => ("y", run.most),
             (true, false) => ("x", run.most),
         };
-        self.part(tasks).put_path(draft, class, run.from, run.to);
-        if run.is_joined || run.length() < 4 {
-            draft.text("/>\n");
+        self.part(tasks)
+            .put_path(&mut canvas.draft, class, run.columns);
+        if run.is_joined || run.columns.length() < 4 {
+            canvas.draft.text("/>\n");
         } else {
-            self.put_told(draft, labels, run);
+            self.put_told(canvas, run);
         }
     }
 }
@@ -230,30 +225,28 @@ impl Lane {
                 is_joined: false,
                 has_gap: true,
                 most: 0,
-                from: 0,
-                to: 0,
+                columns: Stretch { from: 0, to: 0 },
             },
         }
     }
 
     /// Adds columns to those that are not written yet, which are written where they show something
     /// else.
-    fn add(&mut self, draft: &mut Draft, labels: &Labels, is_joined: bool, from: u64, to: u64) {
+    fn add(&mut self, canvas: &mut Canvas, is_joined: bool, columns: Stretch) {
         let run = Run {
             block: self.block,
             is_joined,
             has_gap: self.has_gap,
             most: self.most,
-            from,
-            to,
+            columns,
         };
-        if from >= to {
+        if columns.length() == 0 {
             return;
         }
-        if self.run.to == from && self.run.is_like(run) {
-            self.run.to = to;
+        if self.run.columns.to == columns.from && self.run.is_like(run) {
+            self.run.columns.to = columns.to;
         } else {
-            self.strip.put_run(draft, labels, self.run);
+            self.strip.put_run(canvas, self.run);
             self.run = run;
         }
     }
@@ -267,23 +260,30 @@ impl Lane {
     }
 
     /// Time comes to a column.
-    pub(crate) fn pass(&mut self, draft: &mut Draft, labels: &Labels, column: u64) {
+    pub(crate) fn pass(&mut self, canvas: &mut Canvas, column: u64) {
         if column <= self.column {
             return;
         }
-        let mut own = self.column;
+        let mut own = Stretch {
+            from: self.column,
+            to: column,
+        };
         if self.is_joined {
-            own = own.saturating_add(1);
-            self.add(draft, labels, true, self.column, own);
+            own.from = own.from.saturating_add(1);
+            let joined = Stretch {
+                from: self.column,
+                to: own.from,
+            };
+            self.add(canvas, true, joined);
         }
-        self.add(draft, labels, false, own, column);
+        self.add(canvas, false, own);
         self.column = column;
         self.begin();
     }
 
-    /// From this time on this is in it, a job that began so, if it is one. Where an era begins,
-    /// what is there is another one.
-    pub(crate) fn change(&mut self, held: Held, origin: Option<Origin>, time: u64, is_era: bool) {
+    /// From now on this is in it. Where an era begins, what is there is another one.
+    pub(crate) fn change(&mut self, block: Block, is_era: bool) {
+        let held = block.held;
         if held.is_same(self.block.held) && (!is_era || held.number == 0) {
             return;
         }
@@ -291,16 +291,12 @@ impl Lane {
         self.is_new = true;
         self.has_gap = self.has_gap || held.number == 0;
         self.most = self.most.max(self.strip.tasks(held));
-        self.block = Block {
-            held,
-            origin,
-            since: time,
-        };
+        self.block = block;
     }
 
     /// Adds the columns that are not written yet.
-    pub(crate) fn flush(&mut self, draft: &mut Draft, labels: &Labels) {
-        self.strip.put_run(draft, labels, self.run);
-        self.run.from = self.run.to;
+    pub(crate) fn flush(&mut self, canvas: &mut Canvas) {
+        self.strip.put_run(canvas, self.run);
+        self.run.columns.from = self.run.columns.to;
     }
 }

@@ -1,4 +1,5 @@
 // The columns of requests.
+use crate::canvas::Canvas;
 use crate::drawing::Draws;
 use crate::frame::{Column, column_at, put_head, width_of};
 use crate::held::{Held, PLACES, Place, full_table, held_in, put_job, put_name};
@@ -31,13 +32,12 @@ impl Part {
 }
 
 /// How the requests of a run are drawn, a column each: the scene that was drawn last, how many
-/// requests there are, what jobs are called, and what is to be written.
+/// requests there are, and on what.
 #[derive(Drop)]
 pub(crate) struct Columns {
     drawn: Option<Scene>,
     count: u64,
-    labels: Labels,
-    draft: Draft,
+    canvas: Canvas,
 }
 
 impl Columns {
@@ -46,10 +46,17 @@ impl Columns {
         Ok(Columns {
             drawn: None,
             count,
-            labels,
-            draft: Draft::new(alloc)?,
+            canvas: Canvas::new(alloc, labels)?,
         })
     }
+}
+
+/// A block's class, how far down it is, and how high.
+#[derive(Clone, Copy)]
+struct Block {
+    class: &'static str,
+    y: u64,
+    height: u64,
 }
 
 /// How far down a lane is, and how high.
@@ -94,36 +101,31 @@ fn put_ground(draft: &mut Draft, column: Column, y: u64, height: u64) {
     );
 }
 
-/// Adds a block from its column to the right edge, so far down and so high, and its title, but
-/// not its end.
-fn put_block(
-    draft: &mut Draft,
-    labels: &Labels,
-    column: Column,
-    class: &str,
-    (y, height): (u64, u64),
-    (place, held): (Place, Held),
-) {
-    draft.put("<g class=\"{}\"><title>", &[Text(class)]);
-    put_title(draft, labels, place, held);
-    put_ground(draft, column, y, height);
+/// Adds a block from its column to the right edge, and its title, but not its end.
+fn put_block(canvas: &mut Canvas, column: Column, block: Block, (place, held): (Place, Held)) {
+    let draft = &mut canvas.draft;
+    draft.put("<g class=\"{}\"><title>", &[Text(block.class)]);
+    put_title(draft, &canvas.labels, place, held);
+    put_ground(draft, column, block.y, block.height);
 }
 
 /// Adds the blocks of tasks, at most nine: their lane's ground, and a bar with their number.
-fn put_tasks(draft: &mut Draft, labels: &Labels, column: Column, y: u64, held: Held) {
+fn put_tasks(canvas: &mut Canvas, column: Column, y: u64, held: Held) {
     let height = 4 * held.number.min(9);
-    let top = y.saturating_add(36 - height);
-    put_block(draft, labels, column, "f", (y, 36), (Place::Tasks, held));
-    draft.text("</g>\n");
-    put_block(
-        draft,
-        labels,
-        column,
-        "t",
-        (top, height),
-        (Place::Tasks, held),
-    );
-    draft.put(
+    let ground = Block {
+        class: "f",
+        y,
+        height: 36,
+    };
+    let bar = Block {
+        class: "t",
+        y: y.saturating_add(36 - height),
+        height,
+    };
+    put_block(canvas, column, ground, (Place::Tasks, held));
+    canvas.draft.text("</g>\n");
+    put_block(canvas, column, bar, (Place::Tasks, held));
+    canvas.draft.put(
         "<text x=\"{}\" y=\"{}\" dx=\"1\">{}</text></g>\n",
         &[
             Number(column.x),
@@ -135,28 +137,17 @@ fn put_tasks(draft: &mut Draft, labels: &Labels, column: Column, y: u64, held: H
 
 /// Adds the blocks of a lane: of another than that of tasks what is in it, and the name or number
 /// of the job in a core set.
-fn put_lane(
-    draft: &mut Draft,
-    labels: &Labels,
-    column: Column,
-    sets: u64,
-    (place, held): (Place, Held),
-) {
+fn put_lane(canvas: &mut Canvas, column: Column, sets: u64, (place, held): (Place, Held)) {
     let (y, height) = spot(place, sets);
     if let Place::Tasks = place {
-        put_tasks(draft, labels, column, y, held);
+        put_tasks(canvas, column, y, held);
         return;
     }
-    put_block(
-        draft,
-        labels,
-        column,
-        held.class(place),
-        (y, height),
-        (place, held),
-    );
+    let class = held.class(place);
+    put_block(canvas, column, Block { class, y, height }, (place, held));
+    let draft = &mut canvas.draft;
     if let Some(seat) = held.seat {
-        let name = labels.job_name(held.number, seat.at);
+        let name = canvas.labels.job_name(held.number, seat.at);
         draft.put(
             "<text x=\"{}\" y=\"{}\" dx=\"1\">{}</text>",
             &[Number(column.x), Number(y.saturating_add(15)), name],
@@ -166,19 +157,13 @@ fn put_lane(
 }
 
 /// Adds this part of a scene, after another.
-fn put_part(
-    draft: &mut Draft,
-    labels: &Labels,
-    column: Column,
-    before: &Scene,
-    (part, scene): (Part, &Scene),
-) {
+fn put_part(canvas: &mut Canvas, column: Column, before: &Scene, (part, scene): (Part, &Scene)) {
     let sets = scene.seats().len() as u64;
     for place in PLACES {
         let held = held_in(scene, place);
         let has_changed = !held.is_same(held_in(before, place));
         if place.is_of(sets) && part.has(has_changed, held.number > 0) {
-            put_lane(draft, labels, column, sets, (place, held));
+            put_lane(canvas, column, sets, (place, held));
         }
     }
 }
@@ -220,11 +205,12 @@ fn put_axis(draft: &mut Draft, column: Column, time: u64) {
 impl Draws for Columns {
     /// Adds the head, and column 0, of the scene with which the machine begins.
     fn begin(&mut self, scene: Scene) {
-        let draft = &mut self.draft;
+        let canvas = &mut self.canvas;
         let first = column_at(width_of(self.count), 0);
-        put_head(draft, scene.seats().len() as u64, &self.labels, self.count);
-        put_axis(draft, first, 0);
-        put_part(draft, &self.labels, first, &scene, (Part::All, &scene));
+        let sets = scene.seats().len() as u64;
+        put_head(&mut canvas.draft, sets, &canvas.labels, self.count);
+        put_axis(&mut canvas.draft, first, 0);
+        put_part(canvas, first, &scene, (Part::All, &scene));
         self.drawn = Some(scene);
     }
 
@@ -233,17 +219,16 @@ impl Draws for Columns {
     fn draw(&mut self, _source: Source, event: Event) {
         let width = width_of(self.count);
         let column = column_at(width, event.number);
-        let draft = &mut self.draft;
-        put_axis(draft, column, event.time);
+        let canvas = &mut self.canvas;
+        put_axis(&mut canvas.draft, column, event.time);
         if let Some(drawn) = &self.drawn {
-            let changed = (Part::Changed, &event.scene);
-            put_part(draft, &self.labels, column, drawn, changed);
+            put_part(canvas, column, drawn, (Part::Changed, &event.scene));
         }
         if let Some(era) = &event.era {
             let next = column_at(width, event.number.saturating_add(1));
             let end = 170 + 27 * (era.seats().len() as u64).min(8);
-            put_mark(draft, &event, next.x, end);
-            put_part(draft, &self.labels, next, &event.scene, (Part::Begun, era));
+            put_mark(&mut canvas.draft, &event, next.x, end);
+            put_part(canvas, next, &event.scene, (Part::Begun, era));
         }
         self.drawn = Some(match event.era {
             None => event.scene,
@@ -252,10 +237,10 @@ impl Draws for Columns {
     }
 
     fn finish(&mut self) {
-        self.draft.text("</svg>\n");
+        self.canvas.draft.text("</svg>\n");
     }
 
     fn send<W: Write>(&mut self, writer: &mut W) -> Result<(), Output> {
-        self.draft.send(writer)
+        self.canvas.draft.send(writer)
     }
 }

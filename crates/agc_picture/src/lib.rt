@@ -2,6 +2,7 @@
 //! or over time. Source: profile.
 #![tactic(auto)]
 
+mod canvas;
 mod drawing;
 mod escaping;
 mod frame;

@@ -1,15 +1,12 @@
 // The marks of a picture over time: alarms, restarts, and events by name.
+use crate::canvas::Canvas;
 use crate::held::full_table;
-use crate::labels::Labels;
 use crate::lane::Strip;
-use crate::scale::Scale;
+use crate::scale::{LETTER, Scale, Stretch};
 use crate::sheet::Sheet;
 use agc_scene::Event;
 use agc_text::Filling::{Bytes, Number, Seconds, Text};
 use agc_text::{Draft, alarm_code};
-
-/// How wide a letter of a name may be, in points.
-const LETTER: u64 = 18;
 
 /// From where on the next marks have room: an alarm's line, a restart's line, an alarm's code in
 /// the lower and in the upper row, an event's mark and its name. Which event was named last.
@@ -73,13 +70,12 @@ impl Room {
         has_room
     }
 
-    /// Takes the room of a name of so many letters, from this place on, up to the picture's end.
-    /// False where there is none, or where this event was named last.
-    fn takes_name(&mut self, event: usize, letters: u64, x: u64, end: u64) -> bool {
-        let next = letters.saturating_mul(LETTER).saturating_add(x);
-        let has_room = self.name <= x && next <= end && self.named != Some(event);
+    /// Takes the room of an event's name between two places. False where another name is there, or
+    /// where this event was named last.
+    fn takes_name(&mut self, event: usize, from: u64, to: u64) -> bool {
+        let has_room = self.name <= from && self.named != Some(event);
         if has_room {
-            self.name = next;
+            self.name = to;
             self.named = Some(event);
         }
         has_room
@@ -119,25 +115,31 @@ pub(crate) fn put_code(draft: &mut Draft, room: &mut Room, event: &Event, x: u64
 /// Adds the mark of an event of a scenario, by its number, at the bottom of the lane, and its
 /// name above, where there is room: one that comes again and again is named once.
 pub(crate) fn put_event(
-    draft: &mut Draft,
-    (labels, scale): (&Labels, Scale),
+    canvas: &mut Canvas,
+    scale: Scale,
     room: &mut Room,
     (number, time): (usize, u64),
 ) {
     let column = scale.column(time);
     let lane = Sheet::events();
+    let (draft, labels) = (&mut canvas.draft, &canvas.labels);
     if room.takes_mark(column) {
         let mark = Strip {
             y: lane.y.saturating_add(18),
             height: 6,
             ..lane
         };
-        mark.put_path(draft, "e", column, column.saturating_add(2));
+        let columns = Stretch {
+            from: column,
+            to: column.saturating_add(2),
+        };
+        mark.put_path(draft, "e", columns);
         draft.text("/>\n");
     }
     let x = Scale::x(column).saturating_add(8);
     if let Some((name, letters)) = labels.event(number) {
-        if room.takes_name(number, letters, x, scale.width) {
+        let end = letters.saturating_mul(LETTER).saturating_add(x);
+        if end <= scale.width && room.takes_name(number, x, end) {
             let base = Number(lane.y.saturating_add(16));
             draft.put(
                 "<text class=\"e\" x=\"{}\" y=\"{}\">{}</text>\n",

@@ -20,6 +20,23 @@ pub(crate) const LEFT: u64 = 126;
 /// How wide a column is, in points.
 pub(crate) const COLUMN: u64 = 2;
 
+/// How wide a letter of a name may be, in points.
+pub(crate) const LETTER: u64 = 18;
+
+/// Columns side by side: the first, and the one after the last.
+#[derive(Clone, Copy)]
+pub(crate) struct Stretch {
+    pub(crate) from: u64,
+    pub(crate) to: u64,
+}
+
+impl Stretch {
+    /// How many columns there are.
+    pub(crate) fn length(self) -> u64 {
+        self.to.saturating_sub(self.from)
+    }
+}
+
 /// The times that a picture shows, its width, and how many columns it has.
 #[derive(Clone, Copy)]
 pub(crate) struct Scale {

@@ -3,7 +3,7 @@ use crate::frame::begin_svg;
 use crate::held::{Place, put_name};
 use crate::labels::Labels;
 use crate::lane::Strip;
-use crate::scale::{LEFT, Scale, short};
+use crate::scale::{LEFT, Scale, Stretch, short};
 use agc_clock::{Stolen, stolen_at};
 use agc_text::Draft;
 use agc_text::Filling::{Bytes, Number, Seconds, Text};
@@ -164,26 +164,36 @@ pub(crate) fn put_ground(draft: &mut Draft, strip: Strip, scale: Scale) {
     draft.put("<text x=\"8\" y=\"{}\">", &[Number(base)]);
     put_name(draft, place);
     draft.text("</text>");
-    strip.put_path(draft, "f", 0, scale.columns);
+    let columns = Stretch {
+        from: 0,
+        to: scale.columns,
+    };
+    strip.put_path(draft, "f", columns);
     draft.text("/>\n");
 }
 
-/// Adds stolen time between two columns, the first of which begins at this time: the more is
-/// stolen, the higher, with the percentage if there is room for it.
-fn put_part(draft: &mut Draft, lane: Strip, columns: (u64, u64), time: u64, percent: u64) {
-    let (from, to) = columns;
-    let percent = percent.min(100);
+/// Stolen time: since when, and how much of it, in percent.
+#[derive(Clone, Copy)]
+struct Theft {
+    since: u64,
+    percent: u64,
+}
+
+/// Adds stolen time in columns: the more is stolen, the higher, with the percentage if there is
+/// room for it.
+fn put_part(draft: &mut Draft, lane: Strip, columns: Stretch, theft: Theft) {
+    let percent = theft.percent.min(100);
     let height = (percent * LOW + 99) / 100;
     let y = lane.y.saturating_add(LOW - height.min(LOW));
-    if from < to && 0 < percent {
-        Strip { y, height, ..lane }.put_path(draft, "v", from, to);
+    if columns.length() > 0 && 0 < percent {
+        Strip { y, height, ..lane }.put_path(draft, "v", columns);
         draft.put(
             "><title>stolen: {} %, from {} s</title></path>\n",
-            &[Number(percent), Seconds(time)],
+            &[Number(percent), Seconds(theft.since)],
         );
     }
-    if from.saturating_add(45) <= to {
-        let x = Number(Scale::x(from).saturating_add(3));
+    if columns.length() >= 45 {
+        let x = Number(Scale::x(columns.from).saturating_add(3));
         let base = Number(lane.y.saturating_add(21));
         draft.put(
             "<text x=\"{}\" y=\"{}\">{} %</text>\n",
@@ -192,40 +202,46 @@ fn put_part(draft: &mut Draft, lane: Strip, columns: (u64, u64), time: u64, perc
     }
 }
 
-/// Stolen time, gathered column by column: in which column and when the part with the present
-/// percentage begins, and what was stolen since the last column, in how many centiseconds.
+/// Stolen time, gathered column by column: in which column the part begins that has the present
+/// percentage, and what was stolen since the last column, in how many centiseconds.
 #[derive(Clone, Copy)]
 struct Beats {
     lane: Strip,
+    scale: Scale,
     from: u64,
-    begins: u64,
-    percent: u64,
+    theft: Theft,
     stolen: u64,
     count: u64,
 }
 
 impl Beats {
-    /// Draws what was gathered up to a column, if what follows has another percentage.
-    fn part(&mut self, draft: &mut Draft, column: u64, time: u64, percent: u64) {
-        if percent == self.percent {
+    /// Draws what was gathered up to where this begins, if it is of another percentage.
+    fn part(&mut self, draft: &mut Draft, theft: Theft) {
+        let to = self.scale.column(theft.since);
+        if theft.percent == self.theft.percent {
             return;
         }
-        if self.percent > 0 {
-            let columns = (self.from, column);
-            put_part(draft, self.lane, columns, self.begins, self.percent);
+        if self.theft.percent > 0 {
+            let columns = Stretch {
+                from: self.from,
+                to,
+            };
+            put_part(draft, self.lane, columns, self.theft);
         }
-        (self.from, self.begins, self.percent) = (column, time, percent);
+        (self.from, self.theft) = (to, theft);
     }
 
     /// Takes a centisecond, between two columns.
-    fn take(&mut self, draft: &mut Draft, scale: Scale, time: u64, percent: u64) {
-        let column = scale.column(time);
+    fn take(&mut self, draft: &mut Draft, time: u64, percent: u64) {
+        let column = self.scale.column(time);
         self.stolen = self.stolen.saturating_add(percent);
         self.count = self.count.saturating_add(1);
-        if column < scale.column(time.saturating_add(1)) {
-            let mean = self.stolen.saturating_add(self.count / 2) / self.count.max(1);
-            let begins = time.saturating_sub(self.count - 1);
-            self.part(draft, scale.column(begins), begins, mean);
+        if column < self.scale.column(time.saturating_add(1)) {
+            let mean = Theft {
+                since: time.saturating_sub(self.count - 1),
+                percent: self.stolen.saturating_add(self.count / 2) / self.count.max(1),
+            };
+            self.part(draft, mean);
             (self.stolen, self.count) = (0, 0);
         }
     }
@@ -235,18 +251,25 @@ impl Beats {
 fn put_beats(draft: &mut Draft, lane: Strip, scale: Scale, rows: &[Stolen]) {
     let mut beats = Beats {
         lane,
+        scale,
         from: 0,
-        begins: scale.from,
-        percent: 0,
+        theft: Theft {
+            since: scale.from,
+            percent: 0,
+        },
         stolen: 0,
         count: 0,
     };
     let end = scale.to.min(LONGEST);
     for time in scale.from..end {
         let percent = u64::from(stolen_at(rows, time as u32)).min(100);
-        beats.take(draft, scale, time, percent);
+        beats.take(draft, time, percent);
     }
-    beats.part(draft, scale.column(end), end, 0);
+    let nothing = Theft {
+        since: end,
+        percent: 0,
+    };
+    beats.part(draft, nothing);
 }
 
 /// Adds the rows of stolen time.
@@ -256,10 +279,16 @@ pub(crate) fn put_stolen(draft: &mut Draft, sheet: Sheet, scale: Scale, rows: &[
         return put_beats(draft, lane, scale, rows);
     }
     for row in rows {
-        let percent = u64::from(row.percent).min(100);
         let (from, to) = (u64::from(row.from), u64::from(row.to));
-        let columns = (scale.column(from), scale.column(to));
-        put_part(draft, lane, columns, from, percent);
+        let columns = Stretch {
+            from: scale.column(from),
+            to: scale.column(to),
+        };
+        let theft = Theft {
+            since: from,
+            percent: u64::from(row.percent),
+        };
+        put_part(draft, lane, columns, theft);
     }
 }
 

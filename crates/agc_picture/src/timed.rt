@@ -1,8 +1,9 @@
 // How a run is drawn over time.
+use crate::canvas::Canvas;
 use crate::drawing::Draws;
 use crate::held::{PLACES, Place, held_in};
 use crate::labels::Labels;
-use crate::lane::Lane;
+use crate::lane::{Block, Lane};
 use crate::marks::{Room, put_code, put_event, put_line};
 use crate::palette::Palette;
 use crate::scale::Scale;
@@ -11,23 +12,22 @@ use agc_clock::Timetables;
 use agc_run::{Source, Subject};
 use agc_scenario::Timing;
 use agc_scene::{Event, Scene};
-use agc_text::{Draft, Output};
+use agc_text::Output;
 use std::alloc::{AllocError, Global};
 use std::io::Write;
 
-/// How a run is drawn over time: the time that has passed, what is timed, if a clock runs, what
-/// jobs are called and their colours, the lanes, where marks have room, and what is to be written.
+/// How a run is drawn over time: the time that has passed, what is timed, if a clock runs, the
+/// colours of jobs, the lanes, where marks have room, and on what.
 #[derive(Drop)]
 pub(crate) struct OverTime<'a> {
     time: u64,
     scale: Scale,
     sheet: Sheet,
     timing: Option<&'a Timing>,
-    labels: Labels,
     palette: Palette,
     lanes: Vec<Lane>,
     room: Room,
-    draft: Draft,
+    canvas: Canvas,
 }
 
 /// The lanes in which something comes and goes.
@@ -73,24 +73,27 @@ impl<'a> OverTime<'a> {
             sheet,
             timing,
             palette: Palette::of(&labels, subject),
-            labels,
             lanes: lanes_of(alloc, sheet)?,
             room: Room::new(),
-            draft: Draft::new(alloc)?,
+            canvas: Canvas::new(alloc, labels)?,
         })
     }
 
     /// This is in the lanes from now on.
     fn show(&mut self, scene: &Scene, is_era: bool) {
-        let time = self.time;
-        self.palette.see(&self.labels, scene, is_era);
+        self.palette.see(&self.canvas.labels, scene, is_era);
         for lane in self.lanes.iter_mut() {
             let held = held_in(scene, lane.strip.place);
             let origin = match lane.strip.place {
                 Place::Set(_) | Place::Area(_) => self.palette.origin(held.number),
                 _ => None,
             };
-            lane.change(held, origin, time, is_era);
+            let block = Block {
+                held,
+                origin,
+                since: self.time,
+            };
+            lane.change(block, is_era);
         }
     }
 
@@ -104,14 +107,14 @@ impl<'a> OverTime<'a> {
     /// Time comes to this column: what was there is added.
     fn pass(&mut self, column: u64) {
         for lane in self.lanes.iter_mut() {
-            lane.pass(&mut self.draft, &self.labels, column);
+            lane.pass(&mut self.canvas, column);
         }
     }
 
     /// Adds what is not added yet.
     fn flush(&mut self) {
         for lane in self.lanes.iter_mut() {
-            lane.flush(&mut self.draft, &self.labels);
+            lane.flush(&mut self.canvas);
         }
     }
 
@@ -124,8 +127,9 @@ impl<'a> OverTime<'a> {
             return;
         }
         self.flush();
-        put_line(&mut self.draft, event, x, self.sheet.bottom());
-        put_code(&mut self.draft, &mut self.room, event, x);
+        let draft = &mut self.canvas.draft;
+        put_line(draft, event, x, self.sheet.bottom());
+        put_code(draft, &mut self.room, event, x);
     }
 
     /// Whether a time is shown.
@@ -140,8 +144,8 @@ impl<'a> Draws for OverTime<'a> {
         self.show(&scene, false);
         self.settle();
         let timing = self.timing;
-        let draft = &mut self.draft;
-        put_head(draft, &self.labels, self.sheet, self.scale);
+        let draft = &mut self.canvas.draft;
+        put_head(draft, &self.canvas.labels, self.sheet, self.scale);
         if let Some(timing) = timing {
             put_ground(draft, Sheet::events(), self.scale);
             put_ground(draft, self.sheet.strip_of(Place::Stolen), self.scale);
@@ -159,9 +163,8 @@ impl<'a> Draws for OverTime<'a> {
         self.show(&event.scene, false);
         if self.shows(event.total) {
             if let Some(number) = event_of(source) {
-                let drawn = (&self.labels, self.scale);
                 let asked = (number, event.total);
-                put_event(&mut self.draft, drawn, &mut self.room, asked);
+                put_event(&mut self.canvas, self.scale, &mut self.room, asked);
             }
         }
         if let Some(era) = &event.era {
@@ -184,10 +187,10 @@ impl<'a> Draws for OverTime<'a> {
         };
         self.pass(end);
         self.flush();
-        put_foot(&mut self.draft, self.sheet, self.scale, end);
+        put_foot(&mut self.canvas.draft, self.sheet, self.scale, end);
     }
 
     fn send<W: Write>(&mut self, writer: &mut W) -> Result<(), Output> {
-        self.draft.send(writer)
+        self.canvas.draft.send(writer)
     }
 }
