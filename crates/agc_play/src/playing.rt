@@ -89,12 +89,14 @@ fn requests_of(alloc: Global, bench: &Bench) -> Result<Vec<Request>, AllocError>
     Ok(requests)
 }
 
-/// A play: the bench that it began from, all that was asked, from the bench's own requests on, how
-/// many were asked before each line that asked for some, the machine, what is told next, behind its
-/// rows, and how. Contracts see what was asked; the machine is what the bench's comes to by that.
+/// A play: where files are written, the bench that it began from, all that was asked, from the
+/// bench's own requests on, how many were asked before each line that asked for some, the machine,
+/// what is told next, behind its rows, and how. Contracts see what was asked; the machine is what
+/// the bench's comes to by that.
 /// Source: profile.
 #[derive(Drop)]
 struct Played<'a> {
+    rt: &'a HostRuntime,
     bench: &'a Bench,
     requests: Vec<Request>,
     steps: Vec<usize>,
@@ -148,36 +150,15 @@ fn put_script<W: Write>(writer: &mut W, bench: &Bench, requests: &[Request]) -> 
     pen.end()
 }
 
-/// Writes a bench of so many requests to a file of this name, and adds what came of that.
-fn save(
-    rt: &HostRuntime,
-    name: &str,
-    text: &[u8],
-    count: usize,
-    draft: &mut Draft,
-) -> Result<(), RunFault> {
-    let (words, number) = if text.len() > MOST_BYTES {
-        (TOO_LONG, text.len())
-    } else if let Err(error) = fs::write(rt, name, text) {
-        let told = format!(in rt.alloc(); "{name}: not written: {error}\n")?;
-        draft.text(told.as_str());
-        return Ok(());
-    } else if count == 1 {
-        ("{}: a bench of {} request\n", 1)
-    } else {
-        ("{}: a bench of {} requests\n", count)
-    };
-    draft.put(words, &[Text(name), Number(number as u64)]);
-    Ok(())
-}
-
 impl<'a> Played<'a> {
     /// A play that goes on where the bench ends.
-    fn new(alloc: Global, bench: &'a Bench, manner: Manner) -> Result<Played<'a>, RunFault> {
+    fn new(rt: &'a HostRuntime, bench: &'a Bench, manner: Manner) -> Result<Played<'a>, RunFault> {
+        let alloc = rt.alloc();
         let requests = requests_of(alloc, bench)?;
         let draft = Draft::new(alloc)?;
         let player = Player::after(alloc, bench, requests.as_slice(), manner.folds)?;
         Ok(Played {
+            rt,
             bench,
             requests,
             steps: Vec::new(alloc),
@@ -201,8 +182,8 @@ impl<'a> Played<'a> {
     }
 
     /// Adds the heading, what came of power-up, and where the bench's own requests ended.
-    fn begin(&mut self, alloc: Global) -> Result<(), RunFault> {
-        self.player.put_heading(alloc, self.bench)?;
+    fn begin(&mut self) -> Result<(), RunFault> {
+        self.player.put_heading(self.rt.alloc(), self.bench)?;
         let count = self.requests.len();
         let words = match count {
             0 => return Ok(()),
@@ -265,10 +246,10 @@ impl<'a> Played<'a> {
     }
 
     /// Takes back so many requests.
-    fn go_back(&mut self, alloc: Global, taken: usize) -> Result<(), RunFault> {
+    fn go_back(&mut self, taken: usize) -> Result<(), RunFault> {
         let left = self.requests.len().saturating_sub(taken);
-        let requests = self.requests.as_slice();
-        match Player::after(alloc, self.bench, &requests[..left], self.manner.folds) {
+        let requests = &self.requests.as_slice()[..left];
+        match Player::after(self.rt.alloc(), self.bench, requests, self.manner.folds) {
             Ok(player) => {
                 self.player = player;
                 self.requests.truncate(left);
@@ -279,10 +260,10 @@ impl<'a> Played<'a> {
     }
 
     /// Takes back what the last line asked, or the last request of the bench.
-    fn undo(&mut self, alloc: Global) -> Result<(), RunFault> {
+    fn undo(&mut self) -> Result<(), RunFault> {
         let taken = self.asked_last();
         if taken > 0 {
-            self.go_back(alloc, taken)?;
+            self.go_back(taken)?;
         }
         self.steps.pop();
         let words = match taken {
@@ -299,28 +280,34 @@ impl<'a> Played<'a> {
         Ok(())
     }
 
-    /// Writes all that was asked to a file, as a bench.
-    fn save(&mut self, rt: &HostRuntime, name: &str) -> Result<(), RunFault> {
+    /// Writes all that was asked to a file of this name, as a bench, and adds what came of that.
+    fn save(&mut self, name: &str) -> Result<(), RunFault> {
+        let (rt, count) = (self.rt, self.requests.len());
         let text = bench_of(rt.alloc(), self.bench, self.requests.as_slice())?;
-        let count = self.requests.len();
-        save(rt, name, text.as_slice(), count, &mut self.draft)
+        let (words, number) = if text.len() > MOST_BYTES {
+            (TOO_LONG, text.len())
+        } else if let Err(error) = fs::write(rt, name, text.as_slice()) {
+            let told = format!(in rt.alloc(); "{name}: not written: {error}\n")?;
+            self.draft.text(told.as_str());
+            return Ok(());
+        } else if count == 1 {
+            ("{}: a bench of {} request\n", 1)
+        } else {
+            ("{}: a bench of {} requests\n", count)
+        };
+        self.draft.put(words, &[Text(name), Number(number as u64)]);
+        Ok(())
     }
 
     /// Does what a line asks for, of this number.
-    fn serve<W: Write>(
-        &mut self,
-        rt: &HostRuntime,
-        number: u64,
-        line: &str,
-        writer: &mut W,
-    ) -> Result<(), RunFault> {
+    fn serve<W: Write>(&mut self, number: u64, line: &str, writer: &mut W) -> Result<(), RunFault> {
         match asked_by(line) {
             Asked::Request(request, times) => return self.ask_times(&request, times, writer),
-            Asked::Undo => return self.undo(rt.alloc()),
+            Asked::Undo => return self.undo(),
             Asked::Show => self.put_state(),
-            Asked::Save(name) => return self.save(rt, name),
+            Asked::Save(name) => return self.save(name),
             Asked::Help => self.draft.text(HELP),
-            Asked::Nothing => tell_wrong(rt.alloc(), number, line, &mut self.draft)?,
+            Asked::Nothing => tell_wrong(self.rt.alloc(), number, line, &mut self.draft)?,
         }
         Ok(())
     }
@@ -333,9 +320,9 @@ impl<'a> Played<'a> {
     }
 
     /// Says on standard error that a line is waited for, if that is wanted.
-    fn prompt(&self, rt: &HostRuntime, text: &str) {
+    fn prompt(&self, text: &str) {
         if self.manner.prompts {
-            let _ = eprint!(rt; "{text}");
+            let _ = eprint!(self.rt; "{text}");
         }
     }
 }
@@ -362,13 +349,12 @@ fn text_of(line: &[u8]) -> Option<&str> {
 
 /// Answers a line of this number, which is this text.
 fn answer<W: Write>(
-    rt: &HostRuntime,
     played: &mut Played<'_>,
     (number, text): (u64, Option<&str>),
     writer: &mut W,
 ) -> Result<(), RunFault> {
     let served = match text {
-        Some(text) => played.serve(rt, number, text, writer),
+        Some(text) => played.serve(number, text, writer),
         None => {
             tell_line(&mut played.draft, number, "not text");
             Ok(())
@@ -386,23 +372,22 @@ fn answer<W: Write>(
 
 /// Reads the next line, of this number, and answers it. Returns whether further ones are read.
 fn answer_next<R: BufRead, W: Write>(
-    rt: &HostRuntime,
     played: &mut Played<'_>,
     number: u64,
     reader: &mut R,
     writer: &mut W,
 ) -> Result<bool, PlayFault> {
-    played.prompt(rt, "> ");
-    let line = next_line(rt.alloc(), reader)?;
+    played.prompt("> ");
+    let line = next_line(played.rt.alloc(), reader)?;
     if line.is_empty() {
-        played.prompt(rt, "\n");
+        played.prompt("\n");
         return Ok(false);
     }
     match text_of(line.as_slice()) {
         Some("quit") => Ok(false),
         Some("") if played.manner.prompts => Ok(true),
         text => {
-            answer(rt, played, (number, text), writer)?;
+            answer(played, (number, text), writer)?;
             Ok(true)
         }
     }
@@ -410,16 +395,15 @@ fn answer_next<R: BufRead, W: Write>(
 
 /// Begins, and answers each line before the next one is read.
 fn answer_all<R: BufRead, W: Write>(
-    rt: &HostRuntime,
     played: &mut Played<'_>,
     reader: &mut R,
     writer: &mut W,
 ) -> Result<(), PlayFault> {
-    played.begin(rt.alloc())?;
+    played.begin()?;
     played.end_answer("\n", writer)?;
-    played.prompt(rt, GREETING);
+    played.prompt(GREETING);
     for number in 1..u64::MAX {
-        if !answer_next(rt, played, number, reader, writer)? {
+        if !answer_next(played, number, reader, writer)? {
             break;
         }
     }
@@ -441,8 +425,8 @@ pub fn play<R: BufRead, W: Write>(
     reader: &mut R,
     writer: &mut W,
 ) -> Result<(), PlayFault> {
-    match Played::new(rt.alloc(), bench, manner) {
-        Ok(mut played) => answer_all(rt, &mut played, reader, writer),
+    match Played::new(rt, bench, manner) {
+        Ok(mut played) => answer_all(&mut played, reader, writer),
         Err(fault) => Err(PlayFault::from(fault)),
     }
 }
