@@ -23,6 +23,20 @@ pub enum Part {
 }
 
 impl Part {
+    /// The one for which a letter stands in the form of a line.
+    pub(crate) fn of(letter: &str) -> Option<Part> {
+        match letter {
+            "P" => Some(Part::Priority),
+            "A" => Some(Part::Address),
+            "W" => Some(Part::Word),
+            "D" => Some(Part::Delay),
+            "K" => Some(Part::Place),
+            "G" => Some(Part::Group),
+            "N" => Some(Part::Phase),
+            _ => None,
+        }
+    }
+
     /// Whether a text is such a number.
     pub(crate) fn is_spelled(self, text: &str) -> bool {
         match self {
@@ -50,104 +64,54 @@ impl Part {
     }
 }
 
-/// A kind of line. Source: profile.
+/// A kind of line, by its form: its first word, and a letter for each number that follows. Source:
+/// profile.
 #[derive(Clone, Copy)]
-pub struct Kind {
-    /// Its first word.
-    pub(crate) word: &'static str,
-    /// The letters that stand for what follows its word.
-    pub(crate) letters: &'static str,
-    /// What follows its word.
-    pub(crate) parts: &'static [Part],
+pub struct Kind(&'static str);
+
+impl Kind {
+    /// Its first word, and the letters, each after a space.
+    pub(crate) fn form(self) -> &'static str {
+        self.0
+    }
 }
 
-const NOTHING: Kind = Kind {
-    word: "nothing",
-    letters: "",
-    parts: &[],
-};
+impl Named for Kind {
+    fn name(self) -> &'static str {
+        match self.0.split_once(' ') {
+            Some((word, _letters)) => word,
+            None => self.0,
+        }
+    }
+}
 
-const NOVAC: Kind = Kind {
-    word: "novac",
-    letters: " P A W",
-    parts: &[Part::Priority, Part::Address, Part::Word],
-};
+const NOVAC: Kind = Kind("novac P A W");
 
-const FINDVAC: Kind = Kind {
-    word: "findvac",
-    letters: " P A W",
-    parts: &[Part::Priority, Part::Address, Part::Word],
-};
+const FINDVAC: Kind = Kind("findvac P A W");
 
-const END: Kind = Kind {
-    word: "end",
-    letters: "",
-    parts: &[],
-};
+const END: Kind = Kind("end");
 
-const SLEEP: Kind = Kind {
-    word: "sleep",
-    letters: " A",
-    parts: &[Part::Address],
-};
+const SLEEP: Kind = Kind("sleep A");
 
-const ROUSE: Kind = Kind {
-    word: "rouse",
-    letters: " A",
-    parts: &[Part::Address],
-};
+const ROUSE: Kind = Kind("rouse A");
 
-const PRIO: Kind = Kind {
-    word: "prio",
-    letters: " P",
-    parts: &[Part::Priority],
-};
-
-const CHANGE: Kind = Kind {
-    word: "change",
-    letters: "",
-    parts: &[],
-};
-
-const STORE: Kind = Kind {
-    word: "store",
-    letters: " K W",
-    parts: &[Part::Place, Part::Word],
-};
-
-const LIST: Kind = Kind {
-    word: "list",
-    letters: " D A W",
-    parts: &[Part::Delay, Part::Address, Part::Word],
-};
-
-const TICK: Kind = Kind {
-    word: "tick",
-    letters: "",
-    parts: &[],
-};
-
-const PHASE: Kind = Kind {
-    word: "phase",
-    letters: " G N",
-    parts: &[Part::Group, Part::Phase],
-};
-
-const RESTART: Kind = Kind {
-    word: "restart",
-    letters: "",
-    parts: &[],
-};
-
-const FRESH: Kind = Kind {
-    word: "fresh",
-    letters: "",
-    parts: &[],
-};
+const LIST: Kind = Kind("list D A W");
 
 /// All requests.
 pub(crate) const REQUESTS: [Kind; 13] = [
-    NOVAC, FINDVAC, END, SLEEP, ROUSE, PRIO, CHANGE, STORE, LIST, TICK, PHASE, RESTART, FRESH,
+    NOVAC,
+    FINDVAC,
+    END,
+    SLEEP,
+    ROUSE,
+    Kind("prio P"),
+    Kind("change"),
+    Kind("store K W"),
+    LIST,
+    Kind("tick"),
+    Kind("phase G N"),
+    Kind("restart"),
+    Kind("fresh"),
 ];
 
 /// What is said of a text that begins like no request.
@@ -155,7 +119,7 @@ pub(crate) const NO_REQUEST: &str = "its first word is unknown: a request begins
      findvac, end, sleep, rouse, prio, change, store, list, tick, phase, restart or fresh";
 
 /// What an action asks for.
-pub(crate) const ACTIONS: [Kind; 5] = [NOTHING, NOVAC, FINDVAC, ROUSE, LIST];
+pub(crate) const ACTIONS: [Kind; 5] = [Kind("nothing"), NOVAC, FINDVAC, ROUSE, LIST];
 
 /// What establishes a job.
 pub(crate) const JOBS: [Kind; 2] = [NOVAC, FINDVAC];
@@ -165,9 +129,3 @@ pub(crate) const LEAVINGS: [Kind; 2] = [END, SLEEP];
 
 /// What lists a task.
 pub(crate) const LISTINGS: [Kind; 1] = [LIST];
-
-impl Named for Kind {
-    fn name(self) -> &'static str {
-        self.word
-    }
-}

@@ -1,6 +1,6 @@
 //! What is wrong with a line, and how that is worded.
 use crate::kind::{Kind, NO_REQUEST, Part, REQUESTS};
-use crate::names::{called, meant_by};
+use crate::names::{Named, called, meant_by};
 use crate::saying::{Piece, Said, said};
 
 /// Why a line is no request. Source: profile.
@@ -27,15 +27,17 @@ const OF_BENCH: &str = "this looks like a bench, not a script: use check without
 
 const MEANT: &str = "its first word is unknown; did you mean \"{}\"?";
 
-const FORM: &str = "it has the form \"{}{}\", with single spaces";
+const FORM: &str = "it has the form \"{}\", with single spaces";
 
 /// What is wrong with a line of this kind.
 fn wrong_words(text: &str, kind: Kind) -> LineFault {
-    let words = text.split(' ').skip(1);
-    if text.split(' ').skip(1).count() == kind.parts.len() {
-        for (part, word) in kind.parts.iter().zip(words) {
-            if !part.is_spelled(word) {
-                return LineFault::Wrong(*part);
+    let form = kind.form();
+    if text.split(' ').count() == form.split(' ').count() {
+        for (letter, word) in form.split(' ').zip(text.split(' ')) {
+            if let Some(part) = Part::of(letter)
+                && !part.is_spelled(word)
+            {
+                return LineFault::Wrong(part);
             }
         }
     }
@@ -69,16 +71,16 @@ pub(crate) fn script_fault(text: &str) -> LineFault {
 impl LineFault {
     /// What is said of it.
     pub(crate) fn said(self) -> Said<'static> {
-        let (text, first, second) = match self {
-            LineFault::Empty => ("a line may not be empty", "", ""),
-            LineFault::CarriageReturn => ("a line ends with LF alone, not with CR LF", "", ""),
-            LineFault::ByteOrderMark => (BYTE_ORDER_MARK, "", ""),
-            LineFault::OfBench => (OF_BENCH, "", ""),
-            LineFault::Unknown(None) => (NO_REQUEST, "", ""),
-            LineFault::Unknown(Some(kind)) => (MEANT, kind.word, ""),
-            LineFault::Form(kind) => (FORM, kind.word, kind.letters),
-            LineFault::Wrong(part) => ("{}", part.spelling(), ""),
+        let (text, filling) = match self {
+            LineFault::Empty => ("a line may not be empty", ""),
+            LineFault::CarriageReturn => ("a line ends with LF alone, not with CR LF", ""),
+            LineFault::ByteOrderMark => (BYTE_ORDER_MARK, ""),
+            LineFault::OfBench => (OF_BENCH, ""),
+            LineFault::Unknown(None) => (NO_REQUEST, ""),
+            LineFault::Unknown(Some(kind)) => (MEANT, kind.name()),
+            LineFault::Form(kind) => (FORM, kind.form()),
+            LineFault::Wrong(part) => ("{}", part.spelling()),
         };
-        said(text, Piece::Text(first), Piece::Text(second))
+        said(text, Piece::Text(filling), Piece::Text(""))
     }
 }
