@@ -1,6 +1,6 @@
 -- Of proofs alone: what the threads of a run know of their shares and devices.
 use Rattle.std.specs.Prelude.{◌≡◌, ℕ, ◌+◌, ◌<◌, List, ◌∷◌, ◌++◌, length, map, slice_index_or}
-use Rattle.std.specs.Prelude.{Bool, IsSome}
+use Rattle.std.specs.Prelude.{Bool, IsSome, Some}
 use Rattle.std.specs.List.{All}
 use Rattle.atomic_table.specs.Seated.{TableId}
 use Rattle.agc_latch.specs.declared.accounts.Settled.{Settled}
@@ -16,6 +16,7 @@ use Rattle.agc_desk.specs.Desks.{ArePulses}
 use Rattle.agc_desk.specs.Draining.{answers_to}
 use Rattle.agc_desk.specs.History.{Holder, IsHistory, calls_by}
 use Rattle.agc_desk.specs.History.{new_holder, own_call, with_heard}
+use Rattle.agc_desk.specs.Lending.{Lent}
 use Rattle.agc_document.specs.Benches.{Benched}
 use Rattle.agc_bench.specs.Threads.{Asker, Worker, Attends, AskedOwn, IsAllTold, IsRun}
 use Rattle.agc_bench.specs.Threads.{ToldOwn, threads_of}
@@ -104,6 +105,11 @@ pub record IsPosts (latch : TableId) (bench : Benched) (place : ℕ) (its_latch 
     (planned : Line × ℕ) : Type 0 where
   pub latch_is : its_latch ≡ latch
   pub planned_is : (d : Line × ℕ) → planned ≡ slice_index_or bench.devices place d
+
+-- what a desk has lent of a latch when each device of a bench was given out, and none came back
+abbrev pub lent_to : TableId → Benched → Lent
+lent_to latch bench =
+    record { latch = Some latch; given = length bench.devices; settled = zeros }
 
 -- what takes part in a run before it begins: the script was asked with the caller's share; each
 -- thread that asks has a share, with which nothing was asked; and each device may post its pulses

@@ -6,25 +6,24 @@ ghost use Rattle.agc_bench.specs.Sharing.{AsksOwn, AsksPulses, first_calls};
 ghost use Rattle.agc_bench.specs.Threads.{threads_of};
 ghost use Rattle.agc_bench.specs.Steps.{thread_at};
 
-use agc_desk::{Desk, Gate, Latch, Names, Share, Shared, Sharing, attend, work};
+use crate::hall::Hall;
+use agc_desk::{Desk, Gate, Names, Share, Shared, Sharing, attend, work};
 use agc_document::Bench;
 use agc_plan::Request;
 use std::sync::Wait;
 
-/// Attends so many times.
-fn attend_times<N: Sharing, W: Wait>(
-    rt: &W,
+/// Attends as often as the bench says.
+fn attend_times<N: Sharing, G, W: Wait>(
+    hall: &Hall<'_, W, G>,
     shared: &Shared<N>,
-    latch: &Latch,
     share: Share<N>,
-    times: u32,
 ) -> Share<N>
-    requires { latch.now ≡ N.latch }
-    ensures { AsksPulses times share result }
+    requires { hall.now.latch.now ≡ N.latch }
+    ensures { AsksPulses hall.now.bench.now.attends share result }
 {
     let mut share = share;
-    for _time in 0..times {
-        attend(rt, shared, latch, &mut share);
+    for _time in 0..hall.bench.attends() {
+        attend(hall.rt, shared, hall.latch, &mut share);
     }
     share
 }
@@ -56,21 +55,21 @@ pub(crate) fn count_threads(bench: &Bench) -> usize
 /// Asks what the thread of this number asks: the workers' requests come first, each as far as the
 /// gate lets it; the last thread attends as often as the bench says.
 pub(crate) fn ask_own<N: Sharing, G: Gate, W: Wait>(
-    rt: &W,
+    hall: &Hall<'_, W, G>,
     shared: &Shared<N>,
-    latch: &Latch,
     share: Share<N>,
-    bench: &Bench,
     thread: usize,
-    gate: &G,
 ) -> Share<N>
-    requires { latch.now ≡ N.latch }
-    ensures { AsksOwn (λ n call answer. G.may_answer gate.now n call answer)
-        (λ n call said. G.is_told gate.now n call said)
-        (thread_at bench.now thread) share result }
+    requires { hall.now.latch.now ≡ N.latch }
+    ensures { AsksOwn (λ n call answer. G.may_answer hall.now.gate.now n call answer)
+        (λ n call said. G.is_told hall.now.gate.now n call said)
+        (thread_at hall.now.bench.now thread) share result }
 {
-    match bench.workers().get(thread) {
-        Some(requests) => work(rt, shared, share, thread, requests.as_slice(), gate),
-        None => attend_times(rt, shared, latch, share, bench.attends()),
+    match hall.bench.workers().get(thread) {
+        Some(requests) => {
+            let requests = requests.as_slice();
+            work(hall.rt, shared, share, thread, requests, hall.gate)
+        }
+        None => attend_times(hall, shared, share),
     }
 }

@@ -7,7 +7,8 @@ ghost use Rattle.agc_desk.specs.History.{IsHistory};
 ghost use Rattle.agc_desk.specs.Keeping.{lent_of};
 ghost use Rattle.agc_bench.specs.Sharing.{AsksPulses, Finishes, GoesOn, HaveSettled};
 
-use agc_desk::{Desk, Device, Latch, Names, Settled, Share, gather, settle};
+use crate::opening::RunParts;
+use agc_desk::{Desk, Device, Held, Latch, Names, Settled, Share, Sharing, gather, settle};
 use agc_machine::{Machine, Totals};
 use agc_session::RunFault;
 
@@ -77,23 +78,27 @@ fn gather_all<N: Names>(
 
 /// Ends a run whose threads have ended: attends with the caller's share, settles the latch, and
 /// gathers the shares.
-pub(crate) fn finish<N: Names>(
-    mut desk: Desk<N>,
+pub(crate) fn finish<N: Sharing>(
+    parts: RunParts<N>,
     latch: Latch,
-    mut first: Share<N>,
-    shares: Vec<Share<N>>,
-    devices: Vec<Device>,
 ) -> Result<(Machine, Totals, Settled), RunFault>
-    requires given { desk.given ≡ vec_len shares + 1 }
-    requires lent { lent_of desk.lines ≡ record
-        { latch = Some latch; given = vec_len devices; settled = zeros } }
-    requires devices { All (λ d. d.latch ≡ latch) devices.items }
-    ensures run { IfOk result (λ r. Finishes N.first desk.history first shares.items r.0
-        r.2) }
+    requires given { parts.held.desk.given ≡ vec_len parts.shares + 1 }
+    requires lent { lent_of parts.held.desk.lines ≡ record
+        { latch = Some latch; given = vec_len parts.devices; settled = zeros } }
+    requires devices { All (λ d. d.latch ≡ latch) parts.devices.items }
+    ensures run { IfOk result (λ r. Finishes N.first parts.held.desk.history parts.first
+        parts.shares.items r.0 r.2) }
     ensures grown { IfOk result (λ r. add r.1 N.first.totals ≡ r.0.totals) }
-    ensures settled { IfOk result (λ r. HaveSettled devices.items r.2) }
+    ensures settled { IfOk result (λ r. HaveSettled parts.devices.items r.2) }
     ensures early { IfErr result (λ fault. fault ≡ RunFault.NoMemory) }
 {
+    let RunParts {
+        held,
+        mut first,
+        shares,
+        devices,
+    } = parts;
+    let Held { mut desk } = held;
     attend_last(&mut desk, &latch, &mut first);
     let (desk, settled) = settle_all(desk, latch, devices);
     match gather_all(desk, first, shares) {

@@ -5,6 +5,7 @@
 
 mod asker;
 mod closing;
+mod hall;
 pub mod laws;
 mod opening;
 mod poster;

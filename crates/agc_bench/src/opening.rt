@@ -2,13 +2,12 @@ ghost use Rattle.std.specs.Prelude.{◌≡◌, ◌+◌, ◌≤◌, ℕ, [], IfOk
 ghost use Rattle.std.specs.Prelude.{length, map, nat_eq, vec_len};
 ghost use Rattle.agc_latch.specs.Accounts.{no_accounts, with_taker};
 ghost use Rattle.agc_latch.specs.Ends.{new_device};
-ghost use Rattle.agc_latch.specs.Lines.{zeros};
 ghost use Rattle.agc_desk.specs.Desks.{new_desk};
 ghost use Rattle.agc_desk.specs.Draining.{answers_to};
 ghost use Rattle.agc_desk.specs.History.{new_holder};
 ghost use Rattle.agc_desk.specs.Keeping.{lent_of};
 ghost use Rattle.agc_desk.specs.Opening.{names_of};
-ghost use Rattle.agc_bench.specs.Sharing.{AreFresh, AreReady, first_calls};
+ghost use Rattle.agc_bench.specs.Sharing.{AreFresh, AreReady, first_calls, lent_to};
 ghost use Rattle.agc_bench.specs.Threads.{askers_of, threads_of};
 
 use crate::asker::{ask_script, count_threads};
@@ -66,11 +65,8 @@ fn threads_and_devices<N: Names>(
         (λ d. new_device latch.now d.1) bench.now.devices) }
     ensures desk { OnOk result (desk.new ≡ record desk.old
         { given = length (askers_of bench.now); lines = desk.new.lines }) }
-    ensures lent { OnOk result (lent_of desk.new.lines ≡ record {
-      latch = Some latch.now;
-      given = length bench.now.devices;
-      settled = zeros;
-    }) }
+    ensures lent { OnOk result (lent_of desk.new.lines
+        ≡ lent_to latch.now bench.now) }
     ensures early { IfErr result (λ fault. fault ≡ RunFault.NoMemory) }
 {
     let shares = shares_of(alloc, desk, count_threads(bench))?;
@@ -94,11 +90,7 @@ fn with_threads<N: Sharing>(
         (length (askers_of bench.now)) }
     requires begun { N.begun ≡ first_calls (answers_to N.first bench.now.script) }
     requires latch { latch.now ≡ N.latch }
-    requires lent { N.lent ≡ Some record {
-      latch = Some latch.now;
-      given = length bench.now.devices;
-      settled = zeros;
-    } }
+    requires lent { N.lent ≡ Some (lent_to latch.now bench.now) }
     ensures ready { IfOk result (λ p. AreReady N.first bench.now latch.now p.first p.shares.items
         p.devices.items) }
     ensures early { IfErr result (λ fault. fault ≡ RunFault.NoMemory) }
@@ -137,11 +129,7 @@ pub(crate) fn open<N: Sharing>(
     requires begun { N.begun ≡ first_calls (answers_to N.first bench.now.script) }
     requires taker { taker ≡ latch.now }
     requires latch { latch.now ≡ N.latch }
-    requires lent { N.lent ≡ Some record {
-      latch = Some latch.now;
-      given = length bench.now.devices;
-      settled = zeros;
-    } }
+    requires lent { N.lent ≡ Some (lent_to latch.now bench.now) }
     ensures ready { IfOk result (λ p. AreReady N.first bench.now latch.now p.first p.shares.items
         p.devices.items) }
     ensures early { IfErr result (λ fault. fault ≡ RunFault.NoMemory) }

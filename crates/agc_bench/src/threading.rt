@@ -1,11 +1,11 @@
 ghost use Rattle.std.specs.Prelude.{◌≡◌, ◌<◌, ℕ, IfOk, IfErr, Some, length, nat_eq};
 ghost use Rattle.std.specs.Prelude.{slice_index_or, vec_len};
 ghost use Rattle.agc_latch.specs.Ends.{new_device};
-ghost use Rattle.agc_latch.specs.Lines.{zeros};
 ghost use Rattle.agc_desk.specs.Draining.{answers_to};
 ghost use Rattle.agc_desk.specs.Opening.{names_of};
 ghost use Rattle.agc_session.specs.Runs.{bench_machine};
 ghost use Rattle.agc_bench.specs.Sharing.{AreReady, AsksOwn, HaveAsked, HaveRun, first_calls};
+ghost use Rattle.agc_bench.specs.Sharing.{lent_to};
 ghost use Rattle.agc_bench.specs.Sharing.{spent_device, spent_devices};
 ghost use Rattle.agc_bench.specs.Sharing.{IsPledge, IsPosts, IsToldRun, new_devices};
 ghost use Rattle.agc_bench.specs.Threads.{AreSettled, WritesRun, askers_of};
@@ -13,6 +13,7 @@ ghost use Rattle.agc_bench.specs.Steps.{IsEarly, WritesSettled, thread_at};
 
 use crate::asker::ask_own;
 use crate::closing::finish;
+use crate::hall::Hall;
 use crate::opening::{RunParts, open};
 use crate::poster::post_all;
 use agc_desk::{
@@ -61,19 +62,17 @@ impl<'l> Promise<Device> for Posts<'l> {
 /// one that attends.
 fn start_askers<'s, E, N: Sharing + Send + Sync, G: Gate + Sync, W: Wait + Sync>(
     scope: &Scope<'s, E>,
-    rt: &'s W,
     alloc: Global,
+    hall: &'s Hall<'s, W, G>,
     shared: &'s Shared<N>,
-    latch: &'s Latch,
     shares: Vec<Share<N>>,
-    bench: &'s Bench,
-    gate: &'s G,
 ) -> Result<Vec<PromisedHandle<Share<N>, Pledge<'s, 's, N, G>>>, RunFault>
-    requires latch { latch.now ≡ N.latch }
+    requires latch { hall.now.latch.now ≡ N.latch }
     ensures len { IfOk result (λ v. vec_len v ≡ vec_len shares) }
     ensures each { IfOk result (λ v. (k : ℕ) (d : _) → k < vec_len v
         → let p = (slice_index_or v.items k d).promise in
-        IsPledge bench.now shares.items gate.now k p.start.value p.bench.now p.thread p.gate.now) }
+        IsPledge hall.now.bench.now shares.items hall.now.gate.now k p.start.value p.bench.now
+        p.thread p.gate.now) }
     ensures early { IfErr result (λ fault. IsEarly fault) }
 {
     let mut running = Vec::new(alloc);
@@ -81,16 +80,16 @@ fn start_askers<'s, E, N: Sharing + Send + Sync, G: Gate + Sync, W: Wait + Sync>
         let thread = running.len();
         let pledge = Pledge {
             start: Snapshot::of(&share),
-            bench,
+            bench: hall.bench,
             thread,
-            gate,
+            gate: hall.gate,
         };
         let own = move || -> Share<N>
-            requires { latch.now ≡ N.latch }
-            ensures { AsksOwn (λ n call answer. G.may_answer gate.entry.now n call answer)
-                (λ n call said. G.is_told gate.entry.now n call said)
-                (thread_at bench.entry.now thread) share result }
-        { ask_own(rt, shared, latch, share, bench, thread, gate) };
+            requires { hall.now.latch.now ≡ N.latch }
+            ensures { AsksOwn (λ n call answer. G.may_answer hall.entry.now.gate.now n call answer)
+                (λ n call said. G.is_told hall.entry.now.gate.now n call said)
+                (thread_at hall.entry.now.bench.now thread) share result }
+        { ask_own(hall, shared, share, thread) };
         let asking = scope.spawn_with(pledge, own)?;
         running.push(asking)?;
     }
@@ -100,33 +99,31 @@ fn start_askers<'s, E, N: Sharing + Send + Sync, G: Gate + Sync, W: Wait + Sync>
 /// Has all workers ask at once, and one more thread attend, each in a thread of its own with the
 /// share at its place, and joins them.
 fn ask_at_once<N: Sharing + Send + Sync, G: Gate + Sync, W: Threads + Wait + Sync>(
-    rt: &W,
     alloc: Global,
+    hall: &Hall<'_, W, G>,
     shared: &Shared<N>,
-    latch: &Latch,
     shares: Vec<Share<N>>,
-    bench: &Bench,
-    gate: &G,
 ) -> Result<Vec<Share<N>>, RunFault>
-    requires latch { latch.now ≡ N.latch }
+    requires latch { hall.now.latch.now ≡ N.latch }
     ensures asked { IfOk result (λ v. HaveAsked
-        (λ n call answer. G.may_answer gate.now n call answer)
-        (λ n call said. G.is_told gate.now n call said) bench.now shares.items v.items) }
+        (λ n call answer. G.may_answer hall.now.gate.now n call answer)
+        (λ n call said. G.is_told hall.now.gate.now n call said) hall.now.bench.now
+        shares.items v.items) }
     ensures early { IfErr result (λ fault. IsEarly fault) }
 {
     thread::scope(
         thread::scope_env(),
-        rt,
+        hall.rt,
         move |scope| -> Result<Vec<Share<N>>, RunFault>
-            requires latch { latch.now ≡ N.latch }
+            requires latch { hall.now.latch.now ≡ N.latch }
             ensures asked { IfOk result (λ v. HaveAsked
-                (λ n call answer. G.may_answer gate.entry.now n call answer)
-                (λ n call said. G.is_told gate.entry.now n call said)
-                bench.entry.now shares.items v.items) }
+                (λ n call answer. G.may_answer hall.entry.now.gate.now n call answer)
+                (λ n call said. G.is_told hall.entry.now.gate.now n call said)
+                hall.entry.now.bench.now shares.items v.items) }
             ensures early { IfErr result (λ fault. IsEarly fault) }
         {
-            let running = start_askers(scope, rt, alloc, shared, latch, shares, bench, gate)?;
-            match thread::join_promised(rt, running) {
+            let running = start_askers(scope, alloc, hall, shared, shares)?;
+            match thread::join_promised(hall.rt, running) {
                 Ok(back) => Ok(back),
                 Err(_failed) => Err(RunFault::NoMemory),
             }
@@ -135,23 +132,23 @@ fn ask_at_once<N: Sharing + Send + Sync, G: Gate + Sync, W: Threads + Wait + Syn
 }
 
 /// Starts a thread for each device of a bench, which posts its pulses on its line.
-fn start_posters<'s, E>(
+fn start_posters<'s, E, G, W>(
     scope: &Scope<'s, E>,
     alloc: Global,
-    latch: &'s Latch,
+    hall: &'s Hall<'s, W, G>,
     devices: Vec<Device>,
-    bench: &Bench,
 ) -> Result<Vec<PromisedHandle<Device, Posts<'s>>>, RunFault>
-    requires devices { devices.items ≡ new_devices latch.now bench.now }
-    ensures len { IfOk result (λ v. vec_len v ≡ length bench.now.devices) }
+    requires devices { devices.items ≡ new_devices hall.now.latch.now hall.now.bench.now }
+    ensures len { IfOk result (λ v. vec_len v ≡ length hall.now.bench.now.devices) }
     ensures each { IfOk result (λ v. (k : ℕ) (d : _) → k < vec_len v
         → let p = (slice_index_or v.items k d).promise in
-        IsPosts latch.now bench.now k p.latch.now p.planned) }
+        IsPosts hall.now.latch.now hall.now.bench.now k p.latch.now p.planned) }
     ensures early { IfErr result (λ fault. IsEarly fault) }
 {
+    let latch = hall.latch;
     let mut posting = Vec::new(alloc);
     for device in devices {
-        let planned = bench.devices()[posting.len()];
+        let planned = hall.bench.devices()[posting.len()];
         let pledge = Posts { latch, planned };
         let own = move || -> Device
             requires { device ≡ new_device latch.now planned.1 }
@@ -166,39 +163,39 @@ fn start_posters<'s, E>(
 /// Has all devices post at once, each in a thread of its own, while the workers ask and one more
 /// thread attends, and joins them all.
 fn run_at_once<N: Sharing + Send + Sync, G: Gate + Sync, W: Threads + Wait + Sync>(
-    rt: &W,
     alloc: Global,
+    hall: &Hall<'_, W, G>,
     shared: &Shared<N>,
-    latch: &Latch,
     shares: Vec<Share<N>>,
     devices: Vec<Device>,
-    bench: &Bench,
-    gate: &G,
 ) -> Result<(Vec<Share<N>>, Vec<Device>), RunFault>
-    requires latch { latch.now ≡ N.latch }
-    requires devices { devices.items ≡ new_devices latch.now bench.now }
+    requires latch { hall.now.latch.now ≡ N.latch }
+    requires devices { devices.items ≡ new_devices hall.now.latch.now hall.now.bench.now }
     ensures asked { IfOk result (λ r. HaveAsked
-        (λ n call answer. G.may_answer gate.now n call answer)
-        (λ n call said. G.is_told gate.now n call said) bench.now shares.items r.0.items) }
-    ensures devices { IfOk result (λ r. r.1.items ≡ spent_devices latch.now bench.now) }
+        (λ n call answer. G.may_answer hall.now.gate.now n call answer)
+        (λ n call said. G.is_told hall.now.gate.now n call said) hall.now.bench.now
+        shares.items r.0.items) }
+    ensures devices { IfOk result
+        (λ r. r.1.items ≡ spent_devices hall.now.latch.now hall.now.bench.now) }
     ensures early { IfErr result (λ fault. IsEarly fault) }
 {
     thread::scope(
         thread::scope_env(),
-        rt,
+        hall.rt,
         move |scope| -> Result<(Vec<Share<N>>, Vec<Device>), RunFault>
-            requires latch { latch.now ≡ N.latch }
-            requires devices { devices.items ≡ new_devices latch.now bench.now }
+            requires latch { hall.now.latch.now ≡ N.latch }
+            requires devices { devices.items ≡ new_devices hall.now.latch.now hall.now.bench.now }
             ensures asked { IfOk result (λ r. HaveAsked
-                (λ n call answer. G.may_answer gate.entry.now n call answer)
-                (λ n c s. G.is_told gate.entry.now n c s) bench.entry.now shares.items r.0.items) }
-            ensures devices { IfOk result
-                (λ r. r.1.items ≡ spent_devices latch.entry.now bench.entry.now) }
+                (λ n call answer. G.may_answer hall.entry.now.gate.now n call answer)
+                (λ n call said. G.is_told hall.entry.now.gate.now n call said)
+                hall.entry.now.bench.now shares.items r.0.items) }
+            ensures devices { IfOk result (λ r. r.1.items
+                ≡ spent_devices hall.entry.now.latch.now hall.entry.now.bench.now) }
             ensures early { IfErr result (λ fault. IsEarly fault) }
         {
-            let posting = start_posters(scope, alloc, latch, devices, bench)?;
-            let back = ask_at_once(rt, alloc, shared, latch, shares, bench, gate)?;
-            match thread::join_promised(rt, posting) {
+            let posting = start_posters(scope, alloc, hall, devices)?;
+            let back = ask_at_once(alloc, hall, shared, shares)?;
+            match thread::join_promised(hall.rt, posting) {
                 Ok(devices) => Ok((back, devices)),
                 Err(_failed) => Err(RunFault::NoMemory),
             }
@@ -208,20 +205,17 @@ fn run_at_once<N: Sharing + Send + Sync, G: Gate + Sync, W: Threads + Wait + Syn
 
 /// Has all threads of a run do what is theirs, with the desk under a lock, until all have ended.
 fn run_locked<N: Sharing + Send + Sync, G: Gate + Sync, W: Threads + Wait + Sync>(
-    rt: &W,
     alloc: Global,
+    hall: &Hall<'_, W, G>,
     parts: RunParts<N>,
-    latch: &Latch,
-    bench: &Bench,
-    gate: &G,
 ) -> Result<RunParts<N>, RunFault>
-    requires latch { latch.now ≡ N.latch }
-    requires ready { AreReady N.first bench.now latch.now parts.first parts.shares.items
-        parts.devices.items }
+    requires latch { hall.now.latch.now ≡ N.latch }
+    requires ready { AreReady N.first hall.now.bench.now hall.now.latch.now parts.first
+        parts.shares.items parts.devices.items }
     ensures run { IfOk result
-        (λ p. HaveRun (λ n call answer. G.may_answer gate.now n call answer)
-        (λ n call said. G.is_told gate.now n call said) N.first bench.now latch.now p.first
-        p.shares.items p.devices.items) }
+        (λ p. HaveRun (λ n call answer. G.may_answer hall.now.gate.now n call answer)
+        (λ n call said. G.is_told hall.now.gate.now n call said) N.first hall.now.bench.now
+        hall.now.latch.now p.first p.shares.items p.devices.items) }
     ensures early { IfErr result (λ fault. IsEarly fault) }
 {
     let RunParts {
@@ -231,7 +225,7 @@ fn run_locked<N: Sharing + Send + Sync, G: Gate + Sync, W: Threads + Wait + Sync
         devices,
     } = parts;
     let shared: Shared<N> = Mutex::new(held);
-    match run_at_once(rt, alloc, &shared, latch, shares, devices, bench, gate) {
+    match run_at_once(alloc, hall, &shared, shares, devices) {
         Ok((shares, devices)) => Ok(RunParts {
             held: shared.into_inner(),
             first,
@@ -246,46 +240,55 @@ fn run_locked<N: Sharing + Send + Sync, G: Gate + Sync, W: Threads + Wait + Sync
     }
 }
 
+/// What a run of threads begins with: a machine, what its desk is told apart by, and a latch with
+/// its taker.
+#[derive(Drop)]
+struct Outfit {
+    machine: Machine,
+    blanks: Blanks,
+    latch: Latch,
+    taker: Taker,
+}
+
 /// Runs a bench's machine with threads: the script is asked, all threads do what is theirs, and
 /// when they have ended the caller attends, settles and gathers.
 fn gathered<N: Sharing + Send + Sync, G: Gate + Sync, W: Threads + Wait + Sync>(
     rt: &W,
     alloc: Global,
-    machine: Machine,
-    blanks: Blanks,
-    latch: Latch,
-    taker: Taker,
+    outfit: Outfit,
     bench: &Bench,
     gate: &G,
 ) -> Result<(Machine, Totals, Settled), RunFault>
-    requires names { names_of blanks ≡ N.names }
-    requires first { machine ≡ N.first }
+    requires names { names_of outfit.blanks ≡ N.names }
+    requires first { outfit.machine ≡ N.first }
     requires bench { N.first ≡ bench_machine bench.now }
     requires shares { (given : ℕ) → N.may_share given ≡ nat_eq given
         (length (askers_of bench.now)) }
     requires begun { N.begun ≡ first_calls (answers_to N.first bench.now.script) }
-    requires taker { taker ≡ latch }
-    requires latch { latch ≡ N.latch }
-    requires lent { N.lent ≡ Some record {
-      latch = Some latch;
-      given = length bench.now.devices;
-      settled = zeros;
-    } }
+    requires taker { outfit.taker ≡ outfit.latch }
+    requires latch { outfit.latch ≡ N.latch }
+    requires lent { N.lent ≡ Some (lent_to outfit.latch bench.now) }
     ensures run { IfOk result (λ r. IsToldRun (λ n call answer. G.may_answer gate.now n call answer)
         (λ n call said. G.is_told gate.now n call said) bench.now r.0 r.2) }
     ensures totals { IfOk result (λ r. r.1 ≡ r.0.totals) }
     ensures pulses { IfOk result (λ r. AreSettled bench.now r.2) }
     ensures early { IfErr result (λ fault. IsEarly fault) }
 {
-    let parts = open::<N>(alloc, machine, blanks, &latch, taker, bench)?;
-    let RunParts {
-        held,
-        first,
-        shares,
-        devices,
-    } = run_locked(rt, alloc, parts, &latch, bench, gate)?;
-    let Held { desk } = held;
-    let (machine, totals, settled) = finish(desk, latch, first, shares, devices)?;
+    let Outfit {
+        machine,
+        blanks,
+        latch,
+        taker,
+    } = outfit;
+    let ready = open::<N>(alloc, machine, blanks, &latch, taker, bench)?;
+    let hall = Hall {
+        rt,
+        latch: &latch,
+        bench,
+        gate,
+    };
+    let ended = run_locked(alloc, &hall, ready)?;
+    let (machine, totals, settled) = finish(ended, latch)?;
     Ok((machine, totals, settled))
 }
 
@@ -333,9 +336,13 @@ pub fn threads<R: Threads + Wait + Sync, W: Write, G: Gate + Sync>(
     let machine = machine_of(alloc, bench)?;
     let blanks = Blanks::new(alloc)?;
     let (latch, taker) = Latch::new(alloc)?;
-    let (machine, totals, settled) = gathered::<Brand, G, R>(
-        rt, alloc, machine, blanks, latch, taker, bench, gate,
-    )?;
+    let outfit = Outfit {
+        machine,
+        blanks,
+        latch,
+        taker,
+    };
+    let (machine, totals, settled) = gathered::<Brand, G, R>(rt, alloc, outfit, bench, gate)?;
     report_run(&machine, &totals, &settled, writer)?;
     Ok(())
 }

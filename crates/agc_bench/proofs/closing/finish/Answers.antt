@@ -12,12 +12,12 @@ returns-in-Ok-clause-run g c =
     let settled = c.settle_all-desk.result.1 in
     let machine = c.in-Ok.machine in
     let goes_on = c.attend_last.ensures.history in
-    let calls : desk.history ≡ c.args.desk.history ++ goes_on.0 = ap (λ (d : Desked). d.history) c.settle_all-desk.ensures.desk ∙ goes_on.1 in
+    let calls : desk.history ≡ c.args.parts.held.desk.history ++ goes_on.0 = ap (λ (d : Desked). d.history) c.settle_all-desk.ensures.desk ∙ goes_on.1 in
     record {
       more = goes_on.0;
       now = c.attend_last.new.share;
       attended = c.attend_last.ensures.asks;
-      whole = subst (λ (l : List Call). IsHistory first (c.attend_last.new.share ∷ c.args.shares.items) l machine) calls
+      whole = subst (λ (l : List Call). IsHistory first (c.attend_last.new.share ∷ c.args.parts.shares.items) l machine) calls
           c.in-Ok.ensures.history;
       begun = desk.lines.begun;
       pulses = subst (λ (l : List Call). ArePulses first.plan l settled.applied desk.lines.begun) calls

@@ -10,8 +10,8 @@ use Rattle.agc_bench.proofs.threading.start_posters.Goals as goal
 
 pub loop-device-preserved : goal.loop-device-preserved
 loop-device-preserved g c =
-    let latch = c.args.latch.now in
-    let bench = c.args.bench.now in
+    let latch = c.args.hall.now.latch.now in
+    let bench = c.args.hall.now.bench.now in
     let old : List Posting = c.loop-device.yielded in
     let device : Posting = c.in-Some.device in
     let running = c.loop-device.posting.items in
@@ -37,9 +37,9 @@ loop-device-preserved g c =
 
 pub returns-clause-len : goal.returns-clause-len
 returns-clause-len g c =
-    let bench = c.args.bench.now in
+    let bench = c.args.hall.now.bench.now in
     let i = c.loop-device.invariant in
     let over : into_iter_items c.loop-device.device-iterator ≡ [] = nothing_left _ (sym i.left_over ∙ c.in-None.ensures.steps.0) in
-    let all : c.loop-device.yielded ≡ new_devices c.args.latch.now bench =
+    let all : c.loop-device.yielded ≡ new_devices c.args.hall.now.latch.now bench =
     sym (append-nil c.loop-device.yielded) ∙ (rw over at i.rest ∙ (c.into_iter-device-iterator.ensures.into_iter_gives.0 ∙ c.requires.devices)) in
-    omega (arith, i.len, ap length all, length-map bench.devices (λ d. new_device c.args.latch.now d.1))
+    omega (arith, i.len, ap length all, length-map bench.devices (λ d. new_device c.args.hall.now.latch.now d.1))

@@ -8,5 +8,5 @@ invariant-loop-device g l = record {
   rest : l.yielded ++ into_iter_items l.device-iterator ≡ into_iter_items l.initial.device-iterator;
   left_over : into_iter_len l.device-iterator ≡ length (into_iter_items l.device-iterator);
   len : vec_len l.posting ≡ length l.yielded;
-  each : (k : ℕ) (d : _) → k < length l.yielded → IsPosts l.latch l.bench k (get_or l.posting.items k d).promise.latch.now (get_or l.posting.items k d).promise.planned;
+  each : (k : ℕ) (d : _) → k < length l.yielded → IsPosts l.hall.latch.now l.hall.bench.now k (get_or l.posting.items k d).promise.latch.now (get_or l.posting.items k d).promise.planned;
 }

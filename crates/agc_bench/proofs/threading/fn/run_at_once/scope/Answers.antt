@@ -8,8 +8,8 @@ use Rattle.agc_bench.proofs.threading.fn.run_at_once.scope.Goals as goal
 
 pub returns-in-Ok : goal.returns-in-Ok
 returns-in-Ok g c =
-    let latch = c.captures.latch.now in
-    let bench = c.captures.bench.now in
+    let latch = c.captures.hall.now.latch.now in
+    let bench = c.captures.hall.now.bench.now in
     let posting = c.in_ok-posting.ensures in
     let back : List Posting = c.in-Ok.devices.items in
     let none : Posting = new_device no_latch 0 in

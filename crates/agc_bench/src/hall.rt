@@ -1,0 +1,13 @@
+// What the threads of a run are given.
+use agc_desk::Latch;
+use agc_document::Bench;
+
+/// What each thread of a run is given besides the desk: how it waits, the latch, the bench that is
+/// run, and the gate.
+#[derive(Drop)]
+pub(crate) struct Hall<'s, W, G> {
+    pub(crate) rt: &'s W,
+    pub(crate) latch: &'s Latch,
+    pub(crate) bench: &'s Bench,
+    pub(crate) gate: &'s G,
+}
