@@ -69,10 +69,11 @@ fn is_begun(scenario: &Scenario, at: Address) -> bool {
             .any(|job| job.leaves() == Then::Sleep(at))
 }
 
-/// How many percent are stolen in every centisecond, at least.
+/// How many percent are stolen in every centisecond, at least. Before the first tick nothing is
+/// computed.
 fn stolen_always(timing: &Timing) -> u64 {
     let mut least = 100;
-    for time in 0..=timing.lasts() {
+    for time in 1..=timing.lasts() {
         least = stolen_at(timing.stolen(), time).min(least);
         if least == 0 {
             return 0;
