@@ -4,7 +4,8 @@
  *
  * @typedef {{ at: string, bank: string, action: string[], name?: string }} TaskRow
  * @typedef {{ group: number, phase: number, job?: string, task?: string, name?: string }} PhaseRow
- * @typedef {{ at: string, cost: number, name?: string, then?: string[] }} JobRow
+ * @typedef {{ at: string, cost: number, name?: string, then?: string[],
+ *   deadline?: number }} JobRow
  * @typedef {{ at: number, do: string[], every?: number, until?: number, name?: string }} EventRow
  * @typedef {{ from: number, to: number, percent: number, every?: number,
  *   until?: number }} StealRow
@@ -74,7 +75,7 @@ export const LEVELS = {
   device: { line: text("device", true), pulses: integer(0, 1_000_000n, true) },
   job: {
     ...{ ...named, at: text("address", true), cost: integer(1, 1_000_000n, true) },
-    then: some("then", 8n),
+    ...{ then: some("then", 8n), deadline: integer(1, 360_000n) },
   },
   event: {
     ...{ ...named, at: integer(0, 360_000n, true), do: some("request", 16n, true) },
@@ -177,7 +178,8 @@ function textsOf(given, row, place) {
     const here = new Place(lines?.[k] ?? place.line, place.path);
     const isStep = row.form === "then" && k + 1 < items.length;
     const its = isStep ? { ...row, form: "step" } : row;
-    return textOf(it, its, isOne ? here : here.below(`${row.form} ${k + 1}`));
+    const what = row.form === "then" ? "request" : row.form;
+    return textOf(it, its, isOne ? here : here.below(`${what} ${k + 1}`));
   });
 }
 

@@ -48,9 +48,10 @@ export function HELP() {
       + "waits, and hatched while it sleeps. Point at a block to see who it is; a click goes there. "
       + "Zoom by the wheel, by two fingers, by keys, or draw a range."),
     make("p", {}, "The clock lets centiseconds pass. A job with a cost ends when it has run for "
-      + "that long, and stolen time is taken away from the jobs. The sliders change these numbers, "
-      + "from the beginning or from here on; the run before stays on the chart until you forget it. "
-      + "The address keeps what you did: copy it, or reload the page."),
+      + "that long, or first asks for what its list says; stolen time is taken away from the jobs. "
+      + "The sliders change these numbers, from the beginning or from here on; the run before stays "
+      + "on the chart until you forget it. The address keeps what you did: copy it, or reload the "
+      + "page."),
     make("p", {}, "An alarm comes when a request needs a place and the table is full: 1201 areas, "
       + "1202 core sets, 1203 the Waitlist. Then all jobs and tasks are gone, and the phases say "
       + "what begins again. The button After the restart shows the tables with that."),

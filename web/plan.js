@@ -14,6 +14,7 @@ const LABELS = {
   steal: "Stolen percent, or lines: from, to, percent (every, until)",
   ...{ at: "At", bank: "Bank", action: "Actions", group: "Group", phase: "Phase", job: "Job" },
   ...{ task: "Task", name: "Name", cost: "Cost, cs", then: "Then", do: "Asks for" },
+  deadline: "Deadline, cs",
   ...{ every: "Every, cs", until: "Until, cs" },
 };
 

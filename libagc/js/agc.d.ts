@@ -218,6 +218,8 @@ export interface JobCost {
   at: string | number;
   cost: number;
   then?: string | readonly string[];
+  /** How long it may take, for `agc_watch jobs`: a clock passes over it. */
+  deadline?: number;
   name?: string;
 }
 

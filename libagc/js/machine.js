@@ -15,7 +15,7 @@
  * @typedef {{ task?: PlanTask[], phase?: PlanPhase[] }} Plan
  * @typedef {{ at: number, bank: number }} Task
  * @typedef {{ from: number, to: number, percent: number, every?: number, until?: number }} Stolen
- * @typedef {{ at: string | number, cost: number, then?: string | string[],
+ * @typedef {{ at: string | number, cost: number, then?: string | string[], deadline?: number,
  *   name?: string }} JobCost
  * @typedef {{ at: number, do: string | string[], every?: number, until?: number,
  *   name?: string }} TimedEvent
@@ -993,7 +993,8 @@ class LentTimes {
       return [whole(it.from), whole(it.to), whole(it.percent), ...again(`steal ${k + 1}`, it)];
     });
     this.costs = job.map((it, k) => {
-      known(`job ${k + 1}`, it, ["at", "cost", "then", "name"], ["at", "cost"]);
+      const keys = ["at", "cost", "then", "deadline", "name"];
+      known(`job ${k + 1}`, it, keys, ["at", "cost"]);
       const lines = Array.isArray(it.then) ? it.then : [it.then ?? "end"];
       if (lines.length < 1 || lines.length > 8) {
         const told = `job ${k + 1}: then has to have 1 to 8 lines, and has ${lines.length}`;

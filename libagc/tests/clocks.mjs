@@ -123,7 +123,7 @@ function keeps() {
   want(same(clock.given, [180, 0, 0, 0, 0, 0, 0, 0]), `was given ${clock.given}`);
   want(asks(new Clock(timetable), 9) === "1 novac 20 04000 00005, 4 end", "its end");
   // Each step but the first takes a hundredth more: with the 200th, 201st and 202nd.
-  const steps = { job: [{ at: "04000", cost: 2, then: ["phase 1 1", "prio 07", "end"] }], event: timetable.event };
+  const steps = { job: [{ at: "04000", cost: 2, deadline: 5, then: ["phase 1 1", "prio 07", "end"] }], event: timetable.event };
   want(asks(new Clock(steps), 9) === "1 novac 20 04000 00005, 2 phase 1 1, 3 prio 07, 3 end", "steps");
   for (const then of [[], [...Array(8).fill("prio 07"), "end"]]) {
     let found = null;

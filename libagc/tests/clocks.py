@@ -255,7 +255,7 @@ def keeps():
     beat["steal"][0]["until"] = 2
     assert asks(beat, 9)[1:] == [(4, "end")]
     # Each step but the first takes a hundredth more: with the 200th, 201st and 202nd.
-    steps = {"job": [{"at": "04000", "cost": 2, "then": ["phase 1 1", "prio 07", "end"]}], "event": steal["event"]}
+    steps = {"job": [{"at": "04000", "cost": 2, "deadline": 5, "then": ["phase 1 1", "prio 07", "end"]}], "event": steal["event"]}
     assert asks(steps, 9)[1:] == [(2, "phase", 1, 1), (3, "prio", 7), (3, "end")]
     late = {**steal, "event": [{"at": 2000, "do": "novac 20 04000 00005"}]}
     assert asks(late, 2009) == [(2000, "novac", 0o20, 0o4000, 5), (2003, "end")]

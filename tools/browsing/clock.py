@@ -18,7 +18,9 @@ def random_scenario(dice):
     text = f"seconds = {dice.randint(1, 6)}\nsteal = {dice.choice([0, 5, 15, 50, 100])}\n"
     text += dice.choice(["", "sets = 8\n"])
     for at in dice.sample(range(6), dice.randint(1, 4)):
-        then = {} if dice.random() < 0.7 else {"then": f"sleep {0o2000 + dice.randint(0, 5):05o}"}
+        leaves = dice.choice(["end", "end", f"sleep {0o2000 + dice.randint(0, 5):05o}"])
+        steps = [random_line(dice, ["novac", "findvac", "list", "phase", "prio", "store"]) for _ in range(dice.choice([0, 0, 1, 3]))]
+        then = {"then": [*steps, leaves] if steps else leaves}
         text += table("job", at=f"{0o2000 + at:05o}", cost=dice.choice([1, 7, 30, 170]), **then)
     for at in dice.sample(range(6), dice.randint(0, 4)):
         doing = [random_line(dice, ["novac", "findvac", "rouse"]), f"list {dice.randint(1, 60)} "

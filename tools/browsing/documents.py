@@ -117,14 +117,14 @@ def try_examples(browser, trial):
 # A scenario whose tables have all keys, and its plan as the editor's fields show it, table by table.
 PLANNED = 'seconds = 3\ntitle = "A \\"title\\" \\\\"\nsets = 8\nsteal = [{ from = 3, to = 4, percent = 9, every = 5 }, ' \
     '{ from = 0, to = 50, percent = 7 }, { from = 50, to = 60, percent = 9 }]\n' + "".join((
-    table("job", name="WORK", at="05000", cost=9, then="sleep 06000"), table("event", name="go", at=1, do=["tick", "change"], every=7, until=90),
+    table("job", name="WORK", at="05000", cost=9, then=["prio 07", "sleep 06000"], deadline=40), table("event", name="go", at=1, do=["tick", "change"], every=7, until=90),
     table("task", name="ALPHA", at="02000", bank="00006", action=["nothing", "rouse 06000"]),
     table("phase", name="late", group=2, phase=3, job="novac 15 05100 00007", task="list 9 02000 00006")))
 FIELDS = """Array.from(document.querySelectorAll('#plan-body label'), (it) =>
   `${it.firstChild.textContent}: ${it.lastChild.value.replaceAll('\\n', ';')} ${it.lastChild.placeholder ?? ''}`.trim()).join(', ')"""
 SHOWN_FIELDS = ('Seconds: 3, Title: A "title" \\, Core sets: 8, Log\'s limit:  1000000, Allowance:  any, A key pulse asks for:  nothing, '
                 "A radar pulse asks for:  nothing, Stolen percent, or lines: from, to, percent (every, until): 3 4 9 5;0 50 7;50 60 9 0, "
-                "Name: ALPHA, At: 02000, Bank: 00006, Actions: nothing;rouse 06000, Name: WORK, At: 05000, Cost, cs: 9, Then: sleep 06000, "
+                "Name: ALPHA, At: 02000, Bank: 00006, Actions: nothing;rouse 06000, Name: WORK, At: 05000, Cost, cs: 9, Then: prio 07;sleep 06000, Deadline, cs: 40, "
                 "Name: late, Group: 2, Phase: 3, Job: novac 15 05100 00007, Task: list 9 02000 00006, "
                 "Name: go, At: 1, Asks for: tick;change, Every, cs: 7, Until, cs: 90")
 

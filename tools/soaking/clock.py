@@ -194,7 +194,17 @@ class Dice(random.Random):
         job = {"at": at, "cost": self.choice([1, 1, 2, 3, 7, 40])}
         if self.random() < 0.7:
             job["then"] = self.choice(["end", f"sleep {self.address()}"])
+        if self.random() < 0.5:
+            steps = [self.step() for _ in range(self.choice([0, 1, 2, 3, 7]))]
+            job["then"] = [*steps, job.get("then", "end")]
+        if self.random() < 0.4:
+            job["deadline"] = self.choice([1, 2, 5, 20, self.randint(1, 200)])
         return job
+
+    def step(self):
+        """What a job asks for before it leaves."""
+        return self.choice([self.start(), f"prio {self.randint(1, 5):02o}", f"list {self.randint(1, 40)} {self.address()} 00005",
+                            f"phase {self.randint(1, 6)} {self.randint(0, 2)}", f"store {self.randint(1, 6)} 00001"])
 
     def event(self):
         event = {"at": self.choice([0, 0, self.randint(0, 200)])}

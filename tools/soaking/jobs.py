@@ -17,7 +17,7 @@ sys.dont_write_bytecode = True
 import clock
 import model
 
-HEADING = "job,began,ended,lost,alive,least,mean,p95,most,computing,waiting,sleeping,taken_over,share"
+HEADING = "job,began,ended,lost,alive,least,mean,p95,most,computing,waiting,sleeping,taken_over,share,missed,first_missed"
 
 
 class Job:
@@ -34,7 +34,7 @@ class Kind:
 
     def __init__(self):
         self.began = self.lost = self.taken_over = self.computed = 0
-        self.ended = []
+        self.ended, self.gone = [], []
 
 
 class Booked(model.Machine):
@@ -57,6 +57,7 @@ class Booked(model.Machine):
         job = self.living.pop(self.running, None)
         if job:
             self.kind(job).ended.append((self.now - job.began, job.computed, job.slept))
+            self.kind(job).gone.append((job.began, self.now))
         return super().end()
 
     def sleep(self, at):
@@ -82,6 +83,7 @@ class Booked(model.Machine):
     def begin(self):
         for job in self.living.values():
             self.kind(job).lost += 1
+            self.kind(job).gone.append((job.began, self.now))
         self.living = {}
         super().begin()
 
@@ -122,7 +124,15 @@ def seconds(hundredths):
     return f"{whole // 100}.{whole % 100:02}"
 
 
-def row(name, kind, alive, time):
+def missed(kind, deadline):
+    """How many jobs missed their deadline, in centiseconds from where they began, and when the first did."""
+    if deadline is None:
+        return ["", ""]
+    late = [began + 100 * deadline for began, ended in kind.gone if ended > began + 100 * deadline]
+    return [len(late), seconds(min(late)) if late else ""]
+
+
+def row(name, kind, alive, time, deadline):
     times = sorted(it[0] for it in kind.ended)
     count = max(len(times), 1)
     at = -(-95 * len(times) // 100)
@@ -132,7 +142,7 @@ def row(name, kind, alive, time):
              seconds(fractions.Fraction(sum(times), count)), seconds(times[at - 1] if times else 0),
              seconds(times[-1] if times else 0), seconds(fractions.Fraction(computed, count)),
              seconds(fractions.Fraction(sum(times) - computed - slept, count)), seconds(fractions.Fraction(slept, count)),
-             kind.taken_over, f"{share // 10}.{share % 10}"]
+             kind.taken_over, f"{share // 10}.{share % 10}", *missed(kind, deadline)]
     return ",".join(map(str, cells))
 
 
@@ -140,12 +150,14 @@ def table(scenario):
     """The table of a scenario's jobs as comma-separated values."""
     machine = Machine(scenario)
     Passing(scenario, machine).run()
-    book, names = machine.machine, {}
+    book, told = machine.machine, {}
     for job in scenario.get("job", []):
-        names.setdefault(int(job["at"], 8), job.get("name"))
+        told.setdefault(int(job["at"], 8), job)
+    for job in book.living.values():
+        book.kind(job).gone.append((job.began, 10000 * scenario["seconds"]))
     alive = [job.at for job in book.living.values()]
-    lines = [row(names.get(at) or f"{at:05o}", kind, alive.count(at), 10000 * scenario["seconds"])
-             for at, kind in book.kinds.items()]
+    lines = [row(told.get(at, {}).get("name") or f"{at:05o}", kind, alive.count(at), 10000 * scenario["seconds"],
+                 told.get(at, {}).get("deadline")) for at, kind in book.kinds.items()]
     return "\n".join([HEADING, *lines]) + "\n"
 
 

@@ -1,6 +1,6 @@
 //! What is said of what was found in a bench.
 use crate::finding::Finding;
-use crate::kind::{ACTIONS, JOBS, Kind, LEAVINGS, LISTINGS, NO_REQUEST, Part, REQUESTS};
+use crate::kind::{ACTIONS, JOBS, Kind, LEAVINGS, LISTINGS, NO_REQUEST, Part, REQUESTS, STEPS};
 use crate::line::{LineFault, fault_of};
 use crate::names::{Named, called, meant_by};
 use crate::saying::{Piece, Said, put, said};
@@ -43,6 +43,9 @@ const OF_BENCH: &str = "unknown key \"{}\"; a bench has it, but no scenario";
 
 const NO_ACTION: &str = "an action is nothing, or begins with novac, findvac, rouse or list";
 
+const NO_STEP: &str =
+    "before its last line a job asks for novac, findvac, prio, store, list or phase";
+
 /// The kinds of lines that a text of this form may be, and what is said of one that begins like
 /// none of them.
 fn kinds_of(form: Form) -> (&'static [Kind], &'static str) {
@@ -52,6 +55,7 @@ fn kinds_of(form: Form) -> (&'static [Kind], &'static str) {
         Form::Job => (&JOBS, "a job begins with novac or findvac"),
         Form::Listing => (&LISTINGS, "a task begins with list"),
         Form::Leaving => (&LEAVINGS, "a job leaves by end or sleep"),
+        Form::Step => (&STEPS, NO_STEP),
         Form::Address => (&[], Part::Address.spelling()),
         Form::Word => (&[], Part::Word.spelling()),
         Form::Device => (&[], "a line is timer, key or radar"),
@@ -211,7 +215,7 @@ fn add_wrong(told: &mut String, wrong: Wrong, text: &str) -> Result<(), AllocErr
 fn item_name(key: Key) -> &'static str {
     match key.form() {
         Some(Form::Word) => "word",
-        Some(Form::Request) => "request",
+        Some(Form::Request) | Some(Form::Step) => "request",
         Some(Form::Action) => "action",
         _ => "item",
     }

@@ -6,7 +6,7 @@ use agc_document::{Bench, Place};
 use agc_plan::{Action, Group, Line, Phase, Request, Task};
 use agc_run::Subject;
 use agc_scenario::Timing;
-use agc_scenario::rows::{DO, EVENTS};
+use agc_scenario::rows::{DO, EVENTS, JOBS, THEN};
 use std::alloc::{AllocError, Global};
 
 /// What a bench says at one place.
@@ -107,8 +107,13 @@ impl Items {
         }
     }
 
-    /// Adds what the events of a scenario list and set.
-    fn add_events(&mut self, timing: &Timing) {
+    /// Adds what the jobs and the events of a scenario list and set.
+    fn add_timed(&mut self, timing: &Timing) {
+        for (k, job) in timing.jobs().iter().enumerate() {
+            let number = (k as u64).saturating_add(1);
+            let at = Place::Field(JOBS, number, THEN);
+            self.add_requests(at, job.requests());
+        }
         for (k, event) in timing.all_events().iter().enumerate() {
             let number = (k as u64).saturating_add(1);
             let at = Place::Field(EVENTS, number, DO);
@@ -117,7 +122,7 @@ impl Items {
     }
 }
 
-/// The items of a bench, and then those of a scenario's events.
+/// The items of a bench, and then those of a scenario's jobs and events.
 pub(crate) fn items_of(
     alloc: Global,
     subject: Subject<'_>,
@@ -128,7 +133,7 @@ pub(crate) fn items_of(
     };
     items.add_bench(subject.bench());
     if let Some(timing) = subject.timing() {
-        items.add_events(timing);
+        items.add_timed(timing);
     }
     items.ended()
 }

@@ -95,7 +95,13 @@ const SLEEP: Kind = Kind("sleep A");
 
 const ROUSE: Kind = Kind("rouse A");
 
+const PRIO: Kind = Kind("prio P");
+
+const STORE: Kind = Kind("store K W");
+
 const LIST: Kind = Kind("list D A W");
+
+const PHASE: Kind = Kind("phase G N");
 
 /// All requests.
 pub(crate) const REQUESTS: [Kind; 13] = [
@@ -104,12 +110,12 @@ pub(crate) const REQUESTS: [Kind; 13] = [
     END,
     SLEEP,
     ROUSE,
-    Kind("prio P"),
+    PRIO,
     Kind("change"),
-    Kind("store K W"),
+    STORE,
     LIST,
     Kind("tick"),
-    Kind("phase G N"),
+    PHASE,
     Kind("restart"),
     Kind("fresh"),
 ];
@@ -126,6 +132,9 @@ pub(crate) const JOBS: [Kind; 2] = [NOVAC, FINDVAC];
 
 /// By what a job leaves.
 pub(crate) const LEAVINGS: [Kind; 2] = [END, SLEEP];
+
+/// For what a job asks before it leaves.
+pub(crate) const STEPS: [Kind; 6] = [NOVAC, FINDVAC, PRIO, STORE, LIST, PHASE];
 
 /// What lists a task.
 pub(crate) const LISTINGS: [Kind; 1] = [LIST];

@@ -5,7 +5,7 @@ use crate::warning::{
     TWIN,
 };
 use crate::warnings::{Found, plain};
-use agc_clock::{Stolen, Then, Timetables, stolen_at};
+use agc_clock::{Stolen, Timetables, stolen_at};
 use agc_document::{Key, Place};
 use agc_plan::{Action, Actions, Address, JobStart, PhaseEntry, Request, Task, action_request};
 use agc_scenario::rows::{EVENTS, JOBS, STEAL};
@@ -63,10 +63,7 @@ fn is_begun(scenario: &Scenario, at: Address) -> bool {
     by_event
         || bench.rows().iter().any(|row| is_begun_by(&row.1, at))
         || bench.entries().iter().any(|entry| begins_again(entry, at))
-        || timing
-            .jobs()
-            .iter()
-            .any(|job| job.leaves() == Then::Sleep(at))
+        || timing.jobs().iter().any(|job| job.requests().iter().any(|request| begins(request, at)))
 }
 
 /// How many percent are stolen in every centisecond, at least. Before the first tick nothing is

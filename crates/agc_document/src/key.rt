@@ -2,7 +2,7 @@
 ghost use Rattle.std.specs.Prelude.{◌≡◌};
 ghost use Rattle.agc_document.specs.Rows.{name_text, name_of, kind_of, bounds_of};
 
-use crate::values::{is_name, job_of, leaving_of, parse_kind, timed_of};
+use crate::values::{is_name, is_step, job_of, leaving_of, parse_kind, timed_of};
 use agc_text::{parse_action, parse_address, parse_line, parse_word};
 
 /// What a key is called. Source: profile.
@@ -14,6 +14,7 @@ pub enum KeyName {
     Attends,
     Bank,
     Cost,
+    Deadline,
     Device,
     Do,
     Event,
@@ -57,6 +58,8 @@ pub enum Form {
     Device,
     /// A request by which a job leaves: it ends, or falls asleep.
     Leaving,
+    /// A request for which a job may ask before it leaves.
+    Step,
     /// One line that can be shown: without control characters.
     Name,
 }
@@ -100,6 +103,7 @@ impl KeyName {
             KeyName::Attends => "attends",
             KeyName::Bank => "bank",
             KeyName::Cost => "cost",
+            KeyName::Deadline => "deadline",
             KeyName::Device => "device",
             KeyName::Do => "do",
             KeyName::Event => "event",
@@ -199,6 +203,10 @@ impl Form {
             Form::Device => parse_kind(text).is_some(),
             Form::Leaving => match parse_line(text) {
                 Some(request) => leaving_of(&request).is_some(),
+                None => false,
+            },
+            Form::Step => match parse_line(text) {
+                Some(request) => is_step(&request),
                 None => false,
             },
             Form::Name => is_name(text),

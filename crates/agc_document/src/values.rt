@@ -141,6 +141,15 @@ pub(crate) fn leaving_of(request: &Request) -> Option<Request>
     }
 }
 
+/// Whether a job may ask for a request before it leaves.
+pub(crate) fn is_step(request: &Request) -> bool {
+    match *request {
+        Request::Novac(_, _) | Request::Findvac(_, _) | Request::Prio(_) => true,
+        Request::Store(_, _) | Request::List(_, _) | Request::SetPhase(_, _) => true,
+        _ => false,
+    }
+}
+
 /// Whether a text is a line that can be shown: none of its bytes is that of a control character.
 /// Source: profile.
 pub fn is_name(text: &str) -> bool

@@ -7,7 +7,7 @@ use std::io;
 use std::io::Write;
 
 /// What is compared of jobs, as `jobs` orders it.
-const COLUMNS: [&str; 12] = [
+const COLUMNS: [&str; 14] = [
     "began",
     "ended",
     "lost",
@@ -20,6 +20,8 @@ const COLUMNS: [&str; 12] = [
     "waiting",
     "sleeping",
     "taken over",
+    "missed",
+    "first missed",
 ];
 
 /// How wide the column of the first document is.
@@ -121,15 +123,13 @@ fn put_called<W: Write>(pen: &mut Pen<W>, jobs: &JobsAt) {
     pen.text("\n");
 }
 
-/// What the columns of `jobs` have of an address.
-type Cells = [Filling<'static>; 12];
-
 /// What a column has; a dash for jobs that a document doesn't have.
-fn cell(cells: Option<&Cells>, column: usize) -> Filling<'static> {
-    match cells {
-        None => Text("-"),
-        Some(cells) => cells.get(column).copied().unwrap_or(Text("-")),
-    }
+fn cell(jobs: Option<&JobsAt>, column: usize) -> Filling<'static> {
+    let Some(jobs) = jobs else {
+        return Text("-");
+    };
+    let mut cells = jobs.cells.iter().chain(jobs.deadline.iter());
+    cells.nth(column).copied().unwrap_or(Text("-"))
 }
 
 /// Writes the lines of jobs that differ, below what they are called, and returns how many values
@@ -137,8 +137,8 @@ fn cell(cells: Option<&Cells>, column: usize) -> Filling<'static> {
 fn put_jobs<W: Write>(
     pen: &mut Pen<W>,
     jobs: &JobsAt,
-    one: Option<&Cells>,
-    other: Option<&Cells>,
+    one: Option<&JobsAt>,
+    other: Option<&JobsAt>,
 ) -> u64 {
     let mut count: u64 = 0;
     for (column, name) in COLUMNS.iter().enumerate() {
@@ -157,14 +157,9 @@ fn put_jobs<W: Write>(
     count
 }
 
-/// What the columns have of those among these jobs that are called as some of another document.
-fn cells_of<'a>(all: &'a [JobsAt], jobs: &JobsAt) -> Option<&'a Cells> {
-    for other in all {
-        if other.is_called_as(jobs) {
-            return Some(&other.cells);
-        }
-    }
-    None
+/// Those among these jobs that are called as some of another document.
+fn called_as<'a>(all: &'a [JobsAt], jobs: &JobsAt) -> Option<&'a JobsAt> {
+    all.iter().find(|other| other.is_called_as(jobs))
 }
 
 /// Writes the jobs that differ, those of the first document first, and returns how many values
@@ -172,12 +167,12 @@ fn cells_of<'a>(all: &'a [JobsAt], jobs: &JobsAt) -> Option<&'a Cells> {
 fn put_all_jobs<W: Write>(pen: &mut Pen<W>, one: &[JobsAt], other: &[JobsAt]) -> u64 {
     let mut count: u64 = 0;
     for jobs in one {
-        let there = cells_of(other, jobs);
-        count = count.saturating_add(put_jobs(pen, jobs, Some(&jobs.cells), there));
+        let there = called_as(other, jobs);
+        count = count.saturating_add(put_jobs(pen, jobs, Some(jobs), there));
     }
     for jobs in other {
-        if cells_of(one, jobs).is_none() {
-            count = count.saturating_add(put_jobs(pen, jobs, None, Some(&jobs.cells)));
+        if called_as(one, jobs).is_none() {
+            count = count.saturating_add(put_jobs(pen, jobs, None, Some(jobs)));
         }
     }
     count

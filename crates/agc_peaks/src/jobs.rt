@@ -10,6 +10,7 @@ use crate::lives::{Jobs, MOST, Moment, jobs_seen};
 use agc_machine::Machine;
 use agc_plan::{Fired, Request};
 use agc_run::{Run, Subject};
+use agc_scenario::Timing;
 use agc_session::RunFault;
 use std::alloc::{AllocError, Global};
 use std::io::Write;
@@ -75,7 +76,7 @@ impl Reading {
 }
 
 /// Takes note of the time that passed before a request, or up to the end.
-fn pass(ledger: &mut Ledger, run: &Run<'_>, before: &Reading, after: &Reading, is_asked: bool) {
+fn pass(ledger: &mut Ledger<'_>, run: &Run<'_>, before: &Reading, after: &Reading, is_asked: bool) {
     let passed = match run.clock() {
         None => Passed {
             computed: 0,
@@ -100,11 +101,15 @@ fn jobs_then(machine: &Machine, request: &Request) -> Jobs {
 
 /// Asks for all requests of a run, in order, and for no others, and takes note of what becomes of
 /// its jobs.
-pub(crate) fn jobs_to_end(alloc: Global, run: &mut Run<'_>) -> Result<Ledger, AllocError>
+pub(crate) fn jobs_to_end<'a>(
+    alloc: Global,
+    timing: Option<&'a Timing>,
+    run: &mut Run<'_>,
+) -> Result<Ledger<'a>, AllocError>
     ensures { IfOk result (λ _. run.new.machine
         ≡ fold after run.old.machine (to_ask run.old.machine run.old.asks)) }
 {
-    let mut ledger = Ledger::new(alloc, &jobs_seen(run.machine().erasable()))?;
+    let mut ledger = Ledger::new(alloc, timing, &jobs_seen(run.machine().erasable()))?;
     let mut ticks: u64 = 0;
     let mut before = read(run, ticks);
     while let Some(asked) = run.next() {
@@ -130,9 +135,10 @@ pub(crate) fn jobs_to_end(alloc: Global, run: &mut Run<'_>) -> Result<Ledger, Al
 /// Runs a bench or a scenario, and writes for the jobs of each address how many began, ended, were
 /// lost as an era began and live still; the shortest, mean, 95th percentile and longest time from
 /// where a job was established to where it ended, and how much of it on average it computed, waited
-/// and slept; how often another job took over from one; and its share of the processor. Then a line
-/// for each era says how much of its time was used by jobs, stolen and idle. In a bench time passes
-/// with ticks alone, and no computing time is known. The writer is not flushed. Source: profile.
+/// and slept; how often another job took over from one; its share of the processor; and of those
+/// that have a deadline, how many missed it and when the first did. Then a line for each era says
+/// how much of its time was used by jobs, stolen and idle. In a bench time passes with ticks alone,
+/// and no computing time is known. The writer is not flushed. Source: profile.
 ///
 /// # Errors
 ///
@@ -144,6 +150,6 @@ pub fn write_jobs<W: Write>(
     writer: &mut W,
 ) -> Result<(), RunFault> {
     let mut run = subject.run(alloc)?;
-    let ledger = jobs_to_end(alloc, &mut run)?;
+    let ledger = jobs_to_end(alloc, subject.timing(), &mut run)?;
     Ok(put_jobs(&ledger, subject.timing(), csv, writer)?)
 }

@@ -9,14 +9,23 @@ use std::io::Write;
 /// The names of the columns behind the first.
 const HEADING: &str =
     "  began  ended   lost  alive    least     mean      95%     most  computing  \
-    waiting  sleeping  taken over   share\n";
+    waiting  sleeping  taken over   share";
+
+/// And of those behind these, where a job has a deadline.
+const DEADLINE: &str = "  missed  first missed";
+
+/// What stands there where a job has none.
+const NO_DEADLINE: [&str; 2] = ["     -", "           -"];
 
 /// The same as a row of comma-separated values.
 const NAMES: &str = "job,began,ended,lost,alive,least,mean,p95,most,computing,waiting,sleeping,\
-    taken_over,share\n";
+    taken_over,share,missed,first_missed\n";
 
 /// How wide the columns are.
 const WIDTHS: [usize; 12] = [5, 5, 5, 5, 7, 7, 7, 7, 9, 7, 8, 10];
+
+/// How wide those behind the share are.
+const DEADLINE_WIDTHS: [usize; 2] = [6, 12];
 
 /// The names of the columns of the second table.
 const ERAS: &str = "\n era    begins     lasts  computing  stolen    idle\n";
@@ -99,6 +108,16 @@ pub(crate) fn cells(kind: &Kind, unknown: Option<&'static str>) -> [Filling<'sta
     ]
 }
 
+/// What fills the columns of an address's deadline, with these where there is none.
+pub(crate) fn deadline_cells(kind: &Kind, none: [&'static str; 2]) -> [Filling<'static>; 2] {
+    let [missed, first] = none;
+    match (kind.deadline, kind.first_missed) {
+        (None, _) => [Text(missed), Text(first)],
+        (Some(_deadline), None) => [Number(0), Text(first)],
+        (Some(_deadline), Some(first)) => [Number(kind.missed), seconds(first)],
+    }
+}
+
 /// The name of an address's jobs, if a scenario gives one.
 pub(crate) fn name_at(timing: Option<&Timing>, at: u16) -> Option<&str> {
     let timing = timing?;
@@ -111,7 +130,7 @@ pub(crate) fn name_at(timing: Option<&Timing>, at: u16) -> Option<&str> {
 }
 
 /// How wide the column of names is: as wide as the longest.
-fn width_of(ledger: &Ledger, timing: Option<&Timing>) -> usize {
+fn width_of(ledger: &Ledger<'_>, timing: Option<&Timing>) -> usize {
     let mut width = 8;
     for kind in ledger.kinds.iter() {
         if let Some(name) = name_at(timing, kind.at) {
@@ -142,13 +161,41 @@ fn put_row<W: Write>(
     match time {
         None => {
             put_cells(pen, "  ", &WIDTHS, &cells(kind, Some("        -")));
-            pen.text("       -\n");
+            pen.text("       -");
         }
         Some(time) => {
             put_cells(pen, "  ", &WIDTHS, &cells(kind, None));
             put_percent(pen, 7, thousandths(kind.computed, time));
-            pen.text("%\n");
+            pen.text("%");
         }
+    }
+}
+
+/// Writes the heading, and the row of each address; and of all deadlines, if a job has one.
+fn put_rows<W: Write>(
+    pen: &mut Pen<W>,
+    ledger: &Ledger<'_>,
+    timing: Option<&Timing>,
+    time: Option<u64>,
+) {
+    let width = width_of(ledger, timing);
+    let has_deadline = ledger.kinds.iter().any(|kind| kind.deadline.is_some());
+    pen.text("job");
+    put_spaces(pen, 3, width);
+    pen.text(HEADING);
+    pen.text(if has_deadline { DEADLINE } else { "" });
+    pen.text("\n");
+    for kind in ledger.kinds.iter() {
+        put_row(pen, width, name_at(timing, kind.at), kind, time);
+        if has_deadline {
+            put_cells(
+                pen,
+                "  ",
+                &DEADLINE_WIDTHS,
+                &deadline_cells(kind, NO_DEADLINE),
+            );
+        }
+        pen.text("\n");
     }
 }
 
@@ -165,6 +212,9 @@ fn put_csv<W: Write>(pen: &mut Pen<W>, name: Option<&str>, kind: &Kind, time: Op
     pen.text(",");
     if let Some(time) = time {
         put_percent(pen, 0, thousandths(kind.computed, time));
+    }
+    for cell in deadline_cells(kind, ["", ""]) {
+        pen.fill(",", cell);
     }
     pen.text("\n");
 }
@@ -190,7 +240,7 @@ fn put_era<W: Write>(pen: &mut Pen<W>, number: u64, era: &Spent, ended: u64) {
 }
 
 /// Writes how the time of each era was used.
-fn put_eras<W: Write>(pen: &mut Pen<W>, ledger: &Ledger) {
+fn put_eras<W: Write>(pen: &mut Pen<W>, ledger: &Ledger<'_>) {
     pen.text(ERAS);
     let eras = ledger.eras.as_slice();
     for (k, era) in eras.iter().enumerate() {
@@ -205,26 +255,20 @@ fn put_eras<W: Write>(pen: &mut Pen<W>, ledger: &Ledger) {
 /// Writes what the jobs of each address came to, and, where time passes by itself and not as CSV,
 /// how the time of each era was used.
 pub(crate) fn put_jobs<W: Write>(
-    ledger: &Ledger,
+    ledger: &Ledger<'_>,
     timing: Option<&Timing>,
     csv: bool,
     writer: &mut W,
 ) -> Result<(), Output> {
     let mut pen = Pen::new(writer);
-    let width = width_of(ledger, timing);
-    pen.text(if csv { NAMES } else { "job" });
-    if !csv {
-        put_spaces(&mut pen, 3, width);
-        pen.text(HEADING);
-    }
     let time = timing.map(|_timing| ledger.now);
-    for kind in ledger.kinds.iter() {
-        let name = name_at(timing, kind.at);
-        if csv {
-            put_csv(&mut pen, name, kind, time);
-        } else {
-            put_row(&mut pen, width, name, kind, time);
+    if csv {
+        pen.text(NAMES);
+        for kind in ledger.kinds.iter() {
+            put_csv(&mut pen, name_at(timing, kind.at), kind, time);
         }
+    } else {
+        put_rows(&mut pen, ledger, timing, time);
     }
     if timing.is_some() && !csv {
         put_eras(&mut pen, ledger);

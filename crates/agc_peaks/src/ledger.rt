@@ -1,11 +1,13 @@
 //! What the jobs of each address came to, and how the time of each era was used.
 use crate::lives::{Change, Jobs, Life, MOST, Moment, State, see};
+use agc_scenario::Timing;
 use std::alloc::{AllocError, Global};
 
 /// The jobs of an address: how many began, were lost as an era began, and live at the end; how
 /// often another job took over from one; the computing time of all; of those that ended, the
-/// time from where they began to where they ended, and how much of it they computed and slept.
-/// Times are hundredths of a centisecond.
+/// time from where they began to where they ended, and how much of it they computed and slept; how
+/// long one may take, if there is a deadline, how many missed it, and when the first did. Times are
+/// hundredths of a centisecond.
 #[derive(Drop)]
 pub(crate) struct Kind {
     pub(crate) at: u16,
@@ -17,18 +19,47 @@ pub(crate) struct Kind {
     pub(crate) responses: Vec<u64>,
     pub(crate) computed_to_end: u64,
     pub(crate) slept_to_end: u64,
+    pub(crate) deadline: Option<u64>,
+    pub(crate) missed: u64,
+    pub(crate) first_missed: Option<Moment>,
 }
 
 impl Kind {
+    /// Jobs of this address, of which none began yet.
+    fn at(alloc: Global, at: u16, deadline: Option<u64>) -> Kind {
+        Kind {
+            at,
+            began: 0,
+            lost: 0,
+            alive: 0,
+            taken_over: 0,
+            computed: 0,
+            responses: Vec::new(alloc),
+            computed_to_end: 0,
+            slept_to_end: 0,
+            deadline,
+            missed: 0,
+            first_missed: None,
+        }
+    }
+
     /// A job of this kind was seen for the last time.
-    fn leave(&mut self, life: &Life) {
+    fn leave(&mut self, life: &Life, now: Moment) {
         self.computed = self.computed.saturating_add(life.computed);
         self.taken_over = self.taken_over.saturating_add(life.taken_over);
+        if let Some(deadline) = self.deadline {
+            let due = life.began.saturating_add(deadline);
+            if now > due {
+                self.missed = self.missed.saturating_add(1);
+                let first = self.first_missed.unwrap_or(due).min(due);
+                self.first_missed = Some(first);
+            }
+        }
     }
 
     /// A job of this kind ended.
     fn end(&mut self, life: &Life, now: Moment) -> Result<(), AllocError> {
-        self.leave(life);
+        self.leave(life, now);
         self.computed_to_end = self.computed_to_end.saturating_add(life.computed);
         self.slept_to_end = self.slept_to_end.saturating_add(life.slept);
         self.responses.push(now.saturating_sub(life.began))?;
@@ -57,14 +88,26 @@ pub(crate) struct Passed {
 /// What is known of a run's jobs: those that live, those of each address, in the order in which the
 /// first of each began, and each era's time.
 #[derive(Drop)]
-pub(crate) struct Ledger {
+pub(crate) struct Ledger<'a> {
     alloc: Global,
+    timing: Option<&'a Timing>,
     lives: [Option<Life>; MOST],
     pub(crate) kinds: Vec<Kind>,
     pub(crate) eras: Vec<Spent>,
     pub(crate) now: Moment,
     /// The present centisecond.
     pub(crate) time: u64,
+}
+
+/// How long a job of an address may take, if a scenario says it.
+fn deadline_at(timing: Option<&Timing>, at: u16) -> Option<u64> {
+    for job in timing?.jobs() {
+        if job.at().get() == at {
+            let deadline = job.deadline()?;
+            return Some(u64::from(deadline).saturating_mul(100));
+        }
+    }
+    None
 }
 
 /// An era that begins at a centisecond.
@@ -77,11 +120,16 @@ fn unspent(began: u64) -> Spent {
     }
 }
 
-impl Ledger {
-    /// These jobs are there as the run begins.
-    pub(crate) fn new(alloc: Global, jobs: &Jobs) -> Result<Ledger, AllocError> {
+impl<'a> Ledger<'a> {
+    /// These jobs are there as the run begins, of a scenario or of a bench.
+    pub(crate) fn new(
+        alloc: Global,
+        timing: Option<&'a Timing>,
+        jobs: &Jobs,
+    ) -> Result<Ledger<'a>, AllocError> {
         let mut ledger = Ledger {
             alloc,
+            timing,
             lives: [None; MOST],
             kinds: Vec::new(alloc),
             eras: Vec::new(alloc),
@@ -97,17 +145,8 @@ impl Ledger {
         let known = self.kinds.iter().position(|kind| kind.at == at);
         let place = known.unwrap_or(self.kinds.len());
         if known.is_none() {
-            self.kinds.push(Kind {
-                at,
-                began: 0,
-                lost: 0,
-                alive: 0,
-                taken_over: 0,
-                computed: 0,
-                responses: Vec::new(self.alloc),
-                computed_to_end: 0,
-                slept_to_end: 0,
-            })?;
+            let deadline = deadline_at(self.timing, at);
+            self.kinds.push(Kind::at(self.alloc, at, deadline))?;
         }
         Ok(&mut self.kinds[place])
     }
@@ -155,8 +194,9 @@ impl Ledger {
         for place in 0..MOST {
             if let Some(life) = self.lives[place] {
                 self.lives[place] = None;
+                let now = self.now;
                 let kind = self.kind_at(life.at)?;
-                kind.leave(&life);
+                kind.leave(&life, now);
                 kind.lost = kind.lost.saturating_add(1);
             }
         }
@@ -169,8 +209,9 @@ impl Ledger {
     pub(crate) fn close(&mut self) -> Result<(), AllocError> {
         for place in 0..MOST {
             if let Some(life) = self.lives[place] {
+                let now = self.now;
                 let kind = self.kind_at(life.at)?;
-                kind.leave(&life);
+                kind.leave(&life, now);
                 kind.alive = kind.alive.saturating_add(1);
             }
         }

@@ -1,7 +1,7 @@
 //! What a document's run comes to, to be compared with that of another.
 use crate::counted::{Told, counted_to_end};
 use crate::jobs::jobs_to_end;
-use crate::jobs_rows::{cells, name_at};
+use crate::jobs_rows::{cells, deadline_cells, name_at};
 use crate::ledger::Kind;
 use crate::tally::{Found, Tally};
 use agc_run::Subject;
@@ -18,6 +18,7 @@ pub(crate) struct JobsAt {
     pub(crate) name: Option<String>,
     pub(crate) at: u16,
     pub(crate) cells: [Filling<'static>; 12],
+    pub(crate) deadline: [Filling<'static>; 2],
 }
 
 impl JobsAt {
@@ -53,6 +54,7 @@ fn jobs_of(alloc: Global, kind: &Kind, timing: Option<&Timing>) -> Result<JobsAt
         name,
         at: kind.at,
         cells: cells(kind, unknown),
+        deadline: deadline_cells(kind, ["-", "-"]),
     })
 }
 
@@ -76,7 +78,7 @@ fn all_jobs(
 /// Where there is no memory.
 pub fn outcome_of(alloc: Global, subject: Subject<'_>) -> Result<Outcome, RunFault> {
     let tally = counted_to_end(&mut subject.run(alloc)?, Told::Nothing, &mut io::sink())?;
-    let ledger = jobs_to_end(alloc, &mut subject.run(alloc)?)?;
+    let ledger = jobs_to_end(alloc, subject.timing(), &mut subject.run(alloc)?)?;
     Ok(Outcome {
         time: tally.time,
         asked: tally.asked,

@@ -75,9 +75,10 @@ job d = do
   ms ← table_of own.JOB_KEYS d
   at ← read_at text_of key.AT ms
   cost ← read_at number_of own.COST ms
-  leaving ← read_or (codes "end") text_of own.THEN ms
+  deadline ← read_if number_of own.DEADLINE ms
+  requests ← read_or (codes "end" ∷ []) texts_of own.THEN ms
   name ← read_if text_of own.NAME ms
-  Some (record { at = at; cost = cost; leaving = leaving; name = name })
+  Some (record { at = at; cost = cost; deadline = deadline; requests = requests; name = name })
 
 -- an event
 unfoldable pub event : Data → Option EventTexts

@@ -1,7 +1,8 @@
 -- A scenario: its values, their ranges and their texts.
-use Rattle.std.specs.Prelude.{◌≡◌, ℕ, ◌*◌, Bool, true, List, map, replicate, Option, Some}
-use Rattle.std.specs.Prelude.{None}
-use Rattle.std.specs.List.{AllByRecursion, list_all}
+use Rattle.std.specs.Prelude.{◌≡◌, ℕ, ◌-◌, ◌*◌, ◌&&◌, Bool, true, is_some, List, length, map, take}
+use Rattle.std.specs.Prelude.{slice_get, Option, Some, None, unwrap_or}
+use Rattle.std.specs.Option.{option_and_then}
+use Rattle.std.specs.List.{AllByRecursion, list_all, range_with_len}
 use Rattle.agc_plan.specs.declared.request.Request.{Request}
 use Rattle.agc_plan.specs.declared.request.Request.TheVariants.{EndOfJob, Sleep}
 use Rattle.agc_plan.specs.Ranges.{IsAddress, IsRequest}
@@ -13,19 +14,21 @@ use Rattle.agc_document.specs.Benches as bench
 use Rattle.agc_document.specs.Benches.{Benched, IsBench, bench_texts}
 use Rattle.agc_clock.specs.Coming.{Coming}
 use Rattle.agc_clock.specs.Events.{Event}
-use Rattle.agc_clock.specs.Timetables.{Schedule, asked_then}
+use Rattle.agc_clock.specs.Timetables.{Schedule, step_of}
 use Rattle.agc_clock.specs.declared.timetable.Cost.{Cost}
+use Rattle.agc_clock.specs.declared.timetable.Step.{Step}
 use Rattle.agc_clock.specs.declared.timetable.Stolen.{Stolen}
 use Rattle.agc_clock.specs.declared.timetable.Then.{Then}
 use Rattle.agc_clock.specs.declared.timetable.Then.TheVariants as then
 use Rattle.agc_scenario.specs.Texts.{JobTexts, EventTexts, TimingTexts, ScenarioTexts}
 
--- what a job costs, in centiseconds of computing, that stands at an address, what it is asked then,
--- and its name
+-- what a job costs, in centiseconds of computing, that stands at an address, how many centiseconds
+-- it may take, if that is told, what it is asked when its cost is used up, and its name
 pub record TimedJob : Type 0 where
   pub at : ℕ
   pub cost : ℕ
-  pub leaves : Then
+  pub deadline : Option ℕ
+  pub requests : List Request
   pub name : Option (List ℕ)
 
 -- an event: its first centisecond, what it asks for, after how many centiseconds it comes again,
@@ -66,13 +69,31 @@ abbrev pub event_of : ℕ → TimedEvent → Event
 event_of lasts e =
     record { times = comes_by e.at e.every e.until lasts; requests = e.requests }
 
+-- how a job leaves by this request, if it does
+abbrev pub then_of : Request → Option Then
+then_of EndOfJob = Some then.End
+then_of (Sleep at) = Some (then.Sleep at)
+then_of _ = None
+
+-- the last of these requests
+abbrev pub last_of : List Request → Option Request
+last_of requests = slice_get requests (length requests - 1)
+
+-- the step of this number, from 0, among these requests
+abbrev pub step_in : List Request → ℕ → Option Step
+step_in requests number = option_and_then step_of (slice_get requests number)
+
+-- how a job leaves that asks for these requests
+abbrev pub leaves_by : List Request → Then
+leaves_by requests = unwrap_or (option_and_then then_of (last_of requests)) then.End
+
 -- what a job costs, in hundredths of a centisecond
 abbrev pub cost_of : TimedJob → Cost
 cost_of j = record {
   at = j.at;
   hundredths = j.cost * 100;
-  steps = replicate 7 None;
-  then = j.leaves;
+  steps = map (step_in j.requests) (range_with_len 0 7);
+  then = leaves_by j.requests;
 }
 
 -- what is set down for a clock
@@ -91,7 +112,8 @@ job_texts j =
     record {
       at = octal 5 j.at;
       cost = j.cost;
-      leaving = line_of (asked_then j.leaves);
+      deadline = j.deadline;
+      requests = map line_of j.requests;
       name = j.name;
     }
 
@@ -132,9 +154,24 @@ abbrev pub can_be_shown : Option (List ℕ) → Bool
 can_be_shown None = true
 can_be_shown (Some name) = is_name name
 
+-- whether a request is a step, and whether a job leaves by the last of some
+abbrev pub is_step : Request → Bool
+is_step request = is_some (step_of request)
+
+abbrev pub leaves_at_last : List Request → Bool
+leaves_at_last requests = is_some (option_and_then then_of (last_of requests))
+
+-- whether a job can ask for these requests: for steps, and at last to end or to sleep
+abbrev pub are_asked : List Request → Bool
+are_asked requests =
+    list_all is_step (take (length requests - 1) requests) && leaves_at_last requests
+
 -- the ranges of what a job costs
-abbrev pub IsTimedJob : TimedJob → Type 0
-IsTimedJob j = IsAddress j.at × IsRequest (asked_then j.leaves) × (can_be_shown j.name ≡ true)
+pub record IsTimedJob (j : TimedJob) : Type 0 where
+  pub at : IsAddress j.at
+  pub requests : AllByRecursion IsRequest j.requests
+  pub asked : are_asked j.requests ≡ true
+  pub name : can_be_shown j.name ≡ true
 
 -- the ranges of an event
 abbrev pub IsTimedEvent : TimedEvent → Type 0
@@ -157,9 +194,3 @@ pub record IsInRange (s : Scenarioed) : Type 0 where
 pub record IsScenario (s : Scenarioed) : Type 0 where
   pub in_range : IsInRange s
   pub planned : fault_of s.bench.rows s.bench.entries ≡ None
-
--- for proofs: what a job does by this request, if it leaves by it
-abbrev pub then_of : Request → Option Then
-then_of EndOfJob = Some then.End
-then_of (Sleep at) = Some (then.Sleep at)
-then_of _ = None

@@ -18,12 +18,13 @@ pub record NamedTexts : Type 0 where
   pub rows : List NamedRow
   pub entries : List NamedEntry
 
--- a job: the text of its address, its cost in centiseconds, the text of the request by which it
--- leaves, and its name
+-- a job: the text of its address, its cost and its deadline in centiseconds, a text for each
+-- request for which it asks, and its name
 pub record JobTexts : Type 0 where
   pub at : List ℕ
   pub cost : ℕ
-  pub leaving : List ℕ
+  pub deadline : Option ℕ
+  pub requests : List (List ℕ)
   pub name : Option (List ℕ)
 
 -- an event: its first centisecond, a text for each request, after how many centiseconds it comes

@@ -11,9 +11,9 @@ ghost use Rattle.agc_scenario.specs.Keys.{if_apart, timing_in, named_in, texts_w
 
 use crate::apart::{listed_twice, overlapping};
 use crate::rows::{
-    COST, DO, EVENT_KEYS, EVENTS, EVERY, FROM, JOB_KEYS, JOBS, MOMENT, NAME, NAMED_PHASE_KEYS,
-    NAMED_PHASES, NAMED_TASK_KEYS, NAMED_TASKS, PERCENT, SCENARIO_KEYS, SECONDS, STEAL, STEAL_KEYS,
-    THEN, TITLE, TO, UNTIL,
+    BEFORE, COST, DEADLINE, DO, EVENT_KEYS, EVENTS, EVERY, FROM, JOB_KEYS, JOBS, LAST, MOMENT,
+    NAME, NAMED_PHASE_KEYS, NAMED_PHASES, NAMED_TASK_KEYS, NAMED_TASKS, PERCENT, SCENARIO_KEYS,
+    SECONDS, STEAL, STEAL_KEYS, THEN, TITLE, TO, UNTIL,
 };
 use crate::texts::{
     EventTexts, JobTexts, NamedEntry, NamedRow, NamedTexts, ScenarioTexts, StolenRow, TimingTexts,
@@ -25,6 +25,7 @@ use agc_document::{
     Settings, Site, Text, TextList, Texts, entry_in, has_only, items_of, items_or_none, read_at,
     read_if, read_or, row_in, settings_in, table_in, value_of,
 };
+use agc_text::parse_line;
 use std::alloc::{AllocError, Global};
 use toml::{Table, Value};
 
@@ -140,6 +141,32 @@ impl<'a> FromData<'a> for StolenRow {
     }
 }
 
+/// Notes a request of a job that stands where it can't ask for it.
+fn look_at_request<'a>(text: &'a str, is_last: bool, place: Place, notes: &mut Notes<'a>) {
+    if parse_line(text).is_some() {
+        notes.look_at(place, text, if is_last { LAST } else { BEFORE });
+    }
+}
+
+/// Notes the requests of a job that stand where it can't ask for them.
+fn look_at_order<'a>(site: Site<'a>, notes: &mut Notes<'a>) {
+    let Some(value) = value_of(site.table, THEN) else {
+        return;
+    };
+    let place = site.place.of_value(THEN);
+    if let Some(text) = value.as_str() {
+        look_at_request(text, true, place, notes);
+    }
+    if let Some(values) = value.as_array() {
+        for (k, value) in values.iter().enumerate() {
+            if let Some(text) = value.as_str() {
+                let place = place.of_item(k as u64 + 1);
+                look_at_request(text, k + 1 == values.len(), place, notes);
+            }
+        }
+    }
+}
+
 impl<'a> FromData<'a> for JobTexts<'a> {
     ghost reads = { λ k. job };
 
@@ -155,12 +182,16 @@ impl<'a> FromData<'a> for JobTexts<'a> {
         let known = has_only(site, &JOB_KEYS, Level::Job, notes);
         let at = known.and(read_at(site, AT, notes));
         let cost: Result<u64, Refusal<'a>> = read_at(site, COST, notes);
-        let leaving = read_or(site, THEN, Text::new("end"), notes);
+        let deadline = number_if(site, DEADLINE, notes);
+        let end = TextList::of(alloc, "end")?;
+        let requests = read_or(site, THEN, end, notes);
+        look_at_order(site, notes);
         let name = read_if(site, NAME, notes);
         Ok(JobTexts {
             at: at?,
             cost: cost? as u32,
-            leaving: leaving?,
+            deadline: deadline?,
+            requests: requests?,
             name: name?,
         })
     }

@@ -58,10 +58,18 @@ pub const STEAL_KEYS: [Key; 5] = [FROM, TO, PERCENT, EVERY, UNTIL];
 
 pub const COST: Key = Key::Required(KeyName::Cost, Kind::Integer(1, 1_000_000));
 
-pub const THEN: Key = Key::Optional(KeyName::Then, Kind::Text(Form::Leaving));
+pub const DEADLINE: Key = Key::Optional(KeyName::Deadline, Kind::Integer(1, 360_000));
+
+pub const THEN: Key = Key::Optional(KeyName::Then, Kind::OneOrMore(Form::Request, 1, 8));
+
+/// As its last request alone may be.
+pub const LAST: Key = Key::Optional(KeyName::Then, Kind::Text(Form::Leaving));
+
+/// As those before it may be.
+pub const BEFORE: Key = Key::Optional(KeyName::Then, Kind::Text(Form::Step));
 
 /// The keys of what a job costs.
-pub const JOB_KEYS: [Key; 4] = [AT, COST, THEN, NAME];
+pub const JOB_KEYS: [Key; 5] = [AT, COST, DEADLINE, THEN, NAME];
 
 pub const MOMENT: Key = Key::Required(KeyName::At, Kind::Integer(0, 360_000));
 

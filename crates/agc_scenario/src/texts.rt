@@ -62,13 +62,14 @@ impl Model for StolenRow {
     ghost view = { λ s. s.row };
 }
 
-/// A job: the texts of its address, of the request by which it leaves and of its name, and its
-/// cost.
+/// A job: its numbers, and the texts of its address, of each request for which it asks and of its
+/// name.
 #[derive(Drop)]
 pub(crate) struct JobTexts<'a> {
     pub(crate) at: Text<'a>,
     pub(crate) cost: u32,
-    pub(crate) leaving: Text<'a>,
+    pub(crate) deadline: Option<u32>,
+    pub(crate) requests: TextList<'a>,
     pub(crate) name: Option<Text<'a>>,
 }
 
@@ -78,7 +79,13 @@ impl<'a> Model for JobTexts<'a> {
 
     ghost Value = { Texts };
 
-    ghost view = { λ t. record { at = t.at; cost = t.cost; leaving = t.leaving; name = t.name } };
+    ghost view = { λ t. record {
+      at = t.at;
+      cost = t.cost;
+      deadline = t.deadline;
+      requests = t.requests;
+      name = t.name;
+    } };
 
     ghost invariant = { λ t. t.cost ≤ 1000000 };
 }

@@ -1,8 +1,10 @@
 //! How time passes in a scenario.
-ghost use Rattle.std.specs.Prelude.{◌≡◌, ◌≤◌, option_map, string_bytes};
-ghost use Rattle.agc_scenario.specs.Scenarios.{cost_of, comes_by, schedule_of};
+ghost use Rattle.std.specs.Prelude.{◌≡◌, ◌≤◌, map, option_map, string_bytes};
+ghost use Rattle.std.specs.List.{range_with_len};
+ghost use Rattle.agc_scenario.specs.Scenarios.{comes_by, cost_of, leaves_by, schedule_of};
+ghost use Rattle.agc_scenario.specs.Scenarios.{step_in, then_of};
 
-use agc_clock::{Cost, Stolen, Then, Times, Timetables};
+use agc_clock::{Cost, Step, Stolen, Then, Times, Timetables, step_of};
 use agc_plan::{Address, Request};
 use std::marker::Model;
 
@@ -41,12 +43,13 @@ impl Name {
 }
 
 /// What a job at an address costs, in centiseconds of computing time, what it is asked when that is
-/// used up, and its name. Source: profile.
+/// used up, how long it may take, and its name. Source: profile.
 #[derive(Drop)]
 pub struct TimedJob {
     pub(crate) at: Address,
     pub(crate) cost: u32,
-    pub(crate) leaves: Then,
+    pub(crate) deadline: Option<u32>,
+    pub(crate) requests: Vec<Request>,
     pub(crate) name: Name,
 }
 
@@ -56,9 +59,61 @@ impl Model for TimedJob {
 
     ghost Value = { Job };
 
-    ghost view = { λ j. record { at = j.at; cost = j.cost; leaves = j.leaves; name = j.name } };
+    ghost view = { λ j. record {
+      at = j.at;
+      cost = j.cost;
+      deadline = j.deadline;
+      requests = j.requests.items;
+      name = j.name;
+    } };
 
     ghost invariant = { λ j. j.cost ≤ 1000000 };
+}
+
+/// How a job leaves by this request, if it does.
+pub(crate) fn then_of(request: &Request) -> Option<Then>
+    ensures { result ≡ then_of request.now }
+{
+    match *request {
+        Request::EndOfJob => Some(Then::End),
+        Request::Sleep(at) => Some(Then::Sleep(at)),
+        _ => None,
+    }
+}
+
+/// How a job leaves that asks for these requests.
+fn leaves_by(requests: &[Request]) -> Then
+    ensures { result ≡ leaves_by requests.now }
+{
+    match requests.get(requests.len().saturating_sub(1)) {
+        None => Then::End,
+        Some(last) => then_of(last).unwrap_or(Then::End),
+    }
+}
+
+/// The step of a number among these requests.
+fn step_in(requests: &[Request], number: usize) -> Option<Step>
+    ensures { result ≡ step_in requests.now number }
+{
+    match requests.get(number) {
+        None => None,
+        Some(request) => step_of(request),
+    }
+}
+
+/// The steps among these requests.
+fn steps_of(requests: &[Request]) -> [Option<Step>; 7]
+    ensures { result ≡ map (step_in requests.now) (range_with_len 0 7) }
+{
+    [
+        step_in(requests, 0),
+        step_in(requests, 1),
+        step_in(requests, 2),
+        step_in(requests, 3),
+        step_in(requests, 4),
+        step_in(requests, 5),
+        step_in(requests, 6),
+    ]
 }
 
 impl TimedJob {
@@ -77,11 +132,19 @@ impl TimedJob {
         self.cost
     }
 
-    /// What it is asked when that is used up. Source: profile.
-    pub fn leaves(&self) -> Then
-        ensures { result ≡ self.now.leaves }
+    /// How many centiseconds it may take, from where it is established to its end, if that is told.
+    /// Source: profile.
+    pub fn deadline(&self) -> Option<u32>
+        ensures { result ≡ self.now.deadline }
     {
-        self.leaves
+        self.deadline
+    }
+
+    /// What it is asked when its cost is used up, in order. Source: profile.
+    pub fn requests(&self) -> &[Request]
+        ensures { result.now ≡ self.now.requests }
+    {
+        self.requests.as_slice()
     }
 
     /// Its name, if it has one. Source: profile.
@@ -97,8 +160,8 @@ impl TimedJob {
         Cost {
             at: self.at,
             hundredths: self.cost * 100,
-            steps: [None; 7],
-            then: self.leaves,
+            steps: steps_of(self.requests.as_slice()),
+            then: leaves_by(self.requests.as_slice()),
         }
     }
 }

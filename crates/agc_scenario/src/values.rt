@@ -1,43 +1,68 @@
 //! What the texts of a scenario spell.
-ghost use Rattle.std.specs.Prelude.{◌≡◌, ◌≢◌, Option, true, Some, IfSome, IfNone, IfOk, IfErr};
-ghost use Rattle.std.specs.List.{list_all};
+ghost use Rattle.std.specs.Prelude.{◌≡◌, ◌≢◌, List, map, true, IfOk, IfErr};
+ghost use Rattle.std.specs.List.{AllByRecursion, list_all};
 ghost use Rattle.agc_plan.specs.Ranges.{IsRequest};
 ghost use Rattle.agc_text.specs.Lines.{line_of};
 ghost use Rattle.agc_document.specs.Gives.{RefusedLine};
-ghost use Rattle.agc_clock.specs.Timetables.{asked_then};
-ghost use Rattle.agc_clock.specs.declared.timetable.Then.{Then as Leaves};
-ghost use Rattle.agc_scenario.specs.Scenarios.{Timed, can_be_shown, then_of};
+ghost use Rattle.agc_plan.specs.declared.request.Request.{Request as Asks};
+ghost use Rattle.agc_scenario.specs.Scenarios.{Timed, are_asked, can_be_shown, is_step};
+ghost use Rattle.agc_scenario.specs.Scenarios.{leaves_at_last};
 ghost use Rattle.agc_scenario.specs.Scenarios.{event_texts, job_texts};
 ghost use Rattle.agc_scenario.specs.Scenarios.{timing_texts, IsTimed, IsTimedEvent, IsTimedJob};
 
 use crate::texts::{EventTexts, JobTexts, TimingTexts};
-use crate::timing::{Name, TimedEvent, TimedJob, Timing};
-use agc_clock::Then;
+use crate::timing::{Name, TimedEvent, TimedJob, Timing, then_of};
+use agc_clock::step_of;
 use agc_document::{BenchFault, Spelled, Text, all_spelled, is_name, or_line};
 use agc_plan::Request;
-use agc_text::{parse_address, parse_line};
+use agc_text::parse_address;
 use std::alloc::{AllocError, Global};
 
-/// What a job does by this request, if it leaves by it.
-fn then_of(request: &Request) -> Option<Then>
-    ensures { result ≡ then_of request.now }
+/// Whether a request is a step of a job.
+fn is_step(request: &Request) -> bool
+    ensures { result ≡ is_step request.now }
 {
-    match *request {
-        Request::EndOfJob => Some(Then::End),
-        Request::Sleep(at) => Some(Then::Sleep(at)),
-        _ => None,
+    step_of(request).is_some()
+}
+
+/// Whether all of these are.
+fn are_steps(requests: &[Request]) -> bool
+    ensures { result ≡ list_all is_step requests.now }
+{
+    requests.iter().all(|request| is_step(request))
+}
+
+/// Whether a job leaves by the last of these.
+fn leaves_at_last(requests: &[Request]) -> bool
+    ensures { result ≡ leaves_at_last requests.now }
+{
+    match requests.get(requests.len().saturating_sub(1)) {
+        None => false,
+        Some(last) => then_of(last).is_some(),
     }
 }
 
-/// What a job does then, as a text spells it.
-fn parse_then(text: &str) -> Option<Then>
-    ensures found { IfSome result (λ t. IsRequest (asked_then t)
-        × (text.now ≡ line_of (asked_then t))) }
-    ensures only { IfNone result ((t : Leaves) → IsRequest (asked_then t)
-        → text.now ≢ line_of (asked_then t)) }
+/// Whether a job can ask for these requests: for steps, and at last to end or to sleep.
+fn are_asked(requests: &[Request]) -> bool
+    ensures { result ≡ are_asked requests.now }
 {
-    let request = parse_line(text)?;
-    then_of(&request)
+    let before = requests.len().saturating_sub(1);
+    are_steps(&requests[..before]) && leaves_at_last(requests)
+}
+
+/// What a job asks for, as texts spell it.
+#[tactic(auto, using(crate::proofs::Asked::never_asked))]
+fn asked_by(alloc: Global, texts: &[Text<'_>]) -> Result<Vec<Request>, BenchFault>
+    ensures found { IfOk result (λ v. AllByRecursion IsRequest v.items
+        × (are_asked v.items ≡ true) × (texts.now ≡ map line_of v.items)) }
+    ensures refused { IfErr result (RefusedLine ((asks : List Asks)
+        → AllByRecursion IsRequest asks → are_asked asks ≡ true → texts.now ≢ map line_of asks)) }
+{
+    let requests: Vec<Request> = all_spelled(alloc, texts)?;
+    if !are_asked(requests.as_slice()) {
+        return Err(BenchFault::Line);
+    }
+    Ok(requests)
 }
 
 /// Whether a name can be shown, if it is there.
@@ -98,12 +123,13 @@ impl<'a> Spelled<JobTexts<'a>> for TimedJob {
 
     fn spelled_by(alloc: Global, texts: &JobTexts<'a>) -> Result<TimedJob, BenchFault> {
         let at = or_line(parse_address(texts.at.as_str()))?;
-        let leaves = or_line(parse_then(texts.leaving.as_str()))?;
+        let requests = asked_by(alloc, texts.requests.as_slice())?;
         let name = name_of(alloc, &texts.name)?;
         Ok(TimedJob {
             at,
             cost: texts.cost,
-            leaves,
+            deadline: texts.deadline,
+            requests,
             name,
         })
     }
