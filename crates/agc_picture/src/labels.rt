@@ -31,10 +31,22 @@ pub(crate) struct Labels {
     events: Vec<Option<Told>>,
 }
 
+/// A text with the replacement character for the two that XML hasn't.
+fn shown(alloc: Global, text: &str) -> Result<String, AllocError> {
+    let mut shown = String::new(alloc);
+    for letter in text.chars() {
+        shown.push(match letter {
+            '\u{FFFE}' | '\u{FFFF}' => '\u{FFFD}',
+            other => other,
+        })?;
+    }
+    Ok(shown)
+}
+
 /// A text in markup.
 fn told_of(alloc: Global, text: &str) -> Result<Told, AllocError> {
     Ok(Told {
-        markup: escaped(alloc, text)?,
+        markup: escaped(alloc, shown(alloc, text)?.as_str())?,
         letters: text.chars().count() as u64,
     })
 }
