@@ -112,7 +112,7 @@ function keysAreKnown() {
   const keys = "title, sets, limit, allowance, script, attends, key, radar, power, worker, device, task, phase, seconds, steal, job, event";
   thrown(TypeError, () => new Clock({ stael: 15 }), `a timetable has no key "stael", only ${keys}`);
   thrown(TypeError, () => new Clock().change({ stael: 15 }));
-  thrown(TypeError, () => new Clock({ job: [job, { ...job, costs: 1 }] }), 'job 2 has no key "costs", only at, cost, then, name');
+  thrown(TypeError, () => new Clock({ job: [job, { ...job, costs: 1 }] }), 'job 2 has no key "costs", only at, cost, then, deadline, name');
   thrown(TypeError, () => new Clock({ job: [{ at: "04000" }] }), 'job 1 has to have "cost"');
   thrown(Lacking, () => new Clock({ job: [{ at: "04000", cost: 1, then: " end" }] }), '" end" is no end or sleep');
   thrown(TypeError, () => new Clock({ job: [{ ...job, cost: 0.5 }] }), "a number has to be an integer, and this is 0.5");
