@@ -109,14 +109,15 @@ fn step_at(cost: &Cost, number: u32) -> Option<Step>
     }
 }
 
-/// What a job is asked that has used up its cost, and what it counts then.
+/// What a job is asked for when it has used up its cost, and how much of what it was given counts
+/// after that.
 #[derive(Clone, Copy)]
 pub(crate) struct Spent {
     pub(crate) request: Request,
     pub(crate) counted: u32,
 }
 
-/// What a job is asked that needs no more, with the hundredth that follows on so many more.
+/// What a job is asked for that has been given what it needs, and this many hundredths more.
 pub(crate) fn spend(cost: &Cost, more: u32) -> Spent
     ensures request { result.request ≡ asked_of (step_at cost.now more) cost.now.then }
     ensures counted { result.counted ≡ counted_on (step_at cost.now more) (needs cost.now + more) }

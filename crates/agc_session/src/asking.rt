@@ -7,24 +7,22 @@ ghost use Rattle.agc_session.specs.Walks.{AsksInOrder};
 use crate::walk::Walk;
 use agc_document::Bench;
 use agc_machine::Machine;
-use agc_plan::{Fired, Request};
+use agc_plan::Request;
 use agc_text::{Output, write_answer_to};
 use std::io::Write;
 
-/// Asks for all of these requests in order, and writes a line for each answer. The list that is
-/// lent then holds what fired last.
+/// Asks for all of these requests in order, and writes a line for each answer.
 #[inline(always)]
 pub(crate) fn ask_all<W: Write>(
     machine: &mut Machine,
     requests: &[Request],
-    fired: &mut Fired,
     writer: &mut W,
 ) -> Result<(), Output>
     ensures { AsksInOrder after line_written line_stopped machine.old requests.now machine.new
         (W.contents writer.old) (W.contents writer.new) result }
 {
     for request in requests {
-        write_answer_to(machine, request, fired, writer)?;
+        write_answer_to(machine, request, writer)?;
     }
     Ok(())
 }
@@ -38,10 +36,9 @@ pub(crate) fn ask_bench<W: Write>(
     ensures { AsksInOrder after line_written line_stopped machine.old (bench_requests bench.now)
         machine.new (W.contents writer.old) (W.contents writer.new) result }
 {
-    let mut fired = Fired::new();
     let mut walk = Walk::new(bench);
     while walk.advance() {
-        ask_all(machine, walk.requests(), &mut fired, writer)?;
+        ask_all(machine, walk.requests(), writer)?;
     }
     Ok(())
 }

@@ -10,25 +10,23 @@ use agc_plan::{Fired, Request};
 use std::io::Write;
 
 /// Asks for one request, and writes the answer's line. The request is lent, which spares copies of
-/// it, and so is a list for what fires, which then holds that in place of what was there.
+/// it.
 ///
 /// # Errors
 ///
 /// Where a write fails.
-// In line in its callers neither reply nor refusal is handed on.
-#[inline(always)]
 pub fn write_answer_to<W: Write>(
     machine: &mut Machine,
     request: &Request,
-    fired: &mut Fired,
     writer: &mut W,
 ) -> Result<(), Output>
     ensures after { machine.new ≡ after machine.old request.now }
     ensures writes { Writes (W.contents writer.old) (W.contents writer.new)
         (line_for machine.old request.now) result }
 {
-    match machine.ask(request, fired) {
-        Ok(reply) => put_reply(writer, reply, fired),
+    let mut fired = Fired::new();
+    match machine.ask(request, &mut fired) {
+        Ok(reply) => put_reply(writer, reply, &fired),
         Err(refusal) => put_refusal(writer, refusal),
     }
 }
