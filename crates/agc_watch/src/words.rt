@@ -2,7 +2,7 @@
 use crate::commands::{named_command, whole_command};
 use crate::progress::Counted;
 use crate::stops::Stop;
-use agc_orders::Options;
+use agc_explore::Options;
 use agc_picture::Span;
 use agc_plan::Alarm;
 use agc_program::Fault;

@@ -9,7 +9,7 @@ use crate::stops::Stop;
 use crate::sweeping::write_sweep;
 use crate::words::{Asked, Input as Source, Show, Task};
 use crate::workbench::Workbench;
-use agc_orders::{Options, Reach, Watch, explore};
+use agc_explore::{Options, Reach, Watch, explore};
 use agc_peaks::{Outcome, outcome_of, put_differences, scenario_bench, write_jobs, write_peaks};
 use agc_picture::{picture, time_picture};
 use agc_play::{Manner, PlayFault, play};

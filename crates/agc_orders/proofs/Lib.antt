@@ -1,4 +1,0 @@
-mod Made
-pub mod Quiet
-mod Walked
-pub mod Firsts
