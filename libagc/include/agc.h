@@ -319,11 +319,13 @@ typedef struct {
 typedef struct { uint32_t from, to, percent, every, until; } AgcStolen;
 
 /* What a job costs that stands at an address, in hundredths of a centisecond of computing, 1 to
-   100,000,000. With the last of these it asks for the first of `count` requests, 0 to 7, of those that are
+   100,000,000. Each time a job begins it may cost less, by up to `spread`, as a lot says: its cost is
+   `hundredths - spread` more the next lot modulo `spread + 1`. `spread` is less than `hundredths`; where it
+   is 0 no lot is drawn. With the last of these it asks for the first of `count` requests, 0 to 7, of those that are
    handed to the call, from number `first` on; with each hundredth more for the next; and at last it ends,
    where `then` is 0, or sleeps at that address. A request is AGC_NOVAC, AGC_FINDVAC, AGC_PRIO, AGC_STORE,
-   AGC_LIST or AGC_PHASE. Where both are left out, as in {04000, 17000, 0}, it asks for nothing before. */
-typedef struct { uint32_t at, hundredths, then, first, count; } AgcCost;
+   AGC_LIST or AGC_PHASE. Where these are left out, as in {04000, 17000, 0}, it asks for nothing before. */
+typedef struct { uint32_t at, hundredths, then, first, count, spread; } AgcCost;
 
 /* An event: it comes at a centisecond, 0 to 360,000, and where `every` isn't 0 again each so many
    centiseconds, at last at `until`: never, where that is before the first. Each time it asks for `count` requests, 1 to 16, of those that are
@@ -343,9 +345,12 @@ typedef struct {
     size_t request_count;
 } AgcTimetable;
 
-/* A clock: its centisecond, what of that is done, and the hundredths that jobs 1 to 8 were given since
-   they were established or roused. All zeros is a clock at its start; any other is as a call left it. */
-AGC_TYPE struct { uint32_t time; size_t event, asked; bool looks; uint32_t left; uint32_t given[8]; } AgcClock;
+/* A clock: its centisecond, what of that is done, the hundredths that jobs 1 to 8 were given since they
+   were established or roused (what a lot spared a job counts as given), and the lot that was drawn last,
+   where the next is 48271 times that modulo 2147483647. All zeros is a clock at its start, whose lots are
+   all 0, so that costs are least; for others set `lot` to a seed, 1 to 2147483646. Any other clock is as a
+   call left it. */
+AGC_TYPE struct { uint32_t time; size_t event, asked; bool looks; uint32_t left; uint32_t given[8]; uint32_t lot; } AgcClock;
 
 /* What a code says: a constant text, never null, whatever the number. */
 AGC_INLINE const char *agc_code_text(uint32_t code) {

@@ -211,12 +211,12 @@ export interface Stolen {
 }
 
 /**
- * What a job at an address costs, in centiseconds; then `"end"` or `"sleep 04000"`, or several
+ * What a job at an address costs, in centiseconds, or by lot between two such; then `"end"` or `"sleep 04000"`, or several
  * requests, the last of which is one of these.
  */
 export interface JobCost {
   at: string | number;
-  cost: number;
+  cost: number | { from: number; to: number };
   then?: string | readonly string[];
   /** How long it may take, for `agc_watch jobs`: a clock passes over it. */
   deadline?: number;
@@ -236,6 +236,8 @@ export interface TimedEvent {
 export interface Timetable {
   /** How long it lasts: 3600 where it isn't named. */
   seconds?: number;
+  /** What lots are drawn from, 1 to 2147483646: where a cost is by lot it has to be there. */
+  seed?: number;
   /** Percent of each centisecond that something else takes, or rows of it. */
   steal?: number | readonly Stolen[];
   job?: readonly JobCost[];
@@ -268,7 +270,10 @@ export declare class Clock {
   served(machine: Machine, step: Step): void;
   /** The centisecond that passes; 0 before the first tick. */
   readonly time: number;
-  /** How many hundredths of a centisecond jobs 1 to 8 were given since they began or were roused. */
+  /**
+   * How many hundredths of a centisecond jobs 1 to 8 were given since they began or were roused; what
+   * a lot spared a job counts as given.
+   */
   readonly given: number[];
   /** How many centiseconds the timetable lasts. */
   readonly lasts: number;

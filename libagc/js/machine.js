@@ -15,7 +15,8 @@
  * @typedef {{ task?: PlanTask[], phase?: PlanPhase[] }} Plan
  * @typedef {{ at: number, bank: number }} Task
  * @typedef {{ from: number, to: number, percent: number, every?: number, until?: number }} Stolen
- * @typedef {{ at: string | number, cost: number, then?: string | string[], deadline?: number,
+ * @typedef {{ at: string | number, cost: number | { from: number, to: number },
+ *   then?: string | string[], deadline?: number,
  *   name?: string }} JobCost
  * @typedef {{ at: number, do: string | string[], every?: number, until?: number,
  *   name?: string }} TimedEvent
@@ -193,7 +194,7 @@ export class Lacking extends Error {
 // words from elsewhere, that machine's plan, and behind it that clock's timetable.
 const SIZE = {
   ...{ words: 288, moment: 288, answer: 40, fired: 72, request: 16, totals: 40, phases: 24 },
-  ...{ clock: 64, text: 2048, other: 288, map: 40, bounds: 24, pulse: 64, actions: 160 },
+  ...{ clock: 72, text: 2048, other: 288, map: 40, bounds: 24, pulse: 64, actions: 160 },
 };
 const ROW = 72;
 const ENTRY = 36;
@@ -317,7 +318,7 @@ function firstBad(lacks, count) {
 }
 
 // What a bench or a scenario has besides a plan, for which it may stand, and what a timetable has.
-const TIMES = ["seconds", "steal", "job", "event"];
+const TIMES = ["seconds", "seed", "steal", "job", "event"];
 const DOCUMENT = [
   ...["title", "sets", "limit", "allowance", "script", "attends", "key", "radar", "power"],
   ...["worker", "device", "task", "phase", ...TIMES],
@@ -918,10 +919,13 @@ export function pulseOf(line, plan = {}) {
 }
 
 const STOLEN = 20;
-const COST = 20;
+const COST = 24;
 const EVENT = 20;
 const REQUEST = 16;
 const LAST_TIME = 360000;
+const LAST_SEED = 2147483646;
+/** Where a clock's lot is among its words of 32 bits. */
+const LOT = 16;
 
 const STEPS = ["novac", "findvac", "prio", "store", "list", "phase"];
 
@@ -975,6 +979,36 @@ function again(where, row) {
   return [every, whole(row.until ?? LAST_TIME)];
 }
 
+/**
+ * The least and the most that a job costs, in centiseconds.
+ * @param {string} where
+ * @param {number | { from: number, to: number }} cost
+ */
+function costsOf(where, cost) {
+  if (typeof cost !== "object") return [whole(cost), whole(cost)];
+  known(`${where}: cost`, cost, ["from", "to"], ["from", "to"]);
+  const [least, most] = [whole(cost.from), whole(cost.to)];
+  if (least >= 1 && least <= most) return [least, most];
+  const told = `from 1 or more to as much or more, and not from ${least} to ${most}`;
+  throw new Lacking(Code.TIME_RANGE, `${where}: a cost is ${told}`);
+}
+
+/**
+ * What lots are drawn from; 0 where none are.
+ * @param {number | undefined} seed
+ * @param {number[][]} costs
+ */
+function seedOf(seed, costs) {
+  const byLot = costs.findIndex((it) => it[5] !== 0);
+  if (seed === undefined && byLot === -1) return 0;
+  if (seed === undefined) {
+    const told = `job ${byLot + 1}: its cost is by lot, and there is no seed`;
+    throw new Lacking(Code.TIME_RANGE, told);
+  }
+  if (whole(seed) >= 1 && seed <= LAST_SEED) return seed;
+  throw new Lacking(Code.TIME_RANGE, `seed has to be 1 to ${LAST_SEED}, and is ${seed}`);
+}
+
 /** What a timetable is in the module's memory, one part after the other. */
 class LentTimes {
   /** @param {Timetable} given */
@@ -1003,7 +1037,9 @@ class LentTimes {
       const first = requests.length;
       requests.push(...lines.slice(0, -1).map(stepOf));
       const leaves = thenOf(lines[lines.length - 1]);
-      return [octal(it.at), whole(100 * whole(it.cost)), leaves, first, lines.length - 1];
+      const [least, most] = costsOf(`job ${k + 1}`, it.cost);
+      const [hundredths, spread] = [whole(100 * most), whole(100 * (most - least))];
+      return [octal(it.at), hundredths, leaves, first, lines.length - 1, spread];
     });
     this.events = event.map((it, k) => {
       known(`event ${k + 1}`, it, ["at", "do", "every", "until", "name"], ["at", "do"]);
@@ -1018,6 +1054,7 @@ class LentTimes {
     this.requests = requests;
     this.numbers = Uint32Array.from([this.stolen, this.costs, this.events, requests].flat(2));
     this.#look();
+    this.seed = seedOf(given.seed, this.costs);
   }
 
   /** Looks whether it is a timetable, and says which row isn't. */
@@ -1077,7 +1114,8 @@ function timesOf(given) {
 /**
  * A clock: it lets time pass by a timetable, as docs/MODEL.md says, and gives what a machine is asked
  * next. `timetable` has `seconds`, `steal`, `job` and `event` as a scenario has them, and all may be
- * missing. A clock goes with one machine, and is told of all that this is asked.
+ * missing. The cost of a job may be by lot, `{ from: 150, to: 190 }`, and then there has to be a
+ * `seed`, 1 to 2147483646. A clock goes with one machine, and is told of all that this is asked.
  */
 export class Clock {
   #told;
@@ -1102,12 +1140,13 @@ export class Clock {
     const looked = timetable instanceof LentTimes;
     this.#times = looked ? timetable : new LentTimes(timetable);
     this.#told = looked ? {} : timesOf(timetable);
+    new Uint32Array(this.#state.buffer)[LOT] = this.#times.seed;
   }
 
   /** All of it, of which JSON can be made, for `Clock.of`. */
   get state() {
     const [time, , event, , asks, , looks, left] = this.#numbers;
-    const at = [time, event, asks, looks & 1, left, ...this.given];
+    const at = [time, event, asks, looks & 1, left, ...this.given, this.#numbers[LOT]];
     return { timetable: structuredClone(this.#told), at };
   }
 
@@ -1120,8 +1159,8 @@ export class Clock {
     const made = new Clock(state.timetable);
     const [time, event, asks, looks, left, ...given] = rowsOf("at", state.at);
     const all = [time, 0, event, 0, asks, 0, looks, left, ...given];
-    if (given.length !== 8 || looks > 1 || all.some((it) => !(it >>> 0 === it))) {
-      throw new Lacking(Code.OUT_OF_RANGE, "a clock's state has thirteen numbers of 32 bits");
+    if (given.length !== 9 || looks > 1 || all.some((it) => !(it >>> 0 === it))) {
+      throw new Lacking(Code.OUT_OF_RANGE, "a clock's state has fourteen numbers of 32 bits");
     }
     made.#state.set(new Uint8Array(Uint32Array.from(all).buffer));
     return made;
@@ -1207,7 +1246,7 @@ export class Clock {
   /** The clock's words of 32 bits, wherever they are. */
   get #numbers() {
     const from = timed === this ? at.clock / 4 : 0;
-    return (timed === this ? numbers : new Uint32Array(this.#state.buffer)).slice(from, from + 16);
+    return (timed === this ? numbers : new Uint32Array(this.#state.buffer)).slice(from, from + 17);
   }
 
   /** The centisecond that passes; 0 before the first tick. */
@@ -1215,7 +1254,10 @@ export class Clock {
     return timed === this ? numbers[at.clock / 4] : new Uint32Array(this.#state.buffer)[0];
   }
 
-  /** How many hundredths of a centisecond jobs 1 to 8 were given since they began or were roused. */
+  /**
+   * How many hundredths of a centisecond jobs 1 to 8 were given since they began or were roused; what
+   * a lot spared a job counts as given.
+   */
   get given() {
     return Array.from(this.#numbers.subarray(8, 16));
   }
@@ -1234,6 +1276,8 @@ export class Clock {
     const times = new LentTimes(told);
     this.#told = told;
     this.#times = times;
+    // (lots are drawn anew where a seed is named; the clock has left the module's memory)
+    if (timetable.seed !== undefined) new Uint32Array(this.#state.buffer)[LOT] = times.seed;
   }
 
   /** A clock of its own with the same time, counts and timetable. */

@@ -70,10 +70,12 @@ static void take(char *line) {
     char *rest = strchr(line, ' ') + 1;
     if (!strncmp(line, "scenario ", 9)) {
         puts(line);
-        want(sscanf(rest, "%u %u", &sets, &lasts) == 2, line);
+        uint32_t seed;
+        want(sscanf(rest, "%u %u %u", &sets, &lasts, &seed) == 3, line);
         lasts *= 100;
         agc_clear(words, sets);
         memset(&timer, 0, sizeof timer);
+        timer.lot = seed;
         memset(entries, 0, sizeof entries);
         memset(rows, 0, sizeof rows);
         row_count = entry_count = stolen_count = cost_count = event_count = request_count = 0;
@@ -95,8 +97,10 @@ static void take(char *line) {
         want(sscanf(rest, "%u %u %u %u %u", &it->from, &it->to, &it->percent, &it->every, &it->until) == 5, line);
     } else if (!strncmp(line, "job ", 4)) {
         AgcCost *it = &costs[cost_count++];
-        want(sscanf(part(&rest), "%o %u", &it->at, &it->hundredths) == 2, line);
+        uint32_t least;
+        want(sscanf(part(&rest), "%o %u %u", &it->at, &least, &it->hundredths) == 3, line);
         it->hundredths *= 100;
+        it->spread = it->hundredths - 100 * least;
         it->first = (uint32_t)request_count;
         while (strchr(rest, '|')) requests[request_count++] = read(part(&rest), false);
         it->count = (uint32_t)request_count - it->first;
@@ -116,11 +120,12 @@ static void take(char *line) {
 
 /* Whatever a call lacks, clock and request stay. */
 static void refuses(void) {
-    AgcClock clock = {7, 1, 2, true, 50, {1, 2, 3, 4, 5, 6, 7, 8}}, was;
+    AgcClock clock = {7, 1, 2, true, 50, {1, 2, 3, 4, 5, 6, 7, 8}, 9}, was;
     AgcRequest it = {1, 2, 3, 4}, same = it;
     AgcStep step = {0, AGC_TICKED, 0, 0, 0};
     AgcStolen twice[2] = {{0, 10, 5, 0, 0}, {9, 20, 5, 0, 0}}, beat[2] = {{9, 20, 5, 10, 99}, {9, 20, 5, 11, 99}};
-    AgcCost cost[2] = {{1, 1, 0, 0, 0}, {1, 2, 0, 0, 0}}, bad = {1, 1, 16384, 0, 0}, asks = {1, 1, 0, 0, 7};
+    AgcCost cost[2] = {{1, 1, 0, 0, 0, 0}, {1, 2, 0, 0, 0, 0}}, bad = {1, 1, 16384, 0, 0, 0}, asks = {1, 1, 0, 0, 7, 0};
+    AgcCost lot = {1, 9, 0, 0, 0, 8}, wide = {1, 9, 0, 0, 0, 9};
     AgcRequest steps[9] = {{AGC_PRIO, 7, 0, 0}, {AGC_PHASE, 1, 1, 0}, {AGC_STORE, 1, 2, 0}, {AGC_NOVAC, 7, 1024, 5},
         {AGC_FINDVAC, 7, 1024, 5}, {AGC_LIST, 7, 1024, 5}, {AGC_PRIO, 7, 0, 0}, {AGC_PRIO, 7, 0, 0}, {AGC_TICK, 0, 0, 0}};
     AgcEvent event = {0, 0, 0, 1, 1};
@@ -138,6 +143,8 @@ static void refuses(void) {
     want(agc_clock_check(NULL, 0, &asks, 1, NULL, 0, steps, 9) == AGC_TIME_RANGE, "eight requests");
     asks.first = 8, asks.count = 1;
     want(agc_clock_check(NULL, 0, &asks, 1, NULL, 0, steps, 9) == AGC_TIME_RANGE, "a tick");
+    want(agc_clock_check(NULL, 0, &lot, 1, NULL, 0, NULL, 0) == AGC_OK, "a cost from 1 to 9");
+    want(agc_clock_check(NULL, 0, &wide, 1, NULL, 0, NULL, 0) == AGC_TIME_RANGE, "a cost from 0 on");
     words[89] = 12;
     want(agc_clock_next(words, 7, 10, NULL, 0, NULL, 0, NULL, 0, NULL, 0, &clock, &it).code == AGC_UNLAWFUL, "no image");
     want(agc_clock_served(words, 7, &step, &clock) == AGC_UNLAWFUL, "no image");

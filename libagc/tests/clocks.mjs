@@ -21,8 +21,8 @@ function told(time, source, name, numbers, step) {
 }
 
 class Scenario {
-  constructor(sets, seconds) {
-    Object.assign(this, { sets, plan: { task: [], phase: [] }, time: { seconds, steal: [], job: [], event: [] } });
+  constructor(sets, seconds, seed) {
+    Object.assign(this, { sets, plan: { task: [], phase: [] }, time: { seconds, seed, steal: [], job: [], event: [] } });
   }
 
   take(name, rest) {
@@ -36,8 +36,10 @@ class Scenario {
     } else if (name === "steal") {
       const again = numbers[3] ? { every: numbers[3], until: numbers[4] } : {};
       this.time.steal.push({ from: numbers[0], to: numbers[1], percent: numbers[2], ...again });
-    } else if (name === "job") this.time.job.push({ at: words[0], cost: numbers[1], then: parts });
-    else if (name === "event") {
+    } else if (name === "job") {
+      const [, from, to] = numbers;
+      this.time.job.push({ at: words[0], cost: from === to ? from : { from, to }, then: parts });
+    } else if (name === "event") {
       const again = numbers[1] ? { every: numbers[1], until: numbers[2] } : {};
       this.time.event.push({ at: numbers[0], do: parts, ...again });
     } else this.go(name, rest);
@@ -77,7 +79,9 @@ function refuses() {
   const faults = [
     [Code.TIME_RANGE, { steal: 101 }], [Code.STEAL_TWICE, { steal: [{ from: 0, to: 9, percent: 1 }, { from: 8, to: 9, percent: 1 }] }],
     [Code.TIME_RANGE, { steal: [{ from: 0, to: 9, percent: 1, every: 8 }] }], [Code.TIME_RANGE, { steal: [{ from: 0, to: 9, percent: 1, every: 0 }] }],
-    [Code.COST_TWICE, { job: [job, job] }], [Code.NOT_SPELLED, { job: [{ ...job, then: "tick" }] }],
+    [Code.COST_TWICE, { job: [job, job] }], [Code.TIME_RANGE, { job: [{ ...job, cost: { from: 1, to: 2 } }] }],
+    [Code.TIME_RANGE, { seed: 0 }], [Code.TIME_RANGE, { seed: 2147483647 }], [Code.TIME_RANGE, { seed: 1, job: [{ ...job, cost: { from: 2, to: 1 } }] }],
+    [Code.NOT_SPELLED, { job: [{ ...job, then: "tick" }] }],
     [Code.NOT_SPELLED, { job: [{ ...job, then: ["change", "end"] }] }], [Code.NOT_SPELLED, { job: [{ ...job, then: ["end", "end"] }] }],
     [Code.NOT_SPELLED, { job: [{ ...job, then: ["prio 07"] }] }],
     [Code.TIME_RANGE, { event: [{ at: 0, do: "tick" }, { at: 360001, do: "tick", every: 1, until: 4 }] }],
@@ -130,6 +134,18 @@ function keeps() {
     try { new Clock({ job: [{ at: "04000", cost: 2, then }] }); } catch (fault) { found = fault; }
     want(found?.message === `job 1: then has to have 1 to 8 lines, and has ${then.length}`, `${then.length} steps`);
   }
+  // With seed 1 the first lots are 48271 and 182605794: costs of 131 and 208 hundredths, of 100 to 300.
+  const lots = { seed: 1, job: [{ at: "04000", cost: { from: 1, to: 3 } }], event: [{ ...timetable.event[0], every: 4 }] };
+  const ends = (clock) => asks(clock, 8).split(", ").filter((it) => it.endsWith(" end")).join(", ");
+  want(ends(new Clock(lots)) === "2 end, 7 end", ends(new Clock(lots)));
+  const [lotted, drawing] = [new Machine(), new Clock(lots)];
+  lotted.run(drawing, 5);
+  want(same([drawing.given[0], drawing.state.at.at(-1)], [192, 182605794]), "two lots");
+  want(same(Clock.of(drawing.state).state, drawing.state), "a clock that is kept");
+  drawing.change({ steal: 0 });
+  want(drawing.state.at.at(-1) === 182605794, "lots that go on");
+  drawing.change({ seed: 7 });
+  want(drawing.state.at.at(-1) === 7, "lots that are drawn anew");
   // The second and fourth centisecond and so on are stolen, and with until 2 only the second.
   const beat = { from: 2, to: 3, percent: 100, every: 2 };
   const beaten = (row) => asks(new Clock({ ...timetable, steal: [row], job: [{ at: "04000", cost: 3 }] }), 9);
@@ -164,8 +180,8 @@ let scenario = null;
 for (const line of (await new Response(process.stdin).text()).split("\n").slice(0, -1)) {
   const [name, rest] = [line.slice(0, line.indexOf(" ")), line.slice(line.indexOf(" ") + 1)];
   if (name === "scenario") {
-    const [sets, seconds] = rest.split(" ").map(Number);
-    scenario = new Scenario(sets, seconds);
+    const [sets, seconds, seed] = rest.split(" ").map(Number);
+    scenario = new Scenario(sets, seconds, seed);
     out.push(line);
   } else scenario.take(name, rest);
 }

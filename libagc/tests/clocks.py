@@ -5,8 +5,8 @@
                                   hundredth by hundredth, over `Machine` alone
     clocks.py clock               the same by `Clock`
 
-Lines are `scenario SETS SECONDS`, `task AT BANK|ACTION|..`, `phase GROUP PHASE|JOB|TASK`, `steal FROM TO PERCENT EVERY
-UNTIL`, `job AT COST|THEN|..`, `event AT EVERY UNTIL|LINE|..`, `run CENTISECONDS`, `hand LINE`. Each request that is asked gets a line:
+Lines are `scenario SETS SECONDS SEED`, `task AT BANK|ACTION|..`, `phase GROUP PHASE|JOB|TASK`, `steal FROM TO PERCENT EVERY
+UNTIL`, `job AT LEAST MOST|THEN|..`, `event AT EVERY UNTIL|LINE|..`, `run CENTISECONDS`, `hand LINE`. Each request that is asked gets a line:
 the centisecond, who asks (0 a person, 1 the clock, from 2 on the events), its kind and numbers, and the reply.
 """
 import random
@@ -47,7 +47,7 @@ def a_step(pick):
 def make(seed, count):
     for number in range(count):
         pick = random.Random(f"{seed} {number}")
-        print(f"scenario {pick.choice([7, 8])} {pick.randint(1, 4)}")
+        print(f"scenario {pick.choice([7, 8])} {pick.randint(1, 4)} {pick.choice([1, 2147483646, pick.randint(1, 2147483646)])}")
         for at in pick.sample(TASKS, pick.randint(0, 3)):
             print(f"task {at} 00005|" + "|".join(a_request(pick, True) for _ in range(pick.randint(1, 4))))
         for group in pick.sample(range(1, 7), pick.randint(0, 3)):
@@ -61,7 +61,8 @@ def make(seed, count):
         for at in pick.sample(JOBS, pick.randint(0, 4)):
             steps = [a_step(pick) for _ in range(pick.choice([0, 0, 1, 2, 7]))]
             then = [*steps, pick.choice(["end", "end", f"sleep {pick.choice(JOBS)}"])]
-            print(f"job {at} {pick.choice([1, 1, 2, 5, 17, 60])}|" + "|".join(then))
+            least = pick.choice([1, 1, 2, 5, 17, 60])
+            print(f"job {at} {least} {least + pick.choice([0, 0, 1, 3, 40])}|" + "|".join(then))
         for _ in range(pick.randint(0, 5)):
             at, every = pick.randint(0, 200), pick.choice([0, 0, 1, 7, 25])
             print(f"event {at} {every} {pick.randint(at, 400)}|" + "|".join(a_request(pick) for _ in range(pick.randint(1, 3))))
@@ -80,9 +81,9 @@ def numbers_of(line):
 
 
 class Scenario:
-    def __init__(self, sets, seconds):
+    def __init__(self, sets, seconds, seed):
         self.sets, self.plan, self.machine = int(sets), {"task": [], "phase": []}, None
-        self.time = {"seconds": int(seconds), "steal": [], "job": [], "event": []}
+        self.time = {"seconds": int(seconds), "seed": int(seed), "steal": [], "job": [], "event": []}
 
     def take(self, name, rest):
         first, *parts = rest.split("|")
@@ -97,7 +98,9 @@ class Scenario:
             again = {"every": every, "until": until} if every else {}
             self.time["steal"].append({"from": begins, "to": ends, "percent": percent, **again})
         elif name == "job":
-            self.time["job"].append({"at": words[0], "cost": int(words[1]), "then": parts})
+            least, most = map(int, words[1:])
+            cost = least if least == most else {"from": least, "to": most}
+            self.time["job"].append({"at": words[0], "cost": cost, "then": parts})
         elif name == "event":
             at, every, until = map(int, words)
             again = {"every": every, "until": until} if every else {}
@@ -138,6 +141,7 @@ class Plainly(Scenario):
 
     def start(self):
         self.now, self.given, self.left, self.stolen = 0, {}, self.events(), {}
+        self.lot, self.needs = self.time["seed"], {}
         for row in reversed(self.time["steal"]):  # (the first row comes last, and counts)
             for begins in range(row["from"], row["until"] + 1, row["every"]) if "every" in row else [row["from"]]:
                 self.stolen |= dict.fromkeys(range(begins, begins + row["to"] - row["from"]), row["percent"])
@@ -148,6 +152,14 @@ class Plainly(Scenario):
                 "every" in event and event["at"] < self.now <= event["until"] and (self.now - event["at"]) % event["every"] == 0
             ):
                 yield from ((number + 2, line) for line in event["do"])
+
+    def drawn(self, cost):
+        """What a job costs that begins, in hundredths: one of so many, by the next lot of a generator of Lehmer's."""
+        if isinstance(cost, int):
+            return 100 * cost
+        self.lot = 48271 * self.lot % (2**31 - 1)
+        costs = range(100 * cost["from"], 100 * cost["to"] + 1)
+        return costs[self.lot % len(costs)]
 
     def running(self):
         job = self.machine.scene().sets[0]
@@ -163,8 +175,10 @@ class Plainly(Scenario):
             cost = job and next((it for it in self.time["job"] if int(it["at"], 8) == job.at), None)
             if cost is None:
                 continue
+            if not self.given.get(job.number):
+                self.needs[job.number] = self.drawn(cost["cost"])
             self.given[job.number] = self.given.get(job.number, 0) + 1
-            steps = self.given[job.number] - 100 * cost["cost"]
+            steps = self.given[job.number] - self.needs[job.number]
             if steps >= 0:
                 if steps == len(cost["then"]) - 1:
                     self.given[job.number] = 0
@@ -202,12 +216,17 @@ def refuses():
     """Each code of a timetable; and then there is no clock."""
     row = {"from": 0, "to": 10, "percent": 5}
     job, event = {"at": "04000", "cost": 1}, {"at": 0, "do": "tick"}
+    lot = {"at": "04000", "cost": {"from": 2, "to": 3}}
     wrong = [
         (15, {"steal": 101}), (15, {"steal": [{**row, "to": 0}]}), (16, {"steal": [row, {**row, "from": 9, "to": 11}]}),
         (0, {"steal": [row, {**row, "from": 10, "to": 11}]}), (15, {"steal": [{**row, "every": 9}]}), (0, {"steal": [{**row, "every": 10}]}),
         (0, {"steal": [{**row, "every": 10}, row]}), (0, {"steal": [row, {**row, "every": 10, "until": 0}]}),
         (15, {"steal": [{**row, "every": 0}]}), (0, {"steal": [{**row, "until": 0}]}), (15, {"job": [{**job, "cost": 0}]}), (0, {"job": [{**job, "cost": 1000000}]}),
-        (15, {"job": [{**job, "cost": 1000001}]}), (15, {"job": [{**job, "at": "00000"}]}), (17, {"job": [job, job]}),
+        (15, {"job": [{**job, "cost": 1000001}]}), (15, {"seed": 0}), (15, {"seed": 2147483647}), (0, {"seed": 2147483646}),
+        (15, {"job": [lot]}), (0, {"seed": 1, "job": [lot]}), (15, {"seed": 1, "job": [{**job, "cost": {"from": 3, "to": 2}}]}),
+        (15, {"seed": 1, "job": [{**job, "cost": {"from": 0, "to": 2}}]}), (0, {"job": [{**job, "cost": {"from": 2, "to": 2}}]}),
+        (15, {"seed": 1, "job": [{**job, "cost": {"from": 2, "to": 1000001}}]}),
+        (15, {"job": [{**job, "at": "00000"}]}), (17, {"job": [job, job]}),
         (13, {"job": [{**job, "then": "tick"}]}), (13, {"job": [{**job, "then": ["change", "end"]}]}),
         (13, {"job": [{**job, "then": ["prio 07"]}]}), (13, {"job": [{**job, "then": ["end", "end"]}]}), (15, {"job": [{**job, "then": []}]}),
         (15, {"job": [{**job, "then": ["prio 07"] * 8 + ["end"]}]}), (0, {"job": [{**job, "then": ["prio 07"] * 7 + ["end"]}]}),
@@ -257,6 +276,20 @@ def keeps():
     # Each step but the first takes a hundredth more: with the 200th, 201st and 202nd.
     steps = {"job": [{"at": "04000", "cost": 2, "deadline": 5, "then": ["phase 1 1", "prio 07", "end"]}], "event": steal["event"]}
     assert asks(steps, 9)[1:] == [(2, "phase", 1, 1), (3, "prio", 7), (3, "end")]
+    # By hand: with seed 1 the first lots are 48271, 182605794 and 1291394886, so that the costs from 100 to 300 hundredths are
+    # 100 + 48271 % 201 = 131, 100 + 182605794 % 201 = 208 and 100 + 1291394886 % 201 = 136. One job begins each four centiseconds.
+    lots = {"seed": 1, "job": [{"at": "04000", "cost": {"from": 1, "to": 3}}]}
+    lots["event"] = [{"at": 1, "do": "novac 20 04000 00005", "every": 4}]
+    assert [it for it in asks(lots, 12) if it[1] == "end"] == [(2, "end"), (7, "end"), (10, "end")]
+    machine, clock = Machine(), Clock(lots)
+    for _ in machine.run(clock, 1):
+        pass
+    assert clock.given[0] == 300 - 131 + 100 and clock.state["at"][-1] == 48271
+    for _ in machine.run(clock, 4):
+        pass
+    assert clock.given[0] == 300 - 208 + 100 and clock.state["at"][-1] == 182605794
+    kept = Clock.of_state(clock.state)
+    assert [str(it) for it, _ in machine.copy().run(kept, 9)] == [str(it) for it, _ in machine.run(clock, 9)] and kept.given == clock.given
     late = {**steal, "event": [{"at": 2000, "do": "novac 20 04000 00005"}]}
     assert asks(late, 2009) == [(2000, "novac", 0o20, 0o4000, 5), (2003, "end")]
     machine, clock = Machine(), Clock(steal)

@@ -18,7 +18,7 @@ struct Scenario {
 impl Scenario {
     fn new(rest: &str) -> Scenario {
         let found = numbers(rest);
-        let timetable = Some(Timetable::new(found[1]));
+        let timetable = Some(Timetable::new(found[1]).seed(found[2]));
         Scenario { sets: found[0], plan: Some(Plan::new()), timetable, going: None }
     }
 
@@ -44,9 +44,10 @@ impl Scenario {
             }
             "job" => {
                 let all = self.timetable.take().unwrap();
-                let cost = first[6..].parse().unwrap();
+                let cost = numbers(&first[6..]);
                 let (then, lines) = parts.split_last().unwrap();
-                self.timetable = Some(all.job_asks(octal(&first[..5]), cost, lines, then)?);
+                let all = all.job_asks(octal(&first[..5]), cost[1], lines, then)?;
+                self.timetable = Some(all.at_least(cost[0]));
             }
             "event" => {
                 let (all, it) = (self.timetable.take().unwrap(), numbers(first));
@@ -122,6 +123,16 @@ fn keeps() -> Result<(), Lacking> {
     clock.served(&machine, &step);
     let asked: Vec<String> = machine.run(&mut clock, 3)?.iter().map(|it| it.0.request.to_string()).collect();
     assert_eq!(asked, ["tick", "tick", "phase 1 1", "tick", "prio 07", "end"]);
+    // A cost by lot has to have a seed, below the last number; the first lot of seed 1 is 48271.
+    let lots = Timetable::new(1).job(0o4000, 3, "end")?.at_least(1);
+    for (seed, code) in [(0, TIME_RANGE), (2_147_483_647, TIME_RANGE), (2_147_483_646, OK), (1, OK)] {
+        let found = Clock::new(lots.clone().seed(seed));
+        assert_eq!(found.map_or_else(|lacks| lacks.code, |_| OK), code);
+    }
+    let (mut machine, mut clock) = (Machine::new(7, Plan::new())?, Clock::new(lots.seed(1))?);
+    let step = machine.ask("novac 20 04000 00005")?;
+    clock.served(&machine, &step);
+    assert_eq!((machine.run(&mut clock, 1)?.len(), clock.given()[0]), (1, 300 - 131 + 100));
     // A run tells its clock of the restart, after which nothing was given to a job that is gone.
     let timetable = Timetable::new(1).job(0o4000, 5, "end")?;
     let timetable = timetable.event(1, 0, 100, &["novac 20 04000 00005"])?.event(2, 0, 100, &["restart"])?;

@@ -108,9 +108,9 @@ class Passing:
     def __init__(self, scenario, machine):
         self.scenario, self.machine = scenario, machine
         self.given, self.asked, self.time = {}, [], 0
-        self.costs = {}
+        self.costs, self.needs, self.lot = {}, {}, scenario.get("seed")
         for job in scenario.get("job", []):
-            self.costs.setdefault(int(job["at"], 8), (100 * job["cost"], listed(job.get("then", "end"))))
+            self.costs.setdefault(int(job["at"], 8), (job["cost"], listed(job.get("then", "end"))))
 
     def ask(self, who, line):
         self.asked.append((self.time, who, line))
@@ -128,15 +128,26 @@ class Passing:
         """A job was given so many hundredths."""
         self.given[number] = self.given.get(number, 0) + hundredths
 
+    def drawn(self, cost):
+        """What a job needs that begins, in hundredths: a plain cost, or one of several by the next lot."""
+        if isinstance(cost, int):
+            return 100 * cost
+        low, high = 100 * cost["from"], 100 * cost["to"]
+        if low < high:
+            self.lot = 48271 * self.lot % 2147483647
+        return low + (self.lot % (high - low + 1) if low < high else 0)
+
     def compute(self):
         share = 100 - stolen(self.scenario, self.time)
         while share and (runner := self.machine.running()) and runner[1] in self.costs:
             number, at = runner
             cost, then = self.costs[at]
-            more = min(share, max(1, cost - self.given.get(number, 0)))
+            if number not in self.given:
+                self.needs[number] = self.drawn(cost)
+            more = min(share, max(1, self.needs[number] - self.given.get(number, 0)))
             share -= more
             self.gave(number, more)
-            step = self.given[number] - cost
+            step = self.given[number] - self.needs[number]
             if step >= 0:
                 if step == len(then) - 1:
                     del self.given[number]

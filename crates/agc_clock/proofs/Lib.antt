@@ -6,3 +6,4 @@ mod Working
 mod Scenarios
 mod Keeping
 mod Spending
+mod Drawing

@@ -9,6 +9,7 @@ use Rattle.agc_plan.specs.Jobs.{Jobs}
 use Rattle.agc_clock.specs.declared.asked.Asked.{Asked}
 use Rattle.agc_clock.specs.Clocks.{AsksNext, Clocked, Next, events_left, look_left, next_of, time_after, to_come}
 use Rattle.agc_clock.specs.Coming.{comes}
+use Rattle.agc_clock.specs.Counts.{Counts}
 use Rattle.agc_clock.specs.Events.{Event}
 use Rattle.agc_clock.specs.Instants.{Instant, Asks, Looks, Works, asks_of, by_clock, by_event, centisecond, centiseconds, events_at, is_tick}
 use Rattle.agc_clock.specs.Reading.{AsksOrPasses, Passes, first_of}
@@ -46,11 +47,11 @@ events_ask time number asked events (Some event) request is some =
     rw (next_row events number event is, asks_first time number asked event request (comes event.times time) refl some) refl
 
 -- the first instant asks for this
-pub asks_now : (table : Schedule) (jobs : Jobs) (old new : Clocked) (asked : Asked) → to_come table old ≡ Asks asked ∷ to_come table new → new.given ≡ old.given → new.time ≡ time_after old.time (Some asked) → AsksNext table jobs old (Some asked) new
+pub asks_now : (table : Schedule) (jobs : Jobs) (old new : Clocked) (asked : Asked) → to_come table old ≡ Asks asked ∷ to_come table new → new.counts ≡ old.counts → new.time ≡ time_after old.time (Some asked) → AsksNext table jobs old (Some asked) new
 asks_now table jobs old new asked first same time = record {
-  asked_is = ap (λ (l : List Instant). (next_of table.costs jobs l old.given).asked) (sym first);
-  to_come_is = ap (λ (l : List Instant). (next_of table.costs jobs l old.given).behind) (sym first);
-  given_is = same ∙ ap (λ (l : List Instant). (next_of table.costs jobs l old.given).given) (sym first);
+  asked_is = ap (λ (l : List Instant). (next_of table.costs jobs l old.counts).asked) (sym first);
+  to_come_is = ap (λ (l : List Instant). (next_of table.costs jobs l old.counts).behind) (sym first);
+  counts_is = same ∙ ap (λ (l : List Instant). (next_of table.costs jobs l old.counts).counts) (sym first);
   time_is = time;
 }
 
@@ -67,7 +68,7 @@ pub record IsMoved (old new : Clocked) : Type 0 where
   pub time_is : new.time ≡ old.time
   pub looks_is : new.looks ≡ old.looks
   pub left_is : new.left ≡ old.left
-  pub given_is : new.given ≡ old.given
+  pub counts_is : new.counts ≡ old.counts
 
 same_behind : (table : Schedule) (old new : Clocked) → IsMoved old new → behind table new.time new.looks new.left ≡ behind table old.time old.looks old.left
 same_behind table old new moved = rw (moved.time_is, moved.looks_is, moved.left_is) refl
@@ -89,13 +90,13 @@ by_no_tick time number request = ap (λ (b : Bool). cond b (time + 1) time) (not
 pub event_asked : (table : Schedule) (jobs : Jobs) (old new : Clocked) (number : ℕ) (request : Request) → IsMoved old new → events_left old.time old.event old.asked (drop old.event table.events) ≡ Asks (by_event number request) ∷ events_left old.time new.event new.asked (drop new.event table.events) → AsksNext table jobs old (Some (by_event number request)) new
 event_asked table jobs old new number request moved is =
     let asked = by_event number request in
-    asks_now table jobs old new asked (moved_events table old new (Asks asked ∷ []) moved is) moved.given_is (moved.time_is ∙ sym (by_no_tick old.time number request))
+    asks_now table jobs old new asked (moved_events table old new (Asks asked ∷ []) moved is) moved.counts_is (moved.time_is ∙ sym (by_no_tick old.time number request))
 
 pub events_passed : (table : Schedule) (jobs : Jobs) (old new : Clocked) → IsMoved old new → events_left old.time old.event old.asked (drop old.event table.events) ≡ events_left old.time new.event new.asked (drop new.event table.events) → AsksOrPasses table jobs old None new
 events_passed table jobs old new moved is = record {
   next_is =
-      ap (λ (l : List Instant). next_of table.costs jobs l old.given) (moved_events table old new [] moved is)
-      ∙ ap (λ (g : List ℕ). next_of table.costs jobs (to_come table new) g) (sym moved.given_is);
+      ap (λ (l : List Instant). next_of table.costs jobs l old.counts) (moved_events table old new [] moved is)
+      ∙ ap (λ (g : Counts). next_of table.costs jobs (to_come table new) g) (sym moved.counts_is);
   time_is = moved.time_is;
 }
 
@@ -106,11 +107,11 @@ nothing_left time number asked events le = ap (events_left time number asked) (p
 pub behind_is : (table : Schedule) (clock : Clocked) → length table.events ≤ clock.event → to_come table clock ≡ behind table clock.time clock.looks clock.left
 behind_is table clock passed = to_come_is table clock [] (nothing_left clock.time clock.event clock.asked table.events passed)
 
-pub next_asks : (table : Schedule) (jobs : Jobs) (old new : Clocked) (asked : Option Asked) → next_of table.costs jobs (to_come table old) old.given ≡ record { asked = asked; behind = to_come table new; given = new.given } → new.time ≡ time_after old.time asked → AsksNext table jobs old asked new
+pub next_asks : (table : Schedule) (jobs : Jobs) (old new : Clocked) (asked : Option Asked) → next_of table.costs jobs (to_come table old) old.counts ≡ record { asked = asked; behind = to_come table new; counts = new.counts } → new.time ≡ time_after old.time asked → AsksNext table jobs old asked new
 next_asks table jobs old new asked is time = record {
   asked_is = sym (ap (λ (n : Next). n.asked) is);
   to_come_is = sym (ap (λ (n : Next). n.behind) is);
-  given_is = sym (ap (λ (n : Next). n.given) is);
+  counts_is = sym (ap (λ (n : Next). n.counts) is);
   time_is = time;
 }
 
@@ -118,7 +119,7 @@ pub then_asks : (table : Schedule) (jobs : Jobs) (old mid new : Clocked) (asked 
 then_asks table jobs old mid new asked first then = record {
   asked_is = then.asked_is ∙ ap (λ (n : Next). n.asked) (sym first.next_is);
   to_come_is = then.to_come_is ∙ ap (λ (n : Next). n.behind) (sym first.next_is);
-  given_is = then.given_is ∙ ap (λ (n : Next). n.given) (sym first.next_is);
+  counts_is = then.counts_is ∙ ap (λ (n : Next). n.counts) (sym first.next_is);
   time_is = then.time_is ∙ ap (λ (t : ℕ). time_after t asked) first.time_is;
 }
 
@@ -140,7 +141,7 @@ pub record IsLooked (old new : Clocked) : Type 0 where
   pub event_is : new.event ≡ old.event
   pub looks_is : new.looks ≡ false
   pub left_is : new.left ≡ old.left
-  pub given_is : new.given ≡ old.given
+  pub counts_is : new.counts ≡ old.counts
 
 looked_on : (table : Schedule) (old new : Clocked) → length table.events ≤ old.event → IsLooked old new → to_come table new ≡ replicate old.left Works ++ centiseconds table (old.time + 1) (table.lasts - old.time)
 looked_on table old new passed looked =
@@ -153,29 +154,29 @@ look_comes table old new passed looks looked =
 pub look_asks : (table : Schedule) (jobs : Jobs) (old new : Clocked) → length table.events ≤ old.event → old.looks ≡ true → IsLooked old new → is_some (named_of jobs) ≡ true → AsksNext table jobs old (Some (by_clock Change)) new
 look_asks table jobs old new passed looks looked some =
     next_asks table jobs old new (Some (by_clock Change))
-    (rw (look_comes table old new passed looks looked, some, looked.given_is) refl) looked.time_is
+    (rw (look_comes table old new passed looks looked, some, looked.counts_is) refl) looked.time_is
 
 pub look_passes : (table : Schedule) (jobs : Jobs) (old new : Clocked) → length table.events ≤ old.event → old.looks ≡ true → IsLooked old new → is_some (named_of jobs) ≡ false → Passes table jobs old new
 look_passes table jobs old new passed looks looked none = record {
-  next_is = rw (look_comes table old new passed looks looked, none, looked.given_is) refl;
+  next_is = rw (look_comes table old new passed looks looked, none, looked.counts_is) refl;
   time_is = looked.time_is;
 }
 
 pub looks_no_more : (table : Schedule) (jobs : Jobs) (old new : Clocked) → length table.events ≤ old.event → old.looks ≡ false → IsLooked old new → Passes table jobs old new
 looks_no_more table jobs old new passed looks looked = record {
-  next_is = rw (looked_on table old new passed looked, looked.given_is) (ap (λ (l : List Instant). next_of table.costs jobs l old.given) (behind_is table old passed ∙ rw looks refl));
+  next_is = rw (looked_on table old new passed looked, looked.counts_is) (ap (λ (l : List Instant). next_of table.costs jobs l old.counts) (behind_is table old passed ∙ rw looks refl));
   time_is = looked.time_is;
 }
 
 -- a tick
-pub ticks : (table : Schedule) (jobs : Jobs) (old : Clocked) → length table.events ≤ old.event → old.looks ≡ false → old.left ≡ 0 → old.time < table.lasts → (new : Clocked) → new ≡ record { time = old.time + 1; event = 0; asked = 0; looks = true; left = share_at table (old.time + 1); given = old.given } → AsksNext table jobs old (Some (by_clock Tick)) new
+pub ticks : (table : Schedule) (jobs : Jobs) (old : Clocked) → length table.events ≤ old.event → old.looks ≡ false → old.left ≡ 0 → old.time < table.lasts → (new : Clocked) → new ≡ record { time = old.time + 1; event = 0; asked = 0; looks = true; left = share_at table (old.time + 1); counts = old.counts } → AsksNext table jobs old (Some (by_clock Tick)) new
 ticks table jobs old passed looks left more new is =
     let now = old.time + 1 in
     let after = centiseconds table (now + 1) (table.lasts - now) in
     let rest : table.lasts - old.time ≡ suc (table.lasts - now) = omega arith in
     let comes : to_come table old ≡ centisecond table now ++ after = behind_is table old passed ∙ rw (looks, left, rest) refl in
     let events : events_left now 0 0 (drop 0 table.events) ≡ events_at now 0 table.events = left_none now 0 table.events in
-    let then : to_come table (record { time = now; event = 0; asked = 0; looks = true; left = share_at table now; given = old.given }) ≡ events_at now 0 table.events ++ (Looks ∷ (replicate (share_at table now) Works ++ after)) = to_come_is table _ (events_at now 0 table.events) events in
+    let then : to_come table (record { time = now; event = 0; asked = 0; looks = true; left = share_at table now; counts = old.counts }) ≡ events_at now 0 table.events ++ (Looks ∷ (replicate (share_at table now) Works ++ after)) = to_come_is table _ (events_at now 0 table.events) events in
     rw is (asks_now table jobs old _ (by_clock Tick)
     (comes ∙ ap (λ (l : List Instant). Asks (by_clock Tick) ∷ l) (append_assoc (events_at now 0 table.events) (Looks ∷ replicate (share_at table now) Works) after ∙ sym then)) refl refl)
 

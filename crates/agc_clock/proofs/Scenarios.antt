@@ -15,7 +15,7 @@ use Rattle.agc_clock.specs.declared.timetable.Then.{Then}
 use Rattle.agc_clock.specs.declared.timetable.Then.TheVariants as then
 use Rattle.agc_exec.specs.Seats.{named_of}
 use Rattle.agc_clock.specs.Coming.{comes}
-use Rattle.agc_clock.specs.Counts.{Passed, counted_on, given_to, passed, with_given, worked, worker_of}
+use Rattle.agc_clock.specs.Counts.{Counts, Passed, begun, counted_on, given_to, passed, with_given, worked, worked_on, worker_of}
 use Rattle.agc_clock.specs.Events.{Event}
 use Rattle.agc_clock.specs.Instants.{Instant, Asks, Looks, Works, asks_of, by_clock, by_event, centisecond, centiseconds, events_at, instants, is_own_tick, is_tick}
 use Rattle.agc_clock.specs.Laws.{own_ticks, works_for, works_for_nobody, hundredths_given, hundredths_left}
@@ -26,25 +26,25 @@ use Rattle.agc_clock.specs.Timetables.{Schedule, asked_of, needs, share_at, step
 abbrev Follows : {S : Type 0} → Serving S → S → Standing S → Type 0
 Follows by start at = at.state ≡ fold by.next start at.asked
 
-went_on : {S : Type 0} (by : Serving S) (start : S) (at : Standing S) (o : Option Asked) (given : List ℕ) → Follows by start at → Follows by start (goes_on by o given at)
-went_on by start at None given is = is
-went_on by start at (Some a) given is = ap (λ s. by.next s a) is ∙ sym (fold_push by.next start at.asked a)
+went_on : {S : Type 0} (by : Serving S) (start : S) (at : Standing S) (o : Option Asked) (counts : Counts) → Follows by start at → Follows by start (goes_on by o counts at)
+went_on by start at None counts is = is
+went_on by start at (Some a) counts is = ap (λ s. by.next s a) is ∙ sym (fold_push by.next start at.asked a)
 
 follows : {S : Type 0} (by : Serving S) (costs : List Cost) (start : S) (at : Standing S) (all : List Instant) → Follows by start at → Follows by start (lived_all by costs at all)
 follows by costs start at [] is = is
 follows by costs start at (instant ∷ all) is =
-    let did = passed costs (by.jobs at.state) instant at.given in
-    follows by costs start (lived by costs at instant) all (went_on by start at did.asked did.given is)
+    let did = passed costs (by.jobs at.state) instant at.counts in
+    follows by costs start (lived by costs at instant) all (went_on by start at did.asked did.counts is)
 
 mapped : (m : Machined) (asked : List Asked) → fold by_machine.next m asked ≡ fold after m (map (λ a. a.request) asked)
 mapped m [] = refl
 mapped m (a ∷ asked) = mapped (after m a.request) asked
 
-pub run_is : (table : Schedule) (m : Machined) → (run by_machine table m).state ≡ after_all m (map (λ asked. asked.request) (scenario_requests by_machine table m))
+pub run_is : (table : Schedule) (seed : ℕ) (m : Machined) → (run by_machine table seed m).state ≡ after_all m (map (λ asked. asked.request) (scenario_requests by_machine table seed m))
 unfolding run after_all
-run_is table m =
-    follows by_machine table.costs m (standing_at m) (instants table) refl
-    ∙ mapped m (lived_all by_machine table.costs (standing_at m) (instants table)).asked
+run_is table seed m =
+    follows by_machine table.costs m (standing_at seed m) (instants table) refl
+    ∙ mapped m (lived_all by_machine table.costs (standing_at seed m) (instants table)).asked
 
 -- ticks
 abbrev tick_in : Asked → ℕ
@@ -63,16 +63,16 @@ abbrev tick_asked : Option Asked → ℕ
 tick_asked None = 0
 tick_asked (Some a) = tick_in a
 
-one_asked : {S : Type 0} (by : Serving S) (o : Option Asked) (given : List ℕ) (at : Standing S) → own_ticks (goes_on by o given at).asked ≡ own_ticks at.asked + tick_asked o
-one_asked by None given at = omega arith
-one_asked by (Some a) given at = fold_push (λ (n : ℕ) (x : Asked). n + tick_in x) 0 at.asked a
+one_asked : {S : Type 0} (by : Serving S) (o : Option Asked) (counts : Counts) (at : Standing S) → own_ticks (goes_on by o counts at).asked ≡ own_ticks at.asked + tick_asked o
+one_asked by None counts at = omega arith
+one_asked by (Some a) counts at = fold_push (λ (n : ℕ) (x : Asked). n + tick_in x) 0 at.asked a
 
-abbrev spent : JobCost → List ℕ → ℕ → Option Step → Bool → Passed
-spent w given got o b = cond b (record { asked = Some (by_clock (asked_of o w.cost.then)); given = with_given w.number (counted_on o got) given }) (record { asked = None; given = with_given w.number got given })
+abbrev spent : JobCost → Counts → ℕ → Option Step → Bool → Passed
+spent w counts got o b = cond b (record { asked = Some (by_clock (asked_of o w.cost.then)); counts = with_given w.number (counted_on o got) counts }) (record { asked = None; counts = with_given w.number got counts })
 
-spent_ticks : (w : JobCost) (given : List ℕ) (got : ℕ) (o : Option Step) (b : Bool) → tick_asked (spent w given got o b).asked ≡ 0
-spent_ticks w given got o false = refl
-spent_ticks w given got o true = by_step o w.cost.then where
+spent_ticks : (w : JobCost) (counts : Counts) (got : ℕ) (o : Option Step) (b : Bool) → tick_asked (spent w counts got o b).asked ≡ 0
+spent_ticks w counts got o false = refl
+spent_ticks w counts got o true = by_step o w.cost.then where
   by_step : (o : Option Step) (t : Then) → tick_in (by_clock (asked_of o t)) ≡ 0
   by_step None then.End = refl
   by_step None (then.Sleep at) = refl
@@ -83,25 +83,28 @@ spent_ticks w given got o true = by_step o w.cost.then where
   by_step (Some (step.List delay task)) t = refl
   by_step (Some (step.SetPhase group phase)) t = refl
 
-worked_ticks : (o : Option JobCost) (given : List ℕ) → tick_asked (worked o given).asked ≡ 0
-worked_ticks None given = refl
-worked_ticks (Some w) given = spent_ticks w given (given_to w.number given + 1) (step_at w.cost (given_to w.number given + 1 - needs w.cost)) (nat_le (needs w.cost) (given_to w.number given + 1))
+worked_ticks : (o : Option JobCost) (counts : Counts) → tick_asked (worked o counts).asked ≡ 0
+worked_ticks None counts = refl
+worked_ticks (Some w) counts = on_ticks w (begun w counts)
+  where
+    on_ticks : (w : JobCost) (counts : Counts) → tick_asked (worked_on w counts).asked ≡ 0
+    on_ticks w counts = spent_ticks w counts (given_to w.number counts + 1) (step_at w.cost (given_to w.number counts + 1 - needs w.cost)) (nat_le (needs w.cost) (given_to w.number counts + 1))
 
 looked_ticks : (b : Bool) → tick_asked (cond b (Some (by_clock Change)) None) ≡ 0
 looked_ticks true = refl
 looked_ticks false = refl
 
-passed_ticks : (costs : List Cost) (jobs : Jobs) (i : Instant) (given : List ℕ) → tick_asked (passed costs jobs i given).asked ≡ tick_of i
-passed_ticks costs jobs (Asks a) given = refl
-passed_ticks costs jobs Looks given = looked_ticks (is_some (named_of jobs))
-passed_ticks costs jobs Works given = worked_ticks (worker_of costs jobs) given
+passed_ticks : (costs : List Cost) (jobs : Jobs) (i : Instant) (counts : Counts) → tick_asked (passed costs jobs i counts).asked ≡ tick_of i
+passed_ticks costs jobs (Asks a) counts = refl
+passed_ticks costs jobs Looks counts = looked_ticks (is_some (named_of jobs))
+passed_ticks costs jobs Works counts = worked_ticks (worker_of costs jobs) counts
 
 ticks_asked : {S : Type 0} (by : Serving S) (costs : List Cost) (at : Standing S) (all : List Instant) → own_ticks (lived_all by costs at all).asked ≡ own_ticks at.asked + ticks_of all
 ticks_asked by costs at [] = omega arith
 ticks_asked by costs at (i ∷ all) =
-    let did = passed costs (by.jobs at.state) i at.given in
-    let one : own_ticks (lived by costs at i).asked ≡ own_ticks at.asked + tick_asked did.asked = one_asked by did.asked did.given at in
-    let same : tick_asked did.asked ≡ tick_of i = passed_ticks costs (by.jobs at.state) i at.given in
+    let did = passed costs (by.jobs at.state) i at.counts in
+    let one : own_ticks (lived by costs at i).asked ≡ own_ticks at.asked + tick_asked did.asked = one_asked by did.asked did.counts at in
+    let same : tick_asked did.asked ≡ tick_of i = passed_ticks costs (by.jobs at.state) i at.counts in
     let rest : own_ticks (lived_all by costs (lived by costs at i) all).asked ≡ own_ticks (lived by costs at i).asked + ticks_of all = ticks_asked by costs (lived by costs at i) all in
     rest ∙ (rw (one, same) (omega arith))
 
@@ -145,10 +148,10 @@ each_one table time (suc more) =
     let all : ticks_of (centisecond table time ++ centiseconds table (time + 1) more) ≡ ticks_of (centisecond table time) + ticks_of (centiseconds table (time + 1) more) = ticks_of-append (centisecond table time) (centiseconds table (time + 1) more) in
     omega arith
 
-pub ticks_are : (table : Schedule) (m : Machined) → own_ticks (scenario_requests by_machine table m) ≡ table.lasts
+pub ticks_are : (table : Schedule) (seed : ℕ) (m : Machined) → own_ticks (scenario_requests by_machine table seed m) ≡ table.lasts
 unfolding run
-ticks_are table m =
-    let asked : own_ticks (lived_all by_machine table.costs (standing_at m) (instants table)).asked ≡ 0 + ticks_of (instants table) = ticks_asked by_machine table.costs (standing_at m) (instants table) in
+ticks_are table seed m =
+    let asked : own_ticks (lived_all by_machine table.costs (standing_at seed m) (instants table)).asked ≡ 0 + ticks_of (instants table) = ticks_asked by_machine table.costs (standing_at seed m) (instants table) in
     let all : ticks_of (events_at 0 0 table.events ++ centiseconds table 1 table.lasts) ≡ ticks_of (events_at 0 0 table.events) + ticks_of (centiseconds table 1 table.lasts) = ticks_of-append (events_at 0 0 table.events) (centiseconds table 1 table.lasts) in
     let none : ticks_of (events_at 0 0 table.events) ≡ 0 = none_of_events 0 0 table.events in
     let each : ticks_of (centiseconds table 1 table.lasts) ≡ table.lasts = each_one table 1 table.lasts in

@@ -1,5 +1,6 @@
--- The computing time that each job was given, and what an instant asks for.
-use Rattle.std.specs.Prelude.{ℕ, ◌+◌, ◌-◌, nat_le, Bool, false, not, if◌then◌else◌, List}
+-- The computing time that each job was given, the lots drawn, and what an instant asks for.
+use Rattle.std.specs.Prelude.{ℕ, ◌+◌, ◌-◌, ◌==◌, ◌&&◌, nat_le, nat_lt, Bool, false, not}
+use Rattle.std.specs.Prelude.{if◌then◌else◌, List}
 use Rattle.std.specs.Prelude.{map, replicate, Option, Some, None, option_map, is_some}
 use Rattle.std.specs.Prelude.{slice_index, slice_set}
 use Rattle.std.specs.List.{range_with_len}
@@ -13,18 +14,25 @@ use Rattle.agc_clock.specs.declared.counting.JobCost.{JobCost}
 use Rattle.agc_clock.specs.declared.timetable.Cost.{Cost}
 use Rattle.agc_clock.specs.declared.timetable.Step.{Step}
 use Rattle.agc_clock.specs.Instants.{Instant, Asks, Looks, Works, by_clock}
-use Rattle.agc_clock.specs.Timetables.{asked_of, cost_at, needs, step_at}
+use Rattle.agc_clock.specs.Timetables.{asked_of, cost_at, needs, next_lot, spared, spread_of}
+use Rattle.agc_clock.specs.Timetables.{step_at}
 
--- the hundredths that a job was given, by its number, from 1; and the list with other ones
-abbrev pub given_to : ℕ → List ℕ → ℕ
-given_to number given = slice_index given (number - 1)
+-- what is counted: the hundredths that each job was given, and the lot that was drawn last
+pub record Counts : Type 0 where
+  pub given : List ℕ
+  pub lot : ℕ
 
-abbrev pub with_given : ℕ → ℕ → List ℕ → List ℕ
-with_given number hundredths given = slice_set given (number - 1) hundredths
+-- the hundredths that a job was given, by its number, from 1; and the counts with other ones
+abbrev pub given_to : ℕ → Counts → ℕ
+given_to number counts = slice_index counts.given (number - 1)
 
--- nobody was given any
-abbrev pub none_given : List ℕ
-none_given = replicate 8 0
+abbrev pub with_given : ℕ → ℕ → Counts → Counts
+with_given number hundredths counts =
+    record counts { given = slice_set counts.given (number - 1) hundredths }
+
+-- nobody was given any, and lots are drawn from this seed on
+abbrev pub none_given : ℕ → Counts
+none_given seed = record { given = replicate 8 0; lot = seed }
 
 -- the running job
 abbrev pub runner_of : Jobs → Option JobAt
@@ -40,39 +48,56 @@ worker_of costs jobs = option_and_then
     (cost_at costs runner.at))
     (runner_of jobs)
 
--- what is asked at an instant, if anything, and what each job was given then
+-- what is asked at an instant, if anything, and what is counted then
 pub record Passed : Type 0 where
   pub asked : Option Asked
-  pub given : List ℕ
+  pub counts : Counts
+
+-- a worker draws a lot where it begins, and its cost is by lot
+abbrev pub draws : JobCost → Counts → Bool
+draws worker counts =
+    (given_to worker.number counts == 0) && nat_lt 0 (spread_of worker.cost)
+
+-- then what it is spared counts as if it had been given
+abbrev pub begun : JobCost → Counts → Counts
+begun worker counts =
+    let lot = next_lot counts.lot in
+    if draws worker counts
+    then with_given worker.number (spared worker.cost lot) (record counts { lot = lot })
+    else counts
 
 -- a job counts on at a step, and anew where it leaves
 abbrev pub counted_on : Option Step → ℕ → ℕ
 counted_on None got = 0
 counted_on (Some step) got = got
 
--- a hundredth goes to a job with a cost: with the one that uses it up, the job is asked for its
--- first step, with each further one for the next, and then to end or to sleep
-abbrev pub worked : Option JobCost → List ℕ → Passed
-worked None given = record { asked = None; given = given }
-worked (Some worker) given =
-    let got = given_to worker.number given + 1 in
+-- a hundredth goes to a job that has begun: with the one that uses up its cost, it is asked for
+-- its first step, with each further one for the next, and then to end or to sleep
+abbrev pub worked_on : JobCost → Counts → Passed
+worked_on worker counts =
+    let got = given_to worker.number counts + 1 in
     let step = step_at worker.cost (got - needs worker.cost) in
     if nat_le (needs worker.cost) got
     then record {
       asked = Some (by_clock (asked_of step worker.cost.then));
-      given = with_given worker.number (counted_on step got) given;
+      counts = with_given worker.number (counted_on step got) counts;
     }
-    else record { asked = None; given = with_given worker.number got given }
+    else record { asked = None; counts = with_given worker.number got counts }
+
+-- a hundredth goes to a job with a cost
+abbrev pub worked : Option JobCost → Counts → Passed
+worked None counts = record { asked = None; counts = counts }
+worked (Some worker) counts = worked_on worker (begun worker counts)
 
 -- who runs looks at NEWJOB: where it names a set, a change of job is asked for
 abbrev pub looked : Jobs → Option Asked
 looked jobs = if is_some (named_of jobs) then Some (by_clock Change) else None
 
 -- an instant, with these jobs
-abbrev pub passed : List Cost → Jobs → Instant → List ℕ → Passed
-passed costs jobs (Asks asked) given = record { asked = Some asked; given = given }
-passed costs jobs Looks given = record { asked = looked jobs; given = given }
-passed costs jobs Works given = worked (worker_of costs jobs) given
+abbrev pub passed : List Cost → Jobs → Instant → Counts → Passed
+passed costs jobs (Asks asked) counts = record { asked = Some asked; counts = counts }
+passed costs jobs Looks counts = record { asked = looked jobs; counts = counts }
+passed costs jobs Works counts = worked (worker_of costs jobs) counts
 
 -- whether the job of this number lives and is awake
 abbrev pub is_awake : Jobs → ℕ → Bool
@@ -82,7 +107,8 @@ is_awake jobs number = option_map_or (λ job. not job.asleep) (job_in jobs.slots
 -- ended and those that sleep, begin anew
 abbrev pub kept_by : (began : Bool) → Jobs → List ℕ → ℕ → ℕ
 kept_by began jobs given number =
-    if began then 0 else if is_awake jobs number then given_to number given else 0
+    if began then 0 else if is_awake jobs number then slice_index given (number - 1) else 0
 
-abbrev pub kept : (began : Bool) → Jobs → List ℕ → List ℕ
-kept began jobs given = map (kept_by began jobs given) (range_with_len 1 8)
+abbrev pub kept : (began : Bool) → Jobs → Counts → Counts
+kept began jobs counts =
+    record counts { given = map (kept_by began jobs counts.given) (range_with_len 1 8) }

@@ -1,5 +1,5 @@
 -- What is wanted of time that passes, in the field's words.
-use Rattle.std.specs.Prelude.{◌≡◌, ℕ, ◌+◌, ◌*◌, List, [], ◌∷◌, Option, Some, None}
+use Rattle.std.specs.Prelude.{◌≡◌, ◌<◌, ℕ, ◌+◌, ◌-◌, ◌*◌, List, [], ◌∷◌, length, Option, Some, None}
 use Rattle.std.specs.List.{count_by}
 use Rattle.agc_plan.specs.Jobs.{Jobs}
 use Rattle.agc_clock.specs.declared.asked.Asked.{Asked}
@@ -7,10 +7,10 @@ use Rattle.agc_clock.specs.declared.counting.JobCost.{JobCost}
 use Rattle.agc_clock.specs.declared.timetable.Cost.{Cost}
 use Rattle.agc_clock.specs.declared.timetable.Step.{Step}
 use Rattle.agc_clock.specs.declared.timetable.Stolen.{Stolen}
-use Rattle.agc_clock.specs.Counts.{given_to, passed, worker_of}
+use Rattle.agc_clock.specs.Counts.{Counts, begun, given_to, passed, worker_of}
 use Rattle.agc_clock.specs.Instants.{Instant, Works, by_clock, is_own_tick}
 use Rattle.agc_clock.specs.Runs.{Serving, Standing, lived}
-use Rattle.agc_clock.specs.Timetables.{asked_then, needs}
+use Rattle.agc_clock.specs.Timetables.{asked_then, needs, spared}
 
 -- when a row of stolen time comes, after so many times
 abbrev pub comes_at : Stolen → ℕ → ℕ
@@ -50,9 +50,21 @@ steps_in [] = 0
 steps_in (None ∷ steps) = 0
 steps_in (Some step ∷ steps) = 1 + steps_in steps
 
--- where a job is asked to end or to sleep by a hundredth, it was given with it what it needs, one
--- more for each step, and no more
-abbrev pub LeavesByItsCost : List Cost → Jobs → List ℕ → Type 0
-LeavesByItsCost costs jobs given = (worker : JobCost) → worker_of costs jobs ≡ Some worker
-    → (passed costs jobs Works given).asked ≡ Some (by_clock (asked_then worker.cost.then))
-    → given_to worker.number given + 1 ≡ needs worker.cost + steps_in worker.cost.steps
+-- what a job needs that draws this lot
+abbrev pub drawn : Cost → ℕ → ℕ
+drawn cost lot = needs cost - spared cost lot
+
+-- this job works, and was given nothing yet
+pub record Begins (costs : List Cost) (jobs : Jobs) (worker : JobCost) (counts : Counts)
+    : Type 0 where
+  pub works : worker_of costs jobs ≡ Some worker
+  pub counted : worker.number - 1 < length counts.given
+  pub nothing : given_to worker.number counts ≡ 0
+
+-- where a job is asked to end or to sleep by a hundredth, it was given with it, or spared, what it
+-- needs, one more for each step, and no more
+abbrev pub LeavesByItsCost : List Cost → Jobs → Counts → Type 0
+LeavesByItsCost costs jobs counts = (worker : JobCost) → worker_of costs jobs ≡ Some worker
+    → (passed costs jobs Works counts).asked ≡ Some (by_clock (asked_then worker.cost.then))
+    → given_to worker.number (begun worker counts) + 1
+    ≡ needs worker.cost + steps_in worker.cost.steps

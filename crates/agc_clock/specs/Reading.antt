@@ -27,8 +27,8 @@ first_of time asked (Some event) =
 
 -- a stage of the clock asks for nothing, and what is asked next stays the same
 pub record Passes (table : Schedule) (jobs : Jobs) (old new : Clocked) : Type 0 where
-  pub next_is : next_of table.costs jobs (to_come table old) old.given
-      ≡ next_of table.costs jobs (to_come table new) new.given
+  pub next_is : next_of table.costs jobs (to_come table old) old.counts
+      ≡ next_of table.costs jobs (to_come table new) new.counts
   pub time_is : new.time ≡ old.time
 
 -- or it asks for the next request

@@ -9,7 +9,7 @@ use Rattle.agc_machine.specs.declared.answer.Refusal.{Refusal}
 use Rattle.agc_machine.specs.Machines.{Machined, after, answer_of, plain_of}
 use Rattle.agc_clock.specs.declared.asked.Asked.{Asked}
 use Rattle.agc_clock.specs.declared.timetable.Cost.{Cost}
-use Rattle.agc_clock.specs.Counts.{kept, none_given, passed}
+use Rattle.agc_clock.specs.Counts.{Counts, kept, none_given, passed}
 use Rattle.agc_clock.specs.Instants.{Instant, instants}
 use Rattle.agc_clock.specs.Timetables.{Schedule}
 
@@ -20,49 +20,49 @@ pub record Serving (S : Type 0) : Type 0 where
   pub jobs : S → Jobs
   pub begins : S → Asked → Bool
 
--- where a run stands: what was asked, the state, and the hundredths that each job was given
+-- where a run stands: what was asked, the state, and what is counted
 pub record Standing (S : Type 0) : Type 0 where
   pub asked : List Asked
   pub state : S
-  pub given : List ℕ
+  pub counts : Counts
 
--- a request, where these hundredths were given before it
-abbrev pub served : {S : Type 0} → Serving S → Asked → List ℕ → Standing S → Standing S
-served by asked given at =
+-- a request, where this was counted before it
+abbrev pub served : {S : Type 0} → Serving S → Asked → Counts → Standing S → Standing S
+served by asked counts at =
     let state = by.next at.state asked in
     record {
       asked = at.asked ++ asked ∷ [];
       state = state;
-      given = kept (by.begins at.state asked) (by.jobs state) given;
+      counts = kept (by.begins at.state asked) (by.jobs state) counts;
     }
 
 -- what came of an instant: a request, or none
-abbrev pub goes_on : {S : Type 0} → Serving S → Option Asked → List ℕ → Standing S → Standing S
-goes_on by (Some asked) given at = served by asked given at
-goes_on by None given at = record at { given = given }
+abbrev pub goes_on : {S : Type 0} → Serving S → Option Asked → Counts → Standing S → Standing S
+goes_on by (Some asked) counts at = served by asked counts at
+goes_on by None counts at = record at { counts = counts }
 
 -- an instant
 abbrev pub lived : {S : Type 0} → Serving S → List Cost → Standing S → Instant → Standing S
 lived by costs at instant =
-    let did = passed costs (by.jobs at.state) instant at.given in
-    goes_on by did.asked did.given at
+    let did = passed costs (by.jobs at.state) instant at.counts in
+    goes_on by did.asked did.counts at
 
 -- so many instants
 abbrev pub lived_all : {S : Type 0} → Serving S → List Cost → Standing S → List Instant
     → Standing S
 lived_all by costs at instants = fold (lived by costs) at instants
 
--- nothing was asked yet
-abbrev pub standing_at : {S : Type 0} → S → Standing S
-standing_at start = record { asked = []; state = start; given = none_given }
+-- nothing was asked yet, and lots are drawn from this seed on
+abbrev pub standing_at : {S : Type 0} → ℕ → S → Standing S
+standing_at seed start = record { asked = []; state = start; counts = none_given seed }
 
 -- the whole scenario
-unfoldable pub run : {S : Type 0} → Serving S → Schedule → S → Standing S
-run by table start = lived_all by table.costs (standing_at start) (instants table)
+unfoldable pub run : {S : Type 0} → Serving S → Schedule → ℕ → S → Standing S
+run by table seed start = lived_all by table.costs (standing_at seed start) (instants table)
 
 -- all that it asks for, in order
-abbrev pub scenario_requests : {S : Type 0} → Serving S → Schedule → S → List Asked
-scenario_requests by table start = (run by table start).asked
+abbrev pub scenario_requests : {S : Type 0} → Serving S → Schedule → ℕ → S → List Asked
+scenario_requests by table seed start = (run by table seed start).asked
 
 -- whether an era begins with an answer
 abbrev pub begins_with : Result Reply Refusal → Bool

@@ -1,6 +1,6 @@
 -- What is set down for a scenario: how long it lasts, what time is stolen, what jobs cost, and
 -- which events come when.
-use Rattle.std.specs.Prelude.{ℕ, ◌-◌, ◌%◌, ◌==◌, ◌&&◌, nat_le, nat_lt, min, max, Bool}
+use Rattle.std.specs.Prelude.{ℕ, ◌+◌, ◌-◌, ◌*◌, ◌%◌, ◌==◌, ◌&&◌, nat_le, nat_lt, min, max, Bool}
 use Rattle.std.specs.Prelude.{if◌then◌else◌, List, [], ◌∷◌, Option, Some, None, slice_get}
 use Rattle.std.specs.Option.{option_and_then, option_map_or}
 use Rattle.agc_plan.specs.declared.request.Request.{Request}
@@ -61,6 +61,18 @@ cost_at (cost ∷ costs) at = if cost.at == at then Some cost else cost_at costs
 -- least one, and at most so many that a few more can be counted
 abbrev pub needs : Cost → ℕ
 needs cost = max 1 (min cost.hundredths 4000000000)
+
+-- how much less a job may need, by lot: never so much that it would need nothing
+abbrev pub spread_of : Cost → ℕ
+spread_of cost = min cost.spread (needs cost - 1)
+
+-- how much less it needs that draws this lot
+abbrev pub spared : Cost → ℕ → ℕ
+spared cost lot = spread_of cost - lot % (spread_of cost + 1)
+
+-- the lot after this one: 0 stays 0, and from any other below the last number all lots come in turn
+abbrev pub next_lot : ℕ → ℕ
+next_lot lot = (48271 * lot) % 2147483647
 
 -- the step of this number, from 0, that a job goes through before it leaves, if there is one
 abbrev pub step_at : Cost → ℕ → Option Step

@@ -3,22 +3,22 @@ ghost use Rattle.std.specs.Prelude.{◌≡◌, ◌≤◌, ◌<◌, ◌+◌, ◌^
 ghost use Rattle.std.specs.Prelude.{IfSome};
 ghost use Rattle.agc_exec.specs.Image.{IsLawfulWords, jobs_in};
 ghost use Rattle.agc_plan.specs.Jobs.{Jobs};
-ghost use Rattle.agc_clock.specs.Clocks.{AsksNext, at_start};
-ghost use Rattle.agc_clock.specs.Counts.{kept, worker_of};
+ghost use Rattle.agc_clock.specs.Clocks.{AsksNext, Clocked, at_start};
+ghost use Rattle.agc_clock.specs.Counts.{begun, kept, worker_of};
 ghost use Rattle.agc_clock.specs.Reading.{AsksOrPasses, first_of};
 ghost use Rattle.agc_clock.specs.Timetables.{Schedule};
 
 use crate::asked::{Asked, Source, by_clock};
-use crate::counting::{JobCost, kept, needs, share_at, spend, worker};
+use crate::counting::{JobCost, is_by_lot, kept, needs, next_lot, share_at, spared, spend, worker};
 use crate::timetable::Timetables;
 use agc_exec::named_job;
 use agc_plan::Request;
 use agc_word::Erasable;
 use std::marker::Model;
 
-/// A clock that lets time pass by a timetable: it says what a machine is asked next, and counts the
-/// computing time that each job was given since it was established or roused. It takes no memory.
-/// Source: profile.
+/// A clock that lets time pass by a timetable: it says what a machine is asked next, counts the
+/// computing time that each job was given since it was established or roused, and draws lots. It
+/// takes no memory. Source: profile.
 #[repr(C)]
 #[derive(Clone, Copy)]
 pub struct Clock {
@@ -28,6 +28,7 @@ pub struct Clock {
     looks: bool,
     left: u32,
     given: [u32; 8],
+    lot: u32,
 }
 
 impl Model for Clock {
@@ -42,7 +43,7 @@ impl Model for Clock {
       asked = c.asked;
       looks = c.looks;
       left = c.left;
-      given = c.given;
+      counts = record { given = c.given; lot = c.lot };
     } };
 
     ghost invariant = { λ c. length c.given ≡ 8 };
@@ -53,7 +54,8 @@ impl Model for Clock {
       asked = c.asked;
       looks = c.looks;
       left = c.left;
-      given = c.given;
+      given = c.counts.given;
+      lot = c.counts.lot;
     } };
 }
 
@@ -76,9 +78,10 @@ fn request_of<T: Timetables>(table: &T, event: usize, asked: usize, time: u32) -
 }
 
 impl Clock {
-    /// A clock at centisecond 0. Source: profile.
-    pub fn new() -> Clock
-        ensures { result ≡ at_start }
+    /// A clock at centisecond 0, which draws lots from this seed on; with seed 0, each lot is 0.
+    /// Source: profile.
+    pub fn new(seed: u32) -> Clock
+        ensures { result ≡ at_start seed }
     {
         Clock {
             time: 0,
@@ -87,6 +90,7 @@ impl Clock {
             looks: false,
             left: 0,
             given: [0; 8],
+            lot: seed,
         }
     }
 
@@ -105,9 +109,10 @@ impl Clock {
     }
 
     /// How many hundredths of a centisecond of computing time each job was given since it was
-    /// established or roused, by its number from 1. Source: profile.
+    /// established or roused, by its number from 1; what a lot spared it is counted as given.
+    /// Source: profile.
     pub fn given(&self) -> &[u32; 8]
-        ensures { result.now ≡ self.now.given }
+        ensures { result.now ≡ self.now.counts.given }
     {
         &self.given
     }
@@ -154,13 +159,27 @@ impl Clock {
         }
     }
 
-    /// Gives the computing time that is left to a job with a cost, up to the next request.
+    /// A job whose cost is by lot draws it, if it has not begun.
+    fn begin(&mut self, worker: &JobCost)
+        requires { (1 ≤ worker.now.number) × (worker.now.number ≤ 8) }
+        ensures { self.new ≡ record self.old { counts = begun worker.now self.old.counts } }
+    {
+        let place = usize::from(worker.number) - 1;
+        if self.given[place] == 0 && is_by_lot(&worker.cost) {
+            self.lot = next_lot(self.lot);
+            self.given[place] = spared(&worker.cost, self.lot);
+        }
+    }
+
+    /// Gives the computing time that is left to a job that has begun, up to the next request.
     fn give(&mut self, worker: &JobCost) -> Option<Asked>
         requires number { (1 ≤ worker.now.number) × (worker.now.number ≤ 8) }
         requires looked { self.old.looks ≡ false }
-        ensures stage { (table : Schedule) (jobs : Jobs) → length table.events ≤ self.old.event
-            → worker_of table.costs jobs ≡ Some worker.now
-            → AsksOrPasses table jobs self.old result self.new }
+        requires some { 0 < self.old.left }
+        ensures stage { (table : Schedule) (jobs : Jobs) (before : Clocked)
+            → length table.events ≤ before.event → worker_of table.costs jobs ≡ Some worker.now
+            → self.old ≡ record before { counts = begun worker.now before.counts }
+            → AsksOrPasses table jobs before result self.new }
         ensures worked { result ≡ None → self.new.left ≡ 0 }
         ensures looked { self.new.looks ≡ false }
         ensures events { self.new.event ≡ self.old.event }
@@ -193,13 +212,18 @@ impl Clock {
         ensures looked { self.new.looks ≡ false }
         ensures events { self.new.event ≡ self.old.event }
     {
-        match worker(table, words) {
-            Some(worker) => self.give(&worker),
+        let worker = match worker(table, words) {
+            Some(worker) => worker,
             None => {
                 self.left = 0;
-                None
+                return None;
             }
+        };
+        if self.left == 0 {
+            return None;
         }
+        self.begin(&worker);
+        self.give(&worker)
     }
 
     /// The next centisecond's tick, if there is one.
@@ -251,7 +275,7 @@ impl Clock {
     pub fn served(&mut self, words: &Erasable, began: bool)
         requires { IsLawfulWords words.now }
         ensures { self.new ≡ record self.old {
-          given = kept began (jobs_in words.now) self.old.given;
+          counts = kept began (jobs_in words.now) self.old.counts;
         } }
     {
         self.given = kept(words, began, &self.given);

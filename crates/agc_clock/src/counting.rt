@@ -1,11 +1,13 @@
 // Who is given computing time.
 ghost use Rattle.std.specs.Prelude.{◌≡◌, ◌≤◌, ◌<◌, IfSome, ◌+◌, ◌-◌, length, if◌then◌else◌, not};
+ghost use Rattle.std.specs.Prelude.{map, nat_lt};
+ghost use Rattle.std.specs.List.{range_with_len};
 ghost use Rattle.agc_exec.specs.Image.{IsLawfulWords, jobs_in};
-ghost use Rattle.agc_clock.specs.Counts.{counted_on, is_awake, kept, kept_by, runner_of};
+ghost use Rattle.agc_clock.specs.Counts.{counted_on, is_awake, kept_by, runner_of};
 ghost use Rattle.agc_clock.specs.Counts.{worker_of};
 ghost use Rattle.agc_clock.specs.Reading.{awake_at};
 ghost use Rattle.agc_clock.specs.Timetables.{asked_of, cost_at, holds, needs, share_at, step_at};
-ghost use Rattle.agc_clock.specs.Timetables.{stolen_at};
+ghost use Rattle.agc_clock.specs.Timetables.{next_lot, spared, spread_of, stolen_at};
 
 use crate::timetable::{Cost, Step, Stolen, Timetables, asked_step, asked_then};
 use agc_exec::{Seat, job_at};
@@ -96,6 +98,36 @@ pub(crate) fn needs(cost: &Cost) -> u32
     ensures few { result ≤ 4000000000 }
 {
     cost.hundredths.min(4_000_000_000).max(1)
+}
+
+/// How much less a job may need, by lot.
+fn spread_of(cost: &Cost) -> u32
+    ensures value { result ≡ spread_of cost.now }
+    ensures few { result < 4000000000 }
+{
+    cost.spread.min(needs(cost) - 1)
+}
+
+/// Whether a cost is by lot.
+pub(crate) fn is_by_lot(cost: &Cost) -> bool
+    ensures { result ≡ nat_lt 0 (spread_of cost.now) }
+{
+    0 < spread_of(cost)
+}
+
+/// How much less a job needs that draws this lot.
+pub(crate) fn spared(cost: &Cost, lot: u32) -> u32
+    ensures { result ≡ spared cost.now lot }
+{
+    let spread = spread_of(cost);
+    spread - lot % (spread + 1)
+}
+
+/// The lot after this one.
+pub(crate) fn next_lot(lot: u32) -> u32
+    ensures { result ≡ next_lot lot }
+{
+    (48_271 * lot as u64 % 2_147_483_647) as u32
 }
 
 /// The step of a number, if there is one.
@@ -204,7 +236,8 @@ fn kept_by(words: &Erasable, began: bool, number: u16, given: u32) -> u32
 pub(crate) fn kept(words: &Erasable, began: bool, given: &[u32; 8]) -> [u32; 8]
     requires lawful { IsLawfulWords words.now }
     requires eight { length given.now ≡ 8 }
-    ensures { result ≡ kept began (jobs_in words.now) given.now }
+    ensures { result
+        ≡ map (kept_by began (jobs_in words.now) given.now) (range_with_len 1 8) }
 {
     let mut all = [0; 8];
     for place in 0..8 {

@@ -90,11 +90,13 @@ pub(crate) fn asked_then(then: Then) -> Request
 /// What a job at an address costs, in hundredths of a centisecond of computing time, from 1 on (0
 /// costs as much as 1, and more than 4,000,000,000 as much as these), and what it does when that is
 /// used up: steps in order, up to the first that is missing, and then how it leaves. Each request
-/// but the first takes one hundredth more. Source: profile.
+/// but the first takes one hundredth more. Where `spread` isn't 0, each time a job begins it may
+/// cost less, by up to so many hundredths, as a lot says; at least it costs 1. Source: profile.
 #[derive(Clone, Copy)]
 pub struct Cost {
     pub at: Address,
     pub hundredths: u32,
+    pub spread: u32,
     pub steps: [Option<Step>; 7],
     pub then: Then,
 }

@@ -8,7 +8,7 @@ use Rattle.agc_machine.specs.Machines.{Machined, after, answer_of, plain_of}
 use Rattle.agc_clock.specs.declared.asked.Asked.{Asked as TimeAsked}
 use Rattle.agc_clock.specs.declared.timetable.Cost.{Cost}
 use Rattle.agc_clock.specs.Clocks.{AsksNext, Clocked, Next, at_start, events_left, next_of, to_come, unless_asked}
-use Rattle.agc_clock.specs.Counts.{Passed, kept, passed}
+use Rattle.agc_clock.specs.Counts.{Counts, Passed, kept, passed}
 use Rattle.agc_clock.specs.Events.{Event}
 use Rattle.agc_clock.specs.Instants.{Instant, events_at, instants}
 use Rattle.agc_clock.specs.Runs.{Serving, Standing, begins_with, by_machine, goes_on, lived_all, run, served, standing_at}
@@ -19,29 +19,29 @@ use Rattle.agc_run.specs.declared.asks.Source.TheVariants.{Bench, Time}
 use Rattle.agc_run.specs.Runs.{Asking, Pulls, Requested, asks_after, clock_after, clock_requests, rest, time_asks, to_ask}
 
 record Leads {S : Type 0} (by : Serving S) (costs : List Cost) (at end : Standing S) (count : ℕ) (n : Next) : Type 0 where
-  asks : (asked : TimeAsked) → n.asked ≡ Some asked → end ≡ lived_all by costs (served by asked n.given at) n.behind
+  asks : (asked : TimeAsked) → n.asked ≡ Some asked → end ≡ lived_all by costs (served by asked n.counts at) n.behind
   shorter : (asked : TimeAsked) → n.asked ≡ Some asked → length n.behind < count
-  ends : n.asked ≡ None → end ≡ record at { given = n.given }
+  ends : n.asked ≡ None → end ≡ record at { counts = n.counts }
 
-leads : {S : Type 0} (by : Serving S) (costs : List Cost) (at : Standing S) (instants : List Instant) → Leads by costs at (lived_all by costs at instants) (length instants) (next_of costs (by.jobs at.state) instants at.given)
+leads : {S : Type 0} (by : Serving S) (costs : List Cost) (at : Standing S) (instants : List Instant) → Leads by costs at (lived_all by costs at instants) (length instants) (next_of costs (by.jobs at.state) instants at.counts)
 leads by costs at [] = record {
   asks = λ asked some. absurd (cc);
   shorter = λ asked some. absurd (cc);
   ends = λ none. refl;
 }
 leads {S} by costs at (instant ∷ behind) =
-    let did = passed costs (by.jobs at.state) instant at.given in
-    each did.asked did.given (leads by costs (record at { given = did.given }) behind) where
+    let did = passed costs (by.jobs at.state) instant at.counts in
+    each did.asked did.counts (leads by costs (record at { counts = did.counts }) behind) where
       goal_of : Passed → Type 0
-      goal_of p = Leads by costs at (lived_all by costs (goes_on by p.asked p.given at) behind) (suc (length behind)) (unless_asked p behind (next_of costs (by.jobs at.state) behind))
+      goal_of p = Leads by costs at (lived_all by costs (goes_on by p.asked p.counts at) behind) (suc (length behind)) (unless_asked p behind (next_of costs (by.jobs at.state) behind))
 
-      each : (o : Option TimeAsked) (given : List ℕ) → Leads by costs (record at { given = given }) (lived_all by costs (record at { given = given }) behind) (length behind) (next_of costs (by.jobs at.state) behind given) → goal_of (record { asked = o; given = given })
-      each (Some a) given rest = record {
-        asks = λ asked some. ap (λ (x : TimeAsked). lived_all by costs (served by x given at) behind) (same_Some a asked some);
+      each : (o : Option TimeAsked) (counts : Counts) → Leads by costs (record at { counts = counts }) (lived_all by costs (record at { counts = counts }) behind) (length behind) (next_of costs (by.jobs at.state) behind counts) → goal_of (record { asked = o; counts = counts })
+      each (Some a) counts rest = record {
+        asks = λ asked some. ap (λ (x : TimeAsked). lived_all by costs (served by x counts at) behind) (same_Some a asked some);
         shorter = λ asked some. omega arith;
         ends = λ none. absurd (cc);
       }
-      each None given rest = record {
+      each None counts rest = record {
         asks = λ asked some. rest.asks asked some;
         shorter = λ asked some. let lt = rest.shorter asked some in omega arith;
         ends = λ none. rest.ends none;
@@ -51,23 +51,23 @@ first_left : (time number : ℕ) (events : List Event) → events_left time numb
 first_left time number [] = refl
 first_left time number (event ∷ events) = refl
 
-all_to_come : (table : Schedule) → to_come table at_start ≡ instants table
+all_to_come : (table : Schedule) → to_come table (at_start 0) ≡ instants table
 unfolding to_come
 all_to_come table =
     let all : table.lasts - 0 ≡ table.lasts = omega arith in
     rw (first_left 0 0 table.events, all) refl
 
 -- what was asked before stands ahead, and changes nothing else
-aside : {S : Type 0} (by : Serving S) (costs : List Cost) (is : List Instant) (a : List TimeAsked) (s : S) (g : List ℕ) → (lived_all by costs (record { asked = a; state = s; given = g }) is).asked ≡ a ++ (lived_all by costs (record { asked = []; state = s; given = g }) is).asked
+aside : {S : Type 0} (by : Serving S) (costs : List Cost) (is : List Instant) (a : List TimeAsked) (s : S) (g : Counts) → (lived_all by costs (record { asked = a; state = s; counts = g }) is).asked ≡ a ++ (lived_all by costs (record { asked = []; state = s; counts = g }) is).asked
 aside by costs [] a s g = sym (append-nil a)
 aside {S} by costs (i ∷ is) a s g =
     let did = passed costs (by.jobs s) i g in
-    each did.asked did.given (λ c t h. aside by costs is c t h) where
-      each : (o : Option TimeAsked) (k : List ℕ) → ((c : List TimeAsked) (t : S) (h : List ℕ) → (lived_all by costs (record { asked = c; state = t; given = h }) is).asked ≡ c ++ (lived_all by costs (record { asked = []; state = t; given = h }) is).asked) → (lived_all by costs (goes_on by o k (record { asked = a; state = s; given = g })) is).asked ≡ a ++ (lived_all by costs (goes_on by o k (record { asked = []; state = s; given = g })) is).asked
+    each did.asked did.counts (λ c t h. aside by costs is c t h) where
+      each : (o : Option TimeAsked) (k : Counts) → ((c : List TimeAsked) (t : S) (h : Counts) → (lived_all by costs (record { asked = c; state = t; counts = h }) is).asked ≡ c ++ (lived_all by costs (record { asked = []; state = t; counts = h }) is).asked) → (lived_all by costs (goes_on by o k (record { asked = a; state = s; counts = g })) is).asked ≡ a ++ (lived_all by costs (goes_on by o k (record { asked = []; state = s; counts = g })) is).asked
       each (Some q) k more =
           let t = by.next s q in
           let h = kept (by.begins s q) (by.jobs t) k in
-          more (a ++ q ∷ []) t h ∙ append_assoc a (q ∷ []) (lived_all by costs (record { asked = []; state = t; given = h }) is).asked ∙ ap (λ (qs : List TimeAsked). a ++ qs) (sym (more (q ∷ []) t h))
+          more (a ++ q ∷ []) t h ∙ append_assoc a (q ∷ []) (lived_all by costs (record { asked = []; state = t; counts = h }) is).asked ∙ ap (λ (qs : List TimeAsked). a ++ qs) (sym (more (q ∷ []) t h))
       each None k more = more a s k
 
 -- at the beginning, all is to come
@@ -75,12 +75,12 @@ pub listed_asks : (m : Machined) (b : Requested) (k : Clocked) (all : List Reque
 unfolding to_ask
 listed_asks m b k all is = append-nil (rest b) ∙ is
 
-pub clock_asks : (m : Machined) (b : Requested) (t : Schedule) (k : Clocked) → rest b ≡ [] → k ≡ at_start → to_ask m (record { listed = b; table = Some t; clock = k }) ≡ clock_requests t m
+pub clock_asks : (m : Machined) (b : Requested) (t : Schedule) (k : Clocked) → rest b ≡ [] → k ≡ at_start 0 → to_ask m (record { listed = b; table = Some t; clock = k }) ≡ clock_requests t m
 unfolding to_ask run clock_requests
 clock_asks m b t k none start =
     ap (λ (rs : List Request). rs ++ time_asks (Some t) k (fold after m rs)) none
     ∙ ap (λ (c : Clocked). time_asks (Some t) c m) start
-    ∙ ap (λ (l : List Instant). map (λ (asked : TimeAsked). asked.request) (lived_all by_machine t.costs (standing_at m) l).asked) (all_to_come t)
+    ∙ ap (λ (l : List Instant). map (λ (asked : TimeAsked). asked.request) (lived_all by_machine t.costs (standing_at 0 m) l).asked) (all_to_come t)
 
 -- a request that is listed
 pub listed_pulled : (m : Machined) (b c : Requested) (t : Option Schedule) (k : Clocked) (s : BenchSource) (q : Request) → rest b ≡ q ∷ rest c → Pulls m (record { listed = b; table = t; clock = k }) (Some (record { source = Bench s; request = q })) (record { listed = c; table = t; clock = k })
@@ -102,7 +102,7 @@ untimed m b t k none is = ap (λ (x : Option Schedule). rest b ++ time_asks x k 
 over_at : (m : Machined) (b : Requested) (t : Schedule) (k n : Clocked) → rest b ≡ [] → AsksNext t (plain_of m).work.jobs k None n → to_ask m (record { listed = b; table = Some t; clock = k }) ≡ []
 unfolding to_ask
 over_at m b t k n is asks =
-    let here : Standing Machined = record { asked = []; state = m; given = k.given } in
+    let here : Standing Machined = record { asked = []; state = m; counts = k.counts } in
     ap (λ (rs : List Request). rs ++ time_asks (Some t) k (fold after m rs)) is
     ∙ ap (λ (s : Standing Machined). map (λ (asked : TimeAsked). asked.request) s.asked) ((leads by_machine t.costs here (to_come t k)).ends (sym asks.asked_is))
 
@@ -110,19 +110,19 @@ over_at m b t k n is asks =
 pulled_at : (m : Machined) (b : Requested) (t : Schedule) (k n : Clocked) (q : TimeAsked) → rest b ≡ [] → AsksNext t (plain_of m).work.jobs k (Some q) n → Pulls m (record { listed = b; table = Some t; clock = k }) (Some (record { source = Time q.source; request = q.request })) (record { listed = b; table = Some t; clock = n })
 unfolding to_ask to_come
 pulled_at m b t k n q is asks =
-    let here : Standing Machined = record { asked = []; state = m; given = k.given } in
+    let here : Standing Machined = record { asked = []; state = m; counts = k.counts } in
     let lead = leads by_machine t.costs here (to_come t k) in
     let next = by_machine.next m q in
-    let told = λ (g : List ℕ). kept (by_machine.begins m q) (by_machine.jobs next) g in
-    let then : Clocked = record n { given = told n.given } in
-    let behind = (next_of t.costs (plain_of m).work.jobs (to_come t k) k.given).behind in
-    let given = (next_of t.costs (plain_of m).work.jobs (to_come t k) k.given).given in
+    let told = λ (g : Counts). kept (by_machine.begins m q) (by_machine.jobs next) g in
+    let then : Clocked = record n { counts = told n.counts } in
+    let behind = (next_of t.costs (plain_of m).work.jobs (to_come t k) k.counts).behind in
+    let counts = (next_of t.costs (plain_of m).work.jobs (to_come t k) k.counts).counts in
     let asked_in = λ (l : List TimeAsked). map (λ (asked : TimeAsked). asked.request) l in
     let time : time_asks (Some t) k m ≡ q.request ∷ time_asks (Some t) then next =
     ap (λ (s : Standing Machined). map (λ (asked : TimeAsked). asked.request) s.asked) (lead.asks q (sym asks.asked_is))
-    ∙ ap asked_in (aside by_machine t.costs behind (q ∷ []) next (told given))
-    ∙ ap (λ (l : List Instant). q.request ∷ asked_in (lived_all by_machine t.costs (record { asked = []; state = next; given = told given }) l).asked) (sym asks.to_come_is)
-    ∙ ap (λ (g : List ℕ). q.request ∷ asked_in (lived_all by_machine t.costs (record { asked = []; state = next; given = told g }) (to_come t n)).asked) (sym asks.given_is) in
+    ∙ ap asked_in (aside by_machine t.costs behind (q ∷ []) next (told counts))
+    ∙ ap (λ (l : List Instant). q.request ∷ asked_in (lived_all by_machine t.costs (record { asked = []; state = next; counts = told counts }) l).asked) (sym asks.to_come_is)
+    ∙ ap (λ (g : Counts). q.request ∷ asked_in (lived_all by_machine t.costs (record { asked = []; state = next; counts = told g }) (to_come t n)).asked) (sym asks.counts_is) in
     ap (λ (rs : List Request). rs ++ time_asks (Some t) k (fold after m rs)) is ∙ time ∙ ap (λ (rs : List Request). q.request ∷ (rs ++ time_asks (Some t) then (fold after next rs))) (sym is)
 
 pub time_over : (m : Machined) (b : Requested) (o : Option Schedule) (t : Schedule) (j : Jobs) (k n : Clocked) → o ≡ Some t → j ≡ (plain_of m).work.jobs → rest b ≡ [] → AsksNext t j k None n → to_ask m (record { listed = b; table = o; clock = k }) ≡ []

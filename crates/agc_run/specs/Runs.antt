@@ -41,13 +41,14 @@ pub record Asking : Type 0 where
 -- the requests for which the clock of a scenario asks a machine, in order
 unfoldable pub clock_requests : Schedule → Machined → List Request
 clock_requests table machine =
-    map (λ asked. asked.request) (scenario_requests by_machine table machine)
+    map (λ asked. asked.request) (scenario_requests by_machine table 0 machine)
 
 -- for what a clock asks while the rest of the time passes, where a machine is asked for it
 abbrev pub time_asks : Option Schedule → Clocked → Machined → List Request
 time_asks None clock machine = []
 time_asks (Some table) clock machine = map (λ asked. asked.request)
-    (lived_all by_machine table.costs (record { asked = []; state = machine; given = clock.given })
+    (lived_all by_machine table.costs
+    (record { asked = []; state = machine; counts = clock.counts })
     (to_come table clock)).asked
 
 -- all that this machine is still to be asked for, in order
@@ -57,7 +58,7 @@ to_ask m r = rest r.listed ++ time_asks r.table r.clock (fold after m (rest r.li
 -- a clock that was told whether an era began, and of the jobs, if it had asked
 abbrev pub clock_after : Source → Bool → Jobs → Clocked → Clocked
 clock_after (Bench source) began jobs clock = clock
-clock_after (Time source) began jobs clock = record clock { given = kept began jobs clock.given }
+clock_after (Time source) began jobs clock = record clock { counts = kept began jobs clock.counts }
 
 -- what is still to be asked when this machine was asked for this
 abbrev pub asks_after : Machined → Asking → Asked → Asking

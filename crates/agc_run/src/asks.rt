@@ -60,7 +60,7 @@ impl<'a> Asks<'a> {
         Asks {
             listed: Requests::of_script(script),
             timing: None,
-            clock: Clock::new(),
+            clock: Clock::new(0),
         }
     }
 
@@ -71,7 +71,7 @@ impl<'a> Asks<'a> {
         Asks {
             listed: Requests::of_bench(bench),
             timing: None,
-            clock: Clock::new(),
+            clock: Clock::new(0),
         }
     }
 
@@ -82,7 +82,7 @@ impl<'a> Asks<'a> {
         Asks {
             listed: Requests::of_script(&[]),
             timing: Some(timing),
-            clock: Clock::new(),
+            clock: Clock::new(0),
         }
     }
 

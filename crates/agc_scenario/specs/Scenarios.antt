@@ -92,6 +92,7 @@ abbrev pub cost_of : TimedJob → Cost
 cost_of j = record {
   at = j.at;
   hundredths = j.cost * 100;
+  spread = 0;
   steps = map (step_in j.requests) (range_with_len 0 7);
   then = leaves_by j.requests;
 }

@@ -160,6 +160,7 @@ impl TimedJob {
         Cost {
             at: self.at,
             hundredths: self.cost * 100,
+            spread: 0,
             steps: steps_of(self.requests.as_slice()),
             then: leaves_by(self.requests.as_slice()),
         }

@@ -48,5 +48,5 @@ clock_after step jobs clock = record {
   asked = clock.asked;
   looks = clock.looks;
   left = clock.left;
-  given = kept (began_told step) jobs clock.given;
+  counts = kept (began_told step) jobs clock.counts;
 }

@@ -34,12 +34,12 @@ abbrev pub are_steps : List AgcRequest → Bool
 are_steps [] = true
 are_steps (r ∷ rs) = is_step r && are_steps rs
 
--- a job at an address; at last it ends, or sleeps at an address, and before it asks for at most
--- seven of the requests
+-- a job at an address, whose cost is at least one with each lot; at last it ends, or sleeps at an
+-- address, and before it asks for at most seven of the requests
 abbrev pub is_cost : List AgcRequest → AgcCost → Bool
 is_cost requests row =
     is_some (address_told row.at)
-    && (nat_lt 0 row.hundredths && (nat_le row.hundredths most_cost
+    && (nat_lt row.spread row.hundredths && (nat_le row.hundredths most_cost
     && (((row.then == 0) || is_some (address_told row.then))
     && (nat_le row.count 7 && (nat_le (row.first + row.count) (length requests)
     && are_steps (asked_by requests row.first row.count))))))

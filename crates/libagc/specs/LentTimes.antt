@@ -54,6 +54,7 @@ abbrev pub cost_told : List AgcRequest → AgcCost → Cost
 cost_told requests row = record {
   at = address_for row.at;
   hundredths = row.hundredths;
+  spread = row.spread;
   steps = steps_told requests row;
   then = then_told row.then;
 }

@@ -50,7 +50,7 @@ fn is_cost(row: &AgcCost, requests: &[AgcRequest]) -> bool
     ensures { result ≡ is_cost requests.now row.now }
 {
     address(row.at).is_some()
-        && 0 < row.hundredths
+        && row.spread < row.hundredths
         && row.hundredths <= MOST_COST
         && (row.then == 0 || address(row.then).is_some())
         && row.count <= 7

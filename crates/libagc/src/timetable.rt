@@ -15,7 +15,8 @@ use agc_plan::{Address, Request};
 pub struct AgcCost {
     /// The address, 1 to 16383.
     pub at: u32,
-    /// The cost in hundredths of a centisecond of computing, 1 to 100,000,000.
+    /// The cost in hundredths of a centisecond of computing, 1 to 100,000,000; the greatest where
+    /// it is by lot.
     pub hundredths: u32,
     /// 0 where the job at last ends; else the address at which it sleeps, 1 to 16383.
     pub then: u32,
@@ -23,6 +24,8 @@ pub struct AgcCost {
     pub first: u32,
     /// How many these are, 0 to 7.
     pub count: u32,
+    /// By how many hundredths it may cost less, by lot, fewer than its cost; 0 where it may not.
+    pub spread: u32,
 }
 
 /// When an event comes, in centiseconds since the start, 0 to 360,000, and what it then asks for.
@@ -153,6 +156,7 @@ fn cost_of(requests: &[AgcRequest], row: &AgcCost) -> Cost
     Cost {
         at: address_for(row.at),
         hundredths: row.hundredths,
+        spread: row.spread,
         steps: steps_of(requests, row),
         then: then_of(row.then),
     }

@@ -14,13 +14,13 @@ pub returns-clause-stage : goal.returns-clause-stage
 returns-clause-stage c = λ table passed.
     let old : Clocked = c.args.self.now in
     let jobs = jobs_in c.args.words.now in
-    let new : Clocked = record { time = c.self.inside.time; event = c.self.inside.event; asked = c.self.inside.asked; looks = false; left = c.self.inside.left; given = c.self.inside.given } in
+    let new : Clocked = record { time = c.self.inside.time; event = c.self.inside.event; asked = c.self.inside.asked; looks = false; left = c.self.inside.left; counts = record { given = c.self.inside.given; lot = c.self.inside.lot } } in
     let looked : IsLooked old new = record {
       time_is = ap (λ (s : Clocked). s.time) c.self.view_is;
       event_is = ap (λ (s : Clocked). s.event) c.self.view_is;
       looks_is = refl;
       left_is = ap (λ (s : Clocked). s.left) c.self.view_is;
-      given_is = ap (λ (s : Clocked). s.given) c.self.view_is;
+      counts_is = ap (λ (s : Clocked). s.counts) c.self.view_is;
     } in
     let view_looks : c.self.inside.looks ≡ old.looks = ap (λ (s : Clocked). s.looks) c.self.view_is in
     elim c.if-looks.branch [

@@ -16,9 +16,9 @@ returns g c = λ jobs.
     let table = g.T.Timetables.set_down c.args.table.now in
     let old : Clocked = c.args.self.now in
     let same : c.self.inside.time ≡ old.time = ap (λ (s : Clocked). s.time) c.self.view_is in
-    let new : Clocked = record { time = c.self.inside.time + 1; event = 0; asked = 0; looks = true; left = c.share_at-self-inside.result; given = c.self.inside.given } in
-    let is : new ≡ record { time = old.time + 1; event = 0; asked = 0; looks = true; left = share_at table (old.time + 1); given = old.given } =
-    ap (λ (l : ℕ). record { time = c.self.inside.time + 1; event = 0; asked = 0; looks = true; left = l; given = c.self.inside.given }) c.share_at-self-inside.ensures
-    ∙ ap (λ (s : Clocked). record { time = s.time + 1; event = 0; asked = 0; looks = true; left = share_at table (s.time + 1); given = s.given }) c.self.view_is in
+    let new : Clocked = record { time = c.self.inside.time + 1; event = 0; asked = 0; looks = true; left = c.share_at-self-inside.result; counts = record { given = c.self.inside.given; lot = c.self.inside.lot } } in
+    let is : new ≡ record { time = old.time + 1; event = 0; asked = 0; looks = true; left = share_at table (old.time + 1); counts = old.counts } =
+    ap (λ (l : ℕ). record { time = c.self.inside.time + 1; event = 0; asked = 0; looks = true; left = l; counts = record { given = c.self.inside.given; lot = c.self.inside.lot } }) c.share_at-self-inside.ensures
+    ∙ ap (λ (s : Clocked). record { time = s.time + 1; event = 0; asked = 0; looks = true; left = share_at table (s.time + 1); counts = s.counts }) c.self.view_is in
     subst (λ (a : Asked). AsksNext table jobs old (Some a) new) (sym c.by_clock.ensures)
     (ticks table jobs old c.requires.passed c.requires.looked c.requires.worked (omega (arith, c.if-self-lasts.false, c.lasts.ensures, same)) new is)

@@ -9,8 +9,8 @@ pub returns-in-None-clause-stage : goal.returns-in-None-clause-stage
 returns-in-None-clause-stage g c =
     let table = g.T.Timetables.set_down c.args.table.now in
     let jobs = jobs_in c.args.words.now in
-    let old : Clocked = record { time = c.self.inside.time; event = c.self.inside.event; asked = c.self.inside.asked; looks = c.self.inside.looks; left = c.self.inside.left; given = c.self.inside.given } in
-    let new : Clocked = record { time = c.self.inside.time; event = c.self.inside.event; asked = c.self.inside.asked; looks = c.self.inside.looks; left = 0; given = c.self.inside.given } in
+    let old : Clocked = record { time = c.self.inside.time; event = c.self.inside.event; asked = c.self.inside.asked; looks = c.self.inside.looks; left = c.self.inside.left; counts = record { given = c.self.inside.given; lot = c.self.inside.lot } } in
+    let new : Clocked = record { time = c.self.inside.time; event = c.self.inside.event; asked = c.self.inside.asked; looks = c.self.inside.looks; left = 0; counts = record { given = c.self.inside.given; lot = c.self.inside.lot } } in
     let event : old.event ≡ c.args.self.now.event = ap (λ (s : Clocked). s.event) c.self.view_is in
     let looked : old.looks ≡ false = ap (λ (s : Clocked). s.looks) c.self.view_is ∙ c.requires.looked in
     subst (λ (x : Clocked). Passes table jobs x new) c.self.view_is
@@ -19,5 +19,5 @@ returns-in-None-clause-stage g c =
       event_is = refl;
       looks_is = looked;
       left_is = refl;
-      given_is = refl;
+      counts_is = refl;
     }))
