@@ -63,7 +63,7 @@ export const LEVELS = {
     ...{ phase: tables("phase"), worker: tables("worker", 32n), device: tables("device", 32n) },
   },
   scenario: {
-    ...{ seconds: integer(1, 3600n, true), title: text("name"), ...SHARED, steal: key("steal") },
+    ...{ seconds: integer(1, 86_400n, true), title: text("name"), ...SHARED, steal: key("steal") },
     ...{ job: tables("job", 100n), event: tables("event", 1000n) },
     ...{ task: tables("namedTask"), phase: tables("namedPhase") },
   },
@@ -75,16 +75,16 @@ export const LEVELS = {
   device: { line: text("device", true), pulses: integer(0, 1_000_000n, true) },
   job: {
     ...{ ...named, at: text("address", true), cost: integer(1, 1_000_000n, true) },
-    ...{ then: some("then", 8n), deadline: integer(1, 360_000n) },
+    ...{ then: some("then", 8n), deadline: integer(1, 8_640_000n) },
   },
   event: {
-    ...{ ...named, at: integer(0, 360_000n, true), do: some("request", 16n, true) },
-    ...{ every: integer(1, 360_000n), until: integer(0, 360_000n) },
+    ...{ ...named, at: integer(0, 8_640_000n, true), do: some("request", 16n, true) },
+    ...{ every: integer(1, 8_640_000n), until: integer(0, 8_640_000n) },
   },
   steal: {
-    ...{ from: integer(0, 360_000n, true), to: integer(0, 360_000n, true) },
+    ...{ from: integer(0, 8_640_000n, true), to: integer(0, 8_640_000n, true) },
     ...{ percent: integer(0, 100n, true) },
-    ...{ every: integer(1, 360_000n), until: integer(0, 360_000n) },
+    ...{ every: integer(1, 8_640_000n), until: integer(0, 8_640_000n) },
   },
 };
 

@@ -34,7 +34,7 @@ function whoOf(run, event) {
 }
 
 /** The longest time that a run has, in seconds, where no scenario says it. */
-const LONGEST = 3600;
+const LONGEST = 86_400;
 
 /**
  * The clock of a bench.

@@ -327,7 +327,7 @@ typedef struct { uint32_t from, to, percent, every, until; } AgcStolen;
    AGC_LIST or AGC_PHASE. Where these are left out, as in {04000, 17000, 0}, it asks for nothing before. */
 typedef struct { uint32_t at, hundredths, then, first, count, spread; } AgcCost;
 
-/* An event: it comes at a centisecond, 0 to 360,000, and where `every` isn't 0 again each so many
+/* An event: it comes at a centisecond, 0 to 8,640,000, and where `every` isn't 0 again each so many
    centiseconds, at last at `until`: never, where that is before the first. Each time it asks for `count` requests, 1 to 16, of those that are
    handed to the call, from number `first` on, which counts from 0. */
 typedef struct { uint32_t at, every, until, first, count; } AgcEvent;

@@ -234,7 +234,7 @@ export interface TimedEvent {
 
 /** What a scenario has of time. Keys that no bench and no scenario has are refused. */
 export interface Timetable {
-  /** How long it lasts: 3600 where it isn't named. */
+  /** How long it lasts, at most a day: 86400 where it isn't named. */
   seconds?: number;
   /** What lots are drawn from, 1 to 2147483646: where a cost is by lot it has to be there. */
   seed?: number;

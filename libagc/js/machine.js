@@ -922,7 +922,7 @@ const STOLEN = 20;
 const COST = 24;
 const EVENT = 20;
 const REQUEST = 16;
-const LAST_TIME = 360000;
+const LAST_TIME = 8640000;
 const LAST_SEED = 2147483646;
 /** Where a clock's lot is among its words of 32 bits. */
 const LOT = 16;

@@ -84,7 +84,7 @@ function refuses() {
     [Code.NOT_SPELLED, { job: [{ ...job, then: "tick" }] }],
     [Code.NOT_SPELLED, { job: [{ ...job, then: ["change", "end"] }] }], [Code.NOT_SPELLED, { job: [{ ...job, then: ["end", "end"] }] }],
     [Code.NOT_SPELLED, { job: [{ ...job, then: ["prio 07"] }] }],
-    [Code.TIME_RANGE, { event: [{ at: 0, do: "tick" }, { at: 360001, do: "tick", every: 1, until: 4 }] }],
+    [Code.TIME_RANGE, { event: [{ at: 0, do: "tick" }, { at: 8640001, do: "tick", every: 1, until: 4 }] }],
     [Code.TIME_RANGE, { event: [{ at: 0, do: "tick" }, { at: 5, do: "tick", every: 0 }] }],
   ];
   for (const [code, timetable] of faults) {
@@ -119,7 +119,7 @@ function keeps() {
   const again = { at: 1, do: "phase 1 1", every: 2 };
   want(asks(new Clock({ event: [again] }), 6) === "1 phase 1 1, 3 phase 1 1, 5 phase 1 1", "every two centiseconds, without an end");
   want(asks(new Clock({ event: [{ ...again, until: 3 }] }), 6) === "1 phase 1 1, 3 phase 1 1", "up to the third");
-  want(new Clock().lasts === 360000 && new Clock({ seconds: 60 }).lasts === 6000, "how long it lasts");
+  want(new Clock().lasts === 8640000 && new Clock({ seconds: 60 }).lasts === 6000, "how long it lasts");
   // A job costs two centiseconds, and of each 40 percent are stolen: it has 60, 120, 180 and 200 hundredths.
   const timetable = { steal: 40, job: [{ at: "04000", cost: 2 }], event: [{ at: 1, do: "novac 20 04000 00005" }] };
   const [clock, machine] = [new Clock(timetable), new Machine()];

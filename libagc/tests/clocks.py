@@ -230,7 +230,7 @@ def refuses():
         (13, {"job": [{**job, "then": "tick"}]}), (13, {"job": [{**job, "then": ["change", "end"]}]}),
         (13, {"job": [{**job, "then": ["prio 07"]}]}), (13, {"job": [{**job, "then": ["end", "end"]}]}), (15, {"job": [{**job, "then": []}]}),
         (15, {"job": [{**job, "then": ["prio 07"] * 8 + ["end"]}]}), (0, {"job": [{**job, "then": ["prio 07"] * 7 + ["end"]}]}),
-        (15, {"event": [{**event, "at": 360001}]}), (15, {"event": [{**event, "do": []}]}),
+        (15, {"event": [{**event, "at": 8640001}]}), (15, {"event": [{**event, "do": []}]}),
         (15, {"event": [{**event, "do": ["tick"] * 17}]}), (0, {"event": [{**event, "do": ["tick"] * 16}]}),
         (0, {"event": [{**event, "at": 5, "every": 1, "until": 4}]}), (15, {"event": [{**event, "every": 0}]}),
         (13, {"event": [{**event, "do": "wait"}]}), (0, {}),
@@ -259,7 +259,7 @@ def keeps():
     again = {"at": 1, "do": "phase 1 1", "every": 2}
     assert asks({"event": [again]}, 6) == [(at, "phase", 1, 1) for at in (1, 3, 5)]
     assert asks({"event": [{**again, "until": 3}]}, 6) == [(at, "phase", 1, 1) for at in (1, 3)]
-    assert Clock().lasts == 360000 and Clock({"seconds": 60}).lasts == Clock({"seconds": 60}).copy().lasts == 6000
+    assert Clock().lasts == 8640000 and Clock({"seconds": 60}).lasts == Clock({"seconds": 60}).copy().lasts == 6000
     clock = Clock()
     assert str(clock.next(Machine())) == "tick" and clock.time == 1
     # A job costs two centiseconds, and of each 40 percent are stolen: it has 60, 120, 180 and 200 hundredths.

@@ -171,10 +171,10 @@ fn main() -> Result<(), Lacking> {
     let eight = Timetable::new(1).job_asks(0o4000, 1, &["prio 07"; 8], "end")?;
     assert_eq!(Clock::new(eight).unwrap_err().code, TIME_RANGE);
     // 2^32 hundredths and four, and as many centiseconds, aren't cut to four.
-    let long = Timetable::new(3600).job(0o4000, 42_949_673, "end")?;
+    let long = Timetable::new(86400).job(0o4000, 42_949_673, "end")?;
     assert_eq!(Clock::new(long).unwrap_err().code, TIME_RANGE);
-    assert_eq!(Clock::new(Timetable::new(3601)).unwrap_err().code, TIME_RANGE);
-    assert_eq!((Clock::new(Timetable::new(3600))?.lasts(), Clock::new(Timetable::new(60))?.lasts()), (360_000, 6000));
+    assert_eq!(Clock::new(Timetable::new(86401)).unwrap_err().code, TIME_RANGE);
+    assert_eq!((Clock::new(Timetable::new(86400))?.lasts(), Clock::new(Timetable::new(60))?.lasts()), (8_640_000, 6000));
     assert_eq!(scene_of(&[0; 132]).unwrap_err().code, UNLAWFUL);
     assert_eq!(scene_of(&[0; 131]).unwrap_err().code, NOT_WORDS);
     spells()?;

@@ -310,8 +310,8 @@ static void never(void) {
         check(agc_clock_served(words, 7, &step, &clock) == 0, "a tick", 7, 0);
     }
     check(agc_clock_next(words, 7, 20, NULL, 0, NULL, 0, &event, 1, &change, 1, &clock, &it).number == 0, "the time is over", 7, 0);
-    event.until = 360001;
-    check(agc_clock_check(NULL, 0, NULL, 0, &event, 1, &change, 1) == 15, "an event beyond an hour", 7, 15);
+    event.until = 8640001;
+    check(agc_clock_check(NULL, 0, NULL, 0, &event, 1, &change, 1) == 15, "an event beyond a day", 7, 15);
 }
 
 static void power(void) {

@@ -34,8 +34,8 @@ function timeGoesOn() {
   thrown(Lacking, () => machine.run(clock, -1), "time can't go back, by -1 centiseconds");
   thrown(TypeError, () => machine.run(clock, 2.5));
   want(machine.run(clock, 0) === 0 && clock.time === 0 && machine.run(clock, 3) === 3, "a run");
-  want(new Clock({ seconds: 3600 }).lasts === 360000 && new Clock({ seconds: 0.29 }).lasts === 29, "an hour");
-  thrown(Lacking, () => new Clock({ seconds: 3601 }), "a timetable lasts at most 3600 seconds, and this 3601");
+  want(new Clock({ seconds: 86400 }).lasts === 8640000 && new Clock({ seconds: 0.29 }).lasts === 29, "a day");
+  thrown(Lacking, () => new Clock({ seconds: 86401 }), "a timetable lasts at most 86400 seconds, and this 86401");
   thrown(Lacking, () => new Clock({ seconds: 0.125 }), "seconds has to be whole centiseconds, and is 0.125");
   thrown(Lacking, () => new Clock({ seconds: Number.NaN }));
 }

@@ -36,13 +36,13 @@ def time_goes_on():
     assert len([*machine.run(clock, 3)]) == 3 and clock.time == 3
 
 
-def an_hour_is_the_longest():
-    """Events come up to an hour, so that a timetable that lasts longer would lose them."""
-    assert Clock({"seconds": 3600}).lasts == 360000 and Clock({"seconds": 0.29}).lasts == 29
-    told = "a timetable lasts at most 3600 seconds, and this 3601"
-    assert raised(Lacking, lambda: Clock({"seconds": 3601})) == told
+def a_day_is_the_longest():
+    """Events come up to a day, so that a timetable that lasts longer would lose them."""
+    assert Clock({"seconds": 86400}).lasts == 8640000 and Clock({"seconds": 0.29}).lasts == 29
+    told = "a timetable lasts at most 86400 seconds, and this 86401"
+    assert raised(Lacking, lambda: Clock({"seconds": 86401})) == told
     assert raised(Lacking, lambda: Clock({"seconds": 0.125})) == "seconds has to be whole centiseconds, and is 0.125"
-    late = {"event": [{"at": 0, "do": "tick"}, {"at": 360001, "do": "tick"}]}
+    late = {"event": [{"at": 0, "do": "tick"}, {"at": 8640001, "do": "tick"}]}
     assert raised(Lacking, lambda: Clock(late)) == "event 2: a number of the timetable is out of its range"
 
 
@@ -242,7 +242,7 @@ def main():
     failed = 0
     for test in [
         time_goes_on,
-        an_hour_is_the_longest,
+        a_day_is_the_longest,
         an_event_may_never_come,
         an_event_may_come_at_the_start_alone,
         numbers_before_a_memory_are_passed_over,

@@ -14,7 +14,7 @@ use std::alloc::{AllocError, Global};
 use std::collections::BTreeSet;
 
 /// The last centisecond of the longest scenario.
-const LAST_TIME: u32 = 360_000;
+const LAST_TIME: u32 = 8_640_000;
 
 /// The place of a row, which is numbered from 0.
 fn row_at(key: Key, row: usize) -> Place {

@@ -68,7 +68,7 @@ const TOP: u64 = 142;
 const LOW: u64 = 24;
 
 /// Where the longest scenario ends, in centiseconds.
-const LONGEST: u64 = 360_001;
+const LONGEST: u64 = 8_640_001;
 
 /// Which lanes there are: so many core sets; and if a clock runs, events, stolen and idle time.
 #[derive(Clone, Copy)]

@@ -57,7 +57,7 @@ pub event_changed : (events : List TimedEvent) (k value : ℕ) (n : Number) (was
 event_changed events k value n was is l at e = ap (set events k) (e ∙ ap (event_with n value) at) ∙ sym (changed_in (event_with n value) k events was l)
 
 -- a number in its range fits the types
-pub fits_32 : (n : Number) (value : ℕ) → nearest n value ≤ 1000000
+pub fits_32 : (n : Number) (value : ℕ) → nearest n value ≤ 8640000
 fits_32 Steal value = omega arith
 fits_32 Seconds value = omega arith
 fits_32 (Cost k) value = omega arith

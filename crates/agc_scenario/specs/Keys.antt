@@ -54,13 +54,13 @@ stolen_row d = do
     to = to;
     percent = percent;
     every = unwrap_or every 0;
-    until = unwrap_or until 360000;
+    until = unwrap_or until 8640000;
   })
 
 -- one row for all the time that a scenario may last
 abbrev pub always : ℕ → List Stolen
 always percent =
-    record { from = 0; to = 360001; percent = percent; every = 0; until = 360000 } ∷ []
+    record { from = 0; to = 8640001; percent = percent; every = 0; until = 8640000 } ∷ []
 
 -- the rows of stolen time: a percent alone, or an array of tables
 abbrev pub stolen_rows : AnyKey → Data → Option (List Stolen)

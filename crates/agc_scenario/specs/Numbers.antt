@@ -95,7 +95,7 @@ exchanged (number.Until k) value t =
 -- for proofs: the number fits the types
 abbrev pub FitsIn : Number → ℕ → Type 0
 FitsIn number.Steal value = value ≤ 100
-FitsIn number.Seconds value = value ≤ 3600
+FitsIn number.Seconds value = value ≤ 86400
 FitsIn (number.Cost k) value = value ≤ 1000000
 FitsIn (number.Every k) value = 1 ≤ value
 FitsIn other value = Unit {0}

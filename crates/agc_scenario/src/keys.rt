@@ -88,7 +88,7 @@ fn forward<'a>(row: Stolen, place: Place, notes: &mut Notes<'a>) -> Result<Stole
 
 /// A number in fewer bits.
 fn small(number: Option<u64>) -> Option<u32>
-    requires { IfSome number (λ n. n ≤ 360000) }
+    requires { IfSome number (λ n. n ≤ 8640000) }
     ensures { result ≡ number }
 {
     match number {
@@ -103,7 +103,7 @@ fn number_if<'a>(
     key: Key,
     notes: &mut Notes<'a>,
 ) -> Result<Option<u32>, Refusal<'a>>
-    requires { most key ≤ 360000 }
+    requires { most key ≤ 8640000 }
     ensures value { GivesOrKey (λ o. o) result
         (read_if number_of key (table_view site.entry.table.now)) }
     ensures range { IfOk result (λ o. IfSome o (λ n. least key ≤ n)) }
@@ -135,7 +135,7 @@ impl<'a> FromData<'a> for StolenRow {
             to: to? as u32,
             percent: percent? as u32,
             every: every?.unwrap_or(0),
-            until: until?.unwrap_or(360_000),
+            until: until?.unwrap_or(8_640_000),
         };
         forward(row, site.place, notes)
     }
@@ -244,10 +244,10 @@ pub(crate) fn always(alloc: Global, percent: u64) -> Result<Vec<Stolen>, AllocEr
     let mut rows = Vec::new(alloc);
     rows.push(Stolen {
         from: 0,
-        to: 360_001,
+        to: 8_640_001,
         percent: percent as u32,
         every: 0,
-        until: 360_000,
+        until: 8_640_000,
     })?;
     Ok(rows)
 }

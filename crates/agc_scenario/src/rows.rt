@@ -4,7 +4,7 @@ use agc_document::rows::{
 };
 use agc_document::{ANY, Form, Key, KeyName, Kind};
 
-pub const SECONDS: Key = Key::Required(KeyName::Seconds, Kind::Integer(1, 3600));
+pub const SECONDS: Key = Key::Required(KeyName::Seconds, Kind::Integer(1, 86_400));
 
 pub const TITLE: Key = Key::Optional(KeyName::Title, Kind::Text(Form::Name));
 
@@ -43,22 +43,22 @@ pub const NAMED_TASK_KEYS: [Key; 4] = [AT, BANK, ACTION, NAME];
 /// The keys of a phase entry.
 pub const NAMED_PHASE_KEYS: [Key; 5] = [GROUP, PHASE, JOB, LISTING, NAME];
 
-pub const FROM: Key = Key::Required(KeyName::From, Kind::Integer(0, 360_000));
+pub const FROM: Key = Key::Required(KeyName::From, Kind::Integer(0, 8_640_000));
 
-pub const TO: Key = Key::Required(KeyName::To, Kind::Integer(0, 360_000));
+pub const TO: Key = Key::Required(KeyName::To, Kind::Integer(0, 8_640_000));
 
 pub const PERCENT: Key = Key::Required(KeyName::Percent, Kind::Integer(0, 100));
 
-pub const EVERY: Key = Key::Optional(KeyName::Every, Kind::Integer(1, 360_000));
+pub const EVERY: Key = Key::Optional(KeyName::Every, Kind::Integer(1, 8_640_000));
 
-pub const UNTIL: Key = Key::Optional(KeyName::Until, Kind::Integer(0, 360_000));
+pub const UNTIL: Key = Key::Optional(KeyName::Until, Kind::Integer(0, 8_640_000));
 
 /// The keys of a row of stolen time.
 pub const STEAL_KEYS: [Key; 5] = [FROM, TO, PERCENT, EVERY, UNTIL];
 
 pub const COST: Key = Key::Required(KeyName::Cost, Kind::Integer(1, 1_000_000));
 
-pub const DEADLINE: Key = Key::Optional(KeyName::Deadline, Kind::Integer(1, 360_000));
+pub const DEADLINE: Key = Key::Optional(KeyName::Deadline, Kind::Integer(1, 8_640_000));
 
 pub const THEN: Key = Key::Optional(KeyName::Then, Kind::OneOrMore(Form::Request, 1, 8));
 
@@ -71,7 +71,7 @@ pub const BEFORE: Key = Key::Optional(KeyName::Then, Kind::Text(Form::Step));
 /// The keys of what a job costs.
 pub const JOB_KEYS: [Key; 5] = [AT, COST, DEADLINE, THEN, NAME];
 
-pub const MOMENT: Key = Key::Required(KeyName::At, Kind::Integer(0, 360_000));
+pub const MOMENT: Key = Key::Required(KeyName::At, Kind::Integer(0, 8_640_000));
 
 pub const DO: Key = Key::Required(KeyName::Do, Kind::OneOrMore(Form::Request, 1, 16));
 

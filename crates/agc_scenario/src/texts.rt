@@ -141,7 +141,7 @@ impl<'a> Model for TimingTexts<'a> {
       events = t.events.items;
     } };
 
-    ghost invariant = { λ t. t.seconds ≤ 3600 };
+    ghost invariant = { λ t. t.seconds ≤ 86400 };
 }
 
 /// All of a scenario.

@@ -273,14 +273,14 @@ impl Model for Timing {
       events = t.events.items;
     } };
 
-    ghost invariant = { λ t. t.seconds ≤ 3600 };
+    ghost invariant = { λ t. t.seconds ≤ 86400 };
 }
 
 impl Timing {
-    /// How many seconds it lasts, at most 3600. Source: profile.
+    /// How many seconds it lasts, at most 86400, a day. Source: profile.
     pub fn seconds(&self) -> u32
         ensures value { result ≡ self.now.seconds }
-        ensures range { result ≤ 3600 }
+        ensures range { result ≤ 86400 }
     {
         self.seconds
     }

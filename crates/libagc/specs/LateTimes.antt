@@ -15,7 +15,7 @@ use Rattle.libagc.specs.LentTimes.{asked_by}
 
 -- the last centisecond of the longest scenario, and the greatest cost in hundredths
 abbrev pub last_time : ℕ
-last_time = 360000
+last_time = 8640000
 
 abbrev pub most_cost : ℕ
 most_cost = 100000000

@@ -11,7 +11,7 @@ use agc_clock::{Stolen, step_of};
 use agc_image::{AgcRequest, Fault, address, request_of};
 
 /// The last centisecond of the longest scenario.
-const LAST_TIME: u32 = 360000;
+const LAST_TIME: u32 = 8640000;
 
 /// The greatest cost, in hundredths of a centisecond.
 const MOST_COST: u32 = 100000000;

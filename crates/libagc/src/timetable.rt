@@ -28,7 +28,7 @@ pub struct AgcCost {
     pub spread: u32,
 }
 
-/// When an event comes, in centiseconds since the start, 0 to 360,000, and what it then asks for.
+/// When an event comes, in centiseconds since the start, 0 to 8,640,000, and what it then asks for.
 /// Source: profile.
 #[repr(C)]
 #[derive(Clone, Copy)]
