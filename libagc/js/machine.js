@@ -20,7 +20,7 @@
  *   name?: string }} JobCost
  * @typedef {{ at: number, do: string | string[], every?: number, until?: number,
  *   name?: string }} TimedEvent
- * @typedef {{ seconds?: number, steal?: number | Stolen[], job?: JobCost[],
+ * @typedef {{ seconds?: number, seed?: number, steal?: number | Stolen[], job?: JobCost[],
  *   event?: TimedEvent[] }} Timetable
  * @typedef {{ number: number, priority: number, at: number, bank: number, asleep: boolean,
  *   area: number, work: number[] }} Job

@@ -109,7 +109,7 @@ function pulsesAsk() {
 
 function keysAreKnown() {
   const job = { at: "04000", cost: 1 };
-  const keys = "title, sets, limit, allowance, script, attends, key, radar, power, worker, device, task, phase, seconds, steal, job, event";
+  const keys = "title, sets, limit, allowance, script, attends, key, radar, power, worker, device, task, phase, seconds, seed, steal, job, event";
   thrown(TypeError, () => new Clock({ stael: 15 }), `a timetable has no key "stael", only ${keys}`);
   thrown(TypeError, () => new Clock().change({ stael: 15 }));
   thrown(TypeError, () => new Clock({ job: [job, { ...job, costs: 1 }] }), 'job 2 has no key "costs", only at, cost, then, deadline, name');
