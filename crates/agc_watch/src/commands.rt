@@ -144,7 +144,7 @@ const EXPLORE: Row = Row {
         (
             "states",
             Form::Option("N"),
-            "Gives up after N states, or 200000 by default",
+            "Gives up after N states, or 2000000 by default",
         ),
         (
             "alarm",

@@ -12,7 +12,7 @@ use clap::{ArgMatches, Command, Error};
 use std::alloc::Global;
 
 /// How many states a search may see, if nothing is said of it.
-const STATES: u64 = 200_000;
+const STATES: u64 = 2_000_000;
 
 /// The values to try of the number that a key names.
 #[derive(Clone, Copy)]
