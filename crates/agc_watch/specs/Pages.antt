@@ -5,23 +5,31 @@ use Rattle.agc_text.specs.Writing.{AppendsFront}
 use Rattle.agc_program.specs.declared.fault.Fault.{Fault}
 use Rattle.agc_program.specs.declared.fault.Fault.TheVariants as fault
 use Rattle.agc_watch.specs.Data.{IsData}
+use Rattle.agc_watch.specs.declared.page.TheConstants.{OPENING, CLOSING}
 
--- the page is the workbench, with data of the document at one place in it
+-- a workbench is this, up to the place of a document's data, and then what closes it: data stand
+-- between the opening and the closing tag of its element for a document
+pub record IsWorkbench (workbench front : List ℕ) : Type 0 where
+  pub before : List ℕ
+  pub opened : front ≡ before ++ OPENING.now
+  pub closed : workbench ≡ front ++ CLOSING.now
+
+-- the page is the workbench, with data of the document at that place
 pub record IsPage (workbench document page : List ℕ) : Type 0 where
   pub front : List ℕ
   pub inner : List ℕ
-  pub end : List ℕ
-  pub parted : workbench ≡ front ++ end
+  pub parted : IsWorkbench workbench front
   pub holds : IsData document inner
-  pub whole : page ≡ front ++ (inner ++ end)
+  pub whole : page ≡ front ++ (inner ++ CLOSING.now)
 
 -- a page was written and nothing else; where a write failed, a front of one; and nothing where
--- there was no memory, or no workbench
+-- there was no memory, or what should be a workbench is none
 abbrev pub WritesPage : Option (List ℕ) → Option (List ℕ) → List ℕ → List ℕ
     → Result Bool Fault → Type 0
 WritesPage old new workbench document (Ok true) =
     (page : List ℕ) × IsPage workbench document page × Appends old new page
-WritesPage old new workbench document (Ok false) = new ≡ old
+WritesPage old new workbench document (Ok false) =
+    (new ≡ old) × ((front : List ℕ) → IsWorkbench workbench front → ⊥)
 WritesPage old new workbench document (Err fault.NoMemory) = new ≡ old
 WritesPage old new workbench document (Err fault.Output) =
     (page : List ℕ) × IsPage workbench document page × AppendsFront old new page

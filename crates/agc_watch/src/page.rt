@@ -1,8 +1,8 @@
 //! A page: the workbench, with a document as data in it.
-ghost use Rattle.std.specs.Prelude.{◌≡◌, ◌++◌, IfOk, IfSome};
+ghost use Rattle.std.specs.Prelude.{◌≡◌, ◌++◌, ℕ, List, IfOk, IfSome, IfNone};
 ghost use Rattle.agc_text.specs.Writing.{Writes};
 ghost use Rattle.agc_watch.specs.Data.{spelled, data_of};
-ghost use Rattle.agc_watch.specs.Pages.{WritesPage};
+ghost use Rattle.agc_watch.specs.Pages.{IsWorkbench, WritesPage};
 
 use agc_program::Fault;
 use agc_text::{Output, put};
@@ -36,17 +36,15 @@ fn data_of(alloc: Global, text: &str) -> Result<Vec<u8>, AllocError>
     Ok(spelled)
 }
 
-/// The parts of a workbench ahead of its document's data and behind them; none of a text that is no
-/// workbench, or that has a document already.
-fn parts_of(workbench: &[u8]) -> Option<(&[u8], &[u8])>
-    ensures { IfSome result (λ parts. workbench.now ≡ parts.0.now ++ parts.1.now) }
+/// What a workbench has ahead of the place of its document's data, which is just ahead of what
+/// closes it; none of a text that is no workbench, or that has a document already.
+fn front_of(workbench: &[u8]) -> Option<&[u8]>
+    ensures found { IfSome result (λ front. IsWorkbench workbench.now front.now) }
+    ensures none { IfNone result ((front : List ℕ) → IsWorkbench workbench.now front → ⊥) }
 {
     let front = workbench.strip_suffix(CLOSING)?;
-    if front.ends_with(OPENING) {
-        Some((front, CLOSING))
-    } else {
-        None
-    }
+    let _before = front.strip_suffix(OPENING)?;
+    Some(front)
 }
 
 /// Writes three texts, one after the other.
@@ -77,8 +75,8 @@ pub(crate) fn put_page<W: Write>(
         result }
 {
     let inner = data_of(alloc, document)?;
-    match parts_of(workbench) {
-        Some((front, end)) => match put_three(front, inner.as_slice(), end, writer) {
+    match front_of(workbench) {
+        Some(front) => match put_three(front, inner.as_slice(), CLOSING, writer) {
             Ok(()) => Ok(true),
             Err(_failed) => Err(Fault::Output),
         },
