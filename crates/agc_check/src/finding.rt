@@ -64,25 +64,47 @@ pub fn line_at(document: &str, at: usize) -> u64
     line_ends(&bytes[..at.min(bytes.len())]) + 1
 }
 
+/// What is told of one byte of a document: where in the bench it stands, its text, and what is
+/// wrong there.
+#[derive(Clone, Copy)]
+pub(crate) struct Told<'a> {
+    pub at: usize,
+    pub place: Place,
+    pub text: &'a str,
+    pub wrong: Wrong,
+}
+
+impl<'a> Told<'a> {
+    /// What is told of the whole, at a byte.
+    pub(crate) fn of_whole(at: usize, text: &'a str, wrong: Wrong) -> Told<'a>
+        ensures { result.wrong ≡ wrong }
+    {
+        Told {
+            at,
+            place: Place::Whole,
+            text,
+            wrong,
+        }
+    }
+}
+
 /// What is found at one byte of a document.
 pub(crate) fn make_finding(
     alloc: Global,
     document: &str,
-    at: usize,
-    place: Place,
-    text: &str,
-    wrong: Wrong,
+    told: Told<'_>,
 ) -> Result<Finding, AllocError>
-    ensures found { IfOk result (λ f. IsFound document.now (refusal_of wrong) f) }
-    ensures says { IfOk result (λ f. said f ≡ say place wrong text.now) }
+    ensures found { IfOk result (λ f. IsFound document.now (refusal_of told.entry.wrong) f) }
+    ensures says { IfOk result (λ f. said f
+        ≡ say told.entry.place told.entry.wrong told.entry.text.now) }
 {
-    let at = at.min(document.len());
+    let at = told.at.min(document.len());
     Ok(Finding {
         at,
         line: line_at(document, at),
-        place,
-        text: String::from_str(alloc, text)?,
-        wrong,
+        place: told.place,
+        text: String::from_str(alloc, told.text)?,
+        wrong: told.wrong,
     })
 }
 
@@ -145,9 +167,13 @@ fn found_keys<'a>(
     let mut found: Vec<Finding> = Vec::new(alloc);
     for note in notes {
         let spot = spot_at(spots, found.len());
-        let text = told_text(document, note, spot);
-        let wrong = Wrong::Key(note.fault);
-        let one = make_finding(alloc, document, spot.at, note.place, text, wrong)?;
+        let told = Told {
+            at: spot.at,
+            place: note.place,
+            text: told_text(document, note, spot),
+            wrong: Wrong::Key(note.fault),
+        };
+        let one = make_finding(alloc, document, told)?;
         found.push(one)?;
     }
     Ok(found)
@@ -166,9 +192,13 @@ fn found_texts<'a>(
 {
     let mut found: Vec<Finding> = Vec::new(alloc);
     for note in notes {
-        let spot = spot_at(spots, found.len());
-        let wrong = Wrong::Text(note.form);
-        let one = make_finding(alloc, document, spot.at, note.place, note.text, wrong)?;
+        let told = Told {
+            at: spot_at(spots, found.len()).at,
+            place: note.place,
+            text: note.text,
+            wrong: Wrong::Text(note.form),
+        };
+        let one = make_finding(alloc, document, told)?;
         found.push(one)?;
     }
     Ok(found)

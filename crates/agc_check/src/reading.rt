@@ -8,7 +8,7 @@ ghost use Rattle.agc_check.specs.Findings.{or_alone, say_plan, to_say};
 ghost use Rattle.agc_document.specs.declared.fault.BenchFault.TheVariants as refusal;
 
 use crate::document::{Document, NoDocument};
-use crate::finding::{Finding, key_findings, make_finding, text_findings};
+use crate::finding::{Finding, Told, key_findings, make_finding, text_findings};
 use crate::locate::places_in;
 use crate::wrong::Wrong;
 use agc_document::{Bench, KeyNote, Notes, Place, Refusal, TextNote, bench_of};
@@ -25,19 +25,14 @@ pub struct Checked {
 
 /// What is found at one byte, and nothing else.
 #[tactic(auto, using(crate::proofs::Found::found_alone))]
-fn found_only(
-    alloc: Global,
-    document: &str,
-    at: usize,
-    place: Place,
-    text: &str,
-    wrong: Wrong,
-) -> Result<Vec<Finding>, AllocError>
-    ensures are { IfOk result (λ v. AreFindings document.now (refusal_of wrong) v.items) }
-    ensures says { IfOk result (λ v. map said v.items ≡ say place wrong text.now ∷ []) }
+fn found_only(alloc: Global, document: &str, told: Told<'_>) -> Result<Vec<Finding>, AllocError>
+    ensures are { IfOk result (λ v.
+        AreFindings document.now (refusal_of told.entry.wrong) v.items) }
+    ensures says { IfOk result (λ v. map said v.items
+        ≡ say told.entry.place told.entry.wrong told.entry.text.now ∷ []) }
 {
     let mut findings: Vec<Finding> = Vec::new(alloc);
-    let one = make_finding(alloc, document, at, place, text, wrong)?;
+    let one = make_finding(alloc, document, told)?;
     findings.push(one)?;
     Ok(findings)
 }
@@ -57,7 +52,17 @@ fn found_at(
         Some(at) => *at,
         None => 0,
     };
-    found_only(alloc, document, at, place, "", wrong)
+    let text = "";
+    found_only(
+        alloc,
+        document,
+        Told {
+            at,
+            place,
+            text,
+            wrong,
+        },
+    )
 }
 
 /// Whether a text is five octal digits.
@@ -78,29 +83,27 @@ pub(crate) fn found_no_document(
     ensures { IfOk result (λ v. AreFindings text.now refusal.NotToml v.items) }
 {
     if !text.contains('=') {
-        return found_only(alloc, text, 0, Place::Whole, "", Wrong::NoKeys);
+        return found_only(alloc, text, Told::of_whole(0, "", Wrong::NoKeys));
     }
     let Some(span) = error.span() else {
         return found_only(
             alloc,
             text,
-            0,
-            Place::Whole,
-            error.message(),
-            Wrong::NotToml,
+            Told::of_whole(0, error.message(), Wrong::NotToml),
         );
     };
     let word = text.get(span.start..span.end).unwrap_or("");
     if is_octal_five(word) {
-        return found_only(alloc, text, span.start, Place::Whole, word, Wrong::NoQuotes);
+        return found_only(
+            alloc,
+            text,
+            Told::of_whole(span.start, word, Wrong::NoQuotes),
+        );
     }
     found_only(
         alloc,
         text,
-        span.start,
-        Place::Whole,
-        error.message(),
-        Wrong::NotToml,
+        Told::of_whole(span.start, error.message(), Wrong::NotToml),
     )
 }
 

@@ -75,17 +75,17 @@ impl Reading {
     }
 }
 
-/// Takes note of the time that passed before a request, or up to the end.
-fn pass(ledger: &mut Ledger<'_>, run: &Run<'_>, before: &Reading, after: &Reading, is_asked: bool) {
-    let passed = match run.clock() {
+/// The time that passed before a request, or up to the end. None of it is known to be computed,
+/// stolen or idle where time passes with ticks alone.
+fn passed(run: &Run<'_>, before: &Reading, after: &Reading, is_asked: bool) -> Passed {
+    match run.clock() {
         None => Passed {
             computed: 0,
             stolen: 0,
             idle: 0,
         },
         Some(_clock) => before.passed(after, is_asked && before.time == after.time),
-    };
-    ledger.pass(passed, after.time, after.moment());
+    }
 }
 
 /// How many ticks there were with this request.
@@ -115,7 +115,8 @@ pub(crate) fn jobs_to_end<'a>(
     while let Some(asked) = run.next() {
         let then = jobs_then(run.machine(), &asked.request);
         let after = read(run, ticks_with(ticks, &asked.request));
-        pass(&mut ledger, run, &before, &after, true);
+        let passed_now = passed(run, &before, &after, true);
+        ledger.pass(passed_now, after.time, after.moment());
         let mut fired = Fired::new();
         if let Ok(reply) = run.ask(&asked, &mut fired) {
             ticks = ticks_with(ticks, &asked.request);
@@ -127,7 +128,8 @@ pub(crate) fn jobs_to_end<'a>(
         before = read(run, ticks);
     }
     let after = read(run, ticks);
-    pass(&mut ledger, run, &before, &after, false);
+    let passed_last = passed(run, &before, &after, false);
+    ledger.pass(passed_last, after.time, after.moment());
     ledger.close()?;
     Ok(ledger)
 }

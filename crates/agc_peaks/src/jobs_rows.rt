@@ -140,17 +140,11 @@ fn width_of(ledger: &Ledger<'_>, timing: Option<&Timing>) -> usize {
     width
 }
 
-/// Writes the row of an address's jobs, in a run of which so much time is known to have passed.
-fn put_row<W: Write>(
-    pen: &mut Pen<W>,
-    width: usize,
-    name: Option<&str>,
-    kind: &Kind,
-    time: Option<u64>,
-) {
+/// Writes the name of an address's jobs, or the address, in a column of this width.
+fn put_name<W: Write>(pen: &mut Pen<W>, width: usize, name: Option<&str>, at: u16) {
     match name {
         None => {
-            pen.add(Octal(kind.at));
+            pen.add(Octal(at));
             put_spaces(pen, 5, width);
         }
         Some(name) => {
@@ -158,6 +152,10 @@ fn put_row<W: Write>(
             put_spaces(pen, name.chars().count(), width);
         }
     }
+}
+
+/// Writes what became of an address's jobs, in a run of which so much time is known to have passed.
+fn put_kind<W: Write>(pen: &mut Pen<W>, kind: &Kind, time: Option<u64>) {
     match time {
         None => {
             put_cells(pen, "  ", &WIDTHS, &cells(kind, Some("        -")));
@@ -186,7 +184,8 @@ fn put_rows<W: Write>(
     pen.text(if has_deadline { DEADLINE } else { "" });
     pen.text("\n");
     for kind in ledger.kinds.iter() {
-        put_row(pen, width, name_at(timing, kind.at), kind, time);
+        put_name(pen, width, name_at(timing, kind.at), kind.at);
+        put_kind(pen, kind, time);
         if has_deadline {
             put_cells(
                 pen,

@@ -15,8 +15,7 @@ use Rattle.agc_clock.specs.Runs.{Serving, Standing, begins_with, by_machine, goe
 use Rattle.agc_clock.specs.Timetables.{Schedule}
 use Rattle.agc_session.specs.declared.source.Source.{Source as BenchSource}
 use Rattle.agc_run.specs.declared.asks.Asked.{Asked}
-use Rattle.agc_run.specs.declared.asks.Source.TheVariants.{Bench, Time}
-use Rattle.agc_run.specs.Runs.{Asking, Pulls, Requested, asks_after, clock_after, clock_requests, rest, time_asks, to_ask}
+use Rattle.agc_run.specs.Runs.{Asking, Pulls, Requested, all_to_ask, asks_after, by_source, clock_after, clock_asks, in_time, requests_in, rest, time_asks}
 
 record Leads {S : Type 0} (by : Serving S) (costs : List Cost) (at end : Standing S) (count : ℕ) (n : Next) : Type 0 where
   asks : (asked : TimeAsked) → n.asked ≡ Some asked → end ≡ lived_all by costs (served by asked n.counts at) n.behind
@@ -71,44 +70,44 @@ aside {S} by costs (i ∷ is) a s g =
       each None k more = more a s k
 
 -- at the beginning, all is to come
-pub listed_asks : (m : Machined) (b : Requested) (k : Clocked) (all : List Request) → rest b ≡ all → to_ask m (record { listed = b; table = None; clock = k }) ≡ all
-unfolding to_ask
+pub listed_asks : (m : Machined) (b : Requested) (k : Clocked) (all : List Asked) → rest b ≡ all → all_to_ask m (record { listed = b; table = None; clock = k }) ≡ all
+unfolding all_to_ask
 listed_asks m b k all is = append-nil (rest b) ∙ is
 
-pub clock_asks : (m : Machined) (b : Requested) (t : Schedule) (k : Clocked) → rest b ≡ [] → k ≡ at_start 0 → to_ask m (record { listed = b; table = Some t; clock = k }) ≡ clock_requests t m
-unfolding to_ask run clock_requests
-clock_asks m b t k none start =
-    ap (λ (rs : List Request). rs ++ time_asks (Some t) k (fold after m rs)) none
+pub time_left : (m : Machined) (b : Requested) (t : Schedule) (k : Clocked) → rest b ≡ [] → k ≡ at_start 0 → all_to_ask m (record { listed = b; table = Some t; clock = k }) ≡ clock_asks t m
+unfolding all_to_ask run clock_asks
+time_left m b t k none start =
+    ap (λ (xs : List Asked). xs ++ time_asks (Some t) k (fold after m (requests_in xs))) none
     ∙ ap (λ (c : Clocked). time_asks (Some t) c m) start
-    ∙ ap (λ (l : List Instant). map (λ (asked : TimeAsked). asked.request) (lived_all by_machine t.costs (standing_at 0 m) l).asked) (all_to_come t)
+    ∙ ap (λ (l : List Instant). map in_time (lived_all by_machine t.costs (standing_at 0 m) l).asked) (all_to_come t)
 
 -- a request that is listed
-pub listed_pulled : (m : Machined) (b c : Requested) (t : Option Schedule) (k : Clocked) (s : BenchSource) (q : Request) → rest b ≡ q ∷ rest c → Pulls m (record { listed = b; table = t; clock = k }) (Some (record { source = Bench s; request = q })) (record { listed = c; table = t; clock = k })
-unfolding to_ask
-listed_pulled m b c t k s q is = ap (λ (rs : List Request). rs ++ time_asks t k (fold after m rs)) is
+pub listed_pulled : (m : Machined) (b c : Requested) (t : Option Schedule) (k : Clocked) (s : BenchSource) (q : Request) → rest b ≡ by_source s q ∷ rest c → Pulls m (record { listed = b; table = t; clock = k }) (Some (by_source s q)) (record { listed = c; table = t; clock = k })
+unfolding all_to_ask
+listed_pulled m b c t k s q is = ap (λ (xs : List Asked). xs ++ time_asks t k (fold after m (requests_in xs))) is
 
 -- nothing that is listed is left
 pub listed_over : (m : Machined) (b c : Requested) (t : Option Schedule) (k : Clocked) (o : Option Asked) (new : Asking) → rest b ≡ rest c → Pulls m (record { listed = c; table = t; clock = k }) o new → Pulls m (record { listed = b; table = t; clock = k }) o new
-unfolding to_ask
-listed_over m b c t k (Some asked) new is pulls = ap (λ (rs : List Request). rs ++ time_asks t k (fold after m rs)) is ∙ pulls
-listed_over m b c t k None new is pulls = ap (λ (rs : List Request). rs ++ time_asks t k (fold after m rs)) is ∙ pulls
+unfolding all_to_ask
+listed_over m b c t k (Some asked) new is pulls = ap (λ (xs : List Asked). xs ++ time_asks t k (fold after m (requests_in xs))) is ∙ pulls
+listed_over m b c t k None new is pulls = ap (λ (xs : List Asked). xs ++ time_asks t k (fold after m (requests_in xs))) is ∙ pulls
 
 -- nothing is left, and no time passes
-pub untimed : (m : Machined) (b : Requested) (t : Option Schedule) (k : Clocked) → t ≡ None → rest b ≡ [] → to_ask m (record { listed = b; table = t; clock = k }) ≡ []
-unfolding to_ask
-untimed m b t k none is = ap (λ (x : Option Schedule). rest b ++ time_asks x k (fold after m (rest b))) none ∙ append-nil (rest b) ∙ is
+pub untimed : (m : Machined) (b : Requested) (t : Option Schedule) (k : Clocked) → t ≡ None → rest b ≡ [] → all_to_ask m (record { listed = b; table = t; clock = k }) ≡ []
+unfolding all_to_ask
+untimed m b t k none is = ap (λ (x : Option Schedule). rest b ++ time_asks x k (fold after m (requests_in (rest b)))) none ∙ append-nil (rest b) ∙ is
 
 -- the time is over
-over_at : (m : Machined) (b : Requested) (t : Schedule) (k n : Clocked) → rest b ≡ [] → AsksNext t (plain_of m).work.jobs k None n → to_ask m (record { listed = b; table = Some t; clock = k }) ≡ []
-unfolding to_ask
+over_at : (m : Machined) (b : Requested) (t : Schedule) (k n : Clocked) → rest b ≡ [] → AsksNext t (plain_of m).work.jobs k None n → all_to_ask m (record { listed = b; table = Some t; clock = k }) ≡ []
+unfolding all_to_ask
 over_at m b t k n is asks =
     let here : Standing Machined = record { asked = []; state = m; counts = k.counts } in
-    ap (λ (rs : List Request). rs ++ time_asks (Some t) k (fold after m rs)) is
-    ∙ ap (λ (s : Standing Machined). map (λ (asked : TimeAsked). asked.request) s.asked) ((leads by_machine t.costs here (to_come t k)).ends (sym asks.asked_is))
+    ap (λ (xs : List Asked). xs ++ time_asks (Some t) k (fold after m (requests_in xs))) is
+    ∙ ap (λ (s : Standing Machined). map in_time s.asked) ((leads by_machine t.costs here (to_come t k)).ends (sym asks.asked_is))
 
 -- a request of the clock
-pulled_at : (m : Machined) (b : Requested) (t : Schedule) (k n : Clocked) (q : TimeAsked) → rest b ≡ [] → AsksNext t (plain_of m).work.jobs k (Some q) n → Pulls m (record { listed = b; table = Some t; clock = k }) (Some (record { source = Time q.source; request = q.request })) (record { listed = b; table = Some t; clock = n })
-unfolding to_ask to_come
+pulled_at : (m : Machined) (b : Requested) (t : Schedule) (k n : Clocked) (q : TimeAsked) → rest b ≡ [] → AsksNext t (plain_of m).work.jobs k (Some q) n → Pulls m (record { listed = b; table = Some t; clock = k }) (Some (in_time q)) (record { listed = b; table = Some t; clock = n })
+unfolding all_to_ask to_come
 pulled_at m b t k n q is asks =
     let here : Standing Machined = record { asked = []; state = m; counts = k.counts } in
     let lead = leads by_machine t.costs here (to_come t k) in
@@ -117,27 +116,27 @@ pulled_at m b t k n q is asks =
     let then : Clocked = record n { counts = told n.counts } in
     let behind = (next_of t.costs (plain_of m).work.jobs (to_come t k) k.counts).behind in
     let counts = (next_of t.costs (plain_of m).work.jobs (to_come t k) k.counts).counts in
-    let asked_in = λ (l : List TimeAsked). map (λ (asked : TimeAsked). asked.request) l in
-    let time : time_asks (Some t) k m ≡ q.request ∷ time_asks (Some t) then next =
-    ap (λ (s : Standing Machined). map (λ (asked : TimeAsked). asked.request) s.asked) (lead.asks q (sym asks.asked_is))
+    let asked_in = λ (l : List TimeAsked). map in_time l in
+    let time : time_asks (Some t) k m ≡ in_time q ∷ time_asks (Some t) then next =
+    ap (λ (s : Standing Machined). map in_time s.asked) (lead.asks q (sym asks.asked_is))
     ∙ ap asked_in (aside by_machine t.costs behind (q ∷ []) next (told counts))
-    ∙ ap (λ (l : List Instant). q.request ∷ asked_in (lived_all by_machine t.costs (record { asked = []; state = next; counts = told counts }) l).asked) (sym asks.to_come_is)
-    ∙ ap (λ (g : Counts). q.request ∷ asked_in (lived_all by_machine t.costs (record { asked = []; state = next; counts = told g }) (to_come t n)).asked) (sym asks.counts_is) in
-    ap (λ (rs : List Request). rs ++ time_asks (Some t) k (fold after m rs)) is ∙ time ∙ ap (λ (rs : List Request). q.request ∷ (rs ++ time_asks (Some t) then (fold after next rs))) (sym is)
+    ∙ ap (λ (l : List Instant). in_time q ∷ asked_in (lived_all by_machine t.costs (record { asked = []; state = next; counts = told counts }) l).asked) (sym asks.to_come_is)
+    ∙ ap (λ (g : Counts). in_time q ∷ asked_in (lived_all by_machine t.costs (record { asked = []; state = next; counts = told g }) (to_come t n)).asked) (sym asks.counts_is) in
+    ap (λ (xs : List Asked). xs ++ time_asks (Some t) k (fold after m (requests_in xs))) is ∙ time ∙ ap (λ (xs : List Asked). in_time q ∷ (xs ++ time_asks (Some t) then (fold after next (requests_in xs)))) (sym is)
 
-pub time_over : (m : Machined) (b : Requested) (o : Option Schedule) (t : Schedule) (j : Jobs) (k n : Clocked) → o ≡ Some t → j ≡ (plain_of m).work.jobs → rest b ≡ [] → AsksNext t j k None n → to_ask m (record { listed = b; table = o; clock = k }) ≡ []
+pub time_over : (m : Machined) (b : Requested) (o : Option Schedule) (t : Schedule) (j : Jobs) (k n : Clocked) → o ≡ Some t → j ≡ (plain_of m).work.jobs → rest b ≡ [] → AsksNext t j k None n → all_to_ask m (record { listed = b; table = o; clock = k }) ≡ []
 time_over m b o t j k n some same is asks =
-    ap (λ (x : Option Schedule). to_ask m (record { listed = b; table = x; clock = k })) some
+    ap (λ (x : Option Schedule). all_to_ask m (record { listed = b; table = x; clock = k })) some
     ∙ over_at m b t k n is (subst (λ (x : Jobs). AsksNext t x k None n) same asks)
 
-pub time_pulled : (m : Machined) (b : Requested) (o : Option Schedule) (t : Schedule) (j : Jobs) (k n : Clocked) (q : TimeAsked) → o ≡ Some t → j ≡ (plain_of m).work.jobs → rest b ≡ [] → AsksNext t j k (Some q) n → Pulls m (record { listed = b; table = o; clock = k }) (Some (record { source = Time q.source; request = q.request })) (record { listed = b; table = o; clock = n })
+pub time_pulled : (m : Machined) (b : Requested) (o : Option Schedule) (t : Schedule) (j : Jobs) (k n : Clocked) (q : TimeAsked) → o ≡ Some t → j ≡ (plain_of m).work.jobs → rest b ≡ [] → AsksNext t j k (Some q) n → Pulls m (record { listed = b; table = o; clock = k }) (Some (in_time q)) (record { listed = b; table = o; clock = n })
 time_pulled m b o t j k n q some same is asks =
-    subst (λ (x : Option Schedule). Pulls m (record { listed = b; table = x; clock = k }) (Some (record { source = Time q.source; request = q.request })) (record { listed = b; table = x; clock = n })) (sym some)
+    subst (λ (x : Option Schedule). Pulls m (record { listed = b; table = x; clock = k }) (Some (in_time q)) (record { listed = b; table = x; clock = n })) (sym some)
     (pulled_at m b t k n q is (subst (λ (x : Jobs). AsksNext t x k (Some q) n) same asks))
 
 -- one was asked of a machine, and the clock was told
-pub told_all : (m n : Machined) (b : Bool) (j : Jobs) (asks then : Asking) (asked : Asked) → n ≡ after m asked.request → b ≡ begins_with (answer_of m asked.request) → j ≡ (plain_of n).work.jobs → then ≡ record asks { clock = clock_after asked.source b j asks.clock } → to_ask n then ≡ to_ask (after m asked.request) (asks_after m asks asked)
+pub told_all : (m n : Machined) (b : Bool) (j : Jobs) (asks then : Asking) (asked : Asked) → n ≡ after m asked.request → b ≡ begins_with (answer_of m asked.request) → j ≡ (plain_of n).work.jobs → then ≡ record asks { clock = clock_after asked.source b j asks.clock } → all_to_ask n then ≡ all_to_ask (after m asked.request) (asks_after m asks asked)
 told_all m n b j asks then asked is began jobs told =
-    let rest = λ (x : Bool) (l : Jobs). to_ask (after m asked.request) (record asks { clock = clock_after asked.source x l asks.clock }) in
-    ap (λ (x : Machined). to_ask x then) is ∙ ap (to_ask (after m asked.request)) told
+    let rest = λ (x : Bool) (l : Jobs). all_to_ask (after m asked.request) (record asks { clock = clock_after asked.source x l asks.clock }) in
+    ap (λ (x : Machined). all_to_ask x then) is ∙ ap (all_to_ask (after m asked.request)) told
     ∙ ap (λ (x : Bool). rest x j) began ∙ ap (rest (begins_with (answer_of m asked.request))) (jobs ∙ ap (λ (x : Machined). (plain_of x).work.jobs) is)

@@ -5,7 +5,8 @@ use Rattle.agc_machine.specs.Machines.{Machined}
 use Rattle.agc_scenario.specs.Scenarios.{Timed, schedule_of}
 use Rattle.agc_document.specs.Benches.{Benched}
 use Rattle.agc_session.specs.Runs.{bench_machine, bench_requests}
-use Rattle.agc_run.specs.Runs.{Asking, clock_requests, to_ask}
+use Rattle.agc_run.specs.declared.asks.Asked.{Asked}
+use Rattle.agc_run.specs.Runs.{Asking, all_to_ask, bench_asks, clock_asks, clock_requests}
 use Rattle.agc_run.specs.declared.subject.Subject.{Subject}
 use Rattle.agc_run.specs.declared.subject.Subject.TheVariants.{Bench, Scenario}
 
@@ -30,10 +31,15 @@ requests_of (Bench bench) machine = bench_requests bench.now
 requests_of (Scenario scenario) machine =
     clock_requests (schedule_of scenario.now.timing) machine
 
+-- the same, each with who asks for it
+abbrev pub asks_of : Subject → Machined → List Asked
+asks_of (Bench bench) machine = bench_asks bench.now
+asks_of (Scenario scenario) machine = clock_asks (schedule_of scenario.now.timing) machine
+
 -- all requests for its own machine
 abbrev pub asked_of : Subject → List Request
 asked_of subject = requests_of subject (machine_of subject)
 
--- what is still to be asked is all requests of a subject, whatever the machine
+-- what is still to be asked is all that is asked in a subject, whatever the machine
 abbrev pub IsOf : Subject → Asking → Type 0
-IsOf subject asks = (m : Machined) → to_ask m asks ≡ requests_of subject m
+IsOf subject asks = (m : Machined) → all_to_ask m asks ≡ asks_of subject m

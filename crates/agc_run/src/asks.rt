@@ -2,9 +2,9 @@
 ghost use Rattle.std.specs.Prelude.{◌≡◌, [], option_map};
 ghost use Rattle.agc_exec.specs.Image.{IsLawfulWords, jobs_in};
 ghost use Rattle.agc_machine.specs.Machines.{Machined, plain_of};
-ghost use Rattle.agc_run.specs.Runs.{Pulls, clock_after, clock_requests, rest, to_ask};
+ghost use Rattle.agc_run.specs.Runs.{Pulls, all_to_ask, bench_asks, clock_after, clock_asks, rest};
+ghost use Rattle.agc_run.specs.Runs.{script_asks};
 ghost use Rattle.agc_scenario.specs.Scenarios.{schedule_of};
-ghost use Rattle.agc_session.specs.Runs.{bench_requests};
 
 use crate::requests::Requests;
 use agc_clock::Clock;
@@ -55,7 +55,7 @@ impl<'a> Model for Asks<'a> {
 impl<'a> Asks<'a> {
     /// The requests of a script, in order. Source: profile.
     pub fn of_script(script: &'a [Request]) -> Asks<'a>
-        ensures { (m : Machined) → to_ask m result ≡ script.now }
+        ensures { (m : Machined) → all_to_ask m result ≡ script_asks script.now }
     {
         Asks {
             listed: Requests::of_script(script),
@@ -66,7 +66,7 @@ impl<'a> Asks<'a> {
 
     /// The requests of a bench, in the order of [`serial`](agc_session::serial). Source: profile.
     pub fn of_bench(bench: &'a Bench) -> Asks<'a>
-        ensures { (m : Machined) → to_ask m result ≡ bench_requests bench.now }
+        ensures { (m : Machined) → all_to_ask m result ≡ bench_asks bench.now }
     {
         Asks {
             listed: Requests::of_bench(bench),
@@ -77,7 +77,7 @@ impl<'a> Asks<'a> {
 
     /// The requests for which the clock of a scenario asks a machine, in order. Source: profile.
     pub fn of_scenario(timing: &'a Timing) -> Asks<'a>
-        ensures { (m : Machined) → to_ask m result ≡ clock_requests (schedule_of timing.now) m }
+        ensures { (m : Machined) → all_to_ask m result ≡ clock_asks (schedule_of timing.now) m }
     {
         Asks {
             listed: Requests::of_script(&[]),

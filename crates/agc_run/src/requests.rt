@@ -1,7 +1,6 @@
 // The requests of a bench or a script, one after the other.
 ghost use Rattle.std.specs.Prelude.{◌≡◌};
-ghost use Rattle.agc_run.specs.Runs.{Takes, rest};
-ghost use Rattle.agc_session.specs.Runs.{bench_requests};
+ghost use Rattle.agc_run.specs.Runs.{Takes, bench_asks, rest, script_asks};
 
 use agc_document::Bench;
 use agc_plan::Request;
@@ -26,7 +25,7 @@ impl<'a> Model for Requests<'a> {
 impl<'a> Requests<'a> {
     /// All of a bench's.
     pub(crate) fn of_bench(bench: &'a Bench) -> Requests<'a>
-        ensures { rest result ≡ bench_requests bench.now }
+        ensures { rest result ≡ bench_asks bench.now }
     {
         Requests {
             walk: Walk::new(bench),
@@ -36,7 +35,7 @@ impl<'a> Requests<'a> {
 
     /// All of a script's.
     pub(crate) fn of_script(script: &'a [Request]) -> Requests<'a>
-        ensures { rest result ≡ script.now }
+        ensures { rest result ≡ script_asks script.now }
     {
         Requests {
             walk: Walk::of_script(script),

@@ -9,7 +9,6 @@ ghost use Rattle.agc_session.specs.Shown.{EndsIn};
 
 use crate::columns::Columns;
 use crate::telling::{Choice, Rows};
-use agc_document::Bench;
 use agc_plan::Request;
 use agc_run::{Asks, Subject, WatchedRun};
 use agc_scene::Watched;
@@ -18,7 +17,8 @@ use agc_text::Output;
 use std::alloc::Global;
 use std::io::Write;
 
-/// Asks for all that is still to be asked in a run, and tells each event in rows.
+/// Sends what has been told of a run so far, asks for all that is still to be asked, and tells each
+/// event in rows.
 fn trace_all<P: Progress, W: Write>(
     run: &mut WatchedRun<'_>,
     rows: &mut Rows,
@@ -28,6 +28,7 @@ fn trace_all<P: Progress, W: Write>(
     ensures { OnOk result (run.new.watching
         ≡ fold watched run.old.watching (to_ask run.old.watching.machine run.old.asks)) }
 {
+    rows.send(writer)?;
     while let Some((source, event)) = run.next() {
         rows.pass(&event.request, run.clock());
         rows.add(run.watched(), source, &event);
@@ -35,25 +36,6 @@ fn trace_all<P: Progress, W: Write>(
         progress.done();
     }
     Ok(())
-}
-
-/// Traces a run of a bench's machine, or of a script's, from the heading to how many requests were
-/// refused.
-fn trace_run<P: Progress, W: Write>(
-    run: &mut WatchedRun<'_>,
-    bench: Option<&Bench>,
-    rows: &mut Rows,
-    progress: &mut P,
-    writer: &mut W,
-) -> Result<(), Output>
-    ensures { OnOk result (run.new.watching
-        ≡ fold watched run.old.watching (to_ask run.old.watching.machine run.old.asks)) }
-{
-    rows.begin(run.watched(), bench);
-    rows.send(writer)?;
-    trace_all(run, rows, progress, writer)?;
-    rows.end(bench);
-    rows.send(writer)
 }
 
 /// Writes the trace of a bench or a scenario: the heading, and what came of power-up, where a bench
@@ -83,7 +65,11 @@ pub fn trace<P: Progress, W: Write>(
     if let Subject::Bench(bench) = subject {
         progress.expect(count_requests(bench).requests);
     }
-    trace_run(&mut run, Some(subject.bench()), &mut rows, progress, writer)?;
+    let bench = Some(subject.bench());
+    rows.begin(run.watched(), bench);
+    trace_all(&mut run, &mut rows, progress, writer)?;
+    rows.end(bench);
+    rows.send(writer)?;
     Ok(run.into_watched())
 }
 
@@ -108,6 +94,9 @@ pub fn trace_script<P: Progress, W: Write>(
     let mut rows = Rows::new(alloc, choice, Columns::of_bench(alloc, false))?;
     progress.expect(requests.len() as u64);
     let mut run = WatchedRun::new(machine, Asks::of_script(requests));
-    trace_run(&mut run, None, &mut rows, progress, writer)?;
+    rows.begin(run.watched(), None);
+    trace_all(&mut run, &mut rows, progress, writer)?;
+    rows.end(None);
+    rows.send(writer)?;
     Ok(run.into_watched())
 }

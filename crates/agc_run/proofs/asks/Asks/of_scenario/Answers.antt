@@ -1,5 +1,5 @@
-use Rattle.agc_run.proofs.Passing.{clock_asks}
+use Rattle.agc_run.proofs.Passing.{time_left}
 use Rattle.agc_run.proofs.asks.Asks.of_scenario.Goals as goal
 
 pub returns : goal.returns
-returns c m = clock_asks m c.of_script.result _ c.new.result c.of_script.ensures c.new.ensures
+returns c m = time_left m c.of_script.result _ c.new.result c.of_script.ensures c.new.ensures

@@ -28,5 +28,7 @@ loop-self-preserved c =
 
 pub returns : goal.returns
 returns c =
+    rw c.source.ensures (
     sym c.loop-self.invariant
     ∙ one_taken c.loop-self.self-inside.walk c.loop-self.self-inside.at c.index-requests-self.result (rw c.requests.ensures at c.loop-self-test.false) (rw c.requests-2.ensures at c.index-requests-self.is)
+    )

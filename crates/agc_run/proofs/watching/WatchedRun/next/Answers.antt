@@ -5,7 +5,8 @@ use Rattle.agc_machine.specs.Machines.{Machined, after, answer_of, plain_of}
 use Rattle.agc_plan.specs.declared.request.Request.{Request}
 use Rattle.agc_scene.specs.Events.{Watching, event_of, watched}
 use Rattle.agc_scene.specs.declared.event.Event.{Event}
-use Rattle.agc_run.specs.Runs.{WatchingRun, asks_after, to_ask}
+use Rattle.agc_run.specs.Runs.{WatchingRun, all_to_ask, asks_after}
+use Rattle.agc_run.specs.declared.asks.Asked.{Asked}
 use Rattle.agc_run.proofs.Passing.{told_all}
 use Rattle.agc_run.proofs.watching.WatchedRun.next.Goals as goal
 
@@ -29,14 +30,14 @@ returns c =
     let m : Machined = w.machine in
     let q = c.in-Some.asked in
     let n : Machined = c.ask-event.new.self.machine in
-    let pulls : to_ask m c.self.inside.asks ≡ q.request ∷ to_ask (after m q.request) (asks_after m c.next.new.self q) =
+    let pulls : all_to_ask m c.self.inside.asks ≡ q ∷ all_to_ask (after m q.request) (asks_after m c.next.new.self q) =
     c.in-Some.ensures m (c.erasable.ensures.stands.jobs ∙ ap (λ (x : Machined). (plain_of x).work.jobs) c.machine.ensures) in
     let is : n ≡ after m q.request = ap (λ (x : Watching). x.machine) c.ask-event.ensures.after in
     let began : c.began.result ≡ begins_with (answer_of m q.request) = c.began.ensures ∙ ap (λ (e : Event). begins_with e.answer) c.ask-event.ensures.event ∙ ap begins_with (answered w q.request) in
     let jobs : jobs_in c.erasable-2.result.now ≡ (plain_of n).work.jobs = c.erasable-2.ensures.stands.jobs ∙ ap (λ (x : Machined). (plain_of x).work.jobs) c.machine-2.ensures in
-    let same : to_ask n c.served.new.self ≡ to_ask (after m q.request) (asks_after m c.next.new.self q) = told_all m n c.began.result (jobs_in c.erasable-2.result.now) c.next.new.self c.served.new.self q is began jobs c.served.ensures in
+    let same : all_to_ask n c.served.new.self ≡ all_to_ask (after m q.request) (asks_after m c.next.new.self q) = told_all m n c.began.result (jobs_in c.erasable-2.result.now) c.next.new.self c.served.new.self q is began jobs c.served.ensures in
     let its : q.request ≡ c.ask-event.result.request = sym (ap (λ (e : Event). e.request) c.ask-event.ensures.event ∙ requested w q.request) in (
-      ap (λ (r : WatchingRun). to_ask r.watching.machine r.asks) (sym v) ∙ pulls ∙ ap (λ (rs : List Request). q.request ∷ rs) (sym same) ∙ ap (λ (r : Request). r ∷ to_ask n c.served.new.self) its,
+      ap (λ (r : WatchingRun). all_to_ask r.watching.machine r.asks) (sym v) ∙ pulls ∙ ap (λ (xs : List Asked). q ∷ xs) (sym same) ∙ ap (λ (r : Request). record { source = q.source; request = r } ∷ all_to_ask n c.served.new.self) its,
       c.ask-event.ensures.event ∙ ap (event_of w) its ∙ ap (λ (r : WatchingRun). event_of r.watching c.ask-event.result.request) v,
       c.ask-event.ensures.after ∙ ap (watched w) its ∙ ap (λ (r : WatchingRun). watched r.watching c.ask-event.result.request) v,
     )
