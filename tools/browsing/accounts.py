@@ -129,6 +129,15 @@ def try_accounts(browser, trial):
     trial.expect(f"a sleeper in set 0: {told}", told[:5] == ["set 0", "job 1", "priority 20", "06000", "asleep"])
 
 
+def try_phased(browser, trial):
+    """What a phase means is told of the group that is in it, and of no other."""
+    open_text(browser, 'script = ["phase 2 1"]\n' + table("phase", group=1, phase=1, job="novac 20 04100 00005")
+              + table("phase", group=2, phase=1, job="novac 20 04200 00005"))
+    go_to(browser, "1")
+    account = browser.text("account")
+    trial.expect(account, "Group 2 is in phase 1. After a restart “novac 20 04200 00005” is asked for again." in account)
+
+
 def try_refused(browser, trial):
     """Requests that the log and the allowance refuse are told and marked."""
     open_text(browser, 'limit = 1\nallowance = 3\nscript = ["tick", "tick", "restart", "tick", "tick", "fresh"]\n')
@@ -150,9 +159,10 @@ def try_refused(browser, trial):
 def try_power(browser, trial):
     """What power-up found is told: pairs that don't agree, phases that are none, or what begins again."""
     rest = 4 * ["77777", "00000"]
-    open_text(browser, f"power = {json.dumps(['77776', '00002', '77577', '00200', *rest])}\n")
+    open_text(browser, f"power = {json.dumps(['77776', '00002', '77577', '00200', '77775', '00000', *rest[:6]])}\n")
     account = browser.text("account")
-    trial.expect(account, "group 1: 77776 is not the complement of 00002group 2: phase 128 is above 127" in account)
+    trial.expect(account, "group 1: 77776 is not the complement of 00002group 2: phase 128 is above 127"
+                 "group 3: 77775 is not the complement of 00000" in account)
     trial.expect(browser.text("told-name"), browser.text("told-name") == "Alarm 1107: why")
     open_text(browser, f"power = {json.dumps(['77776', '00001', '77600', '00177', *rest])}\n"
               'script = ["findvac 20 04000 00005", "novac 20 04000 00005", "novac 20 04000 00005", "novac 20 04000 00005", "novac 20 '
