@@ -101,6 +101,8 @@ def try_accounts(browser, trial):
     says(browser, trial, "the time goes on", "Request 25 of 113, at 0.12 s: tick. Reply: tick. Job 1 runs.")
     seen = browser.value("document.getElementById('codes').innerText.replaceAll('\\n', ' ')")
     trial.expect(f"FAILREG {seen}", seen.replace("changed", "").split() == ["first", "1201", "second", "none", "latest", "1201"])
+    seen = browser.text("dsky")
+    trial.expect(f"the display has {seen}", seen == "PROG onVERB 05 NOUN 09: 01201 00000 01201")
     go_to(browser, "3")
     named = browser.value("document.getElementById('newjob').textContent")
     trial.expect(f"NEWJOB {named}", named == "namesjob 2changed")
