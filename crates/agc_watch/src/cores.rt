@@ -5,7 +5,7 @@ ghost use Rattle.agc_image.specs.Map.{HasPlace, HasSet, IsSets, IsWithin};
 use crate::files::{read_file, unread};
 use crate::program::Console;
 use crate::stops::Stop;
-use agc_check::add;
+use agc_check::{Piece, put};
 use agc_image::{AgcMap, address_in, is_within, job_in, rule_in, task_in, word_in};
 use agc_program::Fault;
 use agc_text::Filling::{Number, Octal, Priority, Seconds, Text};
@@ -34,10 +34,10 @@ struct Read {
     skip: usize,
 }
 
-/// Why a map or a memory is refused.
-fn refused(alloc: Global, parts: &[&str]) -> Stop {
+/// Why a map or a memory is refused: a text with gaps, and what fills them.
+fn refused(alloc: Global, text: &'static str, pieces: &[Piece<'_>]) -> Stop {
     let mut told = String::new(alloc);
-    match add(&mut told, parts) {
+    match put(&mut told, text, pieces) {
         Ok(()) => Stop::Said(1, told),
         Err(error) => Stop::from(error),
     }
@@ -72,9 +72,17 @@ fn wanted_at(alloc: Global, name: &str, table: &Table, key: &str) -> Result<u32,
     match address_at(table, key) {
         Some(address) => Ok(address),
         None if table.contains_key(key) => {
-            Err(refused(alloc, &[name, ": ", key, " has to be five octal digits"]))
+            Err(refused(
+                alloc,
+                "{}: {} has to be five octal digits",
+                &[Piece::Text(name), Piece::Text(key)],
+            ))
         }
-        None => Err(refused(alloc, &[name, ": the key '", key, "' is missing"])),
+        None => Err(refused(
+            alloc,
+            "{}: the key '{}' is missing",
+            &[Piece::Text(name), Piece::Text(key)],
+        )),
     }
 }
 
@@ -95,23 +103,32 @@ fn is_key(name: &str) -> bool {
     is_address || name == "sets" || name == "endtask" || name == "skip"
 }
 
+/// How many numbers come before the memory; none where a map doesn't say it.
+fn skip_of(alloc: Global, name: &str, table: &Table) -> Result<usize, Stop> {
+    if !table.contains_key("skip") {
+        return Ok(0);
+    }
+    match number_at(table, "skip", 0, 65535) {
+        Some(number) if 0 <= number => Ok(number as usize),
+        _ => Err(refused(alloc, "{}: skip has to be 0 to 65535", &[Piece::Text(name)])),
+    }
+}
+
 /// The map that a table is.
 fn map_of(alloc: Global, name: &str, table: &Table) -> Result<Read, Stop> {
     for key in table.keys() {
         if !is_key(key.as_str()) {
-            return Err(refused(alloc, &[name, ": there is no key '", key.as_str(), "'"]));
+            return Err(refused(
+                alloc,
+                "{}: there is no key '{}'",
+                &[Piece::Text(name), Piece::Front(key.as_str())],
+            ));
         }
     }
     let Some(sets) = number_at(table, "sets", 7, 8) else {
-        return Err(refused(alloc, &[name, ": sets has to be 7 or 8"]));
+        return Err(refused(alloc, "{}: sets has to be 7 or 8", &[Piece::Text(name)]));
     };
-    let skip = match table.get("skip") {
-        None => 0,
-        Some(_given) => match number_at(table, "skip", 0, 65535) {
-            Some(number) => number,
-            None => return Err(refused(alloc, &[name, ": skip has to be 0 to 65535"])),
-        },
-    };
+    let skip = skip_of(alloc, name, table)?;
     let endtask = match table.get("endtask") {
         None => 0,
         Some(_given) => wanted_at(alloc, name, table, "endtask")?,
@@ -128,7 +145,6 @@ fn map_of(alloc: Global, name: &str, table: &Table) -> Result<Read, Stop> {
         failreg: wanted_at(alloc, name, table, "failreg")?,
         endtask,
     };
-    let skip = if 0 <= skip { skip as usize } else { 0 };
     Ok(Read { map, skip })
 }
 
@@ -146,26 +162,27 @@ fn read_map(rt: &HostRuntime, name: &str) -> Result<Read, Stop> {
     match toml::table_from_str(alloc, text.as_str()) {
         Ok(table) => map_of(alloc, name, &table),
         Err(error) if error.is_memory() => Err(Stop::Fault(Fault::NoMemory)),
-        Err(_error) => Err(refused(alloc, &[name, ": this is no TOML document"])),
+        Err(_error) => Err(refused(alloc, "{}: this is no TOML document", &[Piece::Text(name)])),
     }
 }
 
 /// The words of a memory, an octal number in each line.
 fn words_of(alloc: Global, text: &str) -> Result<Vec<u16>, Stop> {
     let mut words = Vec::new(alloc);
-    for line in text.lines() {
+    for (number, line) in (1u64..).zip(text.lines()) {
         let digits = line.trim();
         if digits.is_empty() {
             continue;
         }
         match octal_of(digits) {
-            Some(number) if number <= 65535 => match words.push(number as u16) {
+            Some(word) if word <= 65535 => match words.push(word as u16) {
                 Ok(()) => {}
                 Err(_failed) => return Err(Stop::Fault(Fault::NoMemory)),
             },
             _ => return Err(refused(
                 alloc,
-                &["'", digits, "' is no octal number of sixteen bits"],
+                "line {}: '{}' is no octal number of sixteen bits",
+                &[Piece::Number(number), Piece::Front(digits)],
             )),
         }
     }
@@ -325,7 +342,11 @@ pub(crate) fn write_core(console: &mut Console<'_>, name: &str, text: &str) -> R
     let words = words_of(alloc, text)?;
     let memory = words.as_slice().get(skip..).unwrap_or(&[]);
     if (map.sets != 7 && map.sets != 8) || !is_within(&map, memory.len()) {
-        return Err(refused(alloc, &[name, ": a table is beyond the end of the memory"]));
+        return Err(refused(
+            alloc,
+            "{}: a table is beyond the end of the memory",
+            &[Piece::Text(name)],
+        ));
     }
     let mut draft = Draft::new(alloc)?;
     put_core(&mut draft, memory, &map);
