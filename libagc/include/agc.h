@@ -320,7 +320,7 @@ typedef struct { uint32_t from, to, percent, every, until; } AgcStolen;
 
 /* What a job costs that stands at an address, in hundredths of a centisecond of computing, 1 to
    100,000,000. Each time a job begins it may cost less, by up to `spread`, as a lot says: its cost is
-   `hundredths - spread` more the next lot modulo `spread + 1`. `spread` is less than `hundredths`; where it
+   `hundredths - spread`, plus the next lot modulo `spread + 1`. `spread` is less than `hundredths`; where it
    is 0 no lot is drawn. With the last of these it asks for the first of `count` requests, 0 to 7, of those that are
    handed to the call, from number `first` on; with each hundredth more for the next; and at last it ends,
    where `then` is 0, or sleeps at that address. A request is AGC_NOVAC, AGC_FINDVAC, AGC_PRIO, AGC_STORE,

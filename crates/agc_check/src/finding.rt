@@ -6,6 +6,7 @@ ghost use Rattle.agc_check.specs.Findings.{line_ends, line_of, StandsIn, refusal
 ghost use Rattle.agc_check.specs.Findings.{IsFound, AreFound, say, said, of_key, of_text};
 ghost use Rattle.agc_check.specs.declared.wrong.Wrong.TheVariants as wrong_of;
 ghost use Rattle.agc_document.specs.declared.fault.BenchFault.TheVariants as refusal;
+ghost use Rattle.agc_document.specs.declared.place.Place.TheVariants as place_of;
 
 use crate::locate::{Spot, spots_of_keys, spots_of_texts};
 use crate::wrong::Wrong;
@@ -75,9 +76,12 @@ pub(crate) struct Told<'a> {
 }
 
 impl<'a> Told<'a> {
-    /// What is told of the whole, at a byte.
+    /// What is told of the document as a whole, at one of its bytes.
     pub(crate) fn of_whole(at: usize, text: &'a str, wrong: Wrong) -> Told<'a>
-        ensures { result.wrong ≡ wrong }
+        ensures at { result.at ≡ at }
+        ensures place { result.place ≡ place_of.Whole }
+        ensures text { result.text.now ≡ text.now }
+        ensures wrong { result.wrong ≡ wrong }
     {
         Told {
             at,

@@ -52,17 +52,13 @@ fn found_at(
         Some(at) => *at,
         None => 0,
     };
-    let text = "";
-    found_only(
-        alloc,
-        document,
-        Told {
-            at,
-            place,
-            text,
-            wrong,
-        },
-    )
+    let told = Told {
+        at,
+        place,
+        text: "",
+        wrong,
+    };
+    found_only(alloc, document, told)
 }
 
 /// Whether a text is five octal digits.

@@ -62,7 +62,8 @@ pub record Asking : Type 0 where
   pub table : Option Schedule
   pub clock : Clocked
 
--- what the clock of a scenario asks a machine for, in order, and the requests alone
+-- what the clock of a scenario asks a machine for, in order, and the requests alone; no cost of a
+-- scenario is by lot, so its seed is 0
 unfoldable pub clock_asks : Schedule → Machined → List Asked
 clock_asks table machine = map in_time (scenario_requests by_machine table 0 machine)
 

@@ -7,8 +7,8 @@ use Rattle.agc_program.specs.declared.fault.Fault.TheVariants as fault
 use Rattle.agc_watch.specs.Data.{IsData}
 use Rattle.agc_watch.specs.declared.page.TheConstants.{OPENING, CLOSING}
 
--- a workbench is this, up to the place of a document's data, and then what closes it: data stand
--- between the opening and the closing tag of its element for a document
+-- a workbench is this front, which ends with the opening tag of its element for a document, and
+-- then what begins with the closing tag
 pub record IsWorkbench (workbench front : List ℕ) : Type 0 where
   pub before : List ℕ
   pub opened : front ≡ before ++ OPENING.now

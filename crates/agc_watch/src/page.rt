@@ -36,8 +36,8 @@ fn data_of(alloc: Global, text: &str) -> Result<Vec<u8>, AllocError>
     Ok(spelled)
 }
 
-/// What a workbench has ahead of the place of its document's data, which is just ahead of what
-/// closes it; none of a text that is no workbench, or that has a document already.
+/// A workbench up to where its document's data belong. None for a text that is no workbench, or
+/// that has a document already.
 fn front_of(workbench: &[u8]) -> Option<&[u8]>
     ensures found { IfSome result (λ front. IsWorkbench workbench.now front.now) }
     ensures none { IfNone result ((front : List ℕ) → IsWorkbench workbench.now front → ⊥) }
