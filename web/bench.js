@@ -4,15 +4,17 @@
  *
  * @typedef {{ at: string, bank: string, action: string[], name?: string }} TaskRow
  * @typedef {{ group: number, phase: number, job?: string, task?: string, name?: string }} PhaseRow
- * @typedef {{ at: string, cost: number, name?: string, then?: string[],
- *   deadline?: number }} JobRow
- * @typedef {{ at: number, do: string[], every?: number, until?: number, name?: string }} EventRow
+ * @typedef {{ at: string, cost: number | { from: number, to: number }, name?: string,
+ *   then?: string[], deadline?: number }} JobRow
+ * @typedef {{ at: number, after?: string, do: string[], every?: number, until?: number,
+ *   name?: string }} EventRow
  * @typedef {{ from: number, to: number, percent: number, every?: number,
  *   until?: number }} StealRow
  * @typedef {{ title?: string, sets?: number, limit: number, allowance: bigint, attends?: number,
  *   key: string[], radar: string[], power?: string[], script: string[], task: TaskRow[],
  *   phase: PhaseRow[], worker: { script: string[] }[],
- *   device: { line: string, pulses: number }[], seconds?: number, steal: number | StealRow[],
+ *   device: { line: string, pulses: number }[], seconds?: number, seed?: number,
+ *   steal: number | StealRow[],
  *   job: JobRow[], event: EventRow[] }} Bench
  */
 import { pulseOf } from "../libagc/js/machine.js";
@@ -63,7 +65,8 @@ export const LEVELS = {
     ...{ phase: tables("phase"), worker: tables("worker", 32n), device: tables("device", 32n) },
   },
   scenario: {
-    ...{ seconds: integer(1, 86_400n, true), title: text("name"), ...SHARED, steal: key("steal") },
+    ...{ seconds: integer(1, 86_400n, true), title: text("name"), seed: integer(1, 2_147_483_646n) },
+    ...{ ...SHARED, steal: key("steal") },
     ...{ job: tables("job", 100n), event: tables("event", 1000n) },
     ...{ task: tables("namedTask"), phase: tables("namedPhase") },
   },
@@ -74,11 +77,13 @@ export const LEVELS = {
   worker: { script: key("texts", { form: "request", required: true }) },
   device: { line: text("device", true), pulses: integer(0, 1_000_000n, true) },
   job: {
-    ...{ ...named, at: text("address", true), cost: integer(1, 1_000_000n, true) },
+    ...{ ...named, at: text("address", true), cost: key("cost", { required: true }) },
     ...{ then: some("then", 8n), deadline: integer(1, 8_640_000n) },
   },
+  cost: { from: integer(1, 1_000_000n, true), to: integer(1, 1_000_000n, true) },
   event: {
-    ...{ ...named, at: integer(0, 8_640_000n, true), do: some("request", 16n, true) },
+    ...{ ...named, at: integer(0, 8_640_000n, true), after: text("name") },
+    do: some("request", 16n, true),
     ...{ every: integer(1, 8_640_000n), until: integer(0, 8_640_000n) },
   },
   steal: {
@@ -197,6 +202,23 @@ function tablesOf(given, row, place) {
 }
 
 /**
+ * What a job costs: always as much, or by lot.
+ * @param {any} given
+ * @param {Place} place
+ */
+function costOf(given, place) {
+  if (given?.keys instanceof Map) {
+    const cost = tableOf(given, "cost", place);
+    if (cost.from > cost.to) place.refuse('"from" may not be above "to"');
+    return cost;
+  }
+  if (typeof given !== "bigint") {
+    place.refuse('expected an integer, 1 to 1000000, or a table of "from" and "to"');
+  }
+  return integerOf(given, integer(1, 1_000_000n), place);
+}
+
+/**
  * The value of a key.
  * @param {any} given
  * @param {Key} row
@@ -210,6 +232,7 @@ function valueOf(given, row, place) {
     case "steal":
       return typeof given === "bigint" ? integerOf(given, integer(0, 100n), place)
         : tablesOf(given, tables("steal", 100n), place);
+    case "cost": return costOf(given, place);
     default: return textsOf(given, row, place);
   }
 }
@@ -299,6 +322,30 @@ function checkSteal({ steal }) {
 }
 
 /**
+ * A cost by lot needs a seed.
+ * @param {Bench} bench
+ */
+function checkLots({ seed, job }) {
+  const byLot = job.findIndex(({ cost }) => typeof cost !== "number" && cost.from < cost.to);
+  if (seed === undefined && byLot !== -1) {
+    new Place(1, `job ${byLot + 1}, cost`)
+      .refuse('a cost "from" .. "to" needs the key "seed" in the scenario');
+  }
+}
+
+/**
+ * An event counts from one above it.
+ * @param {Bench} bench
+ */
+function checkAfter({ event }) {
+  const none = event.findIndex(({ after }, k) =>
+    after !== undefined && !event.slice(0, k).some((it) => it.name === after));
+  if (none !== -1) {
+    new Place(1, `event ${none + 1}, after`).refuse("no event above this one has that name");
+  }
+}
+
+/**
  * The bench or scenario of a document.
  * @param {string} document
  * @returns {Bench}
@@ -312,6 +359,8 @@ export function readBench(document) {
   const level = isScenario(table) ? "scenario" : "bench";
   const bench = { ...leftOut(level), ...tableOf(table, level, new Place(1, "")) };
   checkSteal(bench);
+  checkLots(bench);
+  checkAfter(bench);
   return bench;
 }
 
@@ -368,16 +417,26 @@ function arrayText(items) {
 }
 
 /**
+ * A table in one line.
+ * @param {any} table
+ * @returns {string}
+ */
+function inlineText(table) {
+  const pairs = Object.entries(table).map(([name, one]) => `${name} = ${valueText(one)}`);
+  return `{ ${pairs.join(", ")} }`;
+}
+
+/**
  * A value as a document has it.
  * @param {any} value
+ * @returns {string}
  */
 function valueText(value) {
   if (typeof value === "number" || typeof value === "bigint") return String(value);
   if (typeof value === "string") return quoted(value);
+  if (!Array.isArray(value)) return inlineText(value);
   if (value.length > 0 && typeof value[0] === "object") {
-    const rows = value.map((/** @type {any} */ it) =>
-      `{ ${Object.entries(it).map(([name, one]) => `${name} = ${valueText(one)}`).join(", ")} }`);
-    return `[${rows.join(", ")}]`;
+    return `[${value.map(inlineText).join(", ")}]`;
   }
   return arrayText(value);
 }

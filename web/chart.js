@@ -5,7 +5,7 @@
  * And what came of a run, in words.
  */
 import { by, fill, make } from "./dom.js";
-import { SPENT } from "./run.js";
+import { MOST_ROWS, SPENT } from "./run.js";
 import { counted, octal, seconds } from "./words.js";
 
 const LANES = [
@@ -78,12 +78,14 @@ export class Strip {
     return this.isTime ? this.run.rowAtTime(place, this.count) : Math.min(this.count, place);
   }
 
-  /** What the strip shows, in words. */
+  /** What the strip shows, in words. A clock stops at the most rows that a run has. */
   get text() {
     const most = mostUsed(this.run, this.count);
+    const cut = this.count < MOST_ROWS ? ""
+      : ` The page runs no more than ${counted(MOST_ROWS, "request")}.`;
     return `Over ${this.isTime ? seconds(this.end) : counted(this.count, "request")}: at most `
       + `${most[0]} of ${this.run.sets} core sets, ${most[1]} of 5 areas and ${most[2]} of 9 tasks `
-      + `at once; ${alarmsOf(this.run, this.count)}.`;
+      + `at once; ${alarmsOf(this.run, this.count)}.${cut}`;
   }
 }
 

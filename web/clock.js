@@ -40,8 +40,8 @@ const LONGEST = 86_400;
  * The clock of a bench.
  * @param {import("./bench.js").Bench} bench
  */
-function clockOf({ seconds: length, steal, job, event }) {
-  return new Clock({ seconds: length ?? LONGEST, steal, job, event });
+function clockOf({ seconds: length, seed, steal, job, event }) {
+  return new Clock({ seconds: length ?? LONGEST, seed, steal, job, event });
 }
 
 export class ClockPanel {
@@ -418,7 +418,7 @@ export class ClockPanel {
 
 /** What a branch is called that was left as such a number was changed. */
 const CHANGED = {
-  ...{ steal: "stolen time was changed", job: "a cost was changed" },
+  ...{ steal: "stolen time was changed", job: "a cost was changed", seed: "the seed was changed" },
   ...{ event: "an event was changed", sets: "the core sets were changed" },
   task: "a period was changed",
 };

@@ -10,12 +10,12 @@ import { Unread } from "./toml.js";
 const LABELS = {
   ...{ sets: "Core sets", limit: "Log's limit", allowance: "Allowance" },
   ...{ key: "A key pulse asks for", radar: "A radar pulse asks for" },
-  ...{ seconds: "Seconds", title: "Title" },
+  ...{ seconds: "Seconds", title: "Title", seed: "Seed" },
   steal: "Stolen percent, or lines: from, to, percent (every, until)",
   ...{ at: "At", bank: "Bank", action: "Actions", group: "Group", phase: "Phase", job: "Job" },
-  ...{ task: "Task", name: "Name", cost: "Cost, cs", then: "Then", do: "Asks for" },
+  ...{ task: "Task", name: "Name", cost: "Cost, cs (or two: from, to)", then: "Then", do: "Asks for" },
   deadline: "Deadline, cs",
-  ...{ every: "Every, cs", until: "Until, cs" },
+  ...{ after: "After the event", every: "Every, cs", until: "Until, cs" },
 };
 
 const HEADINGS = {
@@ -31,6 +31,9 @@ const LONG = new Set(["action", "do", "key", "radar", "steal", "then"]);
 const STOLEN = /^[0-9]+([ ,]+[0-9]+){2,4}$/;
 const STOLEN_KEYS = ["from", "to", "percent", "every", "until"];
 
+/** A cost by lot as it is typed. */
+const BY_LOT = /^([0-9]+)[ ,]+([0-9]+)$/;
+
 /**
  * What is typed for a key, of a value.
  * @param {any} value
@@ -41,6 +44,7 @@ function typed(value) {
     const keysOf = (/** @type {any} */ it) => STOLEN_KEYS.slice(0, it.every === undefined ? 3 : 5);
     return value.map((it) => keysOf(it).map((key) => it[key] ?? "").join(" ").trim()).join("\n");
   }
+  if (value.from !== undefined) return `${value.from} ${value.to}`;
   return Array.isArray(value) ? value.join("\n") : String(value);
 }
 
@@ -83,7 +87,9 @@ function valueOf(text, row) {
     return lines.map((it) => Object.fromEntries(it.split(/[ ,]+/)
       .map((number, k) => [STOLEN_KEYS[k], BigInt(number)])));
   }
-  const isNumber = (row.kind === "integer" || row.kind === "steal") && /^[0-9]+$/.test(lines[0]);
+  const lots = row.kind === "cost" ? BY_LOT.exec(lines[0]) : null;
+  if (lots !== null) return { from: BigInt(lots[1]), to: BigInt(lots[2]) };
+  const isNumber = ["integer", "steal", "cost"].includes(row.kind) && /^[0-9]+$/.test(lines[0]);
   return isNumber ? BigInt(lines[0]) : text.trim();
 }
 

@@ -13,14 +13,15 @@ const MOST_PERIODS = 8;
 
 /**
  * @typedef {import("./run.js").Run} Run
- * @typedef {{ name: string, value: number, min: number, max: number, unit: string, what: string,
- *   given: (value: number) => any }} Number
+ * @typedef {{ name: string, own: string, value: number, min: number, max: number, unit: string,
+ *   what: string, given: (value: number) => any }} Number
  */
 
 /** What the sliders are about. */
 const WHAT = {
   stolen: "What part of the computing time is taken away from the jobs",
   cost: "How much computing time each such job needs before it ends",
+  seed: "With which number lots begin, by which jobs cost more or less",
   period: "After how long it comes again",
   sets: "How many jobs can be alive at once",
 };
@@ -37,13 +38,14 @@ function periodsOf({ task, event }) {
   const tasks = task.flatMap((row, k) => row.action.map((line, n) => ({ row, k, n, found: AGAIN.exec(line) })))
     .filter(({ row, found }) => found !== null && found[2] === row.at && found[3] === row.bank)
     .map(({ row, k, n, found }) => ({
-      ...{ name: `${visible(row.name ?? row.at)} every`, value: Number(found?.[1]), min: 1 },
+      ...{ name: `${visible(row.name ?? row.at)} every`, own: row.at, value: Number(found?.[1]), min: 1 },
       ...{ max: Math.min(16250, Math.max(400, 2 * Number(found?.[1]))), unit: "cs", what: WHAT.period },
       given: (/** @type {number} */ value) => ({ task: task.map((one, m) => (m !== k ? one
         : { ...one, action: one.action.map((it, i) => (i === n ? `list ${value} ${one.at} ${one.bank}` : it)) })) }),
     }));
   const events = event.flatMap((row, k) => (row.every === undefined ? [] : [{
-    ...{ name: `${visible(row.name ?? `event ${k + 1}`)} every`, value: row.every, min: 1 },
+    ...{ name: `${visible(row.name ?? `event ${k + 1}`)} every`, own: `event ${k + 1}` },
+    ...{ value: row.every, min: 1 },
     ...{ max: Math.max(400, 2 * row.every), unit: "cs", what: WHAT.period },
     given: (/** @type {number} */ every) =>
       ({ event: event.map((one, m) => (m === k ? { ...one, every } : one)) }),
@@ -52,24 +54,40 @@ function periodsOf({ task, event }) {
 }
 
 /**
+ * Numbers of one name by more than their names: by whose they are, or if that is said twice, too, by
+ * their places.
+ * @param {Number[]} numbers
+ */
+function toldApart(numbers) {
+  const isTwice = (/** @type {Number[]} */ all, /** @type {Number} */ one) =>
+    all.filter((it) => it.name === one.name).length > 1;
+  const named = numbers.map((it) => (isTwice(numbers, it) ? { ...it, name: `${it.name} (${it.own})` } : it));
+  return named.map((it, k) => (isTwice(named, it) ? { ...it, name: `${it.name}, ${k + 1}` } : it));
+}
+
+/**
  * @param {import("./bench.js").Bench} bench
  * @returns {Number[]}
  */
 function numbersOf(bench) {
-  const { steal, job } = bench;
+  const { seed, steal, job } = bench;
   const now = typeof steal === "number" ? steal : partsOf(steal).once.at(-1)?.percent ?? 0;
-  const stolen = { name: "Stolen time", value: now, min: 0, max: 100, unit: "%", what: WHAT.stolen,
+  const stolen = { name: "Stolen time", own: "%", value: now, min: 0, max: 100, unit: "%", what: WHAT.stolen,
     given: (/** @type {number} */ value) => ({ steal: value }) };
-  const costs = job.slice(0, MOST_COSTS).map((it, k) => ({
-    ...{ name: visible(it.name ?? it.at), value: it.cost, min: 1, max: Math.max(400, 2 * it.cost) },
-    ...{ unit: "cs", what: WHAT.cost },
+  const costs = job.slice(0, MOST_COSTS).flatMap((it, k) => (typeof it.cost !== "number" ? [] : [{
+    ...{ name: visible(it.name ?? it.at), own: it.at, value: it.cost, min: 1 },
+    ...{ max: Math.max(400, 2 * it.cost), unit: "cs", what: WHAT.cost },
     given: (/** @type {number} */ cost) =>
       ({ job: job.map((one, n) => (n === k ? { ...one, cost } : one)) }),
-  }));
-  if (bench.seconds === undefined) return [stolen, ...costs];
-  const sets = { name: "Core sets", value: bench.sets ?? 7, min: 7, max: 8, unit: "", what: WHAT.sets,
+  }]));
+  const lots = seed === undefined || costs.length === job.length ? [] : [{
+    ...{ name: "Seed", own: "lots", value: seed, min: 1, max: Math.max(100, seed), unit: "", what: WHAT.seed },
+    given: (/** @type {number} */ value) => ({ seed: value }),
+  }];
+  if (bench.seconds === undefined) return toldApart([stolen, ...costs]);
+  const sets = { name: "Core sets", own: "7 or 8", value: bench.sets ?? 7, min: 7, max: 8, unit: "", what: WHAT.sets,
     given: (/** @type {number} */ value) => ({ sets: value }) };
-  return [stolen, ...costs, ...periodsOf(bench), sets];
+  return toldApart([stolen, ...costs, ...lots, ...periodsOf(bench), sets]);
 }
 
 export class Sliders {
@@ -189,6 +207,11 @@ function overTime(run, told) {
   return historyOf(all.filter((it, k) => k + 1 === all.length || all[k + 1].from > it.from));
 }
 
+/** @param {import("./bench.js").JobRow["cost"] | undefined} cost */
+function costText(cost) {
+  return typeof cost === "object" ? `${cost.from} to ${cost.to}` : String(cost);
+}
+
 /**
  * How a run differs from its document, in full; nothing where it doesn't.
  * @param {Run} run
@@ -202,7 +225,8 @@ export function differencesOf(run) {
   };
   add("steal", stealText(bench.steal), stealText(given.steal), " %");
   given.job.forEach((it, k) =>
-    add(`${visible(it.name ?? it.at)} costs`, overTime(run, (one) => String(one.job[k]?.cost)), String(it.cost), " cs"));
+    add(`${visible(it.name ?? it.at)} costs`, overTime(run, (one) => costText(one.job[k]?.cost)), costText(it.cost), " cs"));
+  add("seed", overTime(run, (one) => String(one.seed)), String(given.seed));
   add("core sets", String(bench.sets ?? 7), String(given.sets ?? 7));
   const periods = periodsOf(given);
   periodsOf(bench).forEach((it, k) => {

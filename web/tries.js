@@ -41,6 +41,21 @@ function fromBeginning(workbench, name, given) {
 }
 
 /**
+ * Events without one of them, and without those that count from it.
+ * @param {import("./bench.js").EventRow[]} events
+ * @param {import("./bench.js").EventRow} left
+ */
+function eventsWithout(events, left) {
+  /** @type {import("./bench.js").EventRow[]} */
+  const rest = [];
+  for (const it of events) {
+    const hasBase = it.after === undefined || rest.some((one) => one.name === it.after);
+    if (it !== left && hasBase) rest.push(it);
+  }
+  return rest;
+}
+
+/**
  * @param {any} workbench
  * @param {Shown} shown
  * @returns {Try[]}
@@ -59,9 +74,10 @@ function atAlarm(workbench, shown) {
   if (bench.seconds === undefined) return found;
   const isStolen = typeof bench.steal === "number" ? bench.steal > 0 : bench.steal.length > 0;
   if (isStolen) found.push(fromBeginning(workbench, "Without stolen time?", { steal: 0 }));
-  const later = bench.event.filter((/** @type {any} */ it) => it.name !== undefined && it.at > 0);
+  const later = bench.event.filter((/** @type {any} */ it) =>
+    it.name !== undefined && (it.at > 0 || it.after !== undefined));
   for (const it of later.slice(0, MOST_EVENTS)) {
-    const event = bench.event.filter((/** @type {any} */ other) => other !== it);
+    const event = eventsWithout(bench.event, it);
     found.push(fromBeginning(workbench, `Without ${visible(it.name)}?`, { event }));
   }
   return found;

@@ -24,8 +24,9 @@
  * each other.
  *
  * CODES. Each call answers a code. AGC_OK: it was served. Any other: what the call lacks, in the
- * order of the codes, and then the array is as it was and the rest of the answer is 0.
- * agc_code_text says a code in words, agc_reply_text a kind of reply.
+ * order of the codes, and then the array is as it was and the rest of the answer is 0, except where
+ * agc_explain tells why, and AGC_NO_ROOM how many bytes are wanted. agc_code_text says a code in
+ * words, agc_reply_text a kind of reply.
  *
  * ANSWERS. Compilers of GNU's and LLVM's kind warn where an answer isn't used, since its code says
  * whether anything was done. AGC_IGNORE_ANSWERS, defined before this header, turns that off.

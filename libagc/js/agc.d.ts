@@ -223,9 +223,13 @@ export interface JobCost {
   name?: string;
 }
 
-/** What is asked at a centisecond, and with `every` again, at last at `until`. */
+/**
+ * What is asked at a centisecond, and with `every` again, at last at `until`. Where `after` is the name
+ * of an event above it, these count from the first time of that one.
+ */
 export interface TimedEvent {
   at: number;
+  after?: string;
   do: string | readonly string[];
   every?: number;
   until?: number;

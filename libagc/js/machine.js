@@ -18,7 +18,7 @@
  * @typedef {{ at: string | number, cost: number | { from: number, to: number },
  *   then?: string | string[], deadline?: number,
  *   name?: string }} JobCost
- * @typedef {{ at: number, do: string | string[], every?: number, until?: number,
+ * @typedef {{ at: number, after?: string, do: string | string[], every?: number, until?: number,
  *   name?: string }} TimedEvent
  * @typedef {{ seconds?: number, seed?: number, steal?: number | Stolen[], job?: JobCost[],
  *   event?: TimedEvent[] }} Timetable
@@ -1009,6 +1009,30 @@ function seedOf(seed, costs) {
   throw new Lacking(Code.TIME_RANGE, `seed has to be 1 to ${LAST_SEED}, and is ${seed}`);
 }
 
+/**
+ * Events, whose times all count from the start: one with `after` counts from the first time of an
+ * event of that name above it. One that would come after a day never comes.
+ * @param {TimedEvent[]} events
+ */
+function placed(events) {
+  const firsts = new Map();
+  return events.map((it, k) => {
+    const needed = ["at", "do"];
+    known(`event ${k + 1}`, it, [...needed, "after", "every", "until", "name"], needed);
+    const base = it.after === undefined ? 0 : firsts.get(it.after);
+    if (base === undefined) {
+      const told = `event ${k + 1}: no event above it is called ${JSON.stringify(it.after)}`;
+      throw new Lacking(Code.TIME_RANGE, told);
+    }
+    const first = Math.min(base + whole(it.at), LAST_TIME + 1);
+    if (it.name !== undefined && !firsts.has(it.name)) firsts.set(it.name, first);
+    if (it.after === undefined) return it;
+    const until = it.until === undefined ? {} : { until: Math.min(base + whole(it.until), LAST_TIME) };
+    const never = first > LAST_TIME ? { every: 1, until: 0 } : {};
+    return { ...it, at: Math.min(first, LAST_TIME), ...until, ...never };
+  });
+}
+
 /** What a timetable is in the module's memory, one part after the other. */
 class LentTimes {
   /** @param {Timetable} given */
@@ -1041,8 +1065,7 @@ class LentTimes {
       const [hundredths, spread] = [whole(100 * most), whole(100 * (most - least))];
       return [octal(it.at), hundredths, leaves, first, lines.length - 1, spread];
     });
-    this.events = event.map((it, k) => {
-      known(`event ${k + 1}`, it, ["at", "do", "every", "until", "name"], ["at", "do"]);
+    this.events = placed(event).map((it, k) => {
       const lines = Array.isArray(it.do) ? it.do : [it.do];
       const first = requests.length;
       lines.forEach((line) => {

@@ -86,6 +86,7 @@ function refuses() {
     [Code.NOT_SPELLED, { job: [{ ...job, then: ["prio 07"] }] }],
     [Code.TIME_RANGE, { event: [{ at: 0, do: "tick" }, { at: 8640001, do: "tick", every: 1, until: 4 }] }],
     [Code.TIME_RANGE, { event: [{ at: 0, do: "tick" }, { at: 5, do: "tick", every: 0 }] }],
+    [Code.TIME_RANGE, { event: [{ at: 0, do: "tick" }, { at: 5, do: "tick", after: "P64" }] }],
   ];
   for (const [code, timetable] of faults) {
     let found = null;
@@ -119,6 +120,12 @@ function keeps() {
   const again = { at: 1, do: "phase 1 1", every: 2 };
   want(asks(new Clock({ event: [again] }), 6) === "1 phase 1 1, 3 phase 1 1, 5 phase 1 1", "every two centiseconds, without an end");
   want(asks(new Clock({ event: [{ ...again, until: 3 }] }), 6) === "1 phase 1 1, 3 phase 1 1", "up to the third");
+  // From the first at 1 on, the second comes 3 later, and the third 2 and 4 after that, but not 6; a day later nothing comes.
+  const named = { ...again, every: 20, name: "P64" };
+  const second = { after: "P64", at: 3, do: "phase 1 2", name: "P65" };
+  const third = { after: "P65", at: 2, every: 2, until: 5, do: "phase 1 3" };
+  const counted = { event: [named, second, third, { after: "P64", at: 8640000, do: "phase 2 1" }] };
+  want(asks(new Clock(counted), 30) === "1 phase 1 1, 4 phase 1 2, 6 phase 1 3, 8 phase 1 3, 21 phase 1 1", asks(new Clock(counted), 30));
   want(new Clock().lasts === 8640000 && new Clock({ seconds: 60 }).lasts === 6000, "how long it lasts");
   // A job costs two centiseconds, and of each 40 percent are stolen: it has 60, 120, 180 and 200 hundredths.
   const timetable = { steal: 40, job: [{ at: "04000", cost: 2 }], event: [{ at: 1, do: "novac 20 04000 00005" }] };

@@ -231,6 +231,7 @@ def refuses():
         (13, {"job": [{**job, "then": ["prio 07"]}]}), (13, {"job": [{**job, "then": ["end", "end"]}]}), (15, {"job": [{**job, "then": []}]}),
         (15, {"job": [{**job, "then": ["prio 07"] * 8 + ["end"]}]}), (0, {"job": [{**job, "then": ["prio 07"] * 7 + ["end"]}]}),
         (15, {"event": [{**event, "at": 8640001}]}), (15, {"event": [{**event, "do": []}]}),
+        (15, {"event": [{**event, "after": "P64"}, {**event, "name": "P64"}]}),
         (15, {"event": [{**event, "do": ["tick"] * 17}]}), (0, {"event": [{**event, "do": ["tick"] * 16}]}),
         (0, {"event": [{**event, "at": 5, "every": 1, "until": 4}]}), (15, {"event": [{**event, "every": 0}]}),
         (13, {"event": [{**event, "do": "wait"}]}), (0, {}),
@@ -290,6 +291,13 @@ def keeps():
     assert clock.given[0] == 300 - 208 + 100 and clock.state["at"][-1] == 182605794
     kept = Clock.of_state(clock.state)
     assert [str(it) for it, _ in machine.copy().run(kept, 9)] == [str(it) for it, _ in machine.run(clock, 9)] and kept.given == clock.given
+    # By hand: from the first at 5 on, the second comes 3 later, and the third 2 and 4 after that, but not 6. What is after a day
+    # never comes, and doesn't count as wrong.
+    named = {"at": 5, "do": "phase 1 1", "every": 20, "name": "P64"}
+    second, third = {"after": "P64", "at": 3, "do": "phase 1 2", "name": "P65"}, {"after": "P65", "at": 2, "every": 2, "until": 5, "do": "phase 1 3"}
+    late = {"after": "P64", "at": 8640000, "do": "phase 2 1"}
+    found = [(5, 1), (8, 2), (10, 3), (12, 3), (25, 1)]
+    assert asks({"event": [named, second, third, late]}, 30) == [(time, "phase", 1, phase) for time, phase in found]
     late = {**steal, "event": [{"at": 2000, "do": "novac 20 04000 00005"}]}
     assert asks(late, 2009) == [(2000, "novac", 0o20, 0o4000, 5), (2003, "end")]
     machine, clock = Machine(), Clock(steal)

@@ -115,18 +115,21 @@ def try_examples(browser, trial):
 
 
 # A scenario whose tables have all keys, and its plan as the editor's fields show it, table by table.
-PLANNED = 'seconds = 3\ntitle = "A \\"title\\" \\\\"\nsets = 8\nsteal = [{ from = 3, to = 4, percent = 9, every = 5 }, ' \
+PLANNED = 'seconds = 3\ntitle = "A \\"title\\" \\\\"\nseed = 7\nsets = 8\nsteal = [{ from = 3, to = 4, percent = 9, every = 5 }, ' \
     '{ from = 0, to = 50, percent = 7 }, { from = 50, to = 60, percent = 9 }]\n' + "".join((
-    table("job", name="WORK", at="05000", cost=9, then=["prio 07", "sleep 06000"], deadline=40), table("event", name="go", at=1, do=["tick", "change"], every=7, until=90),
+    table("job", name="WORK", at="05000", then=["prio 07", "sleep 06000"], deadline=40) + "cost = { from = 9, to = 12 }\n",
+    table("event", name="go", at=1, do=["tick", "change"], every=7, until=90), table("event", at=5, after="go", do="tick"),
     table("task", name="ALPHA", at="02000", bank="00006", action=["nothing", "rouse 06000"]),
     table("phase", name="late", group=2, phase=3, job="novac 15 05100 00007", task="list 9 02000 00006")))
 FIELDS = """Array.from(document.querySelectorAll('#plan-body label'), (it) =>
   `${it.firstChild.textContent}: ${it.lastChild.value.replaceAll('\\n', ';')} ${it.lastChild.placeholder ?? ''}`.trim()).join(', ')"""
-SHOWN_FIELDS = ('Seconds: 3, Title: A "title" \\, Core sets: 8, Log\'s limit:  1000000, Allowance:  any, A key pulse asks for:  nothing, '
+SHOWN_FIELDS = ('Seconds: 3, Title: A "title" \\, Seed: 7, Core sets: 8, Log\'s limit:  1000000, Allowance:  any, A key pulse asks for:  nothing, '
                 "A radar pulse asks for:  nothing, Stolen percent, or lines: from, to, percent (every, until): 3 4 9 5;0 50 7;50 60 9 0, "
-                "Name: ALPHA, At: 02000, Bank: 00006, Actions: nothing;rouse 06000, Name: WORK, At: 05000, Cost, cs: 9, Then: prio 07;sleep 06000, Deadline, cs: 40, "
+                "Name: ALPHA, At: 02000, Bank: 00006, Actions: nothing;rouse 06000, Name: WORK, At: 05000, Cost, cs (or two: from, to): 9 12, "
+                "Then: prio 07;sleep 06000, Deadline, cs: 40, "
                 "Name: late, Group: 2, Phase: 3, Job: novac 15 05100 00007, Task: list 9 02000 00006, "
-                "Name: go, At: 1, Asks for: tick;change, Every, cs: 7, Until, cs: 90")
+                "Name: go, At: 1, After the event:, Asks for: tick;change, Every, cs: 7, Until, cs: 90, "
+                "Name:, At: 5, After the event: go, Asks for: tick, Every, cs:, Until, cs:")
 
 
 def try_plans(browser, trial):
@@ -140,7 +143,7 @@ def try_plans(browser, trial):
     found = browser.value(FIELDS)
     trial.expect(f"the fields, applied: {found}", found == SHOWN_FIELDS)
     browser.value("document.querySelector('#plan-fields [name=steal]').value = '60 70 5\\n80 90 6\\n1 2 3 4 99'")
-    browser.value("document.querySelector('#plan-event .fields button').click()")
+    browser.value("document.querySelectorAll('#plan-event .fields button').forEach((it) => it.click())")
     browser.value("Array.from(document.querySelectorAll('fieldset > button')).find((it) => it.textContent === 'Add a job').click()")
     browser.click("plan-apply")
     trial.expect(browser.text("plan-fault"), browser.text("plan-fault") == 'job 2: the key "at" is missing')
@@ -150,7 +153,7 @@ def try_plans(browser, trial):
     browser.click("plan")
     found = browser.value(FIELDS)
     trial.expect(f"the fields, changed: {found}", "60 70 5;80 90 6;1 2 3 4 99" in found and "Asks for" not in found
-                 and "Name: , At: 05100, Cost, cs: 8, Then:" in found.replace(":,", ": ,"))
+                 and "Name: , At: 05100, Cost, cs (or two: from, to): 8, Then:" in found.replace(":,", ": ,"))
     browser.press("Escape")
     open_text(browser, "sets = 8\n")
     browser.click("plan")

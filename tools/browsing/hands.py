@@ -11,7 +11,7 @@ from browsing.history import try_beside, try_branches, try_history
 from browsing.keys import try_keys, try_meanings
 from browsing.looks import try_looks, try_tops
 from browsing.pages import PROGRAM, Trial, save, written
-from browsing.sliders import try_asides, try_panel, try_percent, try_sliders
+from browsing.sliders import try_asides, try_panel, try_percent, try_sliders, try_twins
 
 
 def hands(browser, folder):
@@ -29,7 +29,7 @@ def hands(browser, folder):
         try_form(browser, trial)
         try_plan(browser, trial)
         trial.expect(f"{browser.shown()['broken']}", not browser.shown()["broken"])
-    for part in try_alarms, try_history, try_lines, try_exercise, try_sliders, try_accounts, try_phased, try_refused, try_power, try_since, try_rows:
+    for part in try_alarms, try_history, try_lines, try_exercise, try_sliders, try_twins, try_accounts, try_phased, try_refused, try_power, try_since, try_rows:
         part(browser, trial)
     trial.expect(f"{browser.shown()['broken']}", not browser.shown()["broken"])
     for part in (try_questions, try_editing, try_orders, try_restarts, try_axis, try_names, try_strip, try_panel, try_offers, try_bounds, try_forms, try_keys, try_meanings, try_files, try_examples, try_plans, try_beside,

@@ -121,7 +121,7 @@ def type_line(browser, line):
 def wait_for(browser, text):
     """Waits up to ten seconds until the sentence has this text."""
     begun = time.monotonic()
-    while text not in browser.text("sentence") and time.monotonic() - begun < 10:
+    while text not in browser.text("sentence") and time.monotonic() - begun < 60:
         time.sleep(0.05)
 
 
@@ -141,15 +141,22 @@ def texts(browser, what):
 def exercise(browser, number):
     """Opens an exercise by its link, and waits until it is there, with its answer hidden."""
     asked = dict(repository.tool("teaching").workbench_texts())[f"exercise-{number}"].splitlines()[1].strip("# ").split("`")[0]
-    for mark in "#", f"#exercise-{number}":
-        browser.value(f"location.hash = {json.dumps(mark)}")
-        time.sleep(0.1)
-    begun = time.monotonic()
-    while not browser.value("document.getElementById('show-answer') !== null && document.querySelector('#question p').textContent"
-                            f".replaceAll('*', '').startsWith({json.dumps(asked.replace('*', ''))})"):
-        if time.monotonic() - begun > 10:
-            raise OSError(f"exercise {number} isn't there")
-        time.sleep(0.05)
+    shown = "document.getElementById('show-answer') !== null && document.querySelector('#question p').textContent" \
+            f".replaceAll('*', '').startsWith({json.dumps(asked.replace('*', ''))})"
+    for pause in 0.1, 1, 5, 20:
+        # only a question that is drawn anew has the button again
+        browser.value("document.getElementById('show-answer')?.remove()")
+        for mark in "#", f"#exercise-{number}":
+            browser.value(f"location.hash = {json.dumps(mark)}")
+            time.sleep(pause)
+        begun = time.monotonic()
+        while not browser.value(shown):
+            if time.monotonic() - begun > 2 + pause:
+                break
+            time.sleep(0.05)
+        else:
+            return
+    raise OSError(f"exercise {number} isn't there")
 
 
 def set_slider(browser, value):
@@ -163,7 +170,7 @@ def edit_text(browser, text):
     browser.value("(() => { const it = document.getElementById('edit-text');"
                   f" it.dataset.ran = 'no'; it.value = {json.dumps(text)}; it.dispatchEvent(new Event('input')); }})()")
     begun = time.monotonic()
-    while browser.value("document.getElementById('edit-text').dataset.ran") != "yes" and time.monotonic() - begun < 10:
+    while browser.value("document.getElementById('edit-text').dataset.ran") != "yes" and time.monotonic() - begun < 60:
         time.sleep(0.05)
 
 
@@ -181,7 +188,7 @@ def saved(browser):
     begun = time.monotonic()
     while not browser.value("!!document.querySelector('#dialog[open] textarea[readonly]') && "
                             "document.querySelector('#dialog-body input[type=text]')?.value !== ''"):
-        if time.monotonic() - begun > 10:
+        if time.monotonic() - begun > 60:
             raise OSError("nothing is saved")
     found = browser.value("['textarea', 'input[type=text]'].map((it) => "
                           "document.querySelector(`#dialog-body ${it}`)?.value ?? '')")

@@ -18,8 +18,8 @@ function read(text) {
     const bench = readBench(text);
     const run = new Run(bench);
     if (bench.seconds !== undefined) {
-      const { seconds, steal, job, event } = bench;
-      new Clock({ seconds, steal, job, event });
+      const { seconds, seed, steal, job, event } = bench;
+      new Clock({ seconds, seed, steal, job, event });
       return { scenario: true };
     }
     for (const [line, who] of requestsOf(run.bench)) {

@@ -88,13 +88,27 @@ def is_taken(text):
         [PROGRAM, "peaks"], input=text.encode("utf-8", "surrogatepass"), capture_output=True, check=False).returncode == 0
 
 
+# What is said of runs of so many ticks: a run has at most 4,000,000 rows, and a day more.
+EMPTY = "at most 0 of 7 core sets, 0 of 5 areas and 0 of 9 tasks at once; no alarm."
+TOLD = {3_999_999: f"Over 39999.99 s: {EMPTY}", 4_000_000: f"Over 40000.00 s: {EMPTY} The page runs no more than 4,000,000 requests."}
+
+
+def compare_long(trial):
+    """Whether a run that is cut is said to be."""
+    ran = subprocess.run(["node", f"{TOP}/tools/browsing/strip.mjs", *map(str, TOLD)], capture_output=True, text=True, timeout=1200, check=False)
+    if trial.expect(f"node: {ran.stderr[-500:]}", ran.returncode == 0):
+        trial.expect(f"a long run: {ran.stdout}", json.loads(ran.stdout) == [*TOLD.values()])
+
+
 def reader(_browser, folder):
     """The page's reader of documents takes what agc takes, and reads it so, or says that it doesn't know
-    the form: all cases, and 5,000 random and damaged documents. It takes a scenario where agc_watch does."""
+    the form: all cases, and 5,000 random and damaged documents. It takes a scenario where agc_watch does. A run that
+    is cut is said to be."""
     trial = Trial("reader")
     if shutil.which("node") is None:
         print("browse: there is no node, so the reader of documents was not tried")
         return []
+    compare_long(trial)
     texts = documents()
     with open(f"{folder}/documents.json", "w", encoding="utf-8") as file:
         json.dump(texts, file)

@@ -76,6 +76,25 @@ SLIDERS = """Array.from(document.querySelectorAll('#sliders label'), (it) => {
 }).join(', ')"""
 
 
+# Two jobs and an event of one name.
+TWINS = "seconds = 2\n" + "".join((
+    table("job", at="04000", cost=10, name="WORK"), table("job", at="05000", cost=20, name="WORK"),
+    table("event", at=0, every=60, do=["novac 20 04000 00005", "novac 21 05000 00005"], name="WORK")))
+
+
+def try_twins(browser, trial):
+    """Sliders of one name are told apart, and each changes its own number."""
+    open_text(browser, TWINS)
+    told = browser.value("Array.from(document.querySelectorAll('#sliders input'), (it) => it.ariaLabel).join(', ')")
+    trial.expect(told, told == "Stolen time, WORK (04000), WORK (05000), WORK every, Core sets")
+    for k, value, wanted in (1, 37, "WORK costs 37 cs (document: 10 cs)."), (2, 29, "WORK costs 37 cs (document: 10 cs); WORK costs 29 cs (document: 20 cs)."):
+        browser.value(f"(() => {{ const it = document.querySelectorAll('#sliders input')[{k}];"
+                      f" it.value = '{value}'; it.dispatchEvent(new Event('change')); }})()")
+        told = browser.text("differs")
+        trial.expect(f"by slider {k}: {told}", told == f"This run differs from its document: {wanted}")
+    open_text(browser, "")
+
+
 def try_panel(browser, trial):
     """The clock's controls: sliders with their bounds, from when a change holds, single centiseconds, the next event, the end."""
     open_text(browser, PANEL)

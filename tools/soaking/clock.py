@@ -98,6 +98,18 @@ def comes(event, time):
     return event["at"] <= time <= event.get("until", time) and (time - event["at"]) % event["every"] == 0
 
 
+def counted(events):
+    """Events whose times all count from the start: those of one with `after` count from the first of that name above it."""
+    firsts, found = {}, []
+    for event in events:
+        base = firsts[event["after"]] if "after" in event else 0
+        times = {key: base + event[key] for key in ("at", "until") if key in event}
+        found.append({**event, **times})
+        if "name" in event:
+            firsts.setdefault(event["name"], times["at"])
+    return found
+
+
 def listed(lines):
     return [lines] if isinstance(lines, str) else lines
 
@@ -108,6 +120,7 @@ class Passing:
     def __init__(self, scenario, machine):
         self.scenario, self.machine = scenario, machine
         self.given, self.asked, self.time = {}, [], 0
+        self.listed_events = counted(scenario.get("event", []))
         self.costs, self.needs, self.lot = {}, {}, scenario.get("seed")
         for job in scenario.get("job", []):
             self.costs.setdefault(int(job["at"], 8), (job["cost"], listed(job.get("then", "end"))))
@@ -119,7 +132,7 @@ class Passing:
         self.given = {number: given for number, given in self.given.items() if number in awake}
 
     def events(self):
-        for number, event in enumerate(self.scenario.get("event", [])):
+        for number, event in enumerate(self.listed_events):
             if comes(event, self.time):
                 for line in listed(event["do"]):
                     self.ask(number, line)
@@ -203,6 +216,8 @@ class Dice(random.Random):
 
     def job(self, at):
         job = {"at": at, "cost": self.choice([1, 1, 2, 3, 7, 40])}
+        if self.random() < 0.4:
+            job["cost"] = {"from": job["cost"], "to": job["cost"] + self.choice([0, 1, 1, 3, 20])}
         if self.random() < 0.7:
             job["then"] = self.choice(["end", f"sleep {self.address()}"])
         if self.random() < 0.5:
@@ -217,8 +232,14 @@ class Dice(random.Random):
         return self.choice([self.start(), f"prio {self.randint(1, 5):02o}", f"list {self.randint(1, 40)} {self.address()} 00005",
                             f"phase {self.randint(1, 6)} {self.randint(0, 2)}", f"store {self.randint(1, 6)} 00001"])
 
-    def event(self):
+    def event(self, above):
+        """An event, which may count from one of those above it."""
         event = {"at": self.choice([0, 0, self.randint(0, 200)])}
+        names = [it["name"] for it in above if "name" in it]
+        if names and self.random() < 0.5:
+            event["after"] = self.choice(names)
+        if self.random() < 0.5:
+            event["name"] = self.choice(["P63", "P64", "1201"])
         requests = [self.request() for _ in range(self.randint(1, 3))]
         event["do"] = requests[0] if len(requests) == 1 and self.random() < 0.5 else requests
         if self.random() < 0.5:
@@ -235,13 +256,20 @@ class Dice(random.Random):
         places = self.sample([(g, p) for g in range(1, 6) for p in (1, 2)], self.randint(0, 4))
         found["phase"] = [{"group": g, "phase": p, "job": self.start(), "task": f"list 9 {self.address()} 00005"} for g, p in places]
         found["job"] = [self.job(f"{0o2000 + k:05o}") for k in self.sample(range(5), self.randint(1, 4))]
-        found["event"] = [self.event() for _ in range(self.randint(1, 5))]
+        found["event"] = []
+        for _ in range(self.randint(1, 5)):
+            found["event"].append(self.event(found["event"]))
+        costs = [it["cost"] for it in found["job"]]
+        if any(not isinstance(it, int) and it["from"] < it["to"] for it in costs) or self.random() < 0.2:
+            found["seed"] = self.choice([1, 2147483646, self.randint(1, 2147483646)])
         return found
 
 
 def value_text(value):
     if isinstance(value, list):
         return "[" + ", ".join(map(value_text, value)) + "]"
+    if isinstance(value, dict):
+        return "{ " + ", ".join(f"{key} = {value_text(it)}" for key, it in value.items()) + " }"
     return str(value) if isinstance(value, int) else f'"{value}"'
 
 

@@ -9,7 +9,8 @@ use crate::wrong::Wrong;
 use agc_document::rows::{BENCH_KEYS, DEVICE_KEYS, PHASE_KEYS, TASK_KEYS, WORKER_KEYS};
 use agc_document::{Form, Key, KeyFault, Kind as Valued, Level, Place};
 use agc_scenario::rows::{
-    EVENT_KEYS, JOB_KEYS, NAMED_PHASE_KEYS, NAMED_TASK_KEYS, SCENARIO_KEYS, STEAL_KEYS,
+    COST, COST_KEYS, EVENT_KEYS, JOB_KEYS, NAMED_PHASE_KEYS, NAMED_TASK_KEYS, SCENARIO_KEYS, STEAL,
+    STEAL_KEYS,
 };
 use std::alloc::{AllocError, Global};
 
@@ -30,6 +31,8 @@ const TEXTS: &str = "expected an array of {} strings";
 
 const INTEGER_OR_TABLES: &str = "expected an integer, {} {} {}, or an array of at most {} tables, \
      each below its line [[{}]]";
+
+const INTEGER_OR_TABLE: &str = "expected an integer, {} {} {}, or a table of \"from\" and \"to\"";
 
 const TABLES: &str = "expected an array of tables, each below its line [[{}]]";
 
@@ -88,16 +91,26 @@ fn range(low: u64, high: u64, name: Piece<'static>) -> [Piece<'static>; 5] {
     [Piece::Number(low), Piece::Text(between), last, last, name]
 }
 
+/// What is said of the value of a key that has to be an integer, or may be something else.
+fn integer_said(key: Key) -> &'static str {
+    if key.name() == COST.name() {
+        INTEGER_OR_TABLE
+    } else if key.name() == STEAL.name() {
+        INTEGER_OR_TABLES
+    } else {
+        INTEGER
+    }
+}
+
 /// What the value of a key has to be.
 fn expected_value(key: Key) -> Said<'static> {
     let name = Piece::Text(key.name());
     match key.kind() {
-        Valued::Integer(low, high) => (INTEGER, range(low, high, name)),
+        Valued::Integer(low, high) => (integer_said(key), range(low, high, name)),
         Valued::Text(_form) => said("expected a string", NONE, NONE),
         Valued::OneOrMore(_form, low, high) => (ONE_OR_MORE, range(low, high, name)),
         Valued::Texts(_form, 0, _most) => said("expected an array of strings", NONE, NONE),
         Valued::Texts(_form, count, _most) => said(TEXTS, Piece::Number(count), NONE),
-        Valued::IntegerOrTables(low, high) => (INTEGER_OR_TABLES, range(low, high, name)),
         Valued::Tables(_least, u64::MAX) => said(TABLES, name, NONE),
         Valued::Tables(_least, most) => said(FEW_TABLES, Piece::Number(most), name),
     }
@@ -138,6 +151,7 @@ fn keys_of(level: Level) -> &'static [Key] {
         Level::NamedPhase => &NAMED_PHASE_KEYS,
         Level::Steal => &STEAL_KEYS,
         Level::Job => &JOB_KEYS,
+        Level::Cost => &COST_KEYS,
         Level::Event => &EVENT_KEYS,
     }
 }
@@ -175,13 +189,19 @@ fn said_of_key<'a>(fault: KeyFault, text: &'a str) -> Said<'a> {
         KeyFault::Value(key) => return expected_value(key),
         KeyFault::Missing(key) => ("the key \"{}\" is missing", key.name()),
         KeyFault::Item(key) => match key.kind() {
-            Valued::Tables(..) | Valued::IntegerOrTables(..) => ("expected a table", ""),
+            Valued::Tables(..) | Valued::Integer(..) => ("expected a table", ""),
             _ => ("expected a string", ""),
         },
         KeyFault::Backward => ("\"from\" has to be below \"to\"", ""),
         KeyFault::OverlapsItself => ("\"every\" has to be at least \"to\" minus \"from\"", ""),
         KeyFault::Overlap => ("it overlaps an earlier row", ""),
         KeyFault::JobTwice => ("an earlier job has the same address", ""),
+        KeyFault::LeastAboveMost => ("\"from\" may not be above \"to\"", ""),
+        KeyFault::NoSeed => (
+            "a cost \"from\" .. \"to\" needs the key \"seed\" in the scenario",
+            "",
+        ),
+        KeyFault::NoneAbove => ("no event above this one has that name", ""),
     };
     said(text, Piece::Text(name), NONE)
 }
@@ -242,6 +262,10 @@ fn said_of_place(place: Place) -> Said<'static> {
                 key,
                 [Piece::Number(table), name, Piece::Number(item)],
             )
+        }
+        Place::Subfield(key, table, field, of) => {
+            let (field, of) = (Piece::Text(field.name()), Piece::Text(of.name()));
+            ("{} {}, {}, {}: ", key, [Piece::Number(table), field, of])
         }
     };
     let [first, second, third] = pieces;

@@ -150,6 +150,7 @@ fn told_text<'a>(document: &'a str, note: &KeyNote<'a>, spot: Spot) -> &'a str
         KeyFault::Missing(_key) => "",
         KeyFault::Backward | KeyFault::OverlapsItself => "",
         KeyFault::Overlap | KeyFault::JobTwice => "",
+        KeyFault::LeastAboveMost | KeyFault::NoSeed | KeyFault::NoneAbove => "",
         KeyFault::Value(key) | KeyFault::Item(key) => match key.form() {
             Some(Form::Address) | Some(Form::Word) => digits_at(document, spot.value),
             _ => "",

@@ -35,6 +35,7 @@ impl<'a> Way<'a> {
             Place::Item(key, k) | Place::Table(key, k) => [name(key), number(k), None, None],
             Place::Field(key, k, field) => [name(key), number(k), name(field), None],
             Place::FieldItem(key, k, field, n) => [name(key), number(k), name(field), number(n)],
+            Place::Subfield(key, k, field, of) => [name(key), number(k), name(field), name(of)],
         };
         Way { steps }
     }
@@ -44,6 +45,7 @@ impl<'a> Way<'a> {
         let unknown = Some(Step::Name(key));
         let steps = match place {
             Place::Table(tables, k) => [name(tables), number(k), unknown, None],
+            Place::Field(tables, k, field) => [name(tables), number(k), name(field), unknown],
             _ => [unknown, None, None, None],
         };
         Way { steps }

@@ -144,7 +144,7 @@ fn job_warning(scenario: &Scenario, job: &TimedJob, stolen: u64) -> Option<Said<
         return Some(plain(NOT_BEGUN));
     }
     let period = period_at(scenario, job.at())?;
-    let cost = u64::from(job.cost());
+    let cost = u64::from(job.cost().from);
     let left = period.saturating_mul(100_u64.saturating_sub(stolen));
     if cost.saturating_mul(100) >= left {
         Some(nothing_left(cost, period, stolen))
@@ -176,13 +176,13 @@ fn row_warning(timing: &Timing, number: usize, row: &Stolen) -> Option<Said<'sta
 
 /// What is warned of an event.
 fn event_warning(timing: &Timing, event: &TimedEvent) -> Option<Said<'static>> {
-    if event.at() > timing.lasts() {
+    if event.first() > timing.lasts() {
         return Some(plain(LATE));
     }
-    let until = event.until()?;
+    let last = event.last()?;
     if event.every().is_none() {
         Some(plain(NOT_AGAIN))
-    } else if until < event.at() {
+    } else if last < event.first() {
         Some(plain(NEVER))
     } else {
         None

@@ -2,46 +2,53 @@
 use Rattle.std.specs.Prelude.{ℕ, List, codes, Bool, true, false}
 use Rattle.agc_document.specs.declared.key.KeyName.{KeyName}
 use Rattle.agc_document.specs.declared.key.KeyName.TheVariants as name
+use Rattle.agc_document.specs.declared.key.TimeName.{TimeName}
+use Rattle.agc_document.specs.declared.key.TimeName.TheVariants as time
 use Rattle.agc_document.specs.declared.key.Kind.{Kind}
 use Rattle.agc_document.specs.declared.key.Kind.TheVariants as kind
 use Rattle.agc_document.specs.declared.key.Key.{Key as AnyKey}
 use Rattle.agc_document.specs.declared.key.Key.TheVariants.{Required, Optional}
 
--- what a key is called
+-- what a key is called that only scenarios have, and what any key is called
+abbrev pub time_text : TimeName → List ℕ
+time_text time.After = codes "after"
+time_text time.Cost = codes "cost"
+time_text time.Deadline = codes "deadline"
+time_text time.Do = codes "do"
+time_text time.Event = codes "event"
+time_text time.Every = codes "every"
+time_text time.From = codes "from"
+time_text time.Name = codes "name"
+time_text time.Percent = codes "percent"
+time_text time.Seconds = codes "seconds"
+time_text time.Seed = codes "seed"
+time_text time.Steal = codes "steal"
+time_text time.Then = codes "then"
+time_text time.Title = codes "title"
+time_text time.To = codes "to"
+time_text time.Until = codes "until"
+
 abbrev pub name_text : KeyName → List ℕ
 name_text name.Action = codes "action"
 name_text name.Allowance = codes "allowance"
 name_text name.At = codes "at"
 name_text name.Attends = codes "attends"
 name_text name.Bank = codes "bank"
-name_text name.Cost = codes "cost"
-name_text name.Deadline = codes "deadline"
 name_text name.Device = codes "device"
-name_text name.Do = codes "do"
-name_text name.Event = codes "event"
-name_text name.Every = codes "every"
-name_text name.From = codes "from"
 name_text name.Group = codes "group"
 name_text name.Job = codes "job"
 name_text name.Key = codes "key"
 name_text name.Limit = codes "limit"
 name_text name.Line = codes "line"
-name_text name.Name = codes "name"
-name_text name.Percent = codes "percent"
 name_text name.Phase = codes "phase"
 name_text name.Power = codes "power"
 name_text name.Pulses = codes "pulses"
 name_text name.Radar = codes "radar"
 name_text name.Script = codes "script"
-name_text name.Seconds = codes "seconds"
 name_text name.Sets = codes "sets"
-name_text name.Steal = codes "steal"
 name_text name.Task = codes "task"
-name_text name.Then = codes "then"
-name_text name.Title = codes "title"
-name_text name.To = codes "to"
-name_text name.Until = codes "until"
 name_text name.Worker = codes "worker"
+name_text (name.Time n) = time_text n
 
 abbrev pub name_of : AnyKey → List ℕ
 name_of (Required n kind) = name_text n
@@ -59,7 +66,6 @@ bounds_of (kind.Text f) = (0, 18446744073709551615)
 bounds_of (kind.OneOrMore f low high) = (low, high)
 bounds_of (kind.Texts f low high) = (low, high)
 bounds_of (kind.Tables low high) = (low, high)
-bounds_of (kind.IntegerOrTables low high) = (low, high)
 
 -- for proofs: whether its table must have it
 abbrev pub is_required : AnyKey → Bool

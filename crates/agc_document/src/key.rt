@@ -1,9 +1,30 @@
 //! The keys of a document: what each is called, and what its value is.
 ghost use Rattle.std.specs.Prelude.{◌≡◌};
-ghost use Rattle.agc_document.specs.Rows.{name_text, name_of, kind_of, bounds_of};
+ghost use Rattle.agc_document.specs.Rows.{name_text, time_text, name_of, kind_of, bounds_of};
 
 use crate::values::{is_name, is_step, job_of, leaving_of, parse_kind, timed_of};
 use agc_text::{parse_action, parse_address, parse_line, parse_word};
+
+/// What a key is called that only scenarios have. Source: profile.
+#[derive(Clone, Copy)]
+pub enum TimeName {
+    After,
+    Cost,
+    Deadline,
+    Do,
+    Event,
+    Every,
+    From,
+    Name,
+    Percent,
+    Seconds,
+    Seed,
+    Steal,
+    Then,
+    Title,
+    To,
+    Until,
+}
 
 /// What a key is called. Source: profile.
 #[derive(Clone, Copy)]
@@ -13,34 +34,22 @@ pub enum KeyName {
     At,
     Attends,
     Bank,
-    Cost,
-    Deadline,
     Device,
-    Do,
-    Event,
-    Every,
-    From,
     Group,
     Job,
     Key,
     Limit,
     Line,
-    Name,
-    Percent,
     Phase,
     Power,
     Pulses,
     Radar,
     Script,
-    Seconds,
     Sets,
-    Steal,
     Task,
-    Then,
-    Title,
-    To,
-    Until,
     Worker,
+    /// The name of a key that only scenarios have.
+    Time(TimeName),
 }
 
 /// What a text spells. Source: profile.
@@ -67,7 +76,7 @@ pub enum Form {
 /// What the value of a key is. Source: profile.
 #[derive(Clone, Copy)]
 pub enum Kind {
-    /// An integer between two bounds.
+    /// An integer between two bounds. The key may have other values, too, which its reader knows.
     Integer(u64, u64),
     Text(Form),
     /// One text, or an array of texts, as many as two bounds say.
@@ -76,8 +85,6 @@ pub enum Kind {
     Texts(Form, u64, u64),
     /// An array of tables, as many as two bounds say.
     Tables(u64, u64),
-    /// An integer between two bounds, or an array of tables, as many as they say.
-    IntegerOrTables(u64, u64),
 }
 
 /// A key of a table: what it is called, what its value is, and whether the table must have it.
@@ -91,6 +98,32 @@ pub enum Key {
 /// As many as there may be.
 pub const ANY: u64 = u64::MAX;
 
+impl TimeName {
+    /// The name itself.
+    fn called(self) -> &'static str
+        ensures { result.now ≡ time_text self }
+    {
+        match self {
+            TimeName::After => "after",
+            TimeName::Cost => "cost",
+            TimeName::Deadline => "deadline",
+            TimeName::Do => "do",
+            TimeName::Event => "event",
+            TimeName::Every => "every",
+            TimeName::From => "from",
+            TimeName::Name => "name",
+            TimeName::Percent => "percent",
+            TimeName::Seconds => "seconds",
+            TimeName::Seed => "seed",
+            TimeName::Steal => "steal",
+            TimeName::Then => "then",
+            TimeName::Title => "title",
+            TimeName::To => "to",
+            TimeName::Until => "until",
+        }
+    }
+}
+
 impl KeyName {
     /// The name itself. Source: profile.
     pub fn text(self) -> &'static str
@@ -102,34 +135,21 @@ impl KeyName {
             KeyName::At => "at",
             KeyName::Attends => "attends",
             KeyName::Bank => "bank",
-            KeyName::Cost => "cost",
-            KeyName::Deadline => "deadline",
             KeyName::Device => "device",
-            KeyName::Do => "do",
-            KeyName::Event => "event",
-            KeyName::Every => "every",
-            KeyName::From => "from",
             KeyName::Group => "group",
             KeyName::Job => "job",
             KeyName::Key => "key",
             KeyName::Limit => "limit",
             KeyName::Line => "line",
-            KeyName::Name => "name",
-            KeyName::Percent => "percent",
             KeyName::Phase => "phase",
             KeyName::Power => "power",
             KeyName::Pulses => "pulses",
             KeyName::Radar => "radar",
             KeyName::Script => "script",
-            KeyName::Seconds => "seconds",
             KeyName::Sets => "sets",
-            KeyName::Steal => "steal",
             KeyName::Task => "task",
-            KeyName::Then => "then",
-            KeyName::Title => "title",
-            KeyName::To => "to",
-            KeyName::Until => "until",
             KeyName::Worker => "worker",
+            KeyName::Time(name) => name.called(),
         }
     }
 }
@@ -166,7 +186,6 @@ impl Key {
             Kind::OneOrMore(_form, low, high) => (low, high),
             Kind::Texts(_form, low, high) => (low, high),
             Kind::Tables(low, high) => (low, high),
-            Kind::IntegerOrTables(low, high) => (low, high),
         }
     }
 
@@ -179,7 +198,6 @@ impl Key {
             Kind::OneOrMore(form, _low, _high) => Some(form),
             Kind::Texts(form, _low, _high) => Some(form),
             Kind::Tables(_low, _high) => None,
-            Kind::IntegerOrTables(_low, _high) => None,
         }
     }
 }

@@ -1,8 +1,8 @@
 //! What is wrong with a key.
 use crate::key::Key;
 
-/// Which table a key belongs to: the bench or scenario itself, or a table of an array. Source:
-/// profile.
+/// Which table a key belongs to: the bench or scenario itself, a table of an array, or the table
+/// that a job's cost is. Source: profile.
 #[derive(Clone, Copy, PartialEq, Eq)]
 pub enum Level {
     Bench,
@@ -15,6 +15,7 @@ pub enum Level {
     NamedPhase,
     Steal,
     Job,
+    Cost,
     Event,
 }
 
@@ -38,4 +39,10 @@ pub enum KeyFault {
     Overlap,
     /// An earlier job has the same address.
     JobTwice,
+    /// The least that a job may cost is more than the most.
+    LeastAboveMost,
+    /// The cost of a job is drawn by lot, and the scenario has no seed.
+    NoSeed,
+    /// No event above it has the name of the one from which it counts.
+    NoneAbove,
 }

@@ -20,7 +20,7 @@ mod writing;
 pub use agc_plan::Line;
 pub use bench::{Bench, bench_from, bench_of, or_line, read_bench};
 pub use fault::BenchFault;
-pub use key::{ANY, Form, Key, KeyName, Kind};
+pub use key::{ANY, Form, Key, KeyName, Kind, TimeName};
 pub use key_fault::{KeyFault, Level};
 pub use keys::{entry_in, row_in, settings_in};
 pub use notes::{KeyNote, Notes, TextNote};

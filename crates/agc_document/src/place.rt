@@ -18,6 +18,8 @@ pub enum Place {
     Field(Key, u64, Key),
     /// An item of that value.
     FieldItem(Key, u64, Key, u64),
+    /// The value of a key of the table that the value of that table's key is.
+    Subfield(Key, u64, Key, Key),
 }
 
 impl Place {
@@ -25,6 +27,7 @@ impl Place {
     pub fn of_value(self, key: Key) -> Place {
         match self {
             Place::Table(tables, number) => Place::Field(tables, number, key),
+            Place::Field(tables, number, field) => Place::Subfield(tables, number, field, key),
             _ => Place::Value(key),
         }
     }

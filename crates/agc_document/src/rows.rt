@@ -5,10 +5,7 @@ pub const SETS: Key = Key::Optional(KeyName::Sets, Kind::Integer(7, 8));
 
 pub const LIMIT: Key = Key::Optional(KeyName::Limit, Kind::Integer(1, 1_000_000));
 
-pub const ALLOWANCE: Key = Key::Optional(
-    KeyName::Allowance,
-    Kind::Integer(0, 9_223_372_036_854_775_807),
-);
+pub const ALLOWANCE: Key = Key::Optional(KeyName::Allowance, Kind::Integer(0, 9223372036854775807));
 
 pub const ATTENDS: Key = Key::Optional(KeyName::Attends, Kind::Integer(0, 1000));
 

@@ -65,6 +65,7 @@ pub(crate) fn counted_to_end<W: Write>(
         let mut fired = Fired::new();
         let answer = run.ask(&asked, &mut fired);
         let ended = tally.come(run.machine(), &asked.request, counts, &answer);
+        tally.keep(run.clock());
         told.put(&asked.request, ended, writer)?;
     }
     Ok(tally)

@@ -5,8 +5,9 @@ ghost use Rattle.agc_machine.specs.Machines.{after};
 ghost use Rattle.agc_run.specs.Runs.{to_ask};
 
 use crate::jobs_rows::put_jobs;
-use crate::ledger::{Ledger, Passed};
-use crate::lives::{Jobs, MOST, Moment, jobs_seen};
+use crate::ledger::Ledger;
+use crate::lives::{Jobs, jobs_seen};
+use crate::reading::{Passed, Reading};
 use agc_machine::Machine;
 use agc_plan::{Fired, Request};
 use agc_run::{Run, Subject};
@@ -14,66 +15,6 @@ use agc_scenario::Timing;
 use agc_session::RunFault;
 use std::alloc::{AllocError, Global};
 use std::io::Write;
-
-/// Where a clock is: its centisecond, the computing time that is left of it, and what each job was
-/// given.
-#[derive(Clone, Copy)]
-struct Reading {
-    time: u64,
-    left: u64,
-    given: [u32; MOST],
-}
-
-/// Where a run's clock is; a bench has none, and its time is that of its ticks.
-fn read(run: &Run<'_>, ticks: u64) -> Reading {
-    match run.clock() {
-        None => Reading {
-            time: ticks,
-            left: 0,
-            given: [0; MOST],
-        },
-        Some(clock) => Reading {
-            time: u64::from(clock.time()),
-            left: u64::from(clock.left()),
-            given: *clock.given(),
-        },
-    }
-}
-
-impl Reading {
-    /// How many hundredths of a centisecond have gone by.
-    fn moment(&self) -> Moment {
-        self.time.saturating_mul(100).saturating_sub(self.left)
-    }
-
-    /// How many hundredths jobs were given in all.
-    fn sum(&self) -> u64 {
-        let mut sum: u64 = 0;
-        for given in self.given {
-            sum = sum.saturating_add(u64::from(given));
-        }
-        sum
-    }
-
-    /// What the clock did from here to there: within a centisecond the running job was given what
-    /// isn't left any more; beyond it, what the jobs show.
-    fn passed(&self, there: &Reading, is_within: bool) -> Passed {
-        if is_within {
-            return Passed {
-                computed: self.left.saturating_sub(there.left),
-                stolen: 0,
-                idle: 0,
-            };
-        }
-        let computed = there.sum().saturating_sub(self.sum());
-        let gone = there.time.saturating_sub(self.time).saturating_mul(100);
-        Passed {
-            computed,
-            stolen: gone.saturating_sub(there.left),
-            idle: self.left.saturating_sub(computed),
-        }
-    }
-}
 
 /// The time that passed before a request, or up to the end. None of it is known to be computed,
 /// stolen or idle where time passes with ticks alone.
@@ -111,10 +52,10 @@ pub(crate) fn jobs_to_end<'a>(
 {
     let mut ledger = Ledger::new(alloc, timing, &jobs_seen(run.machine().erasable()))?;
     let mut ticks: u64 = 0;
-    let mut before = read(run, ticks);
+    let mut before = Reading::of(run.clock(), ticks);
     while let Some(asked) = run.next() {
         let then = jobs_then(run.machine(), &asked.request);
-        let after = read(run, ticks_with(ticks, &asked.request));
+        let after = Reading::of(run.clock(), ticks_with(ticks, &asked.request));
         let passed_now = passed(run, &before, &after, true);
         ledger.pass(passed_now, after.time, after.moment());
         let mut fired = Fired::new();
@@ -125,9 +66,9 @@ pub(crate) fn jobs_to_end<'a>(
                 ledger.begin_era(&jobs_seen(run.machine().erasable()))?;
             }
         }
-        before = read(run, ticks);
+        before = Reading::of(run.clock(), ticks);
     }
-    let after = read(run, ticks);
+    let after = Reading::of(run.clock(), ticks);
     let passed_last = passed(run, &before, &after, false);
     ledger.pass(passed_last, after.time, after.moment());
     ledger.close()?;

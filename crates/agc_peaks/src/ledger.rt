@@ -1,5 +1,6 @@
 //! What the jobs of each address came to, and how the time of each era was used.
 use crate::lives::{Change, Jobs, Life, MOST, Moment, State, see};
+use crate::reading::Passed;
 use agc_scenario::Timing;
 use std::alloc::{AllocError, Global};
 
@@ -72,14 +73,6 @@ impl Kind {
 #[derive(Clone, Copy)]
 pub(crate) struct Spent {
     pub(crate) began: u64,
-    pub(crate) computed: u64,
-    pub(crate) stolen: u64,
-    pub(crate) idle: u64,
-}
-
-/// What a clock did between two requests.
-#[derive(Clone, Copy)]
-pub(crate) struct Passed {
     pub(crate) computed: u64,
     pub(crate) stolen: u64,
     pub(crate) idle: u64,

@@ -14,6 +14,7 @@ mod ledger;
 mod lives;
 mod outcome;
 mod peaks;
+mod reading;
 mod rows;
 mod sweep;
 mod tally;

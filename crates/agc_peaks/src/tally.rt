@@ -4,6 +4,7 @@ ghost use Rattle.agc_clock.specs.Runs.{begins_with};
 
 use crate::counting::{Counts, counts_of};
 use crate::era::Era;
+use crate::reading::{Computed, Reading};
 use agc_clock::Clock;
 use agc_machine::{Machine, Refusal};
 use agc_plan::{Alarm, Reply, Request};
@@ -53,7 +54,7 @@ pub(crate) struct Tally {
     held: Counts,
     /// How many hundredths of a centisecond the jobs that live have computed since they were
     /// established or roused, before the present request.
-    given: u64,
+    computed: Computed,
     era: Era,
     found: Found,
 }
@@ -68,7 +69,7 @@ impl Tally {
             refused: 0,
             longest: 0,
             held,
-            given: 0,
+            computed: Computed::new(),
             era: Era::new(1, 0, "start", held),
             found: Found {
                 code: "",
@@ -122,22 +123,21 @@ impl Tally {
             None => {}
         }
         let mut ended = self.era(end);
-        ended.lost = self.given;
+        ended.lost = self.computed.sum();
         self.found.saw(&ended);
         self.held = counts_of(machine.erasable());
         self.era = Era::new(ended.number.saturating_add(1), self.time, by, self.held);
         ended
     }
 
-    /// Takes note of what a clock has given to jobs, before it is asked for a request.
+    /// Takes note of what a clock has given to jobs, before a machine is asked for a request.
     pub(crate) fn pass(&mut self, clock: Option<&Clock>) {
-        if let Some(clock) = clock {
-            let mut sum: u64 = 0;
-            for given in clock.given().iter() {
-                sum = sum.saturating_add(u64::from(*given));
-            }
-            self.given = sum;
-        }
+        self.computed.pass(Reading::of(clock, 0));
+    }
+
+    /// Takes note of what a clock keeps of that, after a machine was asked.
+    pub(crate) fn keep(&mut self, clock: Option<&Clock>) {
+        self.computed.keep(Reading::of(clock, 0));
     }
 
     /// Takes note of what a machine answered to a request, which left its tables so full before an

@@ -66,7 +66,9 @@ impl Room {
     /// Takes the room of an event's mark in this column. False where one is there.
     fn takes_mark(&mut self, column: u64) -> bool {
         let has_room = self.event <= column;
-        self.event = self.event.max(column.saturating_add(2));
+        if has_room {
+            self.event = column.saturating_add(2);
+        }
         has_room
     }
 

@@ -50,9 +50,9 @@ first_left : (time number : ℕ) (events : List Event) → events_left time numb
 first_left time number [] = refl
 first_left time number (event ∷ events) = refl
 
-all_to_come : (table : Schedule) → to_come table (at_start 0) ≡ instants table
+all_to_come : (table : Schedule) (seed : ℕ) → to_come table (at_start seed) ≡ instants table
 unfolding to_come
-all_to_come table =
+all_to_come table seed =
     let all : table.lasts - 0 ≡ table.lasts = omega arith in
     rw (first_left 0 0 table.events, all) refl
 
@@ -74,12 +74,12 @@ pub listed_asks : (m : Machined) (b : Requested) (k : Clocked) (all : List Asked
 unfolding all_to_ask
 listed_asks m b k all is = append-nil (rest b) ∙ is
 
-pub time_left : (m : Machined) (b : Requested) (t : Schedule) (k : Clocked) → rest b ≡ [] → k ≡ at_start 0 → all_to_ask m (record { listed = b; table = Some t; clock = k }) ≡ clock_asks t m
+pub time_left : (m : Machined) (b : Requested) (t : Schedule) (seed : ℕ) (k : Clocked) → rest b ≡ [] → k ≡ at_start seed → all_to_ask m (record { listed = b; table = Some t; clock = k }) ≡ clock_asks t seed m
 unfolding all_to_ask run clock_asks
-time_left m b t k none start =
+time_left m b t seed k none start =
     ap (λ (xs : List Asked). xs ++ time_asks (Some t) k (fold after m (requests_in xs))) none
     ∙ ap (λ (c : Clocked). time_asks (Some t) c m) start
-    ∙ ap (λ (l : List Instant). map in_time (lived_all by_machine t.costs (standing_at 0 m) l).asked) (all_to_come t)
+    ∙ ap (λ (l : List Instant). map in_time (lived_all by_machine t.costs (standing_at seed m) l).asked) (all_to_come t seed)
 
 -- a request that is listed
 pub listed_pulled : (m : Machined) (b c : Requested) (t : Option Schedule) (k : Clocked) (s : BenchSource) (q : Request) → rest b ≡ by_source s q ∷ rest c → Pulls m (record { listed = b; table = t; clock = k }) (Some (by_source s q)) (record { listed = c; table = t; clock = k })

@@ -62,13 +62,13 @@ pub record Asking : Type 0 where
   pub table : Option Schedule
   pub clock : Clocked
 
--- what the clock of a scenario asks a machine for, in order, and the requests alone; no cost of a
--- scenario is by lot, so its seed is 0
-unfoldable pub clock_asks : Schedule → Machined → List Asked
-clock_asks table machine = map in_time (scenario_requests by_machine table 0 machine)
+-- what the clock of a scenario asks a machine for, in order, and the requests alone; its lots are
+-- drawn from this seed on
+unfoldable pub clock_asks : Schedule → ℕ → Machined → List Asked
+clock_asks table seed machine = map in_time (scenario_requests by_machine table seed machine)
 
-abbrev pub clock_requests : Schedule → Machined → List Request
-clock_requests table machine = requests_in (clock_asks table machine)
+abbrev pub clock_requests : Schedule → ℕ → Machined → List Request
+clock_requests table seed machine = requests_in (clock_asks table seed machine)
 
 -- what a clock asks for while the rest of the time passes, where a machine is asked for it
 abbrev pub time_asks : Option Schedule → Clocked → Machined → List Asked

@@ -4,7 +4,7 @@ ghost use Rattle.agc_exec.specs.Image.{IsLawfulWords, jobs_in};
 ghost use Rattle.agc_machine.specs.Machines.{Machined, plain_of};
 ghost use Rattle.agc_run.specs.Runs.{Pulls, all_to_ask, bench_asks, clock_after, clock_asks, rest};
 ghost use Rattle.agc_run.specs.Runs.{script_asks};
-ghost use Rattle.agc_scenario.specs.Scenarios.{schedule_of};
+ghost use Rattle.agc_scenario.specs.Scenarios.{schedule_of, seed_of};
 
 use crate::requests::Requests;
 use agc_clock::Clock;
@@ -77,12 +77,13 @@ impl<'a> Asks<'a> {
 
     /// The requests for which the clock of a scenario asks a machine, in order. Source: profile.
     pub fn of_scenario(timing: &'a Timing) -> Asks<'a>
-        ensures { (m : Machined) → all_to_ask m result ≡ clock_asks (schedule_of timing.now) m }
+        ensures { (m : Machined) → all_to_ask m result
+            ≡ clock_asks (schedule_of timing.now) (seed_of timing.now) m }
     {
         Asks {
             listed: Requests::of_script(&[]),
             timing: Some(timing),
-            clock: Clock::new(0),
+            clock: Clock::new(timing.seed()),
         }
     }
 

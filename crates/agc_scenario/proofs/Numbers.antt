@@ -4,7 +4,7 @@ use Rattle.std.specs.Str.{bytes_eq}
 use Rattle.std.proofs.lemmas.List.{append_cancel_left, append_cancel_right}
 use Rattle.std.proofs.lemmas.Slice.Eq.{bytes_eq-Decides}
 use Rattle.agc_scenario.specs.declared.changing.Number.{Number}
-use Rattle.agc_scenario.specs.declared.changing.Number.TheVariants.{Steal, Seconds, Cost, Moment, Every, Until}
+use Rattle.agc_scenario.specs.declared.changing.Number.TheVariants.{Steal, Seconds, Seed, Cost, Moment, Every, Until}
 use Rattle.agc_scenario.specs.Scenarios.{TimedJob, TimedEvent, Timed}
 use Rattle.agc_scenario.specs.Numbers.{Names, NamesJob, NamesEvent, NamesNumber, job_called, event_called, nearest, change_at, job_with, event_with, FitsIn}
 
@@ -31,13 +31,14 @@ only_job jobs text called found is e = names_only (λ called. job_called called 
 pub only_event : (events : List TimedEvent) (back text called : List ℕ) (found : Option ℕ) → text ≡ codes "event." ++ (called ++ back) → found ≡ event_called called events → IfNone found ((k : ℕ) → ¬ (NamesEvent events back text k))
 only_event events back text called found is e = names_only (λ called. event_called called events) (codes "event.") back text called found is e
 
-pub nothing_named : (t : Timed) (text : List ℕ) → bytes_eq text (codes "steal") ≡ false → bytes_eq text (codes "seconds") ≡ false → ((k : ℕ) → ¬ (NamesJob t.jobs text k)) → ((k : ℕ) → ¬ (NamesEvent t.events (codes ".at") text k)) → ((k : ℕ) → ¬ (NamesEvent t.events (codes ".every") text k)) → ((k : ℕ) → ¬ (NamesEvent t.events (codes ".until") text k)) → (n : Number) → ¬ (NamesNumber t text n)
-nothing_named t text steal seconds cost moment every until Steal = λ h. absurd (cc (steal, (bytes_eq-Decides text (codes "steal")).1 h))
-nothing_named t text steal seconds cost moment every until Seconds = λ h. absurd (cc (seconds, (bytes_eq-Decides text (codes "seconds")).1 h))
-nothing_named t text steal seconds cost moment every until (Cost k) = cost k
-nothing_named t text steal seconds cost moment every until (Moment k) = moment k
-nothing_named t text steal seconds cost moment every until (Every k) = every k
-nothing_named t text steal seconds cost moment every until (Until k) = until k
+pub nothing_named : (t : Timed) (text : List ℕ) → bytes_eq text (codes "steal") ≡ false → bytes_eq text (codes "seconds") ≡ false → bytes_eq text (codes "seed") ≡ false → ((k : ℕ) → ¬ (NamesJob t.jobs text k)) → ((k : ℕ) → ¬ (NamesEvent t.events (codes ".at") text k)) → ((k : ℕ) → ¬ (NamesEvent t.events (codes ".every") text k)) → ((k : ℕ) → ¬ (NamesEvent t.events (codes ".until") text k)) → (n : Number) → ¬ (NamesNumber t text n)
+nothing_named t text steal seconds seed cost moment every until Steal = λ h. absurd (cc (steal, (bytes_eq-Decides text (codes "steal")).1 h))
+nothing_named t text steal seconds seed cost moment every until Seconds = λ h. absurd (cc (seconds, (bytes_eq-Decides text (codes "seconds")).1 h))
+nothing_named t text steal seconds seed cost moment every until Seed = λ h. absurd (cc (seed, (bytes_eq-Decides text (codes "seed")).1 h))
+nothing_named t text steal seconds seed cost moment every until (Cost k) = cost k
+nothing_named t text steal seconds seed cost moment every until (Moment k) = moment k
+nothing_named t text steal seconds seed cost moment every until (Every k) = every k
+nothing_named t text steal seconds seed cost moment every until (Until k) = until k
 
 -- an element changed
 changed_in : {X : Type 0} (f : X → X) (k : ℕ) (xs : List X) (x : X) → k < length xs → change_at f k xs ≡ set xs k (f (get_or xs k x))
@@ -57,9 +58,10 @@ pub event_changed : (events : List TimedEvent) (k value : ℕ) (n : Number) (was
 event_changed events k value n was is l at e = ap (set events k) (e ∙ ap (event_with n value) at) ∙ sym (changed_in (event_with n value) k events was l)
 
 -- a number in its range fits the types
-pub fits_32 : (n : Number) (value : ℕ) → nearest n value ≤ 8640000
+pub fits_32 : (n : Number) (value : ℕ) → nearest n value ≤ 2147483646
 fits_32 Steal value = omega arith
 fits_32 Seconds value = omega arith
+fits_32 Seed value = omega arith
 fits_32 (Cost k) value = omega arith
 fits_32 (Moment k) value = omega arith
 fits_32 (Every k) value = omega arith
@@ -68,6 +70,7 @@ fits_32 (Until k) value = omega arith
 pub nearest_fits : (n : Number) (value : ℕ) → FitsIn n (nearest n value)
 nearest_fits Steal value = omega arith
 nearest_fits Seconds value = omega arith
+nearest_fits Seed value = tt
 nearest_fits (Cost k) value = omega arith
 nearest_fits (Moment k) value = tt
 nearest_fits (Every k) value = omega arith

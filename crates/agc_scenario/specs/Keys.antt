@@ -2,9 +2,9 @@
 -- stands for a fault Key.
 use Rattle.std.specs.Prelude.{ℕ, List, [], ◌∷◌, codes, map, Option, Some, None}
 use Rattle.std.specs.Prelude.{Bool, true, nat_lt, nat_le, not, is_some, ◌-◌, ◌&&◌}
-use Rattle.std.specs.Prelude.{◌||◌, if◌then◌else◌, unwrap_or}
-use Rattle.std.specs.List.{list_all}
-use Rattle.toml.specs.Data.{Data, Members, as_integer}
+use Rattle.std.specs.Prelude.{◌||◌, ◌++◌, if◌then◌else◌, unwrap_or}
+use Rattle.std.specs.List.{list_all, list_any}
+use Rattle.toml.specs.Data.{Data, Members, as_integer, as_table}
 use Rattle.agc_text.specs.Chain.{◌>>=◌}
 use Rattle.agc_document.specs.declared.key.Key.{Key as AnyKey}
 use Rattle.agc_document.specs.declared.rows.TheConstants as key
@@ -15,8 +15,9 @@ use Rattle.agc_document.specs.Keys.{texts_of, read_at, read_or, read_if, items_o
 use Rattle.agc_document.specs.Keys.{row_in, entry_in, settings_in}
 use Rattle.agc_clock.specs.declared.timetable.Stolen.{Stolen}
 use Rattle.agc_clock.specs.Timetables.{comes_once, overlap}
+use Rattle.agc_scenario.specs.declared.timing.CostRange.{CostRange}
 use Rattle.agc_scenario.specs.Texts.{NamedRow, NamedEntry, NamedTexts, JobTexts, EventTexts}
-use Rattle.agc_scenario.specs.Texts.{TimingTexts, ScenarioTexts}
+use Rattle.agc_scenario.specs.Texts.{TimingTexts, ScenarioTexts, is_named}
 
 -- the texts of a task's row, and its name
 unfoldable pub named_row : Data → Option NamedRow
@@ -69,27 +70,54 @@ stolen_rows k d = elim (as_integer d) [
   | None ↦ items_of stolen_row k d
 ]
 
--- what a job costs
+-- a cost of which the least isn't above the most
+abbrev pub ascending : CostRange → Option CostRange
+ascending cost = if nat_le cost.from cost.to then Some cost else None
+
+-- a cost that is drawn by lot
+unfoldable pub drawn_cost : Data → Option CostRange
+drawn_cost d = do
+  ms ← table_of own.COST_KEYS d
+  from ← read_at number_of own.LEAST ms
+  to ← read_at number_of own.MOST ms
+  ascending (record { from = from; to = to })
+
+-- what a job costs: always as much, or by lot
+abbrev pub cost : AnyKey → Data → Option CostRange
+cost k d = elim (as_table d) [
+  | Some ms ↦ drawn_cost d
+  | None ↦ number_of k d >>= λ n. Some (record { from = n; to = n })
+]
+
+-- what a job costs, and what it is asked
 unfoldable pub job : Data → Option JobTexts
 job d = do
   ms ← table_of own.JOB_KEYS d
   at ← read_at text_of key.AT ms
-  cost ← read_at number_of own.COST ms
+  costs ← read_at cost own.COST ms
   deadline ← read_if number_of own.DEADLINE ms
   requests ← read_or (codes "end" ∷ []) texts_of own.THEN ms
   name ← read_if text_of own.NAME ms
-  Some (record { at = at; cost = cost; deadline = deadline; requests = requests; name = name })
+  Some (record { at = at; cost = costs; deadline = deadline; requests = requests; name = name })
 
 -- an event
 unfoldable pub event : Data → Option EventTexts
 event d = do
   ms ← table_of own.EVENT_KEYS d
   at ← read_at number_of own.MOMENT ms
+  after ← read_if text_of own.AFTER ms
   requests ← read_at texts_of own.DO ms
   every ← read_if number_of own.EVERY ms
   until ← read_if number_of own.UNTIL ms
   name ← read_if text_of own.NAME ms
-  Some (record { at = at; requests = requests; every = every; until = until; name = name })
+  Some (record {
+    at = at;
+    after = after;
+    requests = requests;
+    every = every;
+    until = until;
+    name = name;
+  })
 
 -- whether no two rows of stolen time overlap
 abbrev pub are_apart : List Stolen → Bool
@@ -101,22 +129,43 @@ abbrev pub are_distinct : List (List ℕ) → Bool
 are_distinct [] = true
 are_distinct (text ∷ texts) = not (is_among texts text) && are_distinct texts
 
--- the timing, if its rows of stolen time are apart, and no two jobs have one address
-abbrev pub if_apart : TimingTexts → Option TimingTexts
-if_apart t =
-    if are_apart t.stolen && are_distinct (map (λ j. j.at) t.jobs) then Some t else None
+-- whether lots can be drawn: there is a seed, or no cost is by lot
+abbrev pub can_draw : Option ℕ → List JobTexts → Bool
+can_draw (Some seed) jobs = true
+can_draw None jobs = list_all (λ j. not (nat_lt j.cost.from j.cost.to)) jobs
+
+-- whether one of these events has the name, if it is there
+abbrev pub has_named : List EventTexts → Option (List ℕ) → Bool
+has_named events None = true
+has_named events (Some name) = list_any (λ e. is_named name e.name) events
+
+-- whether each event that counts from another has that one above it, below the events above all
+abbrev pub count_from_above : List EventTexts → List EventTexts → Bool
+count_from_above above [] = true
+count_from_above above (event ∷ events) =
+    has_named above event.after && count_from_above (above ++ event ∷ []) events
+
+-- the timing, if its rows of stolen time are apart, no two jobs have one address, lots can be
+-- drawn, and events count from events above them
+abbrev pub if_coherent : TimingTexts → Option TimingTexts
+if_coherent t =
+    if (are_apart t.stolen && are_distinct (map (λ j. j.at) t.jobs))
+    && (can_draw t.seed t.jobs && count_from_above [] t.events)
+    then Some t else None
 
 -- how time passes
 unfoldable pub timing_in : Members → Option TimingTexts
 timing_in ms = do
   seconds ← read_at number_of own.SECONDS ms
   title ← read_if text_of own.TITLE ms
+  seed ← read_if number_of own.SEED ms
   stolen ← read_or [] stolen_rows own.STEAL ms
   jobs ← read_or [] (items_of job) own.JOBS ms
   events ← read_or [] (items_of event) own.EVENTS ms
-  if_apart (record {
+  if_coherent (record {
     seconds = seconds;
     title = title;
+    seed = seed;
     stolen = stolen;
     jobs = jobs;
     events = events;

@@ -1,6 +1,6 @@
 -- The numbers of a scenario that can be exchanged: how they are named, their ranges, and the
 -- scenario with another number.
-use Rattle.std.specs.Prelude.{◌≡◌, ◌≤◌, ℕ, zero, suc, Bool, false, codes, min, max, List, []}
+use Rattle.std.specs.Prelude.{◌≡◌, ◌≤◌, ℕ, zero, suc, codes, min, max, List, []}
 use Rattle.std.specs.Prelude.{◌∷◌, ◌++◌, Option, Some, None}
 use Rattle.std.specs.Option.{option_or}
 use Rattle.std.specs.List.{position}
@@ -11,13 +11,9 @@ use Rattle.agc_document.specs.Keys.{least, most}
 use Rattle.agc_scenario.specs.declared.rows.TheConstants as own
 use Rattle.agc_scenario.specs.declared.changing.Number.{Number}
 use Rattle.agc_scenario.specs.declared.changing.Number.TheVariants as number
-use Rattle.agc_scenario.specs.Scenarios.{TimedJob, TimedEvent, Timed}
+use Rattle.agc_scenario.specs.Texts.{is_named}
+use Rattle.agc_scenario.specs.Scenarios.{TimedJob, TimedEvent, Timed, counted}
 use Rattle.agc_scenario.specs.Keys.{always}
-
--- whether a name is there, and is this text
-abbrev pub is_named : List ℕ → Option (List ℕ) → Bool
-is_named called None = false
-is_named called (Some name) = bytes_eq name called
 
 -- the place of the first job of this name, or else of the first that has this address
 abbrev pub job_called : List ℕ → List TimedJob → Option ℕ
@@ -46,6 +42,7 @@ NamesEvent events back text k =
 abbrev pub NamesNumber : Timed → List ℕ → Number → Type 0
 NamesNumber t text number.Steal = text ≡ codes "steal"
 NamesNumber t text number.Seconds = text ≡ codes "seconds"
+NamesNumber t text number.Seed = text ≡ codes "seed"
 NamesNumber t text (number.Cost k) = NamesJob t.jobs text k
 NamesNumber t text (number.Moment k) = NamesEvent t.events (codes ".at") text k
 NamesNumber t text (number.Every k) = NamesEvent t.events (codes ".every") text k
@@ -55,6 +52,7 @@ NamesNumber t text (number.Until k) = NamesEvent t.events (codes ".until") text 
 abbrev pub key_of : Number → AnyKey
 key_of number.Steal = own.STEAL
 key_of number.Seconds = own.SECONDS
+key_of number.Seed = own.SEED
 key_of (number.Cost k) = own.COST
 key_of (number.Moment k) = own.MOMENT
 key_of (number.Every k) = own.EVERY
@@ -70,9 +68,9 @@ change_at f k [] = []
 change_at f zero (x ∷ xs) = f x ∷ xs
 change_at f (suc k) (x ∷ xs) = x ∷ change_at f k xs
 
--- a job that costs this much, and an event with this number
+-- a job that always costs this much, and an event with this number
 abbrev pub job_with : ℕ → TimedJob → TimedJob
-job_with value j = record j { cost = value }
+job_with value j = record j { cost = record { from = value; to = value } }
 
 abbrev pub event_with : Number → ℕ → TimedEvent → TimedEvent
 event_with (number.Moment k) value e = record e { at = value }
@@ -84,9 +82,10 @@ event_with other value e = e
 abbrev pub exchanged : Number → ℕ → Timed → Timed
 exchanged number.Steal value t = record t { stolen = always value }
 exchanged number.Seconds value t = record t { seconds = value }
+exchanged number.Seed value t = record t { seed = Some value }
 exchanged (number.Cost k) value t = record t { jobs = change_at (job_with value) k t.jobs }
 exchanged (number.Moment k) value t =
-    record t { events = change_at (event_with (number.Moment k) value) k t.events }
+    record t { events = counted [] (change_at (event_with (number.Moment k) value) k t.events) }
 exchanged (number.Every k) value t =
     record t { events = change_at (event_with (number.Every k) value) k t.events }
 exchanged (number.Until k) value t =

@@ -1,7 +1,8 @@
 -- A scenario: its values, their ranges and their texts.
-use Rattle.std.specs.Prelude.{◌≡◌, ℕ, ◌-◌, ◌*◌, ◌&&◌, Bool, true, is_some, List, length, map, take}
-use Rattle.std.specs.Prelude.{slice_get, Option, Some, None, unwrap_or}
-use Rattle.std.specs.Option.{option_and_then}
+use Rattle.std.specs.Prelude.{◌≡◌, ℕ, ◌+◌, ◌-◌, ◌*◌, min, ◌&&◌, Bool, true, is_some, List, [], ◌∷◌}
+use Rattle.std.specs.Prelude.{◌++◌, length, map, take, slice_get, Option, Some, None, unwrap_or}
+use Rattle.std.specs.Prelude.{if◌then◌else◌}
+use Rattle.std.specs.Option.{option_and_then, option_map}
 use Rattle.std.specs.List.{AllByRecursion, list_all, range_with_len}
 use Rattle.agc_plan.specs.declared.request.Request.{Request}
 use Rattle.agc_plan.specs.declared.request.Request.TheVariants.{EndOfJob, Sleep}
@@ -20,31 +21,37 @@ use Rattle.agc_clock.specs.declared.timetable.Step.{Step}
 use Rattle.agc_clock.specs.declared.timetable.Stolen.{Stolen}
 use Rattle.agc_clock.specs.declared.timetable.Then.{Then}
 use Rattle.agc_clock.specs.declared.timetable.Then.TheVariants as then
-use Rattle.agc_scenario.specs.Texts.{JobTexts, EventTexts, TimingTexts, ScenarioTexts}
+use Rattle.agc_scenario.specs.declared.timing.CostRange.{CostRange}
+use Rattle.agc_scenario.specs.Texts.{JobTexts, EventTexts, TimingTexts, ScenarioTexts, is_named}
 
--- what a job costs, in centiseconds of computing, that stands at an address, how many centiseconds
--- it may take, if that is told, what it is asked when its cost is used up, and its name
+-- what a job costs at least and at most, in centiseconds of computing, that stands at an address,
+-- how many centiseconds it may take, if that is told, what it is asked when its cost is used up,
+-- and its name
 pub record TimedJob : Type 0 where
   pub at : ℕ
-  pub cost : ℕ
+  pub cost : CostRange
   pub deadline : Option ℕ
   pub requests : List Request
   pub name : Option (List ℕ)
 
--- an event: its first centisecond, what it asks for, after how many centiseconds it comes again,
--- the last centisecond at which it may, and its name
+-- an event: how long after the centisecond from which it counts it first comes, the name of the
+-- event from whose first it counts, that centisecond, what it asks for, after how many centiseconds
+-- it comes again, how long after that centisecond it may last do so, and its name
 pub record TimedEvent : Type 0 where
   pub at : ℕ
+  pub after : Option (List ℕ)
+  pub from : ℕ
   pub requests : List Request
   pub every : Option ℕ
   pub until : Option ℕ
   pub name : Option (List ℕ)
 
--- how time passes: the seconds that a scenario lasts, its title, the rows of stolen time, what jobs
--- cost, and the events
+-- how time passes: the seconds that a scenario lasts, its title, the seed of its lots, the rows of
+-- stolen time, what jobs cost, and the events
 pub record Timed : Type 0 where
   pub seconds : ℕ
   pub title : Option (List ℕ)
+  pub seed : Option ℕ
   pub stolen : List Stolen
   pub jobs : List TimedJob
   pub events : List TimedEvent
@@ -64,10 +71,39 @@ comes_by at None until lasts = record { at = at; every = 1; until = at }
 comes_by at (Some every) None lasts = record { at = at; every = every; until = lasts }
 comes_by at (Some every) (Some until) lasts = record { at = at; every = every; until = until }
 
+-- the centisecond that is so long after another, or the first after a day, where it is later
+abbrev pub later : ℕ → ℕ → ℕ
+later from long = min (from + long) 8640001
+
+-- the first centisecond of an event, and the last at which it may come again
+abbrev pub first_of : TimedEvent → ℕ
+first_of e = later e.from e.at
+
+abbrev pub last_time_of : TimedEvent → Option ℕ
+last_time_of e = option_map (later e.from) e.until
+
+-- the first centisecond of the first of these events that has the name
+abbrev pub first_called : List ℕ → List TimedEvent → ℕ
+first_called name [] = 0
+first_called name (e ∷ es) = if is_named name e.name then first_of e else first_called name es
+
+-- the centisecond from which an event counts: the start, or the first of an event above it
+abbrev pub base_of : List TimedEvent → Option (List ℕ) → ℕ
+base_of above None = 0
+base_of above (Some name) = first_called name above
+
+abbrev pub placed : List TimedEvent → TimedEvent → TimedEvent
+placed above e = record e { from = base_of above e.after }
+
+-- events, each with the centisecond from which it counts; those above are counted
+abbrev pub counted : List TimedEvent → List TimedEvent → List TimedEvent
+counted above [] = []
+counted above (e ∷ es) = placed above e ∷ counted (above ++ placed above e ∷ []) es
+
 -- an event of a scenario that lasts so many centiseconds
 abbrev pub event_of : ℕ → TimedEvent → Event
 event_of lasts e =
-    record { times = comes_by e.at e.every e.until lasts; requests = e.requests }
+    record { times = comes_by (first_of e) e.every (last_time_of e) lasts; requests = e.requests }
 
 -- how a job leaves by this request, if it does
 abbrev pub then_of : Request → Option Then
@@ -87,15 +123,19 @@ step_in requests number = option_and_then step_of (slice_get requests number)
 abbrev pub leaves_by : List Request → Then
 leaves_by requests = unwrap_or (option_and_then then_of (last_of requests)) then.End
 
--- what a job costs, in hundredths of a centisecond
+-- what a job costs, in hundredths of a centisecond: the most, of which a lot may spare it some
 abbrev pub cost_of : TimedJob → Cost
 cost_of j = record {
   at = j.at;
-  hundredths = j.cost * 100;
-  spread = 0;
+  hundredths = j.cost.to * 100;
+  spread = (j.cost.to - j.cost.from) * 100;
   steps = map (step_in j.requests) (range_with_len 0 7);
   then = leaves_by j.requests;
 }
+
+-- the seed of a clock: with 0, where a scenario has none, nothing is drawn
+abbrev pub seed_of : Timed → ℕ
+seed_of t = unwrap_or t.seed 0
 
 -- what is set down for a clock
 abbrev pub schedule_of : Timed → Schedule
@@ -123,6 +163,7 @@ abbrev pub event_texts : TimedEvent → EventTexts
 event_texts e =
     record {
       at = e.at;
+      after = e.after;
       requests = map line_of e.requests;
       every = e.every;
       until = e.until;
@@ -135,6 +176,7 @@ timing_texts t =
     record {
       seconds = t.seconds;
       title = t.title;
+      seed = t.seed;
       stolen = t.stolen;
       jobs = map job_texts t.jobs;
       events = map event_texts t.events;
@@ -175,12 +217,15 @@ pub record IsTimedJob (j : TimedJob) : Type 0 where
   pub name : can_be_shown j.name ≡ true
 
 -- the ranges of an event
-abbrev pub IsTimedEvent : TimedEvent → Type 0
-IsTimedEvent e = AllByRecursion IsRequest e.requests × (can_be_shown e.name ≡ true)
+pub record IsTimedEvent (e : TimedEvent) : Type 0 where
+  pub requests : AllByRecursion IsRequest e.requests
+  pub after : can_be_shown e.after ≡ true
+  pub name : can_be_shown e.name ≡ true
 
--- the ranges of how time passes
+-- the ranges of how time passes, in which each event counts from the one that it names
 pub record IsTimed (t : Timed) : Type 0 where
   pub title : can_be_shown t.title ≡ true
+  pub bases : counted [] t.events ≡ t.events
   pub jobs : AllByRecursion IsTimedJob t.jobs
   pub events : AllByRecursion IsTimedEvent t.events
 

@@ -1,7 +1,14 @@
 -- The numbers and texts of a scenario, before any text is read.
-use Rattle.std.specs.Prelude.{ℕ, List, Option}
+use Rattle.std.specs.Prelude.{ℕ, List, Option, Some, None, Bool, false}
+use Rattle.std.specs.Str.{bytes_eq}
 use Rattle.agc_document.specs.Texts.{Texts, RowTexts, EntryTexts}
 use Rattle.agc_clock.specs.declared.timetable.Stolen.{Stolen}
+use Rattle.agc_scenario.specs.declared.timing.CostRange.{CostRange}
+
+-- whether a name is there, and is this text
+abbrev pub is_named : List ℕ → Option (List ℕ) → Bool
+is_named called None = false
+is_named called (Some name) = bytes_eq name called
 
 -- a task's row and its name
 pub record NamedRow : Type 0 where
@@ -18,29 +25,32 @@ pub record NamedTexts : Type 0 where
   pub rows : List NamedRow
   pub entries : List NamedEntry
 
--- a job: the text of its address, its cost and its deadline in centiseconds, a text for each
+-- a job: the text of its address, its costs and its deadline in centiseconds, a text for each
 -- request for which it asks, and its name
 pub record JobTexts : Type 0 where
   pub at : List ℕ
-  pub cost : ℕ
+  pub cost : CostRange
   pub deadline : Option ℕ
   pub requests : List (List ℕ)
   pub name : Option (List ℕ)
 
--- an event: its first centisecond, a text for each request, after how many centiseconds it comes
--- again, the last centisecond at which it may, and its name
+-- an event: its first centisecond, the name of the event from whose first it counts, a text for
+-- each request, after how many centiseconds it comes again, the last centisecond at which it may,
+-- and its name
 pub record EventTexts : Type 0 where
   pub at : ℕ
+  pub after : Option (List ℕ)
   pub requests : List (List ℕ)
   pub every : Option ℕ
   pub until : Option ℕ
   pub name : Option (List ℕ)
 
--- how time passes: the seconds that a scenario lasts, its title, the rows of stolen time, what jobs
--- cost, and the events
+-- how time passes: the seconds that a scenario lasts, its title, the seed of its lots, the rows of
+-- stolen time, what jobs cost, and the events
 pub record TimingTexts : Type 0 where
   pub seconds : ℕ
   pub title : Option (List ℕ)
+  pub seed : Option ℕ
   pub stolen : List Stolen
   pub jobs : List JobTexts
   pub events : List EventTexts

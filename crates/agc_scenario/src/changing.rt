@@ -1,29 +1,33 @@
 //! One number of a scenario, exchanged for another.
-ghost use Rattle.std.specs.Prelude.{◌≡◌, ◌≢◌, ◌≤◌, ◌++◌, ℕ, List, codes, IfSome, IfNone};
+ghost use Rattle.std.specs.Prelude.{◌≡◌, ◌≢◌, ◌≤◌, ◌++◌, [], ℕ, List, codes, IfSome, IfNone};
 ghost use Rattle.std.specs.Prelude.{OnOk, OnErr};
 ghost use Rattle.std.specs.List.{position};
 ghost use Rattle.std.specs.Str.{bytes_eq};
 ghost use Rattle.agc_text.specs.Numbers.{octal};
 ghost use Rattle.agc_document.specs.Keys.{least, most};
 ghost use Rattle.agc_scenario.specs.declared.changing.Number.{Number as AnyNumber};
-ghost use Rattle.agc_scenario.specs.Numbers.{is_named, job_called, event_called, NamesJob};
+ghost use Rattle.agc_scenario.specs.declared.changing.Number.TheVariants.{Moment as MomentOf};
+ghost use Rattle.agc_scenario.specs.Texts.{is_named};
+ghost use Rattle.agc_scenario.specs.Scenarios.{counted};
+ghost use Rattle.agc_scenario.specs.Numbers.{job_called, event_called, NamesJob};
 ghost use Rattle.agc_scenario.specs.Numbers.{NamesEvent, NamesNumber, key_of, nearest, change_at};
 ghost use Rattle.agc_scenario.specs.Numbers.{job_with, event_with, exchanged, FitsIn};
 
 use crate::keys::always;
-use crate::rows::{COST, EVERY, MOMENT, SECONDS, STEAL, UNTIL};
+use crate::rows::{COST, EVERY, MOMENT, SECONDS, SEED, STEAL, UNTIL};
 use crate::scenario::Scenario;
-use crate::timing::{Name, TimedEvent, TimedJob, Timing};
+use crate::timing::{CostRange, TimedEvent, TimedJob, Timing, count, is_named};
 use agc_document::Key;
 use agc_text::parse_address;
 use std::alloc::{AllocError, Global};
 
-/// A number of a scenario: the percent that is stolen all the time, how many seconds it lasts, or a
-/// number of the job or event of this index. Source: profile.
+/// A number of a scenario: the percent that is stolen all the time, how many seconds it lasts, the
+/// seed of its lots, or a number of the job or event of this index. Source: profile.
 #[derive(Clone, Copy)]
 pub enum Number {
     Steal,
     Seconds,
+    Seed,
     Cost(usize),
     Moment(usize),
     Every(usize),
@@ -38,6 +42,7 @@ impl Number {
         match self {
             Number::Steal => STEAL,
             Number::Seconds => SECONDS,
+            Number::Seed => SEED,
             Number::Cost(_) => COST,
             Number::Moment(_) => MOMENT,
             Number::Every(_) => EVERY,
@@ -74,16 +79,6 @@ fn between<'a>(text: &'a str, front: &str, back: &str) -> Option<&'a str>
     rest.strip_suffix(back)
 }
 
-/// Whether a name is there, and is this text.
-fn is_named(name: &Name, called: &str) -> bool
-    ensures { result ≡ is_named called.now name.now }
-{
-    match name.as_str() {
-        None => false,
-        Some(text) => text == called,
-    }
-}
-
 /// Whether a text is a job's address.
 fn is_at(job: &TimedJob, text: &str) -> bool
     ensures { result ≡ bytes_eq (octal 5 job.now.at) text.now }
@@ -95,12 +90,15 @@ fn is_at(job: &TimedJob, text: &str) -> bool
     }
 }
 
-/// Exchanges what a job costs.
+/// Exchanges what a job costs: from now on always this much.
 fn change_cost(job: &mut TimedJob, value: u32)
     requires { value ≤ 1000000 }
     ensures { job.new ≡ job_with value job.old }
 {
-    job.cost = value;
+    job.cost = CostRange {
+        from: value,
+        to: value,
+    };
 }
 
 /// Exchanges a number of an event.
@@ -112,7 +110,7 @@ fn change_event(event: &mut TimedEvent, number: Number, value: u32)
         Number::Moment(_) => event.at = value,
         Number::Every(_) => event.every = Some(value),
         Number::Until(_) => event.until = Some(value),
-        Number::Steal | Number::Seconds | Number::Cost(_) => {}
+        Number::Steal | Number::Seconds | Number::Seed | Number::Cost(_) => {}
     }
 }
 
@@ -136,6 +134,16 @@ fn change_event_at(events: &mut Vec<TimedEvent>, k: usize, number: Number, value
     if k < events.len() {
         change_event(&mut events[k], number, value);
     }
+}
+
+/// Exchanges when the event at this place comes, if there is one, and so when those come that count
+/// from it.
+fn change_moment_at(events: &mut Vec<TimedEvent>, k: usize, value: u32)
+    ensures { events.new.items
+        ≡ counted [] (change_at (event_with (MomentOf k) value) k events.old.items) }
+{
+    change_event_at(events, k, Number::Moment(k), value);
+    count(events);
 }
 
 impl Timing {
@@ -200,8 +208,9 @@ impl Timing {
                 self.stolen = rows;
             }
             Number::Seconds => self.seconds = value,
+            Number::Seed => self.seed = Some(value),
             Number::Cost(k) => change_job_at(&mut self.jobs, k, value),
-            Number::Moment(k) => change_event_at(&mut self.events, k, number, value),
+            Number::Moment(k) => change_moment_at(&mut self.events, k, value),
             Number::Every(k) => change_event_at(&mut self.events, k, number, value),
             Number::Until(k) => change_event_at(&mut self.events, k, number, value),
         }
@@ -210,7 +219,7 @@ impl Timing {
 }
 
 impl Scenario {
-    /// The number that is named `steal`, `seconds`, `job.NAME.cost`, `event.NAME.at`,
+    /// The number that is named `steal`, `seconds`, `seed`, `job.NAME.cost`, `event.NAME.at`,
     /// `event.NAME.every` or `event.NAME.until`, where a job without a name is named by its
     /// address; None where the scenario has no such job or event. Source: profile.
     pub fn number(&self, name: &str) -> Option<Number>
@@ -224,6 +233,9 @@ impl Scenario {
         }
         if name == "seconds" {
             return Some(Number::Seconds);
+        }
+        if name == "seed" {
+            return Some(Number::Seed);
         }
         match timing.job_named(name) {
             Some(job) => Some(Number::Cost(job)),

@@ -1,23 +1,26 @@
 //! The numbers and texts of a scenario, by the table of keys.
-ghost use Rattle.std.specs.Prelude.{◌≡◌, ◌≤◌, [], map, IfOk, IfSome};
+ghost use Rattle.std.specs.Prelude.{◌≡◌, ◌≤◌, [], map, true, false, IfOk, IfSome, IfNone};
 ghost use Rattle.toml.specs.View.{view, table_view};
 ghost use Rattle.agc_document.specs.declared.key.Key.{Key as AnyKey};
 ghost use Rattle.agc_document.specs.Gives.{GivesOrKey};
-ghost use Rattle.agc_document.specs.Keys.{least, most, number_of, read_if, read_or};
+ghost use Rattle.agc_document.specs.Keys.{least, most, number_of, read_at, read_if, read_or};
 ghost use Rattle.agc_scenario.specs.declared.rows.TheConstants as key_of;
 ghost use Rattle.agc_scenario.specs.Keys.{forward, stolen_rows, named_row, named_entry};
 ghost use Rattle.agc_scenario.specs.Keys.{stolen_row, job, event, always, ample_settings_in};
-ghost use Rattle.agc_scenario.specs.Keys.{if_apart, timing_in, named_in, texts_with, scenario_in};
+ghost use Rattle.agc_scenario.specs.Keys.{ascending, cost, drawn_cost, if_coherent};
+ghost use Rattle.agc_scenario.specs.Keys.{timing_in, named_in, texts_with, scenario_in};
 
 use crate::apart::{listed_twice, overlapping};
+use crate::counting::{none_above, without_seed};
 use crate::rows::{
-    BEFORE, COST, DEADLINE, DO, EVENT_KEYS, EVENTS, EVERY, FROM, JOB_KEYS, JOBS, LAST, MOMENT,
-    NAME, NAMED_PHASE_KEYS, NAMED_PHASES, NAMED_TASK_KEYS, NAMED_TASKS, PERCENT, SCENARIO_KEYS,
-    SECONDS, STEAL, STEAL_KEYS, THEN, TITLE, TO, UNTIL,
+    AFTER, BEFORE, COST, COST_KEYS, DEADLINE, DO, EVENT_KEYS, EVENTS, EVERY, FROM, JOB_KEYS, JOBS,
+    LAST, LEAST, MOMENT, MOST, NAME, NAMED_PHASE_KEYS, NAMED_PHASES, NAMED_TASK_KEYS, NAMED_TASKS,
+    PERCENT, SCENARIO_KEYS, SECONDS, SEED, STEAL, STEAL_KEYS, THEN, TITLE, TO, UNTIL,
 };
 use crate::texts::{
     EventTexts, JobTexts, NamedEntry, NamedRow, NamedTexts, ScenarioTexts, StolenRow, TimingTexts,
 };
+use crate::timing::CostRange;
 use agc_clock::Stolen;
 use agc_document::rows::{ALLOWANCE, AT, LIMIT};
 use agc_document::{
@@ -88,7 +91,7 @@ fn forward<'a>(row: Stolen, place: Place, notes: &mut Notes<'a>) -> Result<Stole
 
 /// A number in fewer bits.
 fn small(number: Option<u64>) -> Option<u32>
-    requires { IfSome number (λ n. n ≤ 8640000) }
+    requires { IfSome number (λ n. n ≤ 2147483646) }
     ensures { result ≡ number }
 {
     match number {
@@ -103,7 +106,7 @@ fn number_if<'a>(
     key: Key,
     notes: &mut Notes<'a>,
 ) -> Result<Option<u32>, Refusal<'a>>
-    requires { most key ≤ 8640000 }
+    requires { most key ≤ 2147483646 }
     ensures value { GivesOrKey (λ o. o) result
         (read_if number_of key (table_view site.entry.table.now)) }
     ensures range { IfOk result (λ o. IfSome o (λ n. least key ≤ n)) }
@@ -167,6 +170,85 @@ fn look_at_order<'a>(site: Site<'a>, notes: &mut Notes<'a>) {
     }
 }
 
+/// A cost, if its least isn't above its most.
+fn ascending<'a>(
+    cost: CostRange,
+    place: Place,
+    notes: &mut Notes<'a>,
+) -> Result<CostRange, Refusal<'a>>
+    ensures value { GivesOrKey (λ c. c) result (ascending cost) }
+    ensures order { IfOk result (λ c. c.from ≤ c.to) }
+    ensures same { IfOk result (λ c. c ≡ cost) }
+{
+    if cost.from <= cost.to {
+        Ok(cost)
+    } else {
+        Err(Refusal::Key(notes.key(place, "", KeyFault::LeastAboveMost)))
+    }
+}
+
+/// A cost that is drawn by lot.
+#[tactic(auto, unfolding(crate::specs::Keys::drawn_cost))]
+fn drawn_cost<'a>(
+    alloc: Global,
+    placed: Placed<'a>,
+    notes: &mut Notes<'a>,
+) -> Result<CostRange, Refusal<'a>>
+    ensures value { GivesOrKey (λ c. c) result (drawn_cost (view placed.entry.value.now)) }
+    ensures order { IfOk result (λ c. c.from ≤ c.to) }
+    ensures range { IfOk result (λ c. c.to ≤ 1000000) }
+{
+    let site = table_in(alloc, placed, notes)?;
+    let known = has_only(site, &COST_KEYS, Level::Cost, notes);
+    let from: Result<u64, Refusal<'a>> = known.and(read_at(site, LEAST, notes));
+    let to: Result<u64, Refusal<'a>> = read_at(site, MOST, notes);
+    let cost = CostRange {
+        from: from? as u32,
+        to: to? as u32,
+    };
+    ascending(cost, site.place, notes)
+}
+
+/// What a job costs: always as much, or by lot.
+fn cost_of<'a>(
+    site: Site<'a>,
+    value: &'a Value,
+    notes: &mut Notes<'a>,
+) -> Result<CostRange, Refusal<'a>>
+    ensures value { GivesOrKey (λ c. c) result (cost key_of.COST (view value.now)) }
+    ensures order { IfOk result (λ c. c.from ≤ c.to) }
+    ensures range { IfOk result (λ c. c.to ≤ 1000000) }
+{
+    let placed = Placed {
+        value,
+        key: COST,
+        place: site.place.of_value(COST),
+    };
+    match value.as_table() {
+        Some(_table) => drawn_cost(site.alloc, placed, notes),
+        None => {
+            let cost: u64 = u64::from_value(site.alloc, placed, notes)?;
+            Ok(CostRange {
+                from: cost as u32,
+                to: cost as u32,
+            })
+        }
+    }
+}
+
+/// What a job costs, by its table.
+fn cost_in<'a>(site: Site<'a>, notes: &mut Notes<'a>) -> Result<CostRange, Refusal<'a>>
+    ensures value { GivesOrKey (λ c. c) result
+        (read_at cost key_of.COST (table_view site.entry.table.now)) }
+    ensures order { IfOk result (λ c. c.from ≤ c.to) }
+    ensures range { IfOk result (λ c. c.to ≤ 1000000) }
+{
+    match value_of(site.table, COST) {
+        Some(value) => cost_of(site, value, notes),
+        None => Err(Refusal::Key(notes.key(site.place, "", KeyFault::Missing(COST)))),
+    }
+}
+
 impl<'a> FromData<'a> for JobTexts<'a> {
     ghost reads = { λ k. job };
 
@@ -181,7 +263,7 @@ impl<'a> FromData<'a> for JobTexts<'a> {
         let site = table_in(alloc, placed, notes)?;
         let known = has_only(site, &JOB_KEYS, Level::Job, notes);
         let at = known.and(read_at(site, AT, notes));
-        let cost: Result<u64, Refusal<'a>> = read_at(site, COST, notes);
+        let cost = cost_in(site, notes);
         let deadline = number_if(site, DEADLINE, notes);
         let end = TextList::of(alloc, "end")?;
         let requests = read_or(site, THEN, end, notes);
@@ -189,7 +271,7 @@ impl<'a> FromData<'a> for JobTexts<'a> {
         let name = read_if(site, NAME, notes);
         Ok(JobTexts {
             at: at?,
-            cost: cost? as u32,
+            cost: cost?,
             deadline: deadline?,
             requests: requests?,
             name: name?,
@@ -211,12 +293,14 @@ impl<'a> FromData<'a> for EventTexts<'a> {
         let site = table_in(alloc, placed, notes)?;
         let known = has_only(site, &EVENT_KEYS, Level::Event, notes);
         let at: Result<u64, Refusal<'a>> = known.and(read_at(site, MOMENT, notes));
+        let after = read_if(site, AFTER, notes);
         let requests = read_at(site, DO, notes);
         let every = number_if(site, EVERY, notes);
         let until = number_if(site, UNTIL, notes);
         let name = read_if(site, NAME, notes);
         Ok(EventTexts {
             at: at? as u32,
+            after: after?,
             requests: requests?,
             every: every?,
             until: until?,
@@ -290,18 +374,22 @@ fn stolen_in<'a>(site: Site<'a>, notes: &mut Notes<'a>) -> Result<Vec<Stolen>, R
     }
 }
 
-/// The timing, if its rows of stolen time are apart, and no two jobs have one address.
-fn if_apart<'a>(
+/// The timing, if its rows of stolen time are apart, no two jobs have one address, lots can be
+/// drawn, and events count from events above them.
+fn if_coherent<'a>(
     texts: TimingTexts<'a>,
     notes: &mut Notes<'a>,
 ) -> Result<TimingTexts<'a>, Refusal<'a>>
-    ensures value { GivesOrKey (λ t. t) result (if_apart texts.entry) }
+    ensures value { GivesOrKey (λ t. t) result (if_coherent texts.entry) }
 {
     let overlapping = overlapping(texts.stolen.as_slice(), 1, notes);
     let listed_twice = listed_twice(texts.jobs.as_slice(), 1, notes);
-    match (overlapping, listed_twice) {
-        (None, None) => Ok(texts),
-        (Some(note), _) | (_, Some(note)) => Err(Refusal::Key(note)),
+    let without_seed = without_seed(texts.seed, texts.jobs.as_slice(), notes);
+    let none_above = none_above(texts.events.as_slice(), notes);
+    let first = overlapping.or(listed_twice).or(without_seed).or(none_above);
+    match first {
+        None => Ok(texts),
+        Some(note) => Err(Refusal::Key(note)),
     }
 }
 
@@ -312,17 +400,19 @@ fn timing_in<'a>(site: Site<'a>, notes: &mut Notes<'a>) -> Result<TimingTexts<'a
 {
     let seconds: Result<u64, Refusal<'a>> = read_at(site, SECONDS, notes);
     let title = read_if(site, TITLE, notes);
+    let seed = number_if(site, SEED, notes);
     let stolen = stolen_in(site, notes);
     let jobs = items_or_none(site, JOBS, notes);
     let events = items_or_none(site, EVENTS, notes);
     let texts = TimingTexts {
         seconds: seconds? as u32,
         title: title?,
+        seed: seed?,
         stolen: stolen?,
         jobs: jobs?,
         events: events?,
     };
-    if_apart(texts, notes)
+    if_coherent(texts, notes)
 }
 
 /// The tasks and phases.
@@ -424,7 +514,7 @@ fn ample_settings_in<'a>(site: Site<'a>, notes: &mut Notes<'a>) -> Result<Settin
 }
 
 /// The numbers and texts of a document. A fault `Key` where a key or the kind, range or length of
-/// its value is wrong, rows of stolen time overlap, or two jobs have one address; it is noted.
+/// its value is wrong, or the timing isn't coherent; it is noted.
 #[tactic(auto, unfolding(crate::specs::Keys::scenario_in))]
 pub(crate) fn scenario_in<'a>(
     alloc: Global,

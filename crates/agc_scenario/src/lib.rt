@@ -4,6 +4,7 @@
 
 mod apart;
 mod changing;
+mod counting;
 mod keys;
 pub mod rows;
 mod scenario;
@@ -13,4 +14,4 @@ mod values;
 
 pub use changing::Number;
 pub use scenario::{Scenario, is_scenario, read_scenario, scenario_of};
-pub use timing::{Name, TimedEvent, TimedJob, Timing};
+pub use timing::{CostRange, Name, TimedEvent, TimedJob, Timing};

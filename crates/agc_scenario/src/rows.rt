@@ -2,13 +2,18 @@
 use agc_document::rows::{
     ACTION, ALLOWANCE, AT, BANK, GROUP, JOB, KEY, LIMIT, LISTING, PHASE, POWER, RADAR, SETS,
 };
-use agc_document::{ANY, Form, Key, KeyName, Kind};
+use agc_document::{ANY, Form, Key, KeyName, Kind, TimeName};
 
-pub const SECONDS: Key = Key::Required(KeyName::Seconds, Kind::Integer(1, 86_400));
+pub const SECONDS: Key = Key::Required(KeyName::Time(TimeName::Seconds), Kind::Integer(1, 86_400));
 
-pub const TITLE: Key = Key::Optional(KeyName::Title, Kind::Text(Form::Name));
+pub const TITLE: Key = Key::Optional(KeyName::Time(TimeName::Title), Kind::Text(Form::Name));
 
-pub const STEAL: Key = Key::Optional(KeyName::Steal, Kind::IntegerOrTables(0, 100));
+pub const SEED: Key = Key::Optional(
+    KeyName::Time(TimeName::Seed),
+    Kind::Integer(1, 2_147_483_646),
+);
+
+pub const STEAL: Key = Key::Optional(KeyName::Time(TimeName::Steal), Kind::Integer(0, 100));
 
 pub const NAMED_TASKS: Key = Key::Optional(KeyName::Task, Kind::Tables(0, ANY));
 
@@ -16,12 +21,13 @@ pub const NAMED_PHASES: Key = Key::Optional(KeyName::Phase, Kind::Tables(0, ANY)
 
 pub const JOBS: Key = Key::Optional(KeyName::Job, Kind::Tables(0, 100));
 
-pub const EVENTS: Key = Key::Optional(KeyName::Event, Kind::Tables(0, 1000));
+pub const EVENTS: Key = Key::Optional(KeyName::Time(TimeName::Event), Kind::Tables(0, 1000));
 
 /// The keys of a scenario itself.
-pub const SCENARIO_KEYS: [Key; 13] = [
+pub const SCENARIO_KEYS: [Key; 14] = [
     SECONDS,
     TITLE,
+    SEED,
     SETS,
     LIMIT,
     ALLOWANCE,
@@ -35,7 +41,7 @@ pub const SCENARIO_KEYS: [Key; 13] = [
     EVENTS,
 ];
 
-pub const NAME: Key = Key::Optional(KeyName::Name, Kind::Text(Form::Name));
+pub const NAME: Key = Key::Optional(KeyName::Time(TimeName::Name), Kind::Text(Form::Name));
 
 /// The keys of a task's row.
 pub const NAMED_TASK_KEYS: [Key; 4] = [AT, BANK, ACTION, NAME];
@@ -43,37 +49,55 @@ pub const NAMED_TASK_KEYS: [Key; 4] = [AT, BANK, ACTION, NAME];
 /// The keys of a phase entry.
 pub const NAMED_PHASE_KEYS: [Key; 5] = [GROUP, PHASE, JOB, LISTING, NAME];
 
-pub const FROM: Key = Key::Required(KeyName::From, Kind::Integer(0, 8_640_000));
+pub const FROM: Key = Key::Required(KeyName::Time(TimeName::From), Kind::Integer(0, 8_640_000));
 
-pub const TO: Key = Key::Required(KeyName::To, Kind::Integer(0, 8_640_000));
+pub const TO: Key = Key::Required(KeyName::Time(TimeName::To), Kind::Integer(0, 8_640_000));
 
-pub const PERCENT: Key = Key::Required(KeyName::Percent, Kind::Integer(0, 100));
+pub const PERCENT: Key = Key::Required(KeyName::Time(TimeName::Percent), Kind::Integer(0, 100));
 
-pub const EVERY: Key = Key::Optional(KeyName::Every, Kind::Integer(1, 8_640_000));
+pub const EVERY: Key = Key::Optional(KeyName::Time(TimeName::Every), Kind::Integer(1, 8_640_000));
 
-pub const UNTIL: Key = Key::Optional(KeyName::Until, Kind::Integer(0, 8_640_000));
+pub const UNTIL: Key = Key::Optional(KeyName::Time(TimeName::Until), Kind::Integer(0, 8_640_000));
 
 /// The keys of a row of stolen time.
 pub const STEAL_KEYS: [Key; 5] = [FROM, TO, PERCENT, EVERY, UNTIL];
 
-pub const COST: Key = Key::Required(KeyName::Cost, Kind::Integer(1, 1_000_000));
+pub const COST: Key = Key::Required(KeyName::Time(TimeName::Cost), Kind::Integer(1, 1_000_000));
 
-pub const DEADLINE: Key = Key::Optional(KeyName::Deadline, Kind::Integer(1, 8_640_000));
+pub const LEAST: Key = Key::Required(KeyName::Time(TimeName::From), Kind::Integer(1, 1_000_000));
 
-pub const THEN: Key = Key::Optional(KeyName::Then, Kind::OneOrMore(Form::Request, 1, 8));
+pub const MOST: Key = Key::Required(KeyName::Time(TimeName::To), Kind::Integer(1, 1_000_000));
+
+/// The keys of a cost that is drawn by lot.
+pub const COST_KEYS: [Key; 2] = [LEAST, MOST];
+
+pub const DEADLINE: Key = Key::Optional(
+    KeyName::Time(TimeName::Deadline),
+    Kind::Integer(1, 8_640_000),
+);
+
+pub const THEN: Key = Key::Optional(
+    KeyName::Time(TimeName::Then),
+    Kind::OneOrMore(Form::Request, 1, 8),
+);
 
 /// As its last request alone may be.
-pub const LAST: Key = Key::Optional(KeyName::Then, Kind::Text(Form::Leaving));
+pub const LAST: Key = Key::Optional(KeyName::Time(TimeName::Then), Kind::Text(Form::Leaving));
 
 /// As those before it may be.
-pub const BEFORE: Key = Key::Optional(KeyName::Then, Kind::Text(Form::Step));
+pub const BEFORE: Key = Key::Optional(KeyName::Time(TimeName::Then), Kind::Text(Form::Step));
 
 /// The keys of what a job costs.
 pub const JOB_KEYS: [Key; 5] = [AT, COST, DEADLINE, THEN, NAME];
 
 pub const MOMENT: Key = Key::Required(KeyName::At, Kind::Integer(0, 8_640_000));
 
-pub const DO: Key = Key::Required(KeyName::Do, Kind::OneOrMore(Form::Request, 1, 16));
+pub const AFTER: Key = Key::Optional(KeyName::Time(TimeName::After), Kind::Text(Form::Name));
+
+pub const DO: Key = Key::Required(
+    KeyName::Time(TimeName::Do),
+    Kind::OneOrMore(Form::Request, 1, 16),
+);
 
 /// The keys of an event.
-pub const EVENT_KEYS: [Key; 5] = [MOMENT, DO, EVERY, UNTIL, NAME];
+pub const EVENT_KEYS: [Key; 6] = [MOMENT, AFTER, DO, EVERY, UNTIL, NAME];

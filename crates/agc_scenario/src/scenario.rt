@@ -143,9 +143,10 @@ pub fn scenario_of<'a>(
 ///
 /// The first that applies: `NotToml`; `Key`, an unknown key at any level, a missing required key, a
 /// value of another kind, an integer out of range, an array of another length, a row of stolen time
-/// that ends before it begins, two that overlap, two jobs of one address; `Line`, a text that is
-/// not of its form; `TaskTwice`, `PhaseTwice` and `TooManyAreas`, rows and entries that make no
-/// plan. `NoMemory` may come in place of any.
+/// that ends before it begins, two that overlap, two jobs of one address, a cost by lot whose least
+/// is above its most or for which there is no seed, an event that counts from none above it;
+/// `Line`, a text that is not of its form; `TaskTwice`, `PhaseTwice` and `TooManyAreas`, rows and
+/// entries that make no plan. `NoMemory` may come in place of any.
 pub fn read_scenario(alloc: Global, text: &str) -> Result<Scenario, BenchFault>
     ensures found { IfOk result (λ s. IsScenario s
         × HasTexts (parse_document text.now) (scenario_texts s)) }

@@ -1,4 +1,5 @@
 //! The numbers and texts of a scenario, which borrow from its document.
+use crate::timing::CostRange;
 use agc_clock::Stolen;
 use agc_document::{EntryTexts, RowTexts, Text, TextList, Texts};
 use std::marker::Model;
@@ -67,7 +68,7 @@ impl Model for StolenRow {
 #[derive(Drop)]
 pub(crate) struct JobTexts<'a> {
     pub(crate) at: Text<'a>,
-    pub(crate) cost: u32,
+    pub(crate) cost: CostRange,
     pub(crate) deadline: Option<u32>,
     pub(crate) requests: TextList<'a>,
     pub(crate) name: Option<Text<'a>>,
@@ -87,13 +88,15 @@ impl<'a> Model for JobTexts<'a> {
       name = t.name;
     } };
 
-    ghost invariant = { λ t. t.cost ≤ 1000000 };
+    ghost invariant = { λ t. (t.cost.from ≤ t.cost.to) × (t.cost.to ≤ 1000000) };
 }
 
-/// An event: its numbers, a text for each request, and the text of its name.
+/// An event: its numbers, a text for each request, and the texts of its name and of the name of the
+/// event from which it counts.
 #[derive(Drop)]
 pub(crate) struct EventTexts<'a> {
     pub(crate) at: u32,
+    pub(crate) after: Option<Text<'a>>,
     pub(crate) requests: TextList<'a>,
     pub(crate) every: Option<u32>,
     pub(crate) until: Option<u32>,
@@ -108,6 +111,7 @@ impl<'a> Model for EventTexts<'a> {
 
     ghost view = { λ t. record {
       at = t.at;
+      after = t.after;
       requests = t.requests;
       every = t.every;
       until = t.until;
@@ -122,6 +126,7 @@ impl<'a> Model for EventTexts<'a> {
 pub(crate) struct TimingTexts<'a> {
     pub(crate) seconds: u32,
     pub(crate) title: Option<Text<'a>>,
+    pub(crate) seed: Option<u32>,
     pub(crate) stolen: Vec<Stolen>,
     pub(crate) jobs: Vec<JobTexts<'a>>,
     pub(crate) events: Vec<EventTexts<'a>>,
@@ -136,6 +141,7 @@ impl<'a> Model for TimingTexts<'a> {
     ghost view = { λ t. record {
       seconds = t.seconds;
       title = t.title;
+      seed = t.seed;
       stolen = t.stolen.items;
       jobs = t.jobs.items;
       events = t.events.items;

@@ -1,8 +1,10 @@
 //! How time passes in a scenario.
-ghost use Rattle.std.specs.Prelude.{◌≡◌, ◌≤◌, map, option_map, string_bytes};
+ghost use Rattle.std.specs.Prelude.{◌≡◌, ◌≤◌, [], map, option_map, string_bytes};
 ghost use Rattle.std.specs.List.{range_with_len};
-ghost use Rattle.agc_scenario.specs.Scenarios.{comes_by, cost_of, leaves_by, schedule_of};
-ghost use Rattle.agc_scenario.specs.Scenarios.{step_in, then_of};
+ghost use Rattle.agc_scenario.specs.Texts.{is_named};
+ghost use Rattle.agc_scenario.specs.Scenarios.{base_of, comes_by, cost_of, counted, first_called};
+ghost use Rattle.agc_scenario.specs.Scenarios.{first_of, last_time_of, later, leaves_by};
+ghost use Rattle.agc_scenario.specs.Scenarios.{schedule_of, seed_of, step_in, then_of};
 
 use agc_clock::{Cost, Step, Stolen, Then, Times, Timetables, step_of};
 use agc_plan::{Address, Request};
@@ -42,12 +44,30 @@ impl Name {
     }
 }
 
+/// Whether a name is there, and is this text.
+pub(crate) fn is_named(name: &Name, called: &str) -> bool
+    ensures { result ≡ is_named called.now name.now }
+{
+    match name.as_str() {
+        None => false,
+        Some(text) => text == called,
+    }
+}
+
+/// What a job costs, in centiseconds of computing time: at least and at most this much, by lot; the
+/// same each time, where both are the same. Source: profile.
+#[derive(Clone, Copy, PartialEq, Eq)]
+pub struct CostRange {
+    pub from: u32,
+    pub to: u32,
+}
+
 /// What a job at an address costs, in centiseconds of computing time, what it is asked when that is
 /// used up, how long it may take, and its name. Source: profile.
 #[derive(Drop)]
 pub struct TimedJob {
     pub(crate) at: Address,
-    pub(crate) cost: u32,
+    pub(crate) cost: CostRange,
     pub(crate) deadline: Option<u32>,
     pub(crate) requests: Vec<Request>,
     pub(crate) name: Name,
@@ -67,7 +87,7 @@ impl Model for TimedJob {
       name = j.name;
     } };
 
-    ghost invariant = { λ j. j.cost ≤ 1000000 };
+    ghost invariant = { λ j. (j.cost.from ≤ j.cost.to) × (j.cost.to ≤ 1000000) };
 }
 
 /// How a job leaves by this request, if it does.
@@ -125,9 +145,10 @@ impl TimedJob {
     }
 
     /// What it costs, in centiseconds of computing, at most 1,000,000. Source: profile.
-    pub fn cost(&self) -> u32
+    pub fn cost(&self) -> CostRange
         ensures value { result ≡ self.now.cost }
-        ensures range { result ≤ 1000000 }
+        ensures order { result.from ≤ result.to }
+        ensures range { result.to ≤ 1000000 }
     {
         self.cost
     }
@@ -159,8 +180,8 @@ impl TimedJob {
     {
         Cost {
             at: self.at,
-            hundredths: self.cost * 100,
-            spread: 0,
+            hundredths: self.cost.to * 100,
+            spread: (self.cost.to - self.cost.from) * 100,
             steps: steps_of(self.requests.as_slice()),
             then: leaves_by(self.requests.as_slice()),
         }
@@ -171,6 +192,9 @@ impl TimedJob {
 #[derive(Drop)]
 pub struct TimedEvent {
     pub(crate) at: u32,
+    pub(crate) after: Name,
+    /// The centisecond from which it counts.
+    pub(crate) from: u32,
     pub(crate) requests: Vec<Request>,
     pub(crate) every: Option<u32>,
     pub(crate) until: Option<u32>,
@@ -185,6 +209,8 @@ impl Model for TimedEvent {
 
     ghost view = { λ e. record {
       at = e.at;
+      after = e.after;
+      from = e.from;
       requests = e.requests.items;
       every = e.every;
       until = e.until;
@@ -194,12 +220,30 @@ impl Model for TimedEvent {
     ghost invariant = { λ e. IfSome e.every (λ n. 1 ≤ n) };
 }
 
+/// The centisecond that is so long after another, or the first after a day, where it is later.
+fn later(from: u32, long: u32) -> u32
+    ensures { result ≡ later from long }
+{
+    from.saturating_add(long).min(8_640_001)
+}
+
 impl TimedEvent {
-    /// Its first centisecond. Source: profile.
-    pub fn at(&self) -> u32
-        ensures { result ≡ self.now.at }
+    /// Its first centisecond, or the first after a day, where it is later. Source: profile.
+    pub fn first(&self) -> u32
+        ensures { result ≡ first_of self.now }
     {
-        self.at
+        later(self.from, self.at)
+    }
+
+    /// The last centisecond at which it may come again, if one is told, or the first after a day,
+    /// where it is later. Source: profile.
+    pub fn last(&self) -> Option<u32>
+        ensures { result ≡ last_time_of self.now }
+    {
+        match self.until {
+            None => None,
+            Some(until) => Some(later(self.from, until)),
+        }
     }
 
     /// What it asks for, in order. Source: profile.
@@ -216,13 +260,6 @@ impl TimedEvent {
         self.every
     }
 
-    /// The last centisecond at which it may come again, if one is told. Source: profile.
-    pub fn until(&self) -> Option<u32>
-        ensures { result ≡ self.now.until }
-    {
-        self.until
-    }
-
     /// Its name, if it has one. Source: profile.
     pub fn name(&self) -> Option<&str>
         ensures { option_map (λ s. s.now) result ≡ self.now.name }
@@ -232,20 +269,61 @@ impl TimedEvent {
 
     /// When it comes in a scenario that lasts so many centiseconds.
     fn times(&self, lasts: u32) -> Times
-        ensures { result ≡ comes_by self.now.at self.now.every self.now.until lasts }
+        ensures { result
+            ≡ comes_by (first_of self.now) self.now.every (last_time_of self.now) lasts }
     {
         let every = match self.every {
-            None => return Times::once(self.at),
+            None => return Times::once(self.first()),
             Some(every) => every,
         };
-        let until = match self.until {
+        let until = match self.last() {
             None => lasts,
-            Some(until) => until,
+            Some(last) => last,
         };
-        match Times::repeated(self.at, every, until) {
+        match Times::repeated(self.first(), every, until) {
             Some(times) => times,
             None => unreachable!(),
         }
+    }
+}
+
+/// The first centisecond of the first of these events that has the name.
+fn first_called(events: &[TimedEvent], called: &str) -> u32
+    ensures { result ≡ first_called called.now events.now }
+{
+    for event in events {
+        if is_named(&event.name, called) {
+            return event.first();
+        }
+    }
+    0
+}
+
+/// The centisecond from which an event counts that names this one, if any, of those above it.
+fn base_of(above: &[TimedEvent], after: &Name) -> u32
+    ensures { result ≡ base_of above.now after.now }
+{
+    match after.as_str() {
+        None => 0,
+        Some(called) => first_called(above, called),
+    }
+}
+
+/// An event counts from this centisecond.
+fn count_from(event: &mut TimedEvent, from: u32)
+    ensures { event.new ≡ record event.old { from = from } }
+{
+    event.from = from;
+}
+
+/// Sets for each event the centisecond from which it counts.
+#[tactic(auto, using(crate::proofs::Counted::count_step))]
+pub(crate) fn count(events: &mut Vec<TimedEvent>)
+    ensures { events.new.items ≡ counted [] events.old.items }
+{
+    for k in 0..events.len() {
+        let from = base_of(&events[..k], &events[k].after);
+        count_from(&mut events[k], from);
     }
 }
 
@@ -254,6 +332,7 @@ impl TimedEvent {
 pub struct Timing {
     pub(crate) seconds: u32,
     pub(crate) title: Name,
+    pub(crate) seed: Option<u32>,
     pub(crate) stolen: Vec<Stolen>,
     pub(crate) jobs: Vec<TimedJob>,
     pub(crate) events: Vec<TimedEvent>,
@@ -268,6 +347,7 @@ impl Model for Timing {
     ghost view = { λ t. record {
       seconds = t.seconds;
       title = t.title;
+      seed = t.seed;
       stolen = t.stolen.items;
       jobs = t.jobs.items;
       events = t.events.items;
@@ -290,6 +370,13 @@ impl Timing {
         ensures { option_map (λ s. s.now) result ≡ self.now.title }
     {
         self.title.as_str()
+    }
+
+    /// The seed of its lots; 0 if it has none. Source: profile.
+    pub fn seed(&self) -> u32
+        ensures { result ≡ seed_of self.now }
+    {
+        self.seed.unwrap_or(0)
     }
 
     /// What jobs cost, by their addresses. Source: profile.

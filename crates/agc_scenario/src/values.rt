@@ -1,17 +1,18 @@
 //! What the texts of a scenario spell.
-ghost use Rattle.std.specs.Prelude.{◌≡◌, ◌≢◌, List, map, true, IfOk, IfErr};
+ghost use Rattle.std.specs.Prelude.{◌≡◌, ◌≢◌, List, [], map, true, IfOk, IfErr};
 ghost use Rattle.std.specs.List.{AllByRecursion, list_all};
 ghost use Rattle.agc_plan.specs.Ranges.{IsRequest};
 ghost use Rattle.agc_text.specs.Lines.{line_of};
 ghost use Rattle.agc_document.specs.Gives.{RefusedLine};
 ghost use Rattle.agc_plan.specs.declared.request.Request.{Request as Asks};
-ghost use Rattle.agc_scenario.specs.Scenarios.{Timed, are_asked, can_be_shown, is_step};
-ghost use Rattle.agc_scenario.specs.Scenarios.{leaves_at_last};
+ghost use Rattle.agc_scenario.specs.Scenarios.{TimedEvent as Event, Timed, are_asked};
+ghost use Rattle.agc_scenario.specs.Scenarios.{can_be_shown};
+ghost use Rattle.agc_scenario.specs.Scenarios.{counted, is_step, leaves_at_last};
 ghost use Rattle.agc_scenario.specs.Scenarios.{event_texts, job_texts};
 ghost use Rattle.agc_scenario.specs.Scenarios.{timing_texts, IsTimed, IsTimedEvent, IsTimedJob};
 
 use crate::texts::{EventTexts, JobTexts, TimingTexts};
-use crate::timing::{Name, TimedEvent, TimedJob, Timing, then_of};
+use crate::timing::{Name, TimedEvent, TimedJob, Timing, count, then_of};
 use agc_clock::step_of;
 use agc_document::{BenchFault, Spelled, Text, all_spelled, is_name, or_line};
 use agc_plan::Request;
@@ -145,15 +146,31 @@ impl<'a> Spelled<EventTexts<'a>> for TimedEvent {
             alloc,
             texts.requests.as_slice(),
         );
+        let after = name_of(alloc, &texts.after);
         let name = name_of(alloc, &texts.name);
         Ok(TimedEvent {
             at: texts.at,
+            after: after?,
+            from: 0,
             requests: requests?,
             every: texts.every,
             until: texts.until,
             name: name?,
         })
     }
+}
+
+/// The events that texts spell, each with the centisecond from which it counts.
+#[tactic(auto, using(crate::proofs::Counted::counted_events))]
+fn events_of(alloc: Global, texts: &[EventTexts<'_>]) -> Result<Vec<TimedEvent>, BenchFault>
+    ensures found { IfOk result (λ v. AllByRecursion IsTimedEvent v.items
+        × (texts.now ≡ map event_texts v.items) × (counted [] v.items ≡ v.items)) }
+    ensures refused { IfErr result (RefusedLine
+        ((es : List Event) → AllByRecursion IsTimedEvent es → texts.now ≢ map event_texts es)) }
+{
+    let mut events: Vec<TimedEvent> = all_spelled(alloc, texts)?;
+    count(&mut events);
+    Ok(events)
 }
 
 /// How time passes, as its texts spell it.
@@ -164,10 +181,11 @@ pub(crate) fn timing_of(alloc: Global, texts: TimingTexts<'_>) -> Result<Timing,
 {
     let title = name_of(alloc, &texts.title);
     let jobs = all_spelled(alloc, texts.jobs.as_slice());
-    let events = all_spelled(alloc, texts.events.as_slice());
+    let events = events_of(alloc, texts.events.as_slice());
     Ok(Timing {
         seconds: texts.seconds,
         title: title?,
+        seed: texts.seed,
         stolen: texts.stolen,
         jobs: jobs?,
         events: events?,

@@ -153,6 +153,21 @@ const EXPLORE: Row = Row {
         ),
         ("through", Form::Flag, "Goes on after an alarm"),
         (
+            "repeat",
+            Form::Flag,
+            "Lets no caller stop: each begins anew after its last request",
+        ),
+        (
+            "least",
+            Form::Option("N"),
+            "At least N requests come between two ticks",
+        ),
+        (
+            "most",
+            Form::Option("N"),
+            "At most N requests come between two ticks",
+        ),
+        (
             "peaks",
             Form::Flag,
             "Doesn't stop at the answer: tells the most jobs, areas and tasks",
@@ -214,13 +229,14 @@ const SWEEP: Row = Row {
     called: "agc_watch sweep",
     about: "Runs a scenario once for each value of one of its numbers",
     example: "\
-KEY is sets, steal, seconds, job.NAME.cost, event.NAME.at, event.NAME.every or
-event.NAME.until. A job without a name is named by its address. If the word after
-TO isn't a number, it is the file.
+KEY is sets, steal, seconds, seed, job.NAME.cost, event.NAME.at, event.NAME.every
+or event.NAME.until. A job without a name is named by its address. If the word
+after TO isn't a number, it is the file.
 
 Example: agc_watch sweep steal 0 20 5 scenario.toml
 Example: agc_watch sweep steal 0 20 5 --and job.SERVICER.cost:150:190:10 scenario.toml
-Example: agc_watch sweep steal 0 100 --find scenario.toml",
+Example: agc_watch sweep steal 0 100 --find scenario.toml
+Example: agc_watch sweep seed 1 100 scenario.toml",
     arguments: &[
         (
             "key",

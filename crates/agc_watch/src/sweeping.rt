@@ -45,7 +45,7 @@ fn add_keys(told: &mut String, scenario: &Scenario) -> Result<(), AllocError> {
 
 /// Says that a key names no number of a scenario, and which do.
 fn add_unknown(told: &mut String, scenario: &Scenario, key: &str) -> Result<(), AllocError> {
-    let begin = "' is no number of this scenario, which has sets, steal, seconds";
+    let begin = "' is no number of this scenario, which has sets, steal, seconds, seed";
     add(told, &["'", key, begin])?;
     add_keys(told, scenario)
 }

@@ -2,7 +2,7 @@
 use crate::commands::{named_command, whole_command};
 use crate::progress::Counted;
 use crate::stops::Stop;
-use agc_explore::Options;
+use agc_explore::{Manner, Options, Ticking};
 use agc_picture::Span;
 use agc_plan::Alarm;
 use agc_program::Fault;
@@ -279,6 +279,24 @@ impl<'a, 'b> Words<'a, 'b> {
         Show::TimePicture(Span { width, from, to })
     }
 
+    /// A number of requests, if it is given.
+    fn requests(&mut self, name: &str, reason: &'static str) -> Option<u16> {
+        let number = self.number(name, reason);
+        let short = number.and_then(|number| u16::try_from(number).ok());
+        self.check(short.is_some() || number.is_none(), reason);
+        short
+    }
+
+    /// How many requests come between two ticks.
+    fn ticking(&mut self) -> Ticking {
+        let least = self.requests("least", "--least is a number up to 65535");
+        let most = self.requests("most", "--most is a number up to 65535");
+        let least = least.unwrap_or(0);
+        let is_right = least <= most.unwrap_or(u16::MAX);
+        self.check(is_right, "--least is beyond --most");
+        Ticking { least, most }
+    }
+
     /// What the words after `explore` ask for.
     fn explore(&mut self) -> Options {
         let states = self.number("states", "--states wants a number");
@@ -287,7 +305,11 @@ impl<'a, 'b> Words<'a, 'b> {
         Options {
             states: states.unwrap_or(STATES),
             alarm: self.alarm("alarm"),
-            through: self.given.get_flag("through"),
+            manner: Manner {
+                through: self.given.get_flag("through"),
+                repeats: self.given.get_flag("repeat"),
+                ticking: self.ticking(),
+            },
             peaks: self.given.get_flag("peaks"),
             bench,
             csv,

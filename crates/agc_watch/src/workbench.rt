@@ -81,15 +81,20 @@ fn not_one(alloc: Global, name: &str) -> Stop {
     said(alloc, 1, &[name, " is not an empty AGC workbench"])
 }
 
-/// The version of a workbench.
-fn version_of(text: &str) -> Option<&str> {
-    let (version, _rest) = text.strip_prefix(MARK)?.split_once(' ')?;
+/// The version behind this front of a text, up to the next blank: digits and dots.
+fn version_behind<'a>(front: &str, text: &'a str) -> Option<&'a str> {
+    let (version, _rest) = text.strip_prefix(front)?.split_once(' ')?;
+    for byte in version.as_bytes() {
+        if *byte != b'.' && !byte.is_ascii_digit() {
+            return None;
+        }
+    }
     Some(version)
 }
 
 /// Whether the file of this name, which has this text, is the workbench of this version.
 fn check_version(alloc: Global, name: &str, text: &str) -> Result<(), Stop> {
-    match version_of(text) {
+    match version_behind(MARK, text) {
         None => Err(not_one(alloc, name)),
         Some(version) => {
             if version == VERSION {

@@ -1,0 +1,91 @@
+//! Costs that are drawn by lot without a seed, and events that count from none above them.
+ghost use Rattle.std.specs.Prelude.{◌≡◌, [], true, false, not, nat_lt, IfSome, IfNone};
+ghost use Rattle.std.specs.List.{list_all, list_any};
+ghost use Rattle.agc_scenario.specs.Texts.{is_named};
+ghost use Rattle.agc_scenario.specs.Keys.{can_draw, count_from_above, has_named};
+
+use crate::rows::{AFTER, COST, EVENTS, JOBS};
+use crate::texts::{EventTexts, JobTexts};
+use agc_document::{KeyFault, KeyNote, Notes, Place, Text};
+
+/// Whether a job costs the same each time.
+fn is_plain(job: &JobTexts<'_>) -> bool
+    ensures { result ≡ not (nat_lt job.now.cost.from job.now.cost.to) }
+{
+    job.cost.to <= job.cost.from
+}
+
+/// Whether each of these does.
+fn are_plain(jobs: &[JobTexts<'_>]) -> bool
+    ensures { result ≡ list_all (λ j. not (nat_lt j.cost.from j.cost.to)) jobs.now }
+{
+    jobs.iter().all(|job| is_plain(job))
+}
+
+/// What is wrong with the first cost that is drawn by lot, if there is no seed. None where lots can
+/// be drawn.
+pub(crate) fn without_seed<'a>(
+    seed: Option<u32>,
+    jobs: &[JobTexts<'a>],
+    notes: &mut Notes<'a>,
+) -> Option<KeyNote<'a>>
+    ensures drawn { IfNone result (can_draw seed jobs.now ≡ true) }
+    ensures refused { IfSome result (λ _. can_draw seed jobs.now ≡ false) }
+{
+    match seed {
+        Some(_seed) => None,
+        None => {
+            if are_plain(jobs) {
+                return None;
+            }
+            let before = jobs.iter().take_while(|job| is_plain(job)).count();
+            let place = Place::Field(JOBS, (before as u64).saturating_add(1), COST);
+            Some(notes.key(place, "", KeyFault::NoSeed))
+        }
+    }
+}
+
+/// Whether a name is there, and is this text.
+fn is_named(name: &Option<Text<'_>>, called: &str) -> bool
+    ensures { result ≡ is_named called.now name.now }
+{
+    match name {
+        None => false,
+        Some(text) => text.as_str() == called,
+    }
+}
+
+/// Whether one of these events has this name.
+fn is_any_named(events: &[EventTexts<'_>], called: &str) -> bool
+    ensures { result ≡ list_any (λ e. is_named called.now e.name) events.now }
+{
+    events.iter().any(|event| is_named(&event.name, called))
+}
+
+/// Whether one of these events has the name, if it is there.
+fn has_named(events: &[EventTexts<'_>], name: &Option<Text<'_>>) -> bool
+    ensures { result ≡ has_named events.now name.now }
+{
+    match name {
+        None => true,
+        Some(called) => is_any_named(events, called.as_str()),
+    }
+}
+
+/// What is wrong with the first event that counts from none above it. None where each that counts
+/// from another has that one above it.
+pub(crate) fn none_above<'a>(
+    events: &[EventTexts<'a>],
+    notes: &mut Notes<'a>,
+) -> Option<KeyNote<'a>>
+    ensures above { IfNone result (count_from_above [] events.now ≡ true) }
+    ensures refused { IfSome result (λ _. count_from_above [] events.now ≡ false) }
+{
+    for (k, event) in events.iter().enumerate() {
+        if !has_named(&events[..k], &event.after) {
+            let place = Place::Field(EVENTS, (k as u64).saturating_add(1), AFTER);
+            return Some(notes.key(place, "", KeyFault::NoneAbove));
+        }
+    }
+    None
+}
