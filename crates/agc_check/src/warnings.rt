@@ -10,7 +10,7 @@ use agc_document::rows::{ALLOWANCE, LIMIT};
 use agc_document::{Bench, Place};
 use agc_plan::{Group, Line, Phase, PhaseEntry, Task};
 use agc_run::Subject;
-use agc_session::asks_nothing;
+use agc_session::{asks_nothing, line_name};
 use agc_word::Word;
 use std::alloc::{AllocError, Global};
 use std::collections::{BTreeMap, BTreeSet};
@@ -114,12 +114,7 @@ fn phase_warning(bench: &Bench, group: Group, phase: Phase) -> Option<Warning> {
 
 /// What is warned of where a device is.
 fn device_warning(bench: &Bench, line: Line) -> Option<Warning> {
-    let name = match line {
-        Line::Timer => "timer",
-        Line::Key => "key",
-        Line::Radar => "radar",
-    };
-    let warning = said(NO_REQUEST, Piece::Text(name), Piece::Text(""));
+    let warning = said(NO_REQUEST, Piece::Text(line_name(line)), Piece::Text(""));
     asks_nothing(bench, line).then_some((warning, None))
 }
 

@@ -8,3 +8,4 @@ pub mod Map
 pub mod Jobs
 pub mod Tasks
 pub mod Rules
+pub mod Explaining

@@ -126,9 +126,10 @@ fn is_doing(a: &AgcRequest) -> bool
     }
 }
 
-/// Whether numbers are an action. Most rows have fewer than four, so the test for none is in line.
+/// Whether numbers are an action. Source: profile.
+// Most rows have fewer than four, so the test for none is in line.
 #[inline(always)]
-fn is_action(a: &AgcRequest) -> bool
+pub fn is_action(a: &AgcRequest) -> bool
     ensures { result ≡ is_action a.now }
 {
     if a.kind == 0 { true } else { is_doing(a) }

@@ -6,6 +6,7 @@
 
 mod array;
 mod asked;
+mod explaining;
 mod fault;
 mod jobs;
 mod lacking;
@@ -18,9 +19,10 @@ mod tasks;
 
 pub use array::{blank, open, seven, twelve, write_all, write_back};
 pub use asked::{AgcRequest, asked_fault, request_of};
+pub use explaining::{ANY, Broken, first_broken};
 pub use fault::{Fault, image_fault, try_open};
 pub use jobs::{Job, job_in};
-pub use lacking::plan_lacks;
+pub use lacking::{is_action, plan_lacks};
 pub use lawful::is_lawful;
 pub use lent::{AgcPhaseEntry, AgcRow, Lent};
 pub use map::{AgcMap, address_in, is_within, word_in};

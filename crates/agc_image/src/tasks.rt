@@ -29,7 +29,7 @@ fn first_left(word: u16) -> u32
 }
 
 /// How much further the next task is, by a word of LST1.
-fn gap_of(word: u16) -> u32
+pub(crate) fn gap_of(word: u16) -> u32
     ensures value { result ≡ gap_of word }
     ensures bound { result ≤ 16384 }
 {

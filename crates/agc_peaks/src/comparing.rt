@@ -157,9 +157,14 @@ fn put_jobs<W: Write>(
     count
 }
 
-/// Those among these jobs that are called as some of another document.
+/// Those among these jobs that are called as some of another document: where several are, those of
+/// the same address, or else the first.
 fn called_as<'a>(all: &'a [JobsAt], jobs: &JobsAt) -> Option<&'a JobsAt> {
-    all.iter().find(|other| other.is_called_as(jobs))
+    let is_same = |other: &&JobsAt| other.at == jobs.at && other.is_called_as(jobs);
+    match all.iter().find(is_same) {
+        None => all.iter().find(|other| other.is_called_as(jobs)),
+        found => found,
+    }
 }
 
 /// Writes the jobs that differ, those of the first document first, and returns how many values

@@ -11,15 +11,21 @@ pub enum Source {
     Pulse(Line),
 }
 
+/// What a line of pulses is called in rows and sentences. Source: profile.
+pub fn line_name(line: Line) -> &'static str {
+    match line {
+        Line::Timer => "timer",
+        Line::Key => "key",
+        Line::Radar => "radar",
+    }
+}
+
 impl fmt::Display for Source {
     fn fmt<W: fmt::Write>(&self, f: &mut fmt::Formatter<W>) -> fmt::Result {
-        let name = match *self {
-            Source::Worker(number) => return write!(f, "worker {number}"),
-            Source::Script => "script",
-            Source::Pulse(Line::Timer) => "timer",
-            Source::Pulse(Line::Key) => "key",
-            Source::Pulse(Line::Radar) => "radar",
-        };
-        f.write_str(name)
+        match *self {
+            Source::Worker(number) => write!(f, "worker {number}"),
+            Source::Script => f.write_str("script"),
+            Source::Pulse(line) => f.write_str(line_name(line)),
+        }
     }
 }

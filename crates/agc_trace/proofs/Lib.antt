@@ -1,3 +1,4 @@
+pub mod Plain
 mod Fronts
 mod Runners
 mod Still

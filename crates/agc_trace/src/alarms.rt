@@ -18,6 +18,20 @@ fn full_table(alarm: Alarm, scene: &Scene) -> &'static str {
     }
 }
 
+/// Adds an alarm, and which table was full, in a scene.
+fn put_full(draft: &mut Draft, alarm: Alarm, scene: &Scene) {
+    let told = [Text(alarm_code(alarm)), Text(full_table(alarm, scene))];
+    draft.put("alarm {}: {}", &told);
+}
+
+/// Adds with what an era begins after an event: its alarm, and which table was full, or a restart.
+pub(crate) fn put_cause(draft: &mut Draft, event: &Event) {
+    match event.alarm() {
+        None => draft.text("restart"),
+        Some(alarm) => put_full(draft, alarm, &event.scene),
+    }
+}
+
 /// Adds the task whose action raised the alarm, and that action, by its number where the task has
 /// several.
 fn put_raiser(page: &mut Page, plan: &Plan, task: Task, number: usize) {
@@ -96,9 +110,9 @@ pub(crate) fn put_account(page: &mut Page, plan: &Plan, event: &Event) {
     let Some(alarm) = event.alarm() else {
         return;
     };
-    let full = Text(full_table(alarm, &event.scene));
-    let code = Text(alarm_code(alarm));
-    page.draft.put("        alarm {}: {}\n", &[code, full]);
+    page.draft.text("        ");
+    put_full(&mut page.draft, alarm, &event.scene);
+    page.draft.text("\n");
     if let Some(task) = event.fired.get(event.fired.len().saturating_sub(1)) {
         put_raiser(page, plan, task, event.raised);
     }

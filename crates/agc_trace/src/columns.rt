@@ -1,9 +1,9 @@
 // Which columns rows have, and what is called by a name in them.
 use crate::names::{Names, What};
-use agc_plan::{Line, Phase, Task};
+use agc_plan::{Phase, Task};
 use agc_run::{Source, Subject};
 use agc_scenario::Scenario;
-use agc_session::count_requests;
+use agc_session::{count_requests, line_name};
 use agc_text::Filling::{Number, Octal, Seconds, Text};
 use agc_text::{Draft, Filling};
 use std::alloc::{AllocError, Global};
@@ -37,15 +37,6 @@ fn source_width(names: &Names, events: usize) -> usize {
         width = width.max(letters);
     }
     width
-}
-
-/// What a line of pulses is called.
-pub(crate) fn line_name(line: Line) -> &'static str {
-    match line {
-        Line::Timer => "timer",
-        Line::Key => "key",
-        Line::Radar => "radar",
-    }
 }
 
 impl Columns {

@@ -1,11 +1,10 @@
 // What a trace says before the first request, about power-up, and after the last: how many requests
 // were refused, and which pulses asked for nothing.
-use crate::columns::line_name;
 use crate::page::Page;
 use agc_document::Bench;
 use agc_phase::recover;
 use agc_scene::Scene;
-use agc_session::asks_nothing;
+use agc_session::{asks_nothing, line_name};
 use agc_text::Draft;
 use agc_text::Filling::{Number, Octal, Text};
 use agc_word::Word;

@@ -1,41 +1,46 @@
 // A run that is traced.
-ghost use Rattle.std.specs.Prelude.{◌≡◌, OnOk};
 ghost use Rattle.std.specs.List.{fold};
-ghost use Rattle.agc_run.specs.Runs.{to_ask};
 ghost use Rattle.agc_run.specs.Subjects.{asked_of, machine_of};
 ghost use Rattle.agc_scene.specs.Events.{watched, watching_from};
 ghost use Rattle.agc_session.specs.Runs.{script_machine};
 ghost use Rattle.agc_session.specs.Shown.{EndsIn};
 
 use crate::columns::Columns;
+use crate::showing::{Shows, show};
 use crate::telling::{Choice, Rows};
+use agc_document::Bench;
 use agc_plan::Request;
-use agc_run::{Asks, Subject, WatchedRun};
-use agc_scene::Watched;
+use agc_run::{Asks, Source, Subject, WatchedRun};
+use agc_scene::{Event, Watched};
 use agc_session::{Progress, RunFault, count_requests, script_machine};
 use agc_text::Output;
 use std::alloc::Global;
 use std::io::Write;
 
-/// Sends what has been told of a run so far, asks for all that is still to be asked, and tells each
-/// event in rows.
-fn trace_all<P: Progress, W: Write>(
-    run: &mut WatchedRun<'_>,
-    rows: &mut Rows,
-    progress: &mut P,
-    writer: &mut W,
-) -> Result<(), Output>
-    ensures { OnOk result (run.new.watching
-        ≡ fold watched run.old.watching (to_ask run.old.watching.machine run.old.asks)) }
-{
-    rows.send(writer)?;
-    while let Some((source, event)) = run.next() {
-        rows.pass(&event.request, run.clock());
-        rows.add(run.watched(), source, &event);
-        rows.send(writer)?;
-        progress.done();
+/// A run that is told in rows: those of a bench end with what came of its pulses.
+#[derive(Drop)]
+struct Told<'a> {
+    rows: Rows,
+    bench: Option<&'a Bench>,
+}
+
+impl<'a> Shows for Told<'a> {
+    fn begin(&mut self, watched: &Watched) {
+        self.rows.begin(watched, self.bench);
     }
-    Ok(())
+
+    fn show(&mut self, run: &WatchedRun<'_>, source: Source, event: Event) {
+        self.rows.pass(&event.request, run.clock());
+        self.rows.add(run.watched(), source, &event);
+    }
+
+    fn finish(&mut self) {
+        self.rows.end(self.bench);
+    }
+
+    fn send<W: Write>(&mut self, writer: &mut W) -> Result<(), Output> {
+        self.rows.send(writer)
+    }
 }
 
 /// Writes the trace of a bench or a scenario: the heading, and what came of power-up, where a bench
@@ -61,15 +66,14 @@ pub fn trace<P: Progress, W: Write>(
 {
     let mut run = subject.watched(alloc)?;
     let columns = Columns::of(alloc, subject)?;
-    let mut rows = Rows::new(alloc, choice, columns)?;
+    let mut told = Told {
+        rows: Rows::new(alloc, choice, columns)?,
+        bench: Some(subject.bench()),
+    };
     if let Subject::Bench(bench) = subject {
         progress.expect(count_requests(bench).requests);
     }
-    let bench = Some(subject.bench());
-    rows.begin(run.watched(), bench);
-    trace_all(&mut run, &mut rows, progress, writer)?;
-    rows.end(bench);
-    rows.send(writer)?;
+    show(&mut run, &mut told, progress, writer)?;
     Ok(run.into_watched())
 }
 
@@ -91,12 +95,12 @@ pub fn trace_script<P: Progress, W: Write>(
         (W.contents writer.old) (W.contents writer.new) result }
 {
     let machine = script_machine(alloc)?;
-    let mut rows = Rows::new(alloc, choice, Columns::of_bench(alloc, false))?;
+    let mut told = Told {
+        rows: Rows::new(alloc, choice, Columns::of_bench(alloc, false))?,
+        bench: None,
+    };
     progress.expect(requests.len() as u64);
     let mut run = WatchedRun::new(machine, Asks::of_script(requests));
-    rows.begin(run.watched(), None);
-    trace_all(&mut run, &mut rows, progress, writer)?;
-    rows.end(None);
-    rows.send(writer)?;
+    show(&mut run, &mut told, progress, writer)?;
     Ok(run.into_watched())
 }

@@ -339,10 +339,10 @@ fn command_of<'a>(alloc: Global, row: &Row) -> Result<Command<'a>, AllocError> {
         .args(args)
 }
 
-/// All commands.
-fn commands_of<'a>(alloc: Global) -> Result<Vec<Command<'a>>, AllocError> {
+/// The commands of these rows.
+fn commands_of<'a>(alloc: Global, rows: &[Row]) -> Result<Vec<Command<'a>>, AllocError> {
     let mut commands = Vec::new(alloc);
-    for row in &COMMANDS {
+    for row in rows {
         commands.push(command_of(alloc, row)?)?;
     }
     Ok(commands)
@@ -350,7 +350,7 @@ fn commands_of<'a>(alloc: Global) -> Result<Vec<Command<'a>>, AllocError> {
 
 /// The program, with all of its commands. Without a word it prints its help.
 pub(crate) fn whole_command<'a>(alloc: Global) -> Result<Command<'a>, AllocError> {
-    let commands = commands_of(alloc)?;
+    let commands = commands_of(alloc, &COMMANDS)?;
     Command::new(alloc, NAME)
         .bin_name(NAME)?
         .version(VERSION)
@@ -360,20 +360,15 @@ pub(crate) fn whole_command<'a>(alloc: Global) -> Result<Command<'a>, AllocError
         .subcommands(commands)
 }
 
-/// The command of this name, as its row has it.
-fn row_of(name: &str) -> Option<Row> {
-    for row in &COMMANDS {
-        if row.name == name {
-            return Some(*row);
-        }
-    }
-    None
+/// The row of this name among these.
+fn row_named(rows: &[Row], name: &str) -> Option<Row> {
+    rows.iter().find(|row| row.name == name).copied()
 }
 
 /// The command of this name as its own error calls it, for words that are wrong for a reason that
 /// `clap` doesn't know. It is the program, where no command has the name.
 pub(crate) fn named_command<'a>(alloc: Global, name: &str) -> Result<Command<'a>, AllocError> {
-    match row_of(name) {
+    match row_named(&COMMANDS, name) {
         Some(row) => command_of(alloc, &row)?.bin_name(row.called),
         None => whole_command(alloc),
     }

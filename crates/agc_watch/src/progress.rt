@@ -1,7 +1,7 @@
 //! How far work has come, in a line a second.
 use agc_session::Progress;
 use std::io::IsTerminal;
-use std::time::Instant;
+use std::time::{Duration, Instant};
 
 /// A picture of more columns than these is said to be wide.
 const MOST_COLUMNS: u64 = 2000;
@@ -11,6 +11,7 @@ const MOST_COLUMNS: u64 = 2000;
 pub(crate) enum Counted {
     Requests,
     Runs,
+    States,
 }
 
 impl Counted {
@@ -19,14 +20,23 @@ impl Counted {
         match self {
             Counted::Requests => "requests",
             Counted::Runs => "runs",
+            Counted::States => "states",
         }
     }
 
     /// Whether the clock is read when so many are done.
     fn reads_clock_at(self, count: u64) -> bool {
         match self {
-            Counted::Requests => count % 1024 == 0,
+            Counted::Requests | Counted::States => count % 1024 == 0,
             Counted::Runs => true,
+        }
+    }
+
+    /// Whether they are always reported.
+    fn is_always_told(self) -> bool {
+        match self {
+            Counted::States => true,
+            Counted::Requests | Counted::Runs => false,
         }
     }
 }
@@ -44,10 +54,10 @@ pub(crate) struct Teller<'a> {
 }
 
 impl<'a> Teller<'a> {
-    /// Starts now, and counts these. Progress is reported if that is wanted, or if standard error
-    /// is a terminal.
+    /// Starts now, and counts these. Progress is reported if that is wanted, if standard error is a
+    /// terminal, and of a search for states.
     pub(crate) fn new(rt: &'a HostRuntime, counted: Counted, is_wanted: bool) -> Teller<'a> {
-        let begun = if is_wanted || rt.stderr().is_terminal() {
+        let begun = if is_wanted || counted.is_always_told() || rt.stderr().is_terminal() {
             Instant::now(rt).ok()
         } else {
             None
@@ -72,25 +82,34 @@ impl<'a> Teller<'a> {
         }
     }
 
+    /// How long the work has taken, if a second has passed since that was reported last.
+    fn passed(&mut self) -> Option<Duration> {
+        let passed = self.begun?.elapsed(self.rt).ok()?;
+        let is_due = passed.as_secs() > self.seconds;
+        if is_due {
+            self.seconds = passed.as_secs();
+        }
+        is_due.then_some(passed)
+    }
+
     /// Reports how many are done, if a second has passed.
     fn tell(&mut self) {
-        let Some(begun) = self.begun else {
+        if self.passed().is_none() {
             return;
-        };
-        let Ok(passed) = begun.elapsed(self.rt) else {
-            return;
-        };
-        let seconds = passed.as_secs();
-        if seconds > self.seconds {
-            self.seconds = seconds;
-            let (count, expected, name) = (self.count, self.expected, self.counted.name());
-            let _ = if expected == 0 {
-                eprintln!(self.rt; "agc_watch: {count} {name}")
-            } else {
-                eprintln!(self.rt; "agc_watch: {count} of {expected} {name}")
-            };
         }
+        let (count, expected, name) = (self.count, self.expected, self.counted.name());
+        let _ = if expected == 0 {
+            eprintln!(self.rt; "agc_watch: {count} {name}")
+        } else {
+            eprintln!(self.rt; "agc_watch: {count} of {expected} {name}")
+        };
     }
+}
+
+/// How many a second that is.
+fn rate_of(count: u64, passed: Duration) -> u64 {
+    let millis = u64::try_from(passed.as_millis()).unwrap_or(u64::MAX);
+    count.saturating_mul(1000).checked_div(millis).unwrap_or(0)
 }
 
 impl Progress for Teller<'_> {
@@ -102,6 +121,20 @@ impl Progress for Teller<'_> {
         self.count = self.count.saturating_add(1);
         if self.counted.reads_clock_at(self.count) && self.count != self.expected {
             self.tell();
+        }
+    }
+}
+
+impl agc_explore::Progress for Teller<'_> {
+    fn note(&mut self, states: usize, depth: usize) {
+        self.count = self.count.wrapping_add(1);
+        if self.counted.reads_clock_at(self.count) {
+            if let Some(passed) = self.passed() {
+                let rate = rate_of(states as u64, passed);
+                let _ = eprintln!(self.rt;
+                    "agc_watch: {states} states, {depth} requests deep, {rate} a second"
+                );
+            }
         }
     }
 }

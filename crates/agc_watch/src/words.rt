@@ -3,10 +3,9 @@ use crate::commands::{named_command, whole_command};
 use crate::progress::Counted;
 use crate::stops::Stop;
 use agc_explore::{Manner, Options, Ticking};
-use agc_picture::Span;
 use agc_plan::Alarm;
 use agc_program::Fault;
-use agc_trace::{Choice, Form};
+use agc_trace::{Choice, Form, Span};
 use clap::error::ErrorKind;
 use clap::{ArgMatches, Command, Error};
 use std::alloc::Global;
@@ -80,6 +79,7 @@ impl Task<'_> {
     pub(crate) fn counted(&self) -> Counted {
         match self {
             Task::Sweep(_asked) => Counted::Runs,
+            Task::Explore(_options) => Counted::States,
             _ => Counted::Requests,
         }
     }

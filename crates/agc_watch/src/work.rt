@@ -9,14 +9,13 @@ use crate::stops::Stop;
 use crate::sweeping::write_sweep;
 use crate::words::{Asked, Input as Source, Show, Task};
 use crate::workbench::Workbench;
-use agc_explore::{Options, Reach, Watch, explore};
+use agc_explore::{Options, Reach, explore};
 use agc_peaks::{Outcome, outcome_of, put_differences, scenario_bench, write_jobs, write_peaks};
-use agc_picture::{picture, time_picture};
 use agc_play::{Manner, PlayFault, play};
 use agc_program::Fault;
 use agc_run::Subject;
 use agc_text::{ReadFault, read_script};
-use agc_trace::{Choice, trace, trace_script};
+use agc_trace::{Choice, picture, time_picture, trace, trace_script};
 use std::alloc::Global;
 use std::io::{Input, Write};
 
@@ -94,9 +93,10 @@ fn trace_requests(console: &mut Console<'_>, choice: Choice, text: &str) -> Resu
 /// Says what all orders of a bench come to. The exit status is 4 where an alarm can be reached, and
 /// 3 where that is undecided.
 fn explore_bench(console: &mut Console<'_>, options: Options, text: &str) -> Result<u8, Stop> {
-    let (rt, output) = (console.rt, &mut console.output);
-    let bench = bench_in(rt.alloc(), text)?;
-    match explore(rt.alloc(), &bench, options, &mut Watch::new(rt), output) {
+    let alloc = console.rt.alloc();
+    let (progress, output) = (&mut console.progress, &mut console.output);
+    let bench = bench_in(alloc, text)?;
+    match explore(alloc, &bench, options, progress, output) {
         Ok(Reach::None) => Ok(0),
         Ok(Reach::Some) => Ok(4),
         Ok(Reach::Undecided) => Ok(3),

@@ -1,11 +1,6 @@
 -- What is told of words that aren't lawful.
-use Rattle.std.specs.Prelude.{ℕ, ◌<◌, Option, IfSome}
+use Rattle.std.specs.Prelude.{ℕ}
 use Rattle.libagc.specs.declared.explaining.AgcFinding.{AgcFinding}
-use Rattle.libagc.specs.declared.explaining.Broken.{Broken}
-
--- for proofs: where a rule is broken, that is at a place of the array
-abbrev pub IsAt : Option Broken → Type 0
-IsAt broken = IfSome broken (λ b. b.place < 144)
 
 -- nothing is told but this code
 abbrev pub only_code : ℕ → AgcFinding

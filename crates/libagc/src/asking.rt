@@ -14,7 +14,7 @@ ghost use Rattle.libagc.specs.Spelled.{numbers_of};
 
 use crate::lines::numbers_of;
 use crate::reply::AgcNumber;
-use agc_image::{AgcRequest, Fault, asked_fault, request_of};
+use agc_image::{AgcRequest, Fault, asked_fault, is_action, request_of};
 use agc_machine::starts_over;
 use agc_plan::Request;
 
@@ -60,20 +60,6 @@ pub extern "C" fn agc_refusal(request: &AgcRequest, bounds: &AgcBounds) -> u32
     match request_of(request) {
         None => asked_fault(request).code(),
         Some(asked) => bounds_code(bounds, &asked),
-    }
-}
-
-/// Whether numbers are an action.
-fn is_action(action: &AgcRequest) -> bool
-    ensures { result ≡ is_action action.now }
-{
-    match action.kind {
-        0 => true,
-        1 => request_of(action).is_some(),
-        2 => request_of(action).is_some(),
-        5 => request_of(action).is_some(),
-        9 => request_of(action).is_some(),
-        _ => false,
     }
 }
 

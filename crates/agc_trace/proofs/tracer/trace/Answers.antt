@@ -5,5 +5,5 @@ use Rattle.agc_trace.proofs.tracer.trace.Goals as goal
 
 pub returns : goal.returns
 returns g c =
-    c.into_watched.ensures ∙ c.in_ok-trace_all.ensures
+    c.into_watched.ensures ∙ c.in_ok-show.ensures
     ∙ asked_on _ _ (machine_of c.args.subject) (requests_of c.args.subject) c.in_ok-run.ensures.watched (its_requests c.args.subject _ c.in_ok-run.ensures.asks)

@@ -6,6 +6,6 @@ use Rattle.agc_trace.proofs.tracer.trace_script.Goals as goal
 
 pub returns : goal.returns
 returns g c =
-    c.into_watched.ensures ∙ c.in_ok-trace_all.ensures
+    c.into_watched.ensures ∙ c.in_ok-show.ensures
     ∙ followed _ _ _ script_machine (λ m. c.args.requests.now) c.new-run.ensures.watched c.in_ok-machine.ensures.machine
     (script_requests c.args.requests.now _ (λ k. ap (all_to_ask k) c.new-run.ensures.asks ∙ c.of_script.ensures k))
