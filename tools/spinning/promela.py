@@ -8,7 +8,7 @@ tools/soaking/model.py has them.
 import model
 
 NUMBERS = {0o1201: 1201, 0o1202: 1202, 0o1203: 1203}
-UNBOUND = {"least": 0, "most": None, "through": False, "repeat": False}
+UNBOUND = {"least": 0, "most": None, "through": False, "repeat": False, "repeats": ()}
 
 
 class Script(Exception):
@@ -43,12 +43,14 @@ class Writer:
         self.bench, self.options = bench, {**UNBOUND, **options}
         self.machine = begun(bench, self.options)
         self.lanes = lanes_of(bench)
+        self.endless = set(self.options["repeats"])
         if self.options["repeat"]:
+            self.endless = set(range(len(self.lanes)))
             pulse = [[it for it in bench.pulses[name] if it != model.NOTHING] for name in model.LINES]
             asked = [any(line == name and count for line, count in bench.devices) for name in model.LINES]
             self.lanes[-3:] = [(it if has else [], True) for it, has in zip(pulse, asked)]
         left = sum(len(requests) for requests, _ in self.lanes)
-        self.is_endless = self.options["repeat"]
+        self.is_endless = bool(self.endless)
         self.has_limit = not self.is_endless and bench.limit - self.machine.logged < left
         self.has_allowance = not self.is_endless and bench.allowance - self.machine.served < left
         self.ends_eras = self.options["through"] or any(
@@ -166,7 +168,7 @@ class Writer:
                     served += [f"if :: waited < {self.options['least']} -> waited++ :: else fi;"]
                 if self.options["most"] is not None:
                     served += ["passed++;"]
-            after = f"(h{k} + 1) % {len(requests)}" if self.is_endless else f"h{k} + 1"
+            after = f"(h{k} + 1) % {len(requests)}" if k in self.endless else f"h{k} + 1"
             go_on = f"h{k} = {after};"
             if why:
                 lost = "" if insists else go_on

@@ -299,6 +299,7 @@ impl<'a, 'b> Words<'a, 'b> {
 
     /// What the words after `explore` ask for.
     fn explore(&mut self) -> Options {
+        let repeats = self.given.get_flag("repeat");
         let states = self.number("states", "--states wants a number");
         let (bench, csv) = (self.alarm("bench"), self.given.get_flag("csv"));
         self.check(bench.is_none() || !csv, "--bench and --csv are two outputs");
@@ -307,7 +308,8 @@ impl<'a, 'b> Words<'a, 'b> {
             alarm: self.alarm("alarm"),
             manner: Manner {
                 through: self.given.get_flag("through"),
-                repeats: self.given.get_flag("repeat"),
+                repeats,
+                again: [repeats; 35],
                 ticking: self.ticking(),
             },
             peaks: self.given.get_flag("peaks"),
