@@ -6,7 +6,9 @@ use crate::names::{Named, called, meant_by};
 use crate::saying::{Piece, Said, put, said};
 use crate::script::MOST_TOLD;
 use crate::wrong::Wrong;
-use agc_document::rows::{BENCH_KEYS, DEVICE_KEYS, PHASE_KEYS, TASK_KEYS, WORKER_KEYS};
+use agc_document::rows::{
+    BENCH_KEYS, DEVICE_KEYS, EXPLORED_WORKER_KEYS, PHASE_KEYS, TASK_KEYS, WORKER_KEYS,
+};
 use agc_document::{Form, Key, KeyFault, Kind as Valued, Level, Place};
 use agc_scenario::rows::{
     COST, COST_KEYS, EVENT_KEYS, JOB_KEYS, NAMED_PHASE_KEYS, NAMED_TASK_KEYS, SCENARIO_KEYS, STEAL,
@@ -107,12 +109,13 @@ fn expected_value(key: Key) -> Said<'static> {
     let name = Piece::Text(key.name());
     match key.kind() {
         Valued::Integer(low, high) => (integer_said(key), range(low, high, name)),
+        Valued::Flag => said("expected true or false", NONE, NONE),
         Valued::Text(_form) => said("expected a string", NONE, NONE),
         Valued::OneOrMore(_form, low, high) => (ONE_OR_MORE, range(low, high, name)),
         Valued::Texts(_form, 0, _most) => said("expected an array of strings", NONE, NONE),
         Valued::Texts(_form, count, _most) => said(TEXTS, Piece::Number(count), NONE),
-        Valued::Tables(_least, u64::MAX) => said(TABLES, name, NONE),
-        Valued::Tables(_least, most) => said(FEW_TABLES, Piece::Number(most), name),
+        Valued::Tables(_level, _least, u64::MAX) => said(TABLES, name, NONE),
+        Valued::Tables(_level, _least, most) => said(FEW_TABLES, Piece::Number(most), name),
     }
 }
 
@@ -145,6 +148,7 @@ fn keys_of(level: Level) -> &'static [Key] {
         Level::Task => &TASK_KEYS,
         Level::Phase => &PHASE_KEYS,
         Level::Worker => &WORKER_KEYS,
+        Level::Explored => &EXPLORED_WORKER_KEYS,
         Level::Device => &DEVICE_KEYS,
         Level::Scenario => &SCENARIO_KEYS,
         Level::NamedTask => &NAMED_TASK_KEYS,
@@ -159,7 +163,8 @@ fn keys_of(level: Level) -> &'static [Key] {
 /// The level of the document that has tables of this level.
 fn top_of(level: Level) -> Level {
     match level {
-        Level::Bench | Level::Task | Level::Phase | Level::Worker | Level::Device => Level::Bench,
+        Level::Bench | Level::Task | Level::Phase => Level::Bench,
+        Level::Worker | Level::Explored | Level::Device => Level::Bench,
         _ => Level::Scenario,
     }
 }

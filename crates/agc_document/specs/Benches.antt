@@ -1,5 +1,5 @@
 -- A bench: its values, their ranges and their texts.
-use Rattle.std.specs.Prelude.{◌≡◌, ◌≤◌, ℕ, Bool, List, codes, map, length, Option, None, IfSome}
+use Rattle.std.specs.Prelude.{◌≡◌, ◌≤◌, ℕ, List, codes, map, length, Option, None, IfSome}
 use Rattle.std.specs.Option.{option_map}
 use Rattle.std.specs.List.{AllByRecursion}
 use Rattle.agc_plan.specs.declared.request.Task.{Task}
@@ -21,7 +21,6 @@ use Rattle.agc_document.specs.Texts.{RowTexts, EntryTexts, DeviceTexts, Settings
 -- the values of a bench
 pub record Benched : Type 0 where
   pub sets : ℕ
-  pub names_sets : Bool
   pub limit : ℕ
   pub allowance : ℕ
   pub attends : ℕ
@@ -73,7 +72,6 @@ abbrev pub settings_texts : Benched → Settings
 settings_texts b =
     record {
       sets = b.sets;
-      names_sets = b.names_sets;
       limit = b.limit;
       allowance = b.allowance;
       attends = b.attends;

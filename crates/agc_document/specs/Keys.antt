@@ -1,14 +1,15 @@
 -- A document's numbers and texts by key, before any text is read. None stands for a fault Key.
 use Rattle.std.specs.Prelude.{ℕ, ℤ, pos, negsuc, List, [], ◌∷◌, codes, map, length, Option, Some, None}
-use Rattle.std.specs.Prelude.{Bool, true, false, is_some, nat_lt, ◌&&◌, ◌||◌}
+use Rattle.std.specs.Prelude.{Bool, true, false, nat_lt, ◌&&◌, ◌||◌}
 use Rattle.std.specs.Prelude.{if◌then◌else◌}
 use Rattle.std.specs.Str.{bytes_eq}
 use Rattle.toml.specs.Data.{Data, Items, no_items, item, Members, no_members, member, get_member}
-use Rattle.toml.specs.Data.{as_str, as_integer, as_array, as_table}
+use Rattle.toml.specs.Data.{as_str, as_integer, as_bool, as_array, as_table}
 use Rattle.agc_text.specs.Chain.{◌>>=◌}
 use Rattle.agc_document.specs.declared.key.Key.{Key as AnyKey}
 use Rattle.agc_document.specs.declared.key.Kind.{Kind}
 use Rattle.agc_document.specs.declared.key.Kind.TheVariants as kind
+use Rattle.agc_document.specs.declared.key_fault.Level.TheVariants as level
 use Rattle.agc_document.specs.declared.rows.TheConstants as key
 use Rattle.agc_document.specs.Rows.{name_of, kind_of, bounds_of}
 use Rattle.agc_document.specs.Texts.{RowTexts, EntryTexts, DeviceTexts, Settings, Lists, Texts}
@@ -51,6 +52,10 @@ between low high (negsuc n) = None
 abbrev pub number_of : AnyKey → Data → Option ℕ
 number_of k d = as_integer d >>= between (least k) (most k)
 
+-- a value that is true or false
+abbrev pub flag_of : AnyKey → Data → Option Bool
+flag_of k d = as_bool d
+
 -- a value that is a text
 abbrev pub text_of : AnyKey → Data → Option (List ℕ)
 text_of k d = as_str d
@@ -90,8 +95,7 @@ read_or missing read k ms = elim (value_of k ms) [ Some d ↦ read k d | None �
 -- what reading gives of a key, if it is there
 abbrev pub read_if : {X : Type 0} → (AnyKey → Data → Option X) → AnyKey → Members
     → Option (Option X)
-read_if read k ms =
-    elim (value_of k ms) [ Some d ↦ read k d >>= λ x. Some (Some x) | None ↦ Some None ]
+read_if read k ms = read_or None (λ key d. read key d >>= λ x. Some (Some x)) k ms
 
 -- the texts of the row that a table has
 unfoldable pub row_in : Members → Option RowTexts
@@ -118,9 +122,14 @@ entry_in ms = do
 unfoldable pub entry : Data → Option EntryTexts
 entry d = table_of key.PHASE_KEYS d >>= entry_in
 
+-- the keys of a worker's table, by what the value of the key of the workers is
+abbrev pub worker_keys : Kind → List AnyKey
+worker_keys (kind.Tables level.Explored low high) = key.EXPLORED_WORKER_KEYS
+worker_keys _ = key.WORKER_KEYS
+
 -- the script of a worker
-unfoldable pub worker : Data → Option (List (List ℕ))
-worker d = table_of key.WORKER_KEYS d >>= read_at texts_of key.REQUESTS
+unfoldable pub worker : AnyKey → Data → Option (List (List ℕ))
+worker k d = table_of (worker_keys (kind_of k)) d >>= read_at texts_of key.REQUESTS
 
 -- the text and number of a device
 unfoldable pub device : Data → Option DeviceTexts
@@ -148,7 +157,6 @@ settings_in ms = do
   power ← read_if texts_of key.POWER ms
   Some (record {
     sets = numbers.0;
-    names_sets = is_some (value_of key.SETS ms);
     limit = numbers.1;
     allowance = numbers.2;
     attends = numbers.3;
@@ -157,20 +165,20 @@ settings_in ms = do
     power = power;
   })
 
--- what a bench has many of
-unfoldable pub lists_in : Members → Option Lists
-lists_in ms = do
+-- what a bench has many of, by the key of its workers
+unfoldable pub lists_in : AnyKey → Members → Option Lists
+lists_in workers ms = do
   first ← read_or [] texts_of key.SCRIPT ms
   rows ← read_or [] (items_of row) key.TASKS ms
   phases ← read_or [] (items_of entry) key.PHASES ms
-  askers ← read_or [] (items_of worker) key.WORKERS ms
+  askers ← read_or [] (items_of (worker workers)) workers ms
   lines ← read_or [] (items_of device) key.DEVICES ms
   Some (record { script = first; rows = rows; entries = phases; workers = askers; devices = lines })
 
--- the numbers and texts of a bench
-unfoldable pub texts_in : Members → Option Texts
-texts_in ms = do
+-- the numbers and texts of a bench, by the key of its workers
+unfoldable pub texts_by : AnyKey → Members → Option Texts
+texts_by workers ms = do
   known ← known_to key.BENCH_KEYS ms
   settings ← settings_in known
-  lists ← lists_in known
+  lists ← lists_in workers known
   Some (record { settings = settings; lists = lists })

@@ -2,32 +2,13 @@
 use Rattle.std.specs.Prelude.{ℕ, List, codes, Bool, true, false}
 use Rattle.agc_document.specs.declared.key.KeyName.{KeyName}
 use Rattle.agc_document.specs.declared.key.KeyName.TheVariants as name
-use Rattle.agc_document.specs.declared.key.TimeName.{TimeName}
 use Rattle.agc_document.specs.declared.key.TimeName.TheVariants as time
 use Rattle.agc_document.specs.declared.key.Kind.{Kind}
 use Rattle.agc_document.specs.declared.key.Kind.TheVariants as kind
 use Rattle.agc_document.specs.declared.key.Key.{Key as AnyKey}
 use Rattle.agc_document.specs.declared.key.Key.TheVariants.{Required, Optional}
 
--- what a key is called that only scenarios have, and what any key is called
-abbrev pub time_text : TimeName → List ℕ
-time_text time.After = codes "after"
-time_text time.Cost = codes "cost"
-time_text time.Deadline = codes "deadline"
-time_text time.Do = codes "do"
-time_text time.Event = codes "event"
-time_text time.Every = codes "every"
-time_text time.From = codes "from"
-time_text time.Name = codes "name"
-time_text time.Percent = codes "percent"
-time_text time.Seconds = codes "seconds"
-time_text time.Seed = codes "seed"
-time_text time.Steal = codes "steal"
-time_text time.Then = codes "then"
-time_text time.Title = codes "title"
-time_text time.To = codes "to"
-time_text time.Until = codes "until"
-
+-- what a key is called; the last are names that only scenarios have
 abbrev pub name_text : KeyName → List ℕ
 name_text name.Action = codes "action"
 name_text name.Allowance = codes "allowance"
@@ -44,11 +25,27 @@ name_text name.Phase = codes "phase"
 name_text name.Power = codes "power"
 name_text name.Pulses = codes "pulses"
 name_text name.Radar = codes "radar"
+name_text name.Repeat = codes "repeat"
 name_text name.Script = codes "script"
 name_text name.Sets = codes "sets"
 name_text name.Task = codes "task"
 name_text name.Worker = codes "worker"
-name_text (name.Time n) = time_text n
+name_text (name.Time time.After) = codes "after"
+name_text (name.Time time.Cost) = codes "cost"
+name_text (name.Time time.Deadline) = codes "deadline"
+name_text (name.Time time.Do) = codes "do"
+name_text (name.Time time.Event) = codes "event"
+name_text (name.Time time.Every) = codes "every"
+name_text (name.Time time.From) = codes "from"
+name_text (name.Time time.Name) = codes "name"
+name_text (name.Time time.Percent) = codes "percent"
+name_text (name.Time time.Seconds) = codes "seconds"
+name_text (name.Time time.Seed) = codes "seed"
+name_text (name.Time time.Steal) = codes "steal"
+name_text (name.Time time.Then) = codes "then"
+name_text (name.Time time.Title) = codes "title"
+name_text (name.Time time.To) = codes "to"
+name_text (name.Time time.Until) = codes "until"
 
 abbrev pub name_of : AnyKey → List ℕ
 name_of (Required n kind) = name_text n
@@ -62,10 +59,10 @@ kind_of (Optional n kind) = kind
 -- between which bounds an integer is, or how many items an array has
 abbrev pub bounds_of : Kind → ℕ × ℕ
 bounds_of (kind.Integer low high) = (low, high)
-bounds_of (kind.Text f) = (0, 18446744073709551615)
 bounds_of (kind.OneOrMore f low high) = (low, high)
 bounds_of (kind.Texts f low high) = (low, high)
-bounds_of (kind.Tables low high) = (low, high)
+bounds_of (kind.Tables level low high) = (low, high)
+bounds_of _ = (0, 18446744073709551615)
 
 -- for proofs: whether its table must have it
 abbrev pub is_required : AnyKey → Bool

@@ -1,5 +1,5 @@
 -- The numbers and texts of a bench, before any text is read.
-use Rattle.std.specs.Prelude.{ℕ, Bool, List, Option}
+use Rattle.std.specs.Prelude.{ℕ, List, Option}
 
 -- the texts of a task's row: its address, its bank, and one for each action
 pub record RowTexts : Type 0 where
@@ -19,11 +19,9 @@ pub record DeviceTexts : Type 0 where
   pub line : List ℕ
   pub pulses : ℕ
 
--- what a bench has once, of both pulses a text for each action, and whether it says how many core
--- sets there are
+-- what a bench has once, of both pulses a text for each action
 pub record Settings : Type 0 where
   pub sets : ℕ
-  pub names_sets : Bool
   pub limit : ℕ
   pub allowance : ℕ
   pub attends : ℕ

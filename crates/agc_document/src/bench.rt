@@ -9,9 +9,12 @@ ghost use Rattle.agc_document.specs.Faults.{fault_of_refusal, HasTexts, RefusesT
 ghost use Rattle.agc_document.specs.Gives.{RefusedLine};
 
 use crate::fault::BenchFault;
-use crate::keys::texts_in;
+use crate::keys::texts_by;
 use crate::notes::Notes;
+use crate::place::Place;
 use crate::refusal::Refusal;
+use crate::rows::WORKERS;
+use crate::tables::{Site, table_of};
 use crate::texts::Texts;
 use crate::twice::refused_at;
 use crate::values::{actions_of, all_spelled, power_of, workers_of};
@@ -24,7 +27,6 @@ use toml::Table;
 #[derive(Drop)]
 struct Parts {
     sets: Sets,
-    names_sets: bool,
     limit: Limit,
     allowance: u64,
     attends: u32,
@@ -47,7 +49,6 @@ impl Model for Parts {
 
     ghost view = { λ p. record {
       sets = count_of p.sets;
-      names_sets = p.names_sets;
       limit = p.limit;
       allowance = p.allowance;
       attends = p.attends;
@@ -85,13 +86,6 @@ impl Bench {
         ensures { count_of result ≡ self.now.sets }
     {
         self.parts.sets
-    }
-
-    /// Whether the document says how many core sets there are. Source: profile.
-    pub fn names_sets(&self) -> bool
-        ensures { result ≡ self.now.names_sets }
-    {
-        self.parts.names_sets
     }
 
     /// How many requests the log may hold, 1 to 1,000,000. Source: profile.
@@ -212,7 +206,6 @@ fn parts_of(alloc: Global, texts: &Texts<'_>) -> Result<Parts, BenchFault>
     let devices = all_spelled(alloc, texts.lists.devices.as_slice())?;
     Ok(Parts {
         sets: texts.settings.sets,
-        names_sets: texts.settings.names_sets,
         limit,
         allowance: texts.settings.allowance,
         attends: texts.settings.attends,
@@ -292,7 +285,12 @@ pub fn bench_of<'a>(
     ensures refused { IfErr result (λ r.
         RefusesBench (Some (table_view table.now)) (fault_of_refusal r)) }
 {
-    let texts = texts_in(alloc, table, notes)?;
+    let site = Site {
+        alloc,
+        table,
+        place: Place::Whole,
+    };
+    let texts = texts_by(site, WORKERS, notes)?;
     bench_from(alloc, &texts, notes)
 }
 
@@ -311,14 +309,9 @@ pub fn read_bench(alloc: Global, text: &str) -> Result<Bench, BenchFault>
         × HasTexts (parse_document text.now) (bench_texts b)) }
     ensures refused { IfErr result (RefusesBench (parse_document text.now)) }
 {
-    let table = match toml::table_from_str(alloc, text) {
+    let table = match table_of(alloc, text)? {
         Ok(table) => table,
-        Err(error) => {
-            if error.is_memory() {
-                return Err(BenchFault::NoMemory);
-            }
-            return Err(BenchFault::NotToml);
-        }
+        Err(_error) => return Err(BenchFault::NotToml),
     };
     let mut notes = Notes::new(false);
     match bench_of(alloc, &table, &mut notes) {

@@ -1,7 +1,8 @@
 //! The keys of a document: what each is called, and what its value is.
 ghost use Rattle.std.specs.Prelude.{◌≡◌};
-ghost use Rattle.agc_document.specs.Rows.{name_text, time_text, name_of, kind_of, bounds_of};
+ghost use Rattle.agc_document.specs.Rows.{name_text, name_of, kind_of, bounds_of};
 
+use crate::key_fault::Level;
 use crate::values::{is_name, is_step, job_of, leaving_of, parse_kind, timed_of};
 use agc_text::{parse_action, parse_address, parse_line, parse_word};
 
@@ -44,6 +45,7 @@ pub enum KeyName {
     Power,
     Pulses,
     Radar,
+    Repeat,
     Script,
     Sets,
     Task,
@@ -78,13 +80,15 @@ pub enum Form {
 pub enum Kind {
     /// An integer between two bounds. The key may have other values, too, which its reader knows.
     Integer(u64, u64),
+    /// True or false.
+    Flag,
     Text(Form),
     /// One text, or an array of texts, as many as two bounds say.
     OneOrMore(Form, u64, u64),
     /// An array of texts, as many as two bounds say.
     Texts(Form, u64, u64),
-    /// An array of tables, as many as two bounds say.
-    Tables(u64, u64),
+    /// An array of tables of this level, as many as two bounds say.
+    Tables(Level, u64, u64),
 }
 
 /// A key of a table: what it is called, what its value is, and whether the table must have it.
@@ -101,7 +105,7 @@ pub const ANY: u64 = u64::MAX;
 impl TimeName {
     /// The name itself.
     fn called(self) -> &'static str
-        ensures { result.now ≡ time_text self }
+        ensures { result.now ≡ name_text (KeyName.Time self) }
     {
         match self {
             TimeName::After => "after",
@@ -145,6 +149,7 @@ impl KeyName {
             KeyName::Power => "power",
             KeyName::Pulses => "pulses",
             KeyName::Radar => "radar",
+            KeyName::Repeat => "repeat",
             KeyName::Script => "script",
             KeyName::Sets => "sets",
             KeyName::Task => "task",
@@ -182,10 +187,10 @@ impl Key {
     {
         match self.kind() {
             Kind::Integer(low, high) => (low, high),
-            Kind::Text(_form) => (0, ANY),
+            Kind::Flag | Kind::Text(_) => (0, ANY),
             Kind::OneOrMore(_form, low, high) => (low, high),
             Kind::Texts(_form, low, high) => (low, high),
-            Kind::Tables(low, high) => (low, high),
+            Kind::Tables(_level, low, high) => (low, high),
         }
     }
 
@@ -194,10 +199,11 @@ impl Key {
     pub fn form(self) -> Option<Form> {
         match self.kind() {
             Kind::Integer(_low, _high) => None,
+            Kind::Flag => None,
             Kind::Text(form) => Some(form),
             Kind::OneOrMore(form, _low, _high) => Some(form),
             Kind::Texts(form, _low, _high) => Some(form),
-            Kind::Tables(_low, _high) => None,
+            Kind::Tables(_level, _low, _high) => None,
         }
     }
 }

@@ -9,6 +9,8 @@ pub enum Level {
     Task,
     Phase,
     Worker,
+    /// A worker of a bench that is explored.
+    Explored,
     Device,
     Scenario,
     NamedTask,

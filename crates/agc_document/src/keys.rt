@@ -1,31 +1,31 @@
 //! The numbers and texts of a bench, by the table of keys.
-ghost use Rattle.std.specs.Prelude.{◌≡◌, ◌≤◌, is_some, IfOk};
+ghost use Rattle.std.specs.Prelude.{◌≡◌, ◌≤◌, IfOk};
 ghost use Rattle.toml.specs.View.{table_view};
 ghost use Rattle.agc_word.specs.Profiles.{count_of};
 ghost use Rattle.agc_plan.specs.Ranges.{IsBetween};
 ghost use Rattle.agc_document.specs.Gives.{GivesOrKey};
-ghost use Rattle.agc_document.specs.Keys.{value_of, row, row_in, entry, entry_in, worker, device};
-ghost use Rattle.agc_document.specs.Keys.{numbers_in, settings_in, lists_in, texts_in};
-ghost use Rattle.agc_document.specs.declared.rows.TheConstants as key_of;
+ghost use Rattle.agc_document.specs.Rows.{kind_of, bounds_of};
+ghost use Rattle.agc_document.specs.Keys.{row, row_in, entry, entry_in, worker, device};
+ghost use Rattle.agc_document.specs.Keys.{worker_keys, numbers_in, settings_in, lists_in};
+ghost use Rattle.agc_document.specs.Keys.{texts_by};
 
+use crate::key::{Key, Kind};
 use crate::key_fault::Level;
 use crate::notes::Notes;
-use crate::place::Place;
 use crate::refusal::Refusal;
 use crate::rows::{
-    ACTION, ALLOWANCE, AT, ATTENDS, BANK, BENCH_KEYS, DEVICE_KEYS, DEVICES, GROUP, JOB, KEY, LIMIT,
-    LINE, LISTING, PHASE, PHASE_KEYS, PHASES, POWER, PULSES, RADAR, REQUESTS, SCRIPT, SETS,
-    TASK_KEYS, TASKS, WORKER_KEYS, WORKERS,
+    ACTION, ALLOWANCE, AT, ATTENDS, BANK, BENCH_KEYS, DEVICE_KEYS, DEVICES, EXPLORED_WORKER_KEYS,
+    GROUP, JOB, KEY, LIMIT, LINE, LISTING, PHASE, PHASE_KEYS, PHASES, POWER, PULSES, RADAR,
+    REQUESTS, SCRIPT, SETS, TASK_KEYS, TASKS, WORKER_KEYS,
 };
 use crate::tables::{
-    FromData, Placed, Site, has_only, items_or_none, read_at, read_if, read_or, table_in, value_of,
+    FromData, Placed, Site, has_only, items_or_none, read_at, read_if, read_or, table_in,
 };
 use crate::texts::{
     DeviceTexts, EntryTexts, Lists, RowTexts, Settings, TextList, Texts, WorkerTexts,
 };
 use agc_word::Sets;
 use std::alloc::Global;
-use toml::Table;
 
 /// The texts of the row that a table has.
 #[tactic(auto, unfolding(crate::specs::Keys::row_in))]
@@ -93,8 +93,18 @@ impl<'a> FromData<'a> for EntryTexts<'a> {
     }
 }
 
+/// The level of the tables that are a key's workers, and the keys of each.
+fn worker_keys(key: Key) -> (Level, &'static [Key])
+    ensures { result.1.now ≡ worker_keys (kind_of key) }
+{
+    match key.kind() {
+        Kind::Tables(Level::Explored, _low, _high) => (Level::Explored, &EXPLORED_WORKER_KEYS),
+        _ => (Level::Worker, &WORKER_KEYS),
+    }
+}
+
 impl<'a> FromData<'a> for WorkerTexts<'a> {
-    ghost reads = { λ k. worker };
+    ghost reads = { worker };
 
     ghost IsAllowed = { λ k t. Unit {0} };
 
@@ -105,7 +115,8 @@ impl<'a> FromData<'a> for WorkerTexts<'a> {
         notes: &mut Notes<'a>,
     ) -> Result<WorkerTexts<'a>, Refusal<'a>> {
         let site = table_in(alloc, placed, notes)?;
-        let known = has_only(site, &WORKER_KEYS, Level::Worker, notes);
+        let (level, keys) = worker_keys(placed.key);
+        let known = has_only(site, keys, level, notes);
         let script = known.and(read_at(site, REQUESTS, notes))?;
         Ok(WorkerTexts { script })
     }
@@ -145,13 +156,6 @@ fn sets_for(number: u64) -> Sets
     }
 }
 
-/// Whether the bench says how many core sets there are.
-fn names_sets(table: &Table) -> bool
-    ensures { result ≡ is_some (value_of key_of.SETS (table_view table.now)) }
-{
-    value_of(table, SETS).is_some()
-}
-
 /// The numbers of a bench: its core sets, its limit, its allowance, and how often a thread attends.
 #[tactic(auto, unfolding(crate::specs::Keys::numbers_in))]
 fn numbers_in<'a>(
@@ -183,7 +187,6 @@ pub fn settings_in<'a>(site: Site<'a>, notes: &mut Notes<'a>) -> Result<Settings
     let (sets, limit, allowance, attends) = numbers?;
     Ok(Settings {
         sets,
-        names_sets: names_sets(site.table),
         limit,
         allowance,
         attends,
@@ -194,13 +197,19 @@ pub fn settings_in<'a>(site: Site<'a>, notes: &mut Notes<'a>) -> Result<Settings
 }
 
 #[tactic(auto, unfolding(crate::specs::Keys::lists_in))]
-fn lists_in<'a>(site: Site<'a>, notes: &mut Notes<'a>) -> Result<Lists<'a>, Refusal<'a>>
-    ensures value { GivesOrKey (λ l. l) result (lists_in (table_view site.entry.table.now)) }
+fn lists_in<'a>(
+    site: Site<'a>,
+    workers: Key,
+    notes: &mut Notes<'a>,
+) -> Result<Lists<'a>, Refusal<'a>>
+    requires { bounds_of (kind_of workers) ≡ (0, 32) }
+    ensures value { GivesOrKey (λ l. l) result
+        (lists_in workers (table_view site.entry.table.now)) }
 {
     let script = read_or(site, SCRIPT, TextList::none(site.alloc), notes);
     let rows = items_or_none(site, TASKS, notes);
     let entries = items_or_none(site, PHASES, notes);
-    let workers = items_or_none(site, WORKERS, notes);
+    let workers = items_or_none(site, workers, notes);
     let devices = items_or_none(site, DEVICES, notes);
     Ok(Lists {
         script: script?,
@@ -211,24 +220,21 @@ fn lists_in<'a>(site: Site<'a>, notes: &mut Notes<'a>) -> Result<Lists<'a>, Refu
     })
 }
 
-/// The numbers and texts of a document. A fault `Key` where a key or the kind, range or length of
-/// its value is wrong, which is noted.
-#[tactic(auto, unfolding(crate::specs::Keys::texts_in))]
-pub(crate) fn texts_in<'a>(
-    alloc: Global,
-    table: &'a Table,
+/// The numbers and texts of a document, by the key of its workers. A fault `Key` where a key or the
+/// kind, range or length of its value is wrong, which is noted.
+#[tactic(auto, unfolding(crate::specs::Keys::texts_by))]
+pub fn texts_by<'a>(
+    site: Site<'a>,
+    workers: Key,
     notes: &mut Notes<'a>,
 ) -> Result<Texts<'a>, Refusal<'a>>
-    ensures { GivesOrKey (λ t. t) result (texts_in (table_view table.now)) }
+    requires { bounds_of (kind_of workers) ≡ (0, 32) }
+    ensures value { GivesOrKey (λ t. t) result
+        (texts_by workers (table_view site.entry.table.now)) }
 {
-    let site = Site {
-        alloc,
-        table,
-        place: Place::Whole,
-    };
     let known = has_only(site, &BENCH_KEYS, Level::Bench, notes);
     let settings = settings_in(site, notes);
-    let lists = lists_in(site, notes);
+    let lists = lists_in(site, workers, notes);
     known?;
     Ok(Texts {
         settings: settings?,

@@ -1,5 +1,6 @@
 //! The table of keys of a bench: each with what its value is, and whether it must be there.
 use crate::key::{ANY, Form, Key, KeyName, Kind};
+use crate::key_fault::Level;
 
 pub const SETS: Key = Key::Optional(KeyName::Sets, Kind::Integer(7, 8));
 
@@ -17,13 +18,16 @@ pub const POWER: Key = Key::Optional(KeyName::Power, Kind::Texts(Form::Word, 12,
 
 pub const SCRIPT: Key = Key::Optional(KeyName::Script, Kind::Texts(Form::Request, 0, ANY));
 
-pub const TASKS: Key = Key::Optional(KeyName::Task, Kind::Tables(0, ANY));
+pub const TASKS: Key = Key::Optional(KeyName::Task, Kind::Tables(Level::Task, 0, ANY));
 
-pub const PHASES: Key = Key::Optional(KeyName::Phase, Kind::Tables(0, ANY));
+pub const PHASES: Key = Key::Optional(KeyName::Phase, Kind::Tables(Level::Phase, 0, ANY));
 
-pub const WORKERS: Key = Key::Optional(KeyName::Worker, Kind::Tables(0, 32));
+pub const WORKERS: Key = Key::Optional(KeyName::Worker, Kind::Tables(Level::Worker, 0, 32));
 
-pub const DEVICES: Key = Key::Optional(KeyName::Device, Kind::Tables(0, 32));
+pub const DEVICES: Key = Key::Optional(KeyName::Device, Kind::Tables(Level::Device, 0, 32));
+
+/// The workers of a bench that is explored.
+pub const EXPLORED: Key = Key::Optional(KeyName::Worker, Kind::Tables(Level::Explored, 0, 32));
 
 /// The keys of a bench itself.
 pub const BENCH_KEYS: [Key; 12] = [
@@ -54,6 +58,11 @@ pub const REQUESTS: Key = Key::Required(KeyName::Script, Kind::Texts(Form::Reque
 
 /// The keys of a worker.
 pub const WORKER_KEYS: [Key; 1] = [REQUESTS];
+
+pub const REPEAT: Key = Key::Optional(KeyName::Repeat, Kind::Flag);
+
+/// The keys of a worker of a bench that is explored.
+pub const EXPLORED_WORKER_KEYS: [Key; 2] = [REQUESTS, REPEAT];
 
 pub const LINE: Key = Key::Required(KeyName::Line, Kind::Text(Form::Device));
 

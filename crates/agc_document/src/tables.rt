@@ -1,18 +1,19 @@
 //! Tables, numbers and texts of a document, by the table of keys.
 ghost use Rattle.std.specs.Prelude.{◌≡◌, [], map, length, Option, Some, None, IfSome, IfOk, true};
-ghost use Rattle.std.specs.Prelude.{string_bytes};
+ghost use Rattle.std.specs.Prelude.{MatchResult, string_bytes};
 ghost use Rattle.std.specs.Option.{option_map};
 ghost use Rattle.std.specs.List.{list_all};
 ghost use Rattle.std.specs.BTreeMap.{keys};
 ghost use Rattle.toml.specs.Data.{Data, get_member, as_table};
+ghost use Rattle.toml.specs.Parse.{parse_document};
 ghost use Rattle.toml.specs.View.{view, items_view, table_view};
 ghost use Rattle.agc_plan.specs.Ranges.{IsBetween};
 ghost use Rattle.agc_document.specs.Gives.{GivesOrKey};
 ghost use Rattle.agc_document.specs.declared.key.Key.{Key as AnyKey};
 ghost use Rattle.agc_document.specs.Rows.{name_of, kind_of, is_required};
 ghost use Rattle.agc_document.specs.Keys.{is_among, has_only, known_to, value_of, number_of};
-ghost use Rattle.agc_document.specs.Keys.{text_of, texts_of, least, most, read_at, read_or};
-ghost use Rattle.agc_document.specs.Keys.{read_if, each, counted, items_of, one_in};
+ghost use Rattle.agc_document.specs.Keys.{flag_of, text_of, texts_of, least, most, read_at};
+ghost use Rattle.agc_document.specs.Keys.{read_or, read_if, each, counted, items_of, one_in};
 
 use crate::key::{Key, Kind};
 use crate::key_fault::{KeyFault, Level};
@@ -20,7 +21,8 @@ use crate::notes::{KeyNote, Notes};
 use crate::place::Place;
 use crate::refusal::Refusal;
 use crate::texts::{Text, TextList};
-use std::alloc::Global;
+use std::alloc::{AllocError, Global};
+use toml::de::Error;
 use toml::{Table, Value};
 
 /// A table that is read, and its place in the document.
@@ -37,6 +39,27 @@ pub struct Placed<'a> {
     pub value: &'a Value,
     pub key: Key,
     pub place: Place,
+}
+
+/// The table of the document that a text is, or why it is no document. Source: profile.
+///
+/// # Errors
+///
+/// Where there is no memory.
+pub fn table_of(alloc: Global, text: &str) -> Result<Result<Table, Error>, AllocError>
+    ensures { IfOk result (λ read. MatchResult read
+        (λ t. parse_document text.now ≡ Some (table_view t))
+        (λ _. parse_document text.now ≡ None)) }
+{
+    match toml::table_from_str(alloc, text) {
+        Ok(table) => Ok(Ok(table)),
+        Err(error) => {
+            if error.is_memory() {
+                return Err(AllocError);
+            }
+            Ok(Err(error))
+        }
+    }
 }
 
 /// Whether a key's name is that of one of these.
@@ -188,6 +211,23 @@ impl<'a> FromData<'a> for u64 {
     ) -> Result<u64, Refusal<'a>> {
         match number_in(placed.value, placed.key) {
             Some(number) => Ok(number),
+            None => Err(Refusal::Key(note_of(placed, notes))),
+        }
+    }
+}
+
+impl<'a> FromData<'a> for bool {
+    ghost reads = { flag_of };
+
+    ghost IsAllowed = { λ k b. Unit {0} };
+
+    fn from_value(
+        _alloc: Global,
+        placed: Placed<'a>,
+        notes: &mut Notes<'a>,
+    ) -> Result<bool, Refusal<'a>> {
+        match placed.value.as_bool() {
+            Some(flag) => Ok(flag),
             None => Err(Refusal::Key(note_of(placed, notes))),
         }
     }

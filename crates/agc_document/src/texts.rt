@@ -147,12 +147,10 @@ impl<'a> Model for DeviceTexts<'a> {
     ghost invariant = { λ t. t.pulses ≤ 1000000 };
 }
 
-/// What a bench has once, of both pulses a text for each action, and whether it says how many core
-/// sets there are.
+/// What a bench has once, of both pulses a text for each action.
 #[derive(Drop)]
 pub struct Settings<'a> {
     pub sets: Sets,
-    pub names_sets: bool,
     pub limit: u32,
     pub allowance: u64,
     pub attends: u32,
@@ -171,7 +169,6 @@ impl<'a> Model for Settings<'a> {
 
     ghost view = { λ t. record {
       sets = count_of t.sets;
-      names_sets = t.names_sets;
       limit = t.limit;
       allowance = t.allowance;
       attends = t.attends;

@@ -503,7 +503,6 @@ fn ample_settings_in<'a>(site: Site<'a>, notes: &mut Notes<'a>) -> Result<Settin
     let allowance: Result<u64, Refusal<'a>> = read_or(site, ALLOWANCE, most, notes);
     Ok(Settings {
         sets: settings.sets,
-        names_sets: settings.names_sets,
         limit: limit? as u32,
         allowance: allowance?,
         attends: settings.attends,

@@ -15,7 +15,7 @@ use crate::rows::SECONDS;
 use crate::texts::ScenarioTexts;
 use crate::timing::{Name, Timing};
 use crate::values::{all_copied, can_all_be_shown, timing_of};
-use agc_document::{Bench, BenchFault, Notes, Refusal, Text, bench_from, value_of};
+use agc_document::{Bench, BenchFault, Notes, Refusal, Text, bench_from, table_of, value_of};
 use std::alloc::Global;
 use std::marker::Model;
 use toml::Table;
@@ -152,14 +152,9 @@ pub fn read_scenario(alloc: Global, text: &str) -> Result<Scenario, BenchFault>
         × HasTexts (parse_document text.now) (scenario_texts s)) }
     ensures refused { IfErr result (RefusesScenario (parse_document text.now)) }
 {
-    let table = match toml::table_from_str(alloc, text) {
+    let table = match table_of(alloc, text)? {
         Ok(table) => table,
-        Err(error) => {
-            if error.is_memory() {
-                return Err(BenchFault::NoMemory);
-            }
-            return Err(BenchFault::NotToml);
-        }
+        Err(_error) => return Err(BenchFault::NotToml),
     };
     let mut notes = Notes::new(false);
     match scenario_of(alloc, &table, &mut notes) {
