@@ -1,4 +1,5 @@
 pub mod Scripts
 pub mod Findings
+pub mod Repeating
 pub mod Documents
 pub mod Checks

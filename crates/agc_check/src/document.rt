@@ -6,6 +6,7 @@ ghost use Rattle.agc_check.specs.Documents.{IsNoDocument};
 
 use crate::finding::Finding;
 use crate::reading::found_no_document;
+use agc_document::table_of;
 use std::alloc::{AllocError, Global};
 use std::marker::Model;
 use toml::Table;
@@ -58,12 +59,9 @@ impl<'a> Document<'a> {
         ensures found { IfOk result (λ d. d ≡ text.entry.now) }
         ensures refused { IfErr result (IsNoDocument text.entry.now) }
     {
-        match toml::table_from_str(alloc, text) {
+        match table_of(alloc, text)? {
             Ok(table) => Ok(Document { text, table }),
             Err(error) => {
-                if error.is_memory() {
-                    return Err(NoDocument::NoMemory);
-                }
                 let found = found_no_document(alloc, text, &error)?;
                 Err(NoDocument::NotToml(found))
             }

@@ -5,6 +5,7 @@
 mod bench;
 mod checks;
 mod document;
+mod explored;
 mod finding;
 mod items;
 mod kind;
@@ -24,6 +25,7 @@ mod wrong;
 pub use bench::{add_where, bench_told};
 pub use checks::{CheckedScenario, scenario_findings};
 pub use document::{Document, NoDocument};
+pub use explored::{CheckedExplored, Explored, explored_findings};
 pub use finding::{Finding, line_at};
 pub use kind::{Kind, Part};
 pub use line::LineFault;
