@@ -333,13 +333,24 @@ function checkLots({ seed, job }) {
   }
 }
 
+/** The alarms from which an event may count, where no event above it has that name. */
+const ALARMS = new Set(["1201", "1202", "1203"]);
+
 /**
- * An event counts from one above it.
+ * Whether what an event names is there: one of these events above it, or an alarm.
+ * @param {string | undefined} after
+ * @param {EventRow[]} above
+ */
+export function hasBase(after, above) {
+  return after === undefined || above.some((it) => it.name === after) || ALARMS.has(after);
+}
+
+/**
+ * An event counts from one above it, or from an alarm.
  * @param {Bench} bench
  */
 function checkAfter({ event }) {
-  const none = event.findIndex(({ after }, k) =>
-    after !== undefined && !event.slice(0, k).some((it) => it.name === after));
+  const none = event.findIndex(({ after }, k) => !hasBase(after, event.slice(0, k)));
   if (none !== -1) {
     new Place(1, `event ${none + 1}, after`).refuse("no event above this one has that name");
   }

@@ -15,7 +15,7 @@ const LABELS = {
   ...{ at: "At", bank: "Bank", action: "Actions", group: "Group", phase: "Phase", job: "Job" },
   ...{ task: "Task", name: "Name", cost: "Cost, cs (or two: from, to)", then: "Then", do: "Asks for" },
   deadline: "Deadline, cs",
-  ...{ after: "After the event", every: "Every, cs", until: "Until, cs" },
+  ...{ after: "After the event, or alarm", every: "Every, cs", until: "Until, cs" },
 };
 
 const HEADINGS = {

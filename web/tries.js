@@ -6,6 +6,7 @@
  * @typedef {import("./run.js").Shown} Shown
  */
 import { nameOfRestart } from "./account.js";
+import { hasBase } from "./bench.js";
 import { FIRST_ASKED } from "./first.js";
 import { LOG_FULL } from "./run.js";
 import { visible } from "./words.js";
@@ -49,8 +50,7 @@ function eventsWithout(events, left) {
   /** @type {import("./bench.js").EventRow[]} */
   const rest = [];
   for (const it of events) {
-    const hasBase = it.after === undefined || rest.some((one) => one.name === it.after);
-    if (it !== left && hasBase) rest.push(it);
+    if (it !== left && hasBase(it.after, rest)) rest.push(it);
   }
   return rest;
 }

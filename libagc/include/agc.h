@@ -330,8 +330,10 @@ typedef struct { uint32_t at, hundredths, then, first, count, spread; } AgcCost;
 
 /* An event: it comes at a centisecond, 0 to 8,640,000, and where `every` isn't 0 again each so many
    centiseconds, at last at `until`: never, where that is before the first. Each time it asks for `count` requests, 1 to 16, of those that are
-   handed to the call, from number `first` on, which counts from 0. */
-typedef struct { uint32_t at, every, until, first, count; } AgcEvent;
+   handed to the call, from number `first` on, which counts from 0. Where `after` is 0, its times count from
+   the start. Where it is 01201, 01202 or 01203, they are distances from the first alarm of this code (a
+   distance of 0 counts as 1), and it doesn't come before agc_clock_told was told of that. */
+typedef struct { uint32_t at, every, until, first, count, after; } AgcEvent;
 
 /* A timetable, for agc_clock_ask: how many centiseconds it lasts, and its rows and requests. */
 typedef struct {
@@ -591,6 +593,13 @@ AGC_INLINE AGC_USED AgcNumber agc_clock_ask(const uint16_t words[AGC_WORDS], uin
    them, and what agc_step answered. Codes of the image. */
 AGC_USED uint32_t agc_clock_served(const uint16_t words[AGC_WORDS], uint32_t sets, const AgcStep *step, AgcClock *clock);
 AGC_USED uint32_t agc_clock_served_trusted(const uint16_t words[AGC_WORDS], uint32_t sets, const AgcStep *step, AgcClock *clock);
+
+/* An event takes what came of a request, also of one that no clock asked for: where the step has an alarm,
+   and the event's `after` is its code, it counts from the clock's centisecond on: its times are then those
+   since the start, and `after` is 0, so that only the first alarm of a code counts. Any other event stays.
+   The answer is the alarm for which it still waits, 0 for none. Call it for each event that waits, with each
+   step with which agc_clock_served is called. */
+uint32_t agc_clock_told(const AgcStep *step, const AgcClock *clock, AgcEvent *event);
 
 /* The image of a fresh start, whatever stood there: no jobs, no tasks, six phases 0, no codes. */
 AGC_USED uint32_t agc_clear(uint16_t words[AGC_WORDS], uint32_t sets);

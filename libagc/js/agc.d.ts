@@ -225,7 +225,8 @@ export interface JobCost {
 
 /**
  * What is asked at a centisecond, and with `every` again, at last at `until`. Where `after` is the name
- * of an event above it, these count from the first time of that one.
+ * of an event above it, these count from the first time of that one; where it is "1201", "1202" or
+ * "1203", and no event above has that name, from the first alarm of that code.
  */
 export interface TimedEvent {
   at: number;
@@ -259,10 +260,18 @@ export declare class Asked {
   toString(): string;
 }
 
+/** When the first alarm of each code came, in centiseconds: none of those that aren't named. */
+export interface FirstAlarms {
+  1201?: number;
+  1202?: number;
+  1203?: number;
+}
+
 /** All of a clock, of which JSON can be made. */
 export interface ClockState {
   timetable: Timetable;
   at: number[];
+  alarms?: FirstAlarms;
 }
 
 /** A clock, which lets time pass by a timetable for one machine. */
@@ -442,6 +451,7 @@ export interface Library {
   ): void;
   agc_clock_served(words: bigint, sets: number, step: bigint, clock: bigint): number;
   agc_clock_served_trusted(words: bigint, sets: number, step: bigint, clock: bigint): number;
+  agc_clock_told(step: bigint, clock: bigint, event: bigint): number;
   agc_clear(words: bigint, sets: number): number;
   agc_check(answer: bigint, words: bigint, sets: number): void;
   agc_explain(answer: bigint, words: bigint, sets: number): void;

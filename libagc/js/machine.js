@@ -39,7 +39,8 @@
  *   endtask?: number | string, skip?: number }} CoreMap
  * @typedef {{ sets: (Job | null)[], taken: boolean[], tasks: Waiting[], phases: number[],
  *   codes: number[], newjob: number, odd: Odd[] }} Core
- * @typedef {{ timetable: Timetable, at: number[] }} ClockState
+ * @typedef {{ 1201?: number, 1202?: number, 1203?: number }} FirstAlarms
+ * @typedef {{ timetable: Timetable, at: number[], alarms?: FirstAlarms }} ClockState
  * @typedef {{ served: number | bigint, allowance: number | bigint, logged: number,
  *   limit: number }} Bounds
  */
@@ -920,7 +921,7 @@ export function pulseOf(line, plan = {}) {
 
 const STOLEN = 20;
 const COST = 24;
-const EVENT = 20;
+const EVENT = 24;
 const REQUEST = 16;
 const LAST_TIME = 8640000;
 const LAST_SEED = 2147483646;
@@ -1009,9 +1010,21 @@ function seedOf(seed, costs) {
   throw new Lacking(Code.TIME_RANGE, `seed has to be 1 to ${LAST_SEED}, and is ${seed}`);
 }
 
+/** From what an event without `after` counts: the start. */
+const START = { alarm: 0, from: 0 };
+
+/** From what an event counts that names an alarm. */
+const ALARMS = new Map(["1201", "1202", "1203"].map((code) => [code, alarmed(code)]));
+
+/** @param {string} code */
+function alarmed(code) {
+  return { alarm: parseInt(code, 8), from: 0 };
+}
+
 /**
- * Events, whose times all count from the start: one with `after` counts from the first time of an
- * event of that name above it. One that would come after a day never comes.
+ * Events, each with the alarm from whose first it counts, 0 for the start: one with `after` counts
+ * from the first time of an event of that name above it, or else from the alarm of that code. One
+ * that would come after a day never comes.
  * @param {TimedEvent[]} events
  */
 function placed(events) {
@@ -1019,17 +1032,19 @@ function placed(events) {
   return events.map((it, k) => {
     const needed = ["at", "do"];
     known(`event ${k + 1}`, it, [...needed, "after", "every", "until", "name"], needed);
-    const base = it.after === undefined ? 0 : firsts.get(it.after);
+    const { after, name } = it;
+    const base = after === undefined ? START : firsts.get(after) ?? ALARMS.get(after);
     if (base === undefined) {
-      const told = `event ${k + 1}: no event above it is called ${JSON.stringify(it.after)}`;
+      const told = `event ${k + 1}: no event above it is called ${JSON.stringify(after)}`;
       throw new Lacking(Code.TIME_RANGE, told);
     }
-    const first = Math.min(base + whole(it.at), LAST_TIME + 1);
-    if (it.name !== undefined && !firsts.has(it.name)) firsts.set(it.name, first);
-    if (it.after === undefined) return it;
-    const until = it.until === undefined ? {} : { until: Math.min(base + whole(it.until), LAST_TIME) };
+    const { alarm, from } = base;
+    const first = Math.max(alarm && 1, Math.min(from + whole(it.at), LAST_TIME + 1));
+    if (name !== undefined && !firsts.has(name)) firsts.set(name, { alarm, from: first });
+    if (after === undefined) return { ...it, alarm };
+    const until = it.until === undefined ? {} : { until: Math.min(from + whole(it.until), LAST_TIME) };
     const never = first > LAST_TIME ? { every: 1, until: 0 } : {};
-    return { ...it, at: Math.min(first, LAST_TIME), ...until, ...never };
+    return { ...it, alarm, at: Math.min(first, LAST_TIME), ...until, ...never };
   });
 }
 
@@ -1072,7 +1087,7 @@ class LentTimes {
         read(calls.agc_read_request, line, "request");
         requests.push(Array.from(numbers.subarray(at.request / 4, at.request / 4 + 4)));
       });
-      return [whole(it.at), ...again(`event ${k + 1}`, it), first, lines.length];
+      return [whole(it.at), ...again(`event ${k + 1}`, it), first, lines.length, it.alarm];
     });
     this.requests = requests;
     this.numbers = Uint32Array.from([this.stolen, this.costs, this.events, requests].flat(2));
@@ -1112,6 +1127,34 @@ class LentTimes {
     return calls.agc_clock_check(...lent);
   }
 
+  /** How many bytes are in front of its events. */
+  get front() {
+    return STOLEN * this.stolen.length + COST * this.costs.length;
+  }
+
+  /**
+   * Its numbers, where the first alarm of each of these codes came at this time. Nothing of a
+   * machine or a clock may be in the module's memory.
+   * @param {Record<string, number>} alarms
+   */
+  heard(alarms) {
+    this.lend(at.plan);
+    for (const [code, time] of Object.entries(alarms)) {
+      numbers.set([0, Kind.ALARMED, parseInt(code, 8), 0, 0], at.answer / 4);
+      numbers[at.clock / 4] = time;
+      this.tell(at.plan + this.front);
+    }
+    return numbers.slice(at.plan / 4, at.plan / 4 + this.numbers.length);
+  }
+
+  /**
+   * Its events, which stand here, take the alarm of the reply that stands at its place.
+   * @param {number} place
+   */
+  tell(place) {
+    this.events.forEach((_, k) => calls.agc_clock_told(to.answer, to.clock, BigInt(place + EVENT * k)));
+  }
+
   /**
    * Writes it to a place.
    * @param {number} place
@@ -1135,6 +1178,16 @@ function timesOf(given) {
 }
 
 /**
+ * When the first alarm of each code came, as a clock's state has it.
+ * @param {Record<string, number>} alarms
+ */
+function alarmsOf(alarms) {
+  known("a clock's alarms", alarms, [...ALARMS.keys()]);
+  if (Object.values(alarms).every((it) => it >>> 0 === it && it <= LAST_TIME)) return { ...alarms };
+  throw new Lacking(Code.TIME_RANGE, "an alarm comes at a centisecond of the first day");
+}
+
+/**
  * A clock: it lets time pass by a timetable, as docs/MODEL.md says, and gives what a machine is asked
  * next. `timetable` has `seconds`, `steal`, `job` and `event` as a scenario has them, and all may be
  * missing. The cost of a job may be by lot, `{ from: 150, to: 190 }`, and then there has to be a
@@ -1144,6 +1197,10 @@ export class Clock {
   #told;
   /** @type {LentTimes} */
   #times;
+  // (when the first alarm of each code came, and the timetable's numbers by these)
+  /** @type {Record<string, number>} */
+  #alarms = {};
+  #rows;
   #state = new Uint8Array(SIZE.clock);
   // (where the timetable stands in the module's memory, part by part)
   #places = { stolen: 0n, costs: 0n, events: 0n, requests: 0n };
@@ -1162,6 +1219,7 @@ export class Clock {
     // (a copy's is looked at already)
     const looked = timetable instanceof LentTimes;
     this.#times = looked ? timetable : new LentTimes(timetable);
+    this.#rows = this.#times.numbers;
     this.#told = looked ? {} : timesOf(timetable);
     new Uint32Array(this.#state.buffer)[LOT] = this.#times.seed;
   }
@@ -1170,7 +1228,7 @@ export class Clock {
   get state() {
     const [time, , event, , asks, , looks, left] = this.#numbers;
     const at = [time, event, asks, looks & 1, left, ...this.given, this.#numbers[LOT]];
-    return { timetable: structuredClone(this.#told), at };
+    return { timetable: structuredClone(this.#told), at, alarms: { ...this.#alarms } };
   }
 
   /**
@@ -1178,8 +1236,9 @@ export class Clock {
    * @param {ClockState} state
    */
   static of(state) {
-    known("a clock's state", state, ["timetable", "at"], ["timetable", "at"]);
+    known("a clock's state", state, ["timetable", "at", "alarms"], ["timetable", "at"]);
     const made = new Clock(state.timetable);
+    made.#hear(alarmsOf(state.alarms ?? {}));
     const [time, event, asks, looks, left, ...given] = rowsOf("at", state.at);
     const all = [time, 0, event, 0, asks, 0, looks, left, ...given];
     if (given.length !== 9 || looks > 1 || all.some((it) => !(it >>> 0 === it))) {
@@ -1203,7 +1262,7 @@ export class Clock {
     if (timed === this) return;
     leaveClock();
     const { stolen, costs, events, requests } = this.#times;
-    this.#times.lend(end);
+    this.#times.lend(end, this.#rows);
     bytes.set(this.#state, at.clock);
     const second = end + STOLEN * stolen.length;
     const third = second + COST * costs.length;
@@ -1242,6 +1301,30 @@ export class Clock {
    */
   take(machine) {
     calls.agc_clock_served_trusted(to.words, machine.sets, to.answer, to.clock);
+    const kind = numbers[at.answer / 4 + 1];
+    if (kind === Kind.ALARMED || kind === Kind.TICK_ALARMED) this.#tell();
+  }
+
+  /** Takes the alarm of the reply that stands at its place. */
+  #tell() {
+    const code = numbers[at.answer / 4 + 2].toString(8);
+    if (code in this.#alarms) return;
+    this.#alarms = { ...this.#alarms, [code]: this.time };
+    const place = Number(this.#places.events);
+    this.#times.tell(place);
+    this.#rows = this.#rows.slice();
+    const [from, length] = [place / 4, (EVENT / 4) * this.#times.events.length];
+    this.#rows.set(numbers.subarray(from, from + length), this.#times.front / 4);
+  }
+
+  /**
+   * The first alarm of each of these codes came at this time.
+   * @param {FirstAlarms} alarms
+   */
+  #hear(alarms) {
+    this.#alarms = alarms;
+    leave();
+    this.#rows = Object.keys(alarms).length === 0 ? this.#times.numbers : this.#times.heard(alarms);
   }
 
   /**
@@ -1299,6 +1382,7 @@ export class Clock {
     const times = new LentTimes(told);
     this.#told = told;
     this.#times = times;
+    this.#hear(this.#alarms);
     // (lots are drawn anew where a seed is named; the clock has left the module's memory)
     if (timetable.seed !== undefined) new Uint32Array(this.#state.buffer)[LOT] = times.seed;
   }
@@ -1308,6 +1392,8 @@ export class Clock {
     leaveClock();
     const made = new Clock(/** @type {any} */ (this.#times));
     made.#told = this.#told;
+    made.#alarms = this.#alarms;
+    made.#rows = this.#rows;
     made.#state.set(this.#state);
     return made;
   }

@@ -42,6 +42,7 @@ static void ask(uint32_t source, AgcRequest it) {
     AgcStep step = agc_step(words, sets, rows, row_count, entries, entry_count, &it, fired, moment);
     want(step.code == AGC_OK, "a step");
     want((trusted ? agc_clock_served_trusted : agc_clock_served)(words, sets, &step, &timer) == AGC_OK, "served");
+    for (size_t k = 0; k < event_count; k++) agc_clock_told(&step, &timer, &events[k]);
     AgcNumber length = agc_write_reply(&step, fired, text, sizeof text);
     printf("%u %u %u %u %u %u %.*s", timer.time, source, it.kind, it.first, it.second, it.third, (int)length.number, text);
 }
@@ -107,7 +108,7 @@ static void take(char *line) {
         it->then = read(rest, false).first;
     } else if (!strncmp(line, "event ", 6)) {
         AgcEvent *it = &events[event_count++];
-        want(sscanf(part(&rest), "%u %u %u", &it->at, &it->every, &it->until) == 3, line);
+        want(sscanf(part(&rest), "%u %u %u %o", &it->at, &it->every, &it->until, &it->after) == 4, line);
         it->first = (uint32_t)request_count;
         while (*rest) requests[request_count++] = read(part(&rest), false);
         it->count = (uint32_t)request_count - it->first;
@@ -128,7 +129,7 @@ static void refuses(void) {
     AgcCost lot = {1, 9, 0, 0, 0, 8}, wide = {1, 9, 0, 0, 0, 9};
     AgcRequest steps[9] = {{AGC_PRIO, 7, 0, 0}, {AGC_PHASE, 1, 1, 0}, {AGC_STORE, 1, 2, 0}, {AGC_NOVAC, 7, 1024, 5},
         {AGC_FINDVAC, 7, 1024, 5}, {AGC_LIST, 7, 1024, 5}, {AGC_PRIO, 7, 0, 0}, {AGC_PRIO, 7, 0, 0}, {AGC_TICK, 0, 0, 0}};
-    AgcEvent event = {0, 0, 0, 1, 1};
+    AgcEvent event = {0, 0, 0, 1, 1, 0};
     memcpy(&was, &clock, sizeof clock);
     agc_clear(words, 7);
     want(agc_clock_next(words, 6, 10, NULL, 0, NULL, 0, NULL, 0, NULL, 0, &clock, &it).code == AGC_NO_SUCH_SETS, "6 sets");
@@ -153,10 +154,44 @@ static void refuses(void) {
     want(agc_clock_check(beat + 1, 1, NULL, 0, NULL, 0, NULL, 0) == AGC_OK, "a beat without rest");
 }
 
+static void all_told(const AgcStep *step, const AgcClock *clock, AgcEvent its[4]) {
+    for (int k = 0; k < 4; k++) want(agc_clock_told(step, clock, &its[k]) == its[k].after, "for what it waits");
+}
+
+/* An event that counts from an alarm gets its times by the first of its code alone. */
+static void tells(void) {
+    AgcClock clock = {300, 0, 0, false, 0, {0}, 0};
+    AgcRequest it = {AGC_CHANGE, 0, 0, 0};
+    AgcStep tick = {0, AGC_TICKED, 0, 0, 0}, job = {0, AGC_ESTABLISHED, 1, 0, 0}, alarm = {0, AGC_ALARMED, 01201, 0, 0};
+    AgcStep ticked = {0, AGC_TICK_ALARMED, 01203, 1, 1}, other = {0, AGC_ALARMED, 01202, 0, 0};
+    AgcEvent its[4] = {{50, 7, 90, 0, 1, 01201}, {0, 0, 0, 0, 1, 01203}, {5, 0, 0, 0, 1, 0}, {8640000, 2, 8640000, 0, 1, 01201}}, was[4];
+    memcpy(was, its, sizeof its);
+    want(agc_clock_check(NULL, 0, NULL, 0, its, 4, &it, 1) == AGC_OK, "events that wait");
+    all_told(&tick, &clock, its);
+    all_told(&job, &clock, its);
+    all_told(&other, &clock, its);
+    want(!memcmp(was, its, sizeof its), "no alarm of theirs");
+    all_told(&alarm, &clock, its);
+    want(its[0].at == 350 && its[0].every == 7 && its[0].until == 390 && its[0].count == 1 && !its[0].after, "the first 1201");
+    want(!memcmp(was + 1, its + 1, 2 * sizeof *its) && its[3].until < its[3].at && !its[3].after, "the other its");
+    clock.time = 310;
+    all_told(&ticked, &clock, its);
+    want(its[1].at == 311 && its[1].until == 311 && !its[1].after, "the first 1203");
+    memcpy(was, its, sizeof its);
+    all_told(&alarm, &clock, its);
+    want(!memcmp(was, its, sizeof its), "the second 1201");
+    want(agc_clock_check(NULL, 0, NULL, 0, its, 4, &it, 1) == AGC_OK, "events with their times");
+    its[2].after = 01200;
+    want(agc_clock_check(NULL, 0, NULL, 0, its, 4, &it, 1) == AGC_TIME_RANGE, "no such alarm");
+    its[2].after = 01204;
+    want(agc_clock_check(NULL, 0, NULL, 0, its, 4, &it, 1) == AGC_TIME_RANGE, "nor this");
+}
+
 int main(int argc, char **argv) {
     char line[1024];
     trusted = argc > 1 && !strcmp(argv[1], "trusted");
     refuses();
+    tells();
     while (fgets(line, sizeof line, stdin)) {
         line[strcspn(line, "\n")] = 0;
         take(line);

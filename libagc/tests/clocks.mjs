@@ -41,7 +41,8 @@ class Scenario {
       this.time.job.push({ at: words[0], cost: from === to ? from : { from, to }, then: parts });
     } else if (name === "event") {
       const again = numbers[1] ? { every: numbers[1], until: numbers[2] } : {};
-      this.time.event.push({ at: numbers[0], do: parts, ...again });
+      const after = words[3] === "0" ? {} : { after: words[3] };
+      this.time.event.push({ at: numbers[0], do: parts, ...again, ...after });
     } else this.go(name, rest);
   }
 

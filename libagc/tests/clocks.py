@@ -6,7 +6,7 @@
     clocks.py clock               the same by `Clock`
 
 Lines are `scenario SETS SECONDS SEED`, `task AT BANK|ACTION|..`, `phase GROUP PHASE|JOB|TASK`, `steal FROM TO PERCENT EVERY
-UNTIL`, `job AT LEAST MOST|THEN|..`, `event AT EVERY UNTIL|LINE|..`, `run CENTISECONDS`, `hand LINE`. Each request that is asked gets a line:
+UNTIL`, `job AT LEAST MOST|THEN|..`, `event AT EVERY UNTIL AFTER|LINE|..` (AFTER is 0 or an alarm), `run CENTISECONDS`, `hand LINE`. Each request that is asked gets a line:
 the centisecond, who asks (0 a person, 1 the clock, from 2 on the events), its kind and numbers, and the reply.
 """
 import random
@@ -64,8 +64,9 @@ def make(seed, count):
             least = pick.choice([1, 1, 2, 5, 17, 60])
             print(f"job {at} {least} {least + pick.choice([0, 0, 1, 3, 40])}|" + "|".join(then))
         for _ in range(pick.randint(0, 5)):
-            at, every = pick.randint(0, 200), pick.choice([0, 0, 1, 7, 25])
-            print(f"event {at} {every} {pick.randint(at, 400)}|" + "|".join(a_request(pick) for _ in range(pick.randint(1, 3))))
+            at, every = pick.choice([0, 1, pick.randint(0, 200)]), pick.choice([0, 0, 1, 7, 25])
+            after = pick.choice([0, 0, 1201, 1202, 1203])
+            print(f"event {at} {every} {pick.randint(at, 400)} {after}|" + "|".join(a_request(pick) for _ in range(pick.randint(1, 3))))
         for _ in range(pick.randint(1, 4)):
             print(f"run {pick.randint(0, 200)}")
             if pick.randint(0, 1):
@@ -102,9 +103,10 @@ class Scenario:
             cost = least if least == most else {"from": least, "to": most}
             self.time["job"].append({"at": words[0], "cost": cost, "then": parts})
         elif name == "event":
-            at, every, until = map(int, words)
+            at, every, until = map(int, words[:3])
             again = {"every": every, "until": until} if every else {}
-            self.time["event"].append({"at": at, "do": parts, **again})
+            after = {} if words[3] == "0" else {"after": words[3]}
+            self.time["event"].append({"at": at, "do": parts, **again, **after})
         else:
             self.begin()
             if name == "run":
@@ -141,17 +143,28 @@ class Plainly(Scenario):
 
     def start(self):
         self.now, self.given, self.left, self.stolen = 0, {}, self.events(), {}
-        self.lot, self.needs = self.time["seed"], {}
+        self.lot, self.needs, self.alarms = self.time["seed"], {}, {}
         for row in reversed(self.time["steal"]):  # (the first row comes last, and counts)
             for begins in range(row["from"], row["until"] + 1, row["every"]) if "every" in row else [row["from"]]:
                 self.stolen |= dict.fromkeys(range(begins, begins + row["to"] - row["from"]), row["percent"])
 
     def events(self):
         for number, event in enumerate(self.time["event"]):
-            if self.now == event["at"] or (
-                "every" in event and event["at"] < self.now <= event["until"] and (self.now - event["at"]) % event["every"] == 0
-            ):
+            if self.comes(event):
                 yield from ((number + 2, line) for line in event["do"])
+
+    def comes(self, event):
+        """Whether an event comes now: its first time or a later one, counted from the start or from an alarm."""
+        if "after" not in event:
+            first, last = event["at"], event.get("until", 0)
+        elif event["after"] in self.alarms:
+            alarm = self.alarms[event["after"]]
+            first, last = alarm + max(1, event["at"]), alarm + max(1, event.get("until", 0))
+        else:
+            return False
+        return self.now == first and ("every" not in event or first <= last) or (
+            "every" in event and first < self.now <= last and (self.now - first) % event["every"] == 0
+        )
 
     def drawn(self, cost):
         """What a job costs that begins, in hundredths: one of so many, by the next lot of a generator of Lehmer's."""
@@ -188,6 +201,8 @@ class Plainly(Scenario):
         step = self.machine.ask(line)
         awake = {it.number for it in self.machine.scene().sets if it and not it.asleep}
         self.given = {} if step.begins_era else {number: it for number, it in self.given.items() if number in awake}
+        if step.alarm:
+            self.alarms.setdefault(f"{step.alarm:o}", self.now)
         self.told(self.now, source, numbers_of(line), step)
 
     def run(self, centiseconds):

@@ -51,7 +51,8 @@ impl Scenario {
             }
             "event" => {
                 let (all, it) = (self.timetable.take().unwrap(), numbers(first));
-                self.timetable = Some(all.event(it[0], it[1], it[2], &parts)?);
+                let all = all.event(it[0], it[1], it[2], &parts)?;
+                self.timetable = Some(all.after(octal(first.rsplit(' ').next().unwrap())));
             }
             _ => self.go(name, rest, out)?,
         }

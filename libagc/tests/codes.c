@@ -298,7 +298,7 @@ static void asking(void) {
 /* An event that comes again may have its last time before its first: then it never comes. */
 static void never(void) {
     AgcRequest change = {AGC_CHANGE, 0, 0, 0}, it = change;
-    AgcEvent event = {5, 2, 4, 0, 1};
+    AgcEvent event = {5, 2, 4, 0, 1, 0};
     AgcClock clock;
     uint16_t words[AGC_WORDS];
     memset(&clock, 0, sizeof clock);

@@ -187,7 +187,8 @@ function areKept() {
 function areKeptAfterEachRequest() {
   const plan = { task: [{ at: "02000", bank: 5, action: "novac 30 05000 00005" }] };
   const times = { job: [{ at: "04000", cost: 9 }, { at: "05000", cost: 2 }],
-    event: [{ at: 0, do: ["novac 20 04000 00005", "list 3 02000 00005"] }] };
+    event: [{ at: 0, do: ["novac 20 04000 00005", "list 3 02000 00005"] },
+      { at: 14, do: new Array(8).fill("novac 01 06000 00005") }, { after: "1202", at: 4, do: "phase 1 1" }] };
   const [wanted, texts] = [[], []];
   new Machine({ plan }).run(new Clock(times), 20, (asked, step) => { wanted.push(`${asked}: ${step}`); });
   let [machine, clock] = [new Machine({ plan }), new Clock(times)];
@@ -196,6 +197,30 @@ function areKeptAfterEachRequest() {
     [machine, clock] = [Machine.of(machine.state), Clock.of(clock.state)];
   }
   want(same(texts, wanted) && wanted.includes("change: runs 2"), `kept after each request: ${texts}`);
+  want(wanted.includes("phase 1 1: phased"), "an event that counts from an alarm");
+}
+
+/** An alarm moves the events of a clock, and of none that was copied before. */
+function anAlarmMovesWhatCountsFromIt() {
+  const key = { name: "key", after: "1202", at: 10, do: "phase 1 1" };
+  const event = [{ at: 5, do: new Array(8).fill("novac 20 04000 00005") }, key, { after: "key", at: 5, do: "phase 1 2" }];
+  const [machine, clock] = [new Machine(), new Clock({ event })];
+  want(machine.run(clock, 4) === 4, "four ticks");
+  const [other, its] = [machine.copy(), clock.copy()];
+  want(machine.run(clock, 4) === 12 && same(clock.state.alarms, { 1202: 5 }) && same(its.state.alarms, {}), "an alarm");
+  const again = Clock.of(clock.state);
+  const changed = clock.copy();
+  changed.change({ event });
+  for (const [one, timer] of [[machine.copy(), again], [machine.copy(), changed], [other, its], [machine, clock]]) {
+    const found = [];
+    one.run(timer, 20, (asked, step, time) => { if (asked.name === "phase") found.push(`${time} ${asked}`); });
+    want(same(found, ["15 phase 1 1", "20 phase 1 2"]), `what counts from an alarm: ${found}`);
+  }
+  const { alarms, ...old } = clock.state;
+  want(same(alarms, { 1202: 5 }) && same(Clock.of(old).state.alarms, {}), "a state without alarms");
+  thrown(Lacking, () => Clock.of({ ...old, alarms: { 1202: 8640001 } }));
+  thrown(TypeError, () => Clock.of({ ...old, alarms: { 1204: 1 } }));
+  thrown(Lacking, () => new Clock({ event: [{ at: 1, after: "1204", do: "tick" }] }));
 }
 
 timeGoesOn();
@@ -209,4 +234,5 @@ faultsNameTheirRow();
 foreignWordsHaveNoScene();
 areKept();
 areKeptAfterEachRequest();
+anAlarmMovesWhatCountsFromIt();
 want(/^\d+\.\d+\.\d+$/.test(VERSION) && replyText(Kind.ALARMED) === "a table is full: an alarm" && Code.OK === 0, "texts");

@@ -187,7 +187,11 @@ def machines_and_clocks_are_kept():
 TAKEN_OVER = {"task": [{"at": "02000", "bank": 5, "action": "novac 30 05000 00005"}]}
 TAKING_OVER = {
     "job": [{"at": "04000", "cost": 9}, {"at": "05000", "cost": 2}],
-    "event": [{"at": 0, "do": ["novac 20 04000 00005", "list 3 02000 00005"]}],
+    "event": [
+        {"at": 0, "do": ["novac 20 04000 00005", "list 3 02000 00005"]},
+        {"at": 14, "do": ["novac 01 06000 00005"] * 8},
+        {"after": "1202", "at": 4, "do": "phase 1 1"},
+    ],
 }
 
 
@@ -198,7 +202,26 @@ def clocks_are_kept_after_each_request():
     while one := next(machine.run(clock, 20 - clock.time), None):
         found.append((str(one[0]), str(one[1])))
         machine, clock = Machine.of_state(machine.state), Clock.of_state(clock.state)
-    assert found == wanted and ("change", "runs 2") in wanted, (found, wanted)
+    assert found == wanted and ("change", "runs 2") in wanted and ("phase 1 1", "phased") in wanted, (found, wanted)
+
+
+def an_alarm_moves_what_counts_from_it():
+    """The events of a clock, and of none that was copied before."""
+    key = {"name": "key", "after": "1202", "at": 10, "do": "phase 1 1"}
+    machine = Machine()
+    clock = Clock({"event": [{"at": 5, "do": ["novac 20 04000 00005"] * 8}, key, {"after": "key", "at": 5, "do": "phase 1 2"}]})
+    assert len([*machine.run(clock, 4)]) == 4
+    other, its = machine.copy(), clock.copy()
+    assert len([*machine.run(clock, 4)]) == 12 and clock.state["alarms"] == {"1202": 5} and its.state["alarms"] == {}
+    again = Clock.of_state(clock.state)
+    for one, timer in [(machine.copy(), again), (machine, clock), (other, its)]:
+        found = [(timer.time, str(asked)) for asked, _ in one.run(timer, 20) if asked.name == "phase"]
+        assert found == [(15, "phase 1 1"), (20, "phase 1 2")], found
+    old = {name: it for name, it in clock.state.items() if name != "alarms"}
+    assert Clock.of_state(old).state["alarms"] == {}
+    raised(Lacking, lambda: Clock.of_state({**old, "alarms": {"1202": 8640001}}))
+    raised(TypeError, lambda: Clock.of_state({**old, "alarms": {"1204": 1}}))
+    raised(Lacking, lambda: Clock({"event": [{"at": 1, "after": "1204", "do": "tick"}]}))
 
 
 def threads_take_turns():
@@ -253,6 +276,7 @@ def main():
         foreign_words_have_no_scene,
         machines_and_clocks_are_kept,
         clocks_are_kept_after_each_request,
+        an_alarm_moves_what_counts_from_it,
         threads_take_turns,
         many_at_once,
         versions,

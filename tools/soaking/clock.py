@@ -36,10 +36,11 @@ class Plain:
         self.machine = model.Machine(bench)
 
     def ask(self, line):
-        """Whether an era began with the request."""
-        before = self.machine.restarts
+        """Whether an era began with the request, and its alarm, or None."""
+        before, alarms = self.machine.restarts, list(self.machine.alarms)
         self.machine.ask(model.request_of(line))
-        return self.machine.restarts > before
+        raised = [code for code, was, now in zip(ALARMS, alarms, self.machine.alarms) if now > was]
+        return self.machine.restarts > before, raised[0] if raised else None
 
     def running(self):
         """The number and the address of the running job, or None."""
@@ -64,7 +65,8 @@ class Library:
         self.machine = agc.Machine(scenario.get("sets", 7), scenario, scenario.get("power"))
 
     def ask(self, line):
-        return self.machine.ask(line).begins_era
+        step = self.machine.ask(line)
+        return step.begins_era, f"{step.alarm:o}" if step.alarm else None
 
     def running(self):
         first = self.machine.scene().sets[0]
@@ -93,20 +95,41 @@ def stolen(scenario, time):
 
 
 def comes(event, time):
+    """Whether an event comes at a time, by its own, which count from the start."""
     if "every" not in event:
         return time == event["at"]
     return event["at"] <= time <= event.get("until", time) and (time - event["at"]) % event["every"] == 0
 
 
-def counted(events):
-    """Events whose times all count from the start: those of one with `after` count from the first of that name above it."""
-    firsts, found = {}, []
-    for event in events:
-        base = firsts[event["after"]] if "after" in event else 0
+ALARMS = ["1201", "1202", "1203"]
+
+
+def from_alarm(events, number):
+    """The alarm from which an event counts, through the events above it that it names, and how long after that it first comes, or
+    after the start where it counts from no alarm."""
+    event = events[number]
+    if "after" not in event:
+        return None, 0
+    named = next((k for k in range(number) if events[k].get("name") == event["after"]), None)
+    if named is None:
+        return (event["after"], 0) if event["after"] in ALARMS else sys.exit(f"event {number + 1} counts from nothing")
+    alarm, base = from_alarm(events, named)
+    first = base + events[named]["at"]
+    return alarm, max(1, first) if alarm else first
+
+
+def counted(events, alarms):
+    """Events whose times all count from the start: those of one with `after` count from the first of that name above it, or else from
+    the first alarm of that code, as far as it came, and then they are at least a centisecond later."""
+    found = []
+    for number, event in enumerate(events):
+        alarm, base = from_alarm(events, number)
         times = {key: base + event[key] for key in ("at", "until") if key in event}
+        if alarm is not None and alarm not in alarms:
+            times = {"at": -1, "until": -2}
+        elif alarm is not None:
+            times = {key: alarms[alarm] + max(1, it) for key, it in times.items()}
         found.append({**event, **times})
-        if "name" in event:
-            firsts.setdefault(event["name"], times["at"])
     return found
 
 
@@ -120,14 +143,18 @@ class Passing:
     def __init__(self, scenario, machine):
         self.scenario, self.machine = scenario, machine
         self.given, self.asked, self.time = {}, [], 0
-        self.listed_events = counted(scenario.get("event", []))
+        self.alarms = {}
+        self.listed_events = counted(scenario.get("event", []), self.alarms)
         self.costs, self.needs, self.lot = {}, {}, scenario.get("seed")
         for job in scenario.get("job", []):
             self.costs.setdefault(int(job["at"], 8), (job["cost"], listed(job.get("then", "end"))))
 
     def ask(self, who, line):
         self.asked.append((self.time, who, line))
-        began = self.machine.ask(line)
+        began, alarm = self.machine.ask(line)
+        if alarm is not None and alarm not in self.alarms:
+            self.alarms[alarm] = self.time
+            self.listed_events = counted(self.scenario.get("event", []), self.alarms)
         awake = set() if began else self.machine.awake()
         self.given = {number: given for number, given in self.given.items() if number in awake}
 
@@ -232,14 +259,20 @@ class Dice(random.Random):
         return self.choice([self.start(), f"prio {self.randint(1, 5):02o}", f"list {self.randint(1, 40)} {self.address()} 00005",
                             f"phase {self.randint(1, 6)} {self.randint(0, 2)}", f"store {self.randint(1, 6)} 00001"])
 
+    def burst(self):
+        """An event that fills a table at once."""
+        kind = self.choice(["novac", "findvac", "list"])
+        return {"at": self.randint(0, 120), "do": [f"list {self.randint(20, 40)} {self.address()} 00005" if kind == "list"
+                                                   else f"{kind} 01 {self.address()} 00005" for _ in range(10)]}
+
     def event(self, above):
         """An event, which may count from one of those above it."""
         event = {"at": self.choice([0, 0, self.randint(0, 200)])}
         names = [it["name"] for it in above if "name" in it]
-        if names and self.random() < 0.5:
-            event["after"] = self.choice(names)
+        if self.random() < 0.4:
+            event["after"] = self.choice([*names, *names, *ALARMS])
         if self.random() < 0.5:
-            event["name"] = self.choice(["P63", "P64", "1201"])
+            event["name"] = self.choice(["P63", "P64", "1201" if self.random() < 0.2 else "P65"])
         requests = [self.request() for _ in range(self.randint(1, 3))]
         event["do"] = requests[0] if len(requests) == 1 and self.random() < 0.5 else requests
         if self.random() < 0.5:
@@ -258,7 +291,7 @@ class Dice(random.Random):
         found["job"] = [self.job(f"{0o2000 + k:05o}") for k in self.sample(range(5), self.randint(1, 4))]
         found["event"] = []
         for _ in range(self.randint(1, 5)):
-            found["event"].append(self.event(found["event"]))
+            found["event"].append(self.burst() if self.random() < 0.15 else self.event(found["event"]))
         costs = [it["cost"] for it in found["job"]]
         if any(not isinstance(it, int) and it["from"] < it["to"] for it in costs) or self.random() < 0.2:
             found["seed"] = self.choice([1, 2147483646, self.randint(1, 2147483646)])

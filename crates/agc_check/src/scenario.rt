@@ -5,7 +5,7 @@ use crate::warning::{
     TWIN,
 };
 use crate::warnings::{Found, plain};
-use agc_clock::{Stolen, Timetables, stolen_at};
+use agc_clock::{Stolen, stolen_at};
 use agc_document::{Key, Place};
 use agc_plan::{Action, Actions, Address, JobStart, PhaseEntry, Request, Task, action_request};
 use agc_scenario::rows::{EVENTS, JOBS, STEAL};

@@ -1,9 +1,10 @@
+pub mod Hearing
 mod Beats
 mod Scanning
 mod Seats
 mod Passing
 mod Working
-mod Scenarios
+pub mod Scenarios
 mod Keeping
 mod Spending
 mod Drawing

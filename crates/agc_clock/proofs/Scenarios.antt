@@ -1,5 +1,5 @@
 -- What holds of whole runs.
-use Rattle.std.proofs.Common.{◌≡◌, ℕ, zero, suc, ◌+◌, ◌-◌, ◌&&◌, nat_le, is_some, Bool, true, false, cond, List, [], ◌∷◌, ◌++◌, map, replicate, Option, Some, None, refl, sym, ap, ◌∙◌, arith}
+use Rattle.std.proofs.Common.{◌≡◌, ℕ, zero, suc, ◌+◌, ◌-◌, ◌&&◌, nat_le, is_some, Bool, true, false, cond, List, [], ◌∷◌, ◌++◌, drop, map, replicate, Option, Some, None, unwrap_or, refl, sym, ap, ◌∙◌, arith}
 use Rattle.std.specs.List.{fold}
 use Rattle.std.proofs.lemmas.List.Sums.{fold_push}
 use Rattle.agc_plan.specs.Jobs.{Jobs}
@@ -14,6 +14,7 @@ use Rattle.agc_clock.specs.declared.timetable.Step.TheVariants as step
 use Rattle.agc_clock.specs.declared.timetable.Then.{Then}
 use Rattle.agc_clock.specs.declared.timetable.Then.TheVariants as then
 use Rattle.agc_exec.specs.Seats.{named_of}
+use Rattle.agc_clock.specs.Clocks.{Clocked, events_left, look_left, next_of, unless_asked}
 use Rattle.agc_clock.specs.Coming.{comes}
 use Rattle.agc_clock.specs.Counts.{Counts, Passed, begun, counted_on, given_to, passed, with_given, worked, worked_on, worker_of}
 use Rattle.agc_clock.specs.Events.{Event}
@@ -156,6 +157,53 @@ ticks_are table seed m =
     let none : ticks_of (events_at 0 0 table.events) ≡ 0 = none_of_events 0 0 table.events in
     let each : ticks_of (centiseconds table 1 table.lasts) ≡ table.lasts = each_one table 1 table.lasts in
     omega arith
+
+-- what is left of a centisecond asks for no tick of the clock's own
+ticks_dropped : (n : ℕ) (is : List Instant) → ticks_of is ≡ 0 → ticks_of (drop n is) ≡ 0
+ticks_dropped zero is none = none
+ticks_dropped (suc n) [] none = refl
+ticks_dropped (suc n) (i ∷ is) none = ticks_dropped n is (omega (arith, none))
+
+none_of_left : (time number asked : ℕ) (events : List Event) → ticks_of (events_left time number asked events) ≡ 0
+none_of_left time number asked [] = refl
+none_of_left time number asked (event ∷ events) =
+    ticks_of-append (drop asked (asks_of time number event)) (events_at time (number + 1) events)
+    ∙ rw (ticks_dropped asked (asks_of time number event) (none_of_event number event (comes event.times time)), none_of_events time (number + 1) events) refl
+
+none_of_look : (looks : Bool) (left : ℕ) → ticks_of (look_left looks ++ replicate left Works) ≡ 0
+none_of_look true left = let none : ticks_of (replicate left Works) ≡ 0 = none_of_works left in omega arith
+none_of_look false left = none_of_works left
+
+quiet : (time number asked : ℕ) (events : List Event) (looks : Bool) (left : ℕ) → ticks_of (events_left time number asked events ++ (look_left looks ++ replicate left Works)) ≡ 0
+quiet time number asked events looks left =
+    ticks_of-append (events_left time number asked events) (look_left looks ++ replicate left Works)
+    ∙ rw (none_of_left time number asked events, none_of_look looks left) refl
+
+abbrev one_if : Bool → ℕ
+one_if b = cond b 1 0
+
+no_tick : (b : Bool) → one_if b ≡ 0 → b ≡ false
+no_tick true one = absurd (cc)
+no_tick false none = refl
+
+not_ticked : (costs : List Cost) (jobs : Jobs) (is : List Instant) (counts : Counts) (q : Asked) → ticks_of is ≡ 0 → (next_of costs jobs is counts).asked ≡ Some q → is_own_tick q ≡ false
+not_ticked costs jobs [] counts q none some = absurd (cc)
+not_ticked costs jobs (i ∷ is) counts q none some =
+    each did.asked did.counts (passed_ticks costs jobs i counts ∙ first) (λ k more. not_ticked costs jobs is k q (omega (arith, none)) more) some where
+      did : Passed
+      did = passed costs jobs i counts
+
+      first : tick_of i ≡ 0
+      first = omega (arith, none)
+
+      each : (o : Option Asked) (k : Counts) → tick_asked o ≡ 0 → ((l : Counts) → (next_of costs jobs is l).asked ≡ Some q → is_own_tick q ≡ false) → (unless_asked (record { asked = o; counts = k }) is (next_of costs jobs is)).asked ≡ Some q → is_own_tick q ≡ false
+      each None k quiet rest some = rest k some
+      each (Some a) k quiet rest some = ap (λ (o : Option Asked). is_own_tick (unwrap_or o a)) (sym some) ∙ no_tick (is_own_tick a) quiet
+
+pub no_tick_is_left : (costs : List Cost) (jobs : Jobs) (clock : Clocked) (events : List Event) (counts : Counts) (q : Asked) → (next_of costs jobs (events_left clock.time clock.event clock.asked events ++ (look_left clock.looks ++ replicate clock.left Works)) counts).asked ≡ Some q → is_own_tick q ≡ false
+no_tick_is_left costs jobs clock events counts q some =
+    not_ticked costs jobs (events_left clock.time clock.event clock.asked events ++ (look_left clock.looks ++ replicate clock.left Works)) counts q
+    (quiet clock.time clock.event clock.asked events clock.looks clock.left) some
 
 -- hundredths
 abbrev work_of : Instant → ℕ

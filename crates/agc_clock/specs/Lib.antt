@@ -1,4 +1,5 @@
 pub mod Coming
+pub mod Alarms
 pub mod Events
 pub mod Timetables
 pub mod Instants

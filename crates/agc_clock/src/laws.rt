@@ -1,13 +1,17 @@
 //! What should hold while time passes, as laws: each is the contract of a function that does
 //! nothing. They hold for a machine in any state, and for any timetable. Source: profile.
 ghost use Rattle.std.specs.Prelude.{◌≡◌, ◌<◌, ◌≤◌, ℕ, ◌+◌, ◌-◌, nat_le, nat_lt, ◌&&◌, List, map};
-ghost use Rattle.std.specs.Prelude.{Some, None, length, replicate};
+ghost use Rattle.std.specs.Prelude.{Option, Some, None, length, replicate};
 ghost use Rattle.agc_machine.specs.Machines.{Machined, after_all};
 ghost use Rattle.agc_plan.specs.Jobs.{Jobs};
+ghost use Rattle.agc_plan.specs.declared.reply.Alarm.{Alarm};
+ghost use Rattle.agc_clock.specs.declared.alarms.Alarms.{Alarms};
 ghost use Rattle.agc_clock.specs.declared.counting.JobCost.{JobCost};
 ghost use Rattle.agc_clock.specs.declared.timetable.Cost.{Cost};
 ghost use Rattle.agc_clock.specs.declared.timetable.Stolen.{Stolen};
+ghost use Rattle.agc_clock.specs.Alarms.{came, first_came, times_after};
 ghost use Rattle.agc_clock.specs.Clocks.{next_of};
+ghost use Rattle.agc_clock.specs.Coming.{Coming, comes};
 ghost use Rattle.agc_clock.specs.Counts.{Counts, begun, given_to};
 ghost use Rattle.agc_clock.specs.Instants.{Instant, Works, by_clock, centisecond};
 ghost use Rattle.agc_clock.specs.Laws.{Begins, LeavesByItsCost, comes_at, drawn, hundredths_given};
@@ -85,4 +89,21 @@ pub fn who_has_begun_draws_nothing()
         → begun worker counts ≡ counts }
     ensures once { (worker : JobCost) (counts : Counts) → 1 ≤ given_to worker.number counts
         → begun worker counts ≡ counts }
+{}
+
+/// An alarm moves none of the events that count from it up to its own centisecond, and in that one
+/// neither: what they ask for comes later.
+pub fn an_alarm_moves_nothing_that_came()
+    ensures { (times : Coming) (code : Alarm) (alarm : Option Alarm) (alarms : Alarms)
+        → (now time : ℕ) → time ≤ now
+        → comes (times_after (first_came code (came alarm now alarms)) times) time
+        ≡ comes (times_after (first_came code alarms) times) time }
+{}
+
+/// An event that counts from an alarm comes so long after the first of its code as another comes
+/// after the start.
+pub fn an_event_comes_as_long_after_an_alarm()
+    ensures { (times : Coming) (first after : ℕ) → 1 ≤ times.at → 1 ≤ times.until
+        → first + times.at ≤ 8640000 → first + times.until ≤ 8640000
+        → comes (times_after (Some first) times) (first + after) ≡ comes times after }
 {}

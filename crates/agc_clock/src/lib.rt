@@ -1,6 +1,7 @@
 //! Time that passes: by a timetable, what a machine is asked from one centisecond to the next.
 #![tactic(auto)]
 
+mod alarms;
 mod asked;
 mod clock;
 mod counting;
@@ -8,6 +9,7 @@ pub mod laws;
 mod times;
 mod timetable;
 
+pub use alarms::Alarms;
 pub use asked::{Asked, Source};
 pub use clock::Clock;
 pub use counting::stolen_at;

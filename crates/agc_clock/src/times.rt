@@ -1,8 +1,12 @@
 // When an event comes.
 ghost use Rattle.std.specs.Prelude.{◌≡◌, ◌<◌, ◌↔◌, IsSome, IfSome};
+ghost use Rattle.agc_clock.specs.Alarms.{never, times_after};
 ghost use Rattle.agc_clock.specs.Coming.{comes};
 
 use std::marker::Model;
+
+/// The last centisecond of a day.
+const LAST_TIME: u32 = 8_640_000;
 
 /// When an event comes, in centiseconds since the start: at a time, and again each so many
 /// centiseconds, up to a last time and at that too. Source: profile.
@@ -49,6 +53,38 @@ impl Times {
             None
         } else {
             Some(Times { at, every, until })
+        }
+    }
+
+    /// At no time.
+    fn never() -> Times
+        ensures { result ≡ never }
+    {
+        Times {
+            at: 1,
+            every: 1,
+            until: 0,
+        }
+    }
+
+    /// These times, as distances from the first alarm of a code, which came at this time: a
+    /// distance of 0 counts as 1. At no time where no such alarm came, and at none after a day.
+    /// Source: profile.
+    pub fn after(&self, first: Option<u32>) -> Times
+        ensures { result ≡ times_after first self.now }
+    {
+        let first = match first {
+            None => return Times::never(),
+            Some(first) => first,
+        };
+        let at = first.saturating_add(self.at.max(1));
+        if at > LAST_TIME {
+            return Times::never();
+        }
+        Times {
+            at,
+            every: self.every,
+            until: first.saturating_add(self.until.max(1)).min(LAST_TIME),
         }
     }
 

@@ -1,3 +1,4 @@
 mod Resting
 mod Passing
+mod Plain
 pub mod Following

@@ -1,20 +1,27 @@
 -- A run that is pulled: what is still to come of it, and to what end.
-use Rattle.std.specs.Prelude.{◌≡◌, ℕ, Bool, List, [], ◌∷◌, ◌++◌, Option, Some, None, drop, map}
+use Rattle.std.specs.Prelude.{◌≡◌, ℕ, ◌+◌, ◌-◌, ◌*◌, Bool, List, [], ◌∷◌, ◌++◌, Option, Some}
+use Rattle.std.specs.Prelude.{None, drop, map, replicate}
 use Rattle.std.specs.List.{flat_map, fold}
+use Rattle.agc_plan.specs.declared.reply.Alarm.{Alarm}
 use Rattle.agc_plan.specs.declared.request.Request.{Request}
 use Rattle.agc_plan.specs.Jobs.{Jobs}
 use Rattle.agc_machine.specs.Machines.{Machined, after, answer_of, plain_of}
+use Rattle.agc_clock.specs.declared.alarms.Alarms.{Alarms}
 use Rattle.agc_clock.specs.declared.asked.Asked.{Asked as TimeAsked}
-use Rattle.agc_clock.specs.Clocks.{Clocked, to_come}
+use Rattle.agc_clock.specs.Alarms.{came}
+use Rattle.agc_clock.specs.Clocks.{Clocked, events_left, look_left}
 use Rattle.agc_clock.specs.Counts.{kept}
-use Rattle.agc_clock.specs.Runs.{begins_with, by_machine, lived_all, scenario_requests}
+use Rattle.agc_clock.specs.Instants.{Instant, Works}
+use Rattle.agc_clock.specs.Runs.{Standing, begins_with}
 use Rattle.agc_clock.specs.Timetables.{Schedule}
+use Rattle.agc_scenario.specs.Scenarios.{Timed, schedule_of}
 use Rattle.agc_scene.specs.declared.event.Event.{Event}
 use Rattle.agc_scene.specs.Events.{Watching, event_of, watched}
 use Rattle.agc_document.specs.Benches.{Benched}
 use Rattle.agc_session.specs.Pieces.{Piece, Walked, bench_pieces, to_come as pieces_to_come}
 use Rattle.agc_session.specs.declared.source.Source.{Source as BenchSource}
 use Rattle.agc_session.specs.declared.source.Source.TheVariants.{Script}
+use Rattle.agc_run.specs.Going.{Going, alarm_with, lived_at, scenario_run, time_lived}
 use Rattle.agc_run.specs.declared.asks.Asked.{Asked}
 use Rattle.agc_run.specs.declared.asks.Source.{Source}
 use Rattle.agc_run.specs.declared.asks.Source.TheVariants.{Bench, Time}
@@ -56,32 +63,46 @@ Takes old (Some asked) new = rest old ≡ by_source asked.0 asked.1 ∷ rest new
 Takes old None new = (rest old ≡ []) × (rest new ≡ [])
 
 -- what is still to be asked: the requests that are listed in a bench or a script, and those of a
--- clock, if time passes
+-- clock, if time passes, in which these alarms came so far
 pub record Asking : Type 0 where
   pub listed : Requested
-  pub table : Option Schedule
+  pub timing : Option Timed
+  pub alarms : Alarms
   pub clock : Clocked
 
--- what the clock of a scenario asks a machine for, in order, and the requests alone; its lots are
--- drawn from this seed on
-unfoldable pub clock_asks : Schedule → ℕ → Machined → List Asked
-clock_asks table seed machine = map in_time (scenario_requests by_machine table seed machine)
+-- what the clock of a scenario asks a machine for, in order, and the requests alone
+unfoldable pub clock_asks : Timed → Machined → List Asked
+clock_asks timed machine = map in_time (scenario_run timed machine).at.asked
 
-abbrev pub clock_requests : Schedule → ℕ → Machined → List Request
-clock_requests table seed machine = requests_in (clock_asks table seed machine)
+abbrev pub clock_requests : Timed → Machined → List Request
+clock_requests timed machine = requests_in (clock_asks timed machine)
+
+-- the instants that are left of a clock's centisecond
+abbrev pub left_now : Schedule → Clocked → List Instant
+left_now table clock =
+    events_left clock.time clock.event clock.asked (drop clock.event table.events)
+    ++ (look_left clock.looks ++ replicate clock.left Works)
+
+-- where a run stands when its centisecond is over
+abbrev pub now_lived : Timed → Alarms → Clocked → Machined → Going
+now_lived timed alarms clock machine =
+    let table = schedule_of timed alarms in
+    let at : Standing Machined = record { asked = []; state = machine; counts = clock.counts } in
+    fold (lived_at table.costs clock.time) (record { at = at; alarms = alarms })
+    (left_now table clock)
 
 -- what a clock asks for while the rest of the time passes, where a machine is asked for it
-abbrev pub time_asks : Option Schedule → Clocked → Machined → List Asked
-time_asks None clock machine = []
-time_asks (Some table) clock machine = map in_time
-    (lived_all by_machine table.costs
-    (record { asked = []; state = machine; counts = clock.counts })
-    (to_come table clock)).asked
+abbrev pub time_asks : Option Timed → Alarms → Clocked → Machined → List Asked
+time_asks None alarms clock machine = []
+time_asks (Some timed) alarms clock machine = map in_time
+    (time_lived timed (now_lived timed alarms clock machine) (clock.time + 1)
+    (timed.seconds * 100 - clock.time)).at.asked
 
 -- all that this machine is still to be asked for, in order, each request with who asks for it
 unfoldable pub all_to_ask : Machined → Asking → List Asked
 all_to_ask m r =
-    rest r.listed ++ time_asks r.table r.clock (fold after m (requests_in (rest r.listed)))
+    rest r.listed
+    ++ time_asks r.timing r.alarms r.clock (fold after m (requests_in (rest r.listed)))
 
 -- the requests alone
 abbrev pub to_ask : Machined → Asking → List Request
@@ -92,9 +113,16 @@ abbrev pub clock_after : Source → Bool → Jobs → Clocked → Clocked
 clock_after (Bench source) began jobs clock = clock
 clock_after (Time source) began jobs clock = record clock { counts = kept began jobs clock.counts }
 
+-- the alarms that came so far, after an answer at this time; only those of a clock's requests count
+abbrev pub alarms_with : Source → Option Alarm → ℕ → Alarms → Alarms
+alarms_with (Bench source) alarm time alarms = alarms
+alarms_with (Time source) alarm time alarms = came alarm time alarms
+
 -- what is still to be asked when this machine was asked for this
 abbrev pub asks_after : Machined → Asking → Asked → Asking
 asks_after m r asked = record r {
+  alarms = alarms_with asked.source (alarm_with (answer_of m asked.request)) r.clock.time
+      r.alarms;
   clock = clock_after asked.source (begins_with (answer_of m asked.request))
       (plain_of (after m asked.request)).work.jobs r.clock;
 }

@@ -2,7 +2,7 @@
 use Rattle.std.specs.Prelude.{◌≡◌, List, Option, Some, None}
 use Rattle.agc_plan.specs.declared.request.Request.{Request}
 use Rattle.agc_machine.specs.Machines.{Machined}
-use Rattle.agc_scenario.specs.Scenarios.{Timed, schedule_of, seed_of}
+use Rattle.agc_scenario.specs.Scenarios.{Timed}
 use Rattle.agc_document.specs.Benches.{Benched}
 use Rattle.agc_session.specs.Runs.{bench_machine, bench_requests}
 use Rattle.agc_run.specs.declared.asks.Asked.{Asked}
@@ -28,14 +28,12 @@ machine_of subject = bench_machine (bench_of subject)
 -- of a scenario
 abbrev pub requests_of : Subject → Machined → List Request
 requests_of (Bench bench) machine = bench_requests bench.now
-requests_of (Scenario scenario) machine =
-    clock_requests (schedule_of scenario.now.timing) (seed_of scenario.now.timing) machine
+requests_of (Scenario scenario) machine = clock_requests scenario.now.timing machine
 
 -- the same, each with who asks for it
 abbrev pub asks_of : Subject → Machined → List Asked
 asks_of (Bench bench) machine = bench_asks bench.now
-asks_of (Scenario scenario) machine =
-    clock_asks (schedule_of scenario.now.timing) (seed_of scenario.now.timing) machine
+asks_of (Scenario scenario) machine = clock_asks scenario.now.timing machine
 
 -- all requests for its own machine
 abbrev pub asked_of : Subject → List Request

@@ -2,15 +2,17 @@
 ghost use Rattle.std.specs.Prelude.{◌≡◌, [], option_map};
 ghost use Rattle.agc_exec.specs.Image.{IsLawfulWords, jobs_in};
 ghost use Rattle.agc_machine.specs.Machines.{Machined, plain_of};
-ghost use Rattle.agc_run.specs.Runs.{Pulls, all_to_ask, bench_asks, clock_after, clock_asks, rest};
-ghost use Rattle.agc_run.specs.Runs.{script_asks};
-ghost use Rattle.agc_scenario.specs.Scenarios.{schedule_of, seed_of};
+ghost use Rattle.agc_clock.specs.Runs.{begins_with};
+ghost use Rattle.agc_run.specs.Going.{alarm_with};
+ghost use Rattle.agc_run.specs.Runs.{Pulls, alarms_with, all_to_ask, bench_asks, clock_after};
+ghost use Rattle.agc_run.specs.Runs.{clock_asks, rest, script_asks};
 
 use crate::requests::Requests;
-use agc_clock::Clock;
+use agc_clock::{Alarms, Clock};
 use agc_document::Bench;
-use agc_plan::Request;
-use agc_scenario::Timing;
+use agc_machine::Refusal;
+use agc_plan::{Alarm, Reply, Request};
+use agc_scenario::{SoFar, Timing};
 use agc_word::Erasable;
 use std::marker::Model;
 
@@ -35,21 +37,42 @@ pub struct Asked {
 pub struct Asks<'a> {
     listed: Requests<'a>,
     timing: Option<&'a Timing>,
+    alarms: Alarms,
     clock: Clock,
 }
 
 impl<'a> Model for Asks<'a> {
     ghost use Rattle.std.specs.Option.{option_map};
     ghost use Rattle.agc_run.specs.Runs.{Asking};
-    ghost use Rattle.agc_scenario.specs.Scenarios.{schedule_of};
 
     ghost Value = { Asking };
 
     ghost view = { λ a. record {
       listed = a.listed;
-      table = option_map (λ t. schedule_of t.now) a.timing;
+      timing = option_map (λ t. t.now) a.timing;
+      alarms = a.alarms;
       clock = a.clock;
     } };
+}
+
+/// Whether an era began with an answer.
+fn begins_with(answer: &Result<Reply, Refusal>) -> bool
+    ensures { result ≡ begins_with answer.now }
+{
+    match answer {
+        Ok(reply) => reply.begins(),
+        Err(_refusal) => false,
+    }
+}
+
+/// The alarm of an answer, if it has one.
+fn alarm_with(answer: &Result<Reply, Refusal>) -> Option<Alarm>
+    ensures { result ≡ alarm_with answer.now }
+{
+    match answer {
+        Ok(reply) => reply.alarm(),
+        Err(_refusal) => None,
+    }
 }
 
 impl<'a> Asks<'a> {
@@ -60,6 +83,7 @@ impl<'a> Asks<'a> {
         Asks {
             listed: Requests::of_script(script),
             timing: None,
+            alarms: Alarms::none(),
             clock: Clock::new(0),
         }
     }
@@ -71,18 +95,19 @@ impl<'a> Asks<'a> {
         Asks {
             listed: Requests::of_bench(bench),
             timing: None,
+            alarms: Alarms::none(),
             clock: Clock::new(0),
         }
     }
 
     /// The requests for which the clock of a scenario asks a machine, in order. Source: profile.
     pub fn of_scenario(timing: &'a Timing) -> Asks<'a>
-        ensures { (m : Machined) → all_to_ask m result
-            ≡ clock_asks (schedule_of timing.now) (seed_of timing.now) m }
+        ensures { (m : Machined) → all_to_ask m result ≡ clock_asks timing.now m }
     {
         Asks {
             listed: Requests::of_script(&[]),
             timing: Some(timing),
+            alarms: Alarms::none(),
             clock: Clock::new(timing.seed()),
         }
     }
@@ -90,7 +115,7 @@ impl<'a> Asks<'a> {
     /// The clock as it is, if time passes by itself.
     pub(crate) fn clock(&self) -> Option<&Clock>
         ensures { option_map (λ clock. clock.now) result
-            ≡ option_map (λ _. self.now.clock) self.now.table }
+            ≡ option_map (λ _. self.now.clock) self.now.timing }
     {
         match self.timing {
             None => None,
@@ -127,7 +152,11 @@ impl<'a> Asks<'a> {
             None => return None,
             Some(timing) => timing,
         };
-        match self.clock.next(words, timing) {
+        let table = SoFar {
+            timing,
+            alarms: self.alarms,
+        };
+        match self.clock.next(words, &table) {
             None => return None,
             Some(asked) => {
                 return Some(Asked {
@@ -138,16 +167,24 @@ impl<'a> Asks<'a> {
         }
     }
 
-    /// Takes the outcome of what came last: the machine's words after it, and whether an era began
-    /// with it.
-    pub(crate) fn served(&mut self, asked: &Asked, words: &Erasable, began: bool)
+    /// Takes the outcome of what came last: the machine's words after it, and the answer.
+    pub(crate) fn served(
+        &mut self,
+        asked: &Asked,
+        words: &Erasable,
+        answer: &Result<Reply, Refusal>,
+    )
         requires { IsLawfulWords words.now }
         ensures { self.new ≡ record self.old {
-          clock = clock_after asked.now.source began (jobs_in words.now) self.old.clock;
+          alarms = alarms_with asked.now.source (alarm_with answer.now) self.old.clock.time
+              self.old.alarms;
+          clock = clock_after asked.now.source (begins_with answer.now) (jobs_in words.now)
+              self.old.clock;
         } }
     {
         if let Source::Time(_source) = asked.source {
-            self.clock.served(words, began);
+            self.alarms.came(alarm_with(answer), self.clock.time());
+            self.clock.served(words, begins_with(answer));
         }
     }
 }

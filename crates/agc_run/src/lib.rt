@@ -3,6 +3,7 @@
 #![tactic(auto)]
 
 mod asks;
+pub mod laws;
 mod requests;
 mod run;
 mod subject;

@@ -50,7 +50,7 @@ impl<'a> Run<'a> {
     /// The clock as it is, if time passes by itself. Source: profile.
     pub fn clock(&self) -> Option<&Clock>
         ensures { option_map (λ clock. clock.now) result
-            ≡ option_map (λ _. self.now.asks.clock) self.now.asks.table }
+            ≡ option_map (λ _. self.now.asks.clock) self.now.asks.timing }
     {
         self.asks.clock()
     }
@@ -71,11 +71,7 @@ impl<'a> Run<'a> {
         ensures asks { self.new.asks ≡ asks_after self.old.machine self.old.asks asked.now }
     {
         let answer = self.machine.ask(&asked.request, fired);
-        let began = match &answer {
-            Ok(reply) => reply.begins(),
-            Err(_refusal) => false,
-        };
-        self.asks.served(asked, self.machine.erasable(), began);
+        self.asks.served(asked, self.machine.erasable(), &answer);
         answer
     }
 }

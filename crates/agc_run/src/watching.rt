@@ -1,6 +1,5 @@
 // A run whose machine is watched: what is pulled is events.
 ghost use Rattle.std.specs.Prelude.{◌≡◌, option_map};
-ghost use Rattle.agc_clock.specs.Runs.{begins_with};
 ghost use Rattle.agc_scene.specs.Events.{watching_from};
 ghost use Rattle.agc_run.specs.Runs.{Comes};
 
@@ -25,16 +24,6 @@ impl<'a> Model for WatchedRun<'a> {
     ghost view = { λ r. record { watching = r.watched; asks = r.asks } };
 }
 
-/// Whether an era began with an event.
-fn began(event: &Event) -> bool
-    ensures { result ≡ begins_with event.now.answer }
-{
-    match &event.answer {
-        Ok(reply) => reply.begins(),
-        Err(_refusal) => false,
-    }
-}
-
 impl<'a> WatchedRun<'a> {
     /// This machine, of which nothing was asked, is to be asked for this. Source: profile.
     pub fn new(machine: Machine, asks: Asks<'a>) -> WatchedRun<'a>
@@ -57,7 +46,7 @@ impl<'a> WatchedRun<'a> {
     /// The clock as it is, if time passes by itself. Source: profile.
     pub fn clock(&self) -> Option<&Clock>
         ensures { option_map (λ clock. clock.now) result
-            ≡ option_map (λ _. self.now.asks.clock) self.now.asks.table }
+            ≡ option_map (λ _. self.now.asks.clock) self.now.asks.timing }
     {
         self.asks.clock()
     }
@@ -80,7 +69,7 @@ impl<'a> WatchedRun<'a> {
         };
         let event = self.watched.ask(&asked.request);
         self.asks
-            .served(&asked, self.watched.machine().erasable(), began(&event));
+            .served(&asked, self.watched.machine().erasable(), &event.answer);
         Some((asked.source, event))
     }
 }

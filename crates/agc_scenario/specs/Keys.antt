@@ -17,7 +17,7 @@ use Rattle.agc_clock.specs.declared.timetable.Stolen.{Stolen}
 use Rattle.agc_clock.specs.Timetables.{comes_once, overlap}
 use Rattle.agc_scenario.specs.declared.timing.CostRange.{CostRange}
 use Rattle.agc_scenario.specs.Texts.{NamedRow, NamedEntry, NamedTexts, JobTexts, EventTexts}
-use Rattle.agc_scenario.specs.Texts.{TimingTexts, ScenarioTexts, is_named}
+use Rattle.agc_scenario.specs.Texts.{TimingTexts, ScenarioTexts, alarm_called, is_named}
 
 -- the texts of a task's row, and its name
 unfoldable pub named_row : Data → Option NamedRow
@@ -134,19 +134,21 @@ abbrev pub can_draw : Option ℕ → List JobTexts → Bool
 can_draw (Some seed) jobs = true
 can_draw None jobs = list_all (λ j. not (nat_lt j.cost.from j.cost.to)) jobs
 
--- whether one of these events has the name, if it is there
+-- whether one of these events has the name, if it is there, or it calls an alarm
 abbrev pub has_named : List EventTexts → Option (List ℕ) → Bool
 has_named events None = true
-has_named events (Some name) = list_any (λ e. is_named name e.name) events
+has_named events (Some name) =
+    list_any (λ e. is_named name e.name) events || is_some (alarm_called name)
 
--- whether each event that counts from another has that one above it, below the events above all
+-- whether each event that counts from another has that one above it, below the events above all, or
+-- counts from an alarm
 abbrev pub count_from_above : List EventTexts → List EventTexts → Bool
 count_from_above above [] = true
 count_from_above above (event ∷ events) =
     has_named above event.after && count_from_above (above ++ event ∷ []) events
 
 -- the timing, if its rows of stolen time are apart, no two jobs have one address, lots can be
--- drawn, and events count from events above them
+-- drawn, and events count from events above them or from alarms
 abbrev pub if_coherent : TimingTexts → Option TimingTexts
 if_coherent t =
     if (are_apart t.stolen && are_distinct (map (λ j. j.at) t.jobs))

@@ -1,9 +1,10 @@
 -- A scenario: its values, their ranges and their texts.
-use Rattle.std.specs.Prelude.{◌≡◌, ℕ, ◌+◌, ◌-◌, ◌*◌, min, ◌&&◌, Bool, true, is_some, List, [], ◌∷◌}
-use Rattle.std.specs.Prelude.{◌++◌, length, map, take, slice_get, Option, Some, None, unwrap_or}
-use Rattle.std.specs.Prelude.{if◌then◌else◌}
+use Rattle.std.specs.Prelude.{◌≡◌, ℕ, ◌+◌, ◌-◌, ◌*◌, max, min, ◌&&◌, Bool, true, is_some, List, []}
+use Rattle.std.specs.Prelude.{◌∷◌, ◌++◌, length, map, take, slice_get, Option, Some, None}
+use Rattle.std.specs.Prelude.{unwrap_or, if◌then◌else◌}
 use Rattle.std.specs.Option.{option_and_then, option_map}
 use Rattle.std.specs.List.{AllByRecursion, list_all, range_with_len}
+use Rattle.agc_plan.specs.declared.reply.Alarm.{Alarm}
 use Rattle.agc_plan.specs.declared.request.Request.{Request}
 use Rattle.agc_plan.specs.declared.request.Request.TheVariants.{EndOfJob, Sleep}
 use Rattle.agc_plan.specs.Ranges.{IsAddress, IsRequest}
@@ -13,6 +14,8 @@ use Rattle.agc_text.specs.Lines.{line_of}
 use Rattle.agc_document.specs.Kinds.{is_name}
 use Rattle.agc_document.specs.Benches as bench
 use Rattle.agc_document.specs.Benches.{Benched, IsBench, bench_texts}
+use Rattle.agc_clock.specs.declared.alarms.Alarms.{Alarms}
+use Rattle.agc_clock.specs.Alarms.{first_came, times_after}
 use Rattle.agc_clock.specs.Coming.{Coming}
 use Rattle.agc_clock.specs.Events.{Event}
 use Rattle.agc_clock.specs.Timetables.{Schedule, step_of}
@@ -21,8 +24,10 @@ use Rattle.agc_clock.specs.declared.timetable.Step.{Step}
 use Rattle.agc_clock.specs.declared.timetable.Stolen.{Stolen}
 use Rattle.agc_clock.specs.declared.timetable.Then.{Then}
 use Rattle.agc_clock.specs.declared.timetable.Then.TheVariants as then
+use Rattle.agc_scenario.specs.declared.timing.Base.{Base}
 use Rattle.agc_scenario.specs.declared.timing.CostRange.{CostRange}
-use Rattle.agc_scenario.specs.Texts.{JobTexts, EventTexts, TimingTexts, ScenarioTexts, is_named}
+use Rattle.agc_scenario.specs.Texts.{JobTexts, EventTexts, TimingTexts, ScenarioTexts}
+use Rattle.agc_scenario.specs.Texts.{alarm_called, is_named}
 
 -- what a job costs at least and at most, in centiseconds of computing, that stands at an address,
 -- how many centiseconds it may take, if that is told, what it is asked when its cost is used up,
@@ -34,13 +39,13 @@ pub record TimedJob : Type 0 where
   pub requests : List Request
   pub name : Option (List ℕ)
 
--- an event: how long after the centisecond from which it counts it first comes, the name of the
--- event from whose first it counts, that centisecond, what it asks for, after how many centiseconds
--- it comes again, how long after that centisecond it may last do so, and its name
+-- an event: how long after what it counts from it first comes, the name of the event or alarm from
+-- whose first it counts, what that is, what it asks for, after how many centiseconds it comes
+-- again, how long after what it counts from it may last do so, and its name
 pub record TimedEvent : Type 0 where
   pub at : ℕ
   pub after : Option (List ℕ)
-  pub from : ℕ
+  pub base : Base
   pub requests : List Request
   pub every : Option ℕ
   pub until : Option ℕ
@@ -75,35 +80,51 @@ comes_by at (Some every) (Some until) lasts = record { at = at; every = every; u
 abbrev pub later : ℕ → ℕ → ℕ
 later from long = min (from + long) 8640001
 
--- the first centisecond of an event, and the last at which it may come again
+-- what counts from an alarm comes at least a centisecond after it
+abbrev pub not_at_once : Option Alarm → ℕ → ℕ
+not_at_once None first = first
+not_at_once (Some alarm) first = max 1 first
+
+-- the first centisecond of an event, and the last at which it may come again: since the start, or
+-- since the alarm from whose first it counts
 abbrev pub first_of : TimedEvent → ℕ
-first_of e = later e.from e.at
+first_of e = not_at_once e.base.alarm (later e.base.from e.at)
 
 abbrev pub last_time_of : TimedEvent → Option ℕ
-last_time_of e = option_map (later e.from) e.until
+last_time_of e = option_map (later e.base.from) e.until
 
--- the first centisecond of the first of these events that has the name
-abbrev pub first_called : List ℕ → List TimedEvent → ℕ
-first_called name [] = 0
-first_called name (e ∷ es) = if is_named name e.name then first_of e else first_called name es
+-- from what an event counts that names this: from the first of these events that has the name, or
+-- else from the alarm that it calls
+abbrev pub first_called : List ℕ → List TimedEvent → Base
+first_called name [] = record { alarm = alarm_called name; from = 0 }
+first_called name (e ∷ es) =
+    if is_named name e.name then record { alarm = e.base.alarm; from = first_of e }
+    else first_called name es
 
--- the centisecond from which an event counts: the start, or the first of an event above it
-abbrev pub base_of : List TimedEvent → Option (List ℕ) → ℕ
-base_of above None = 0
+-- from what an event counts: the start, or what it names, below these events
+abbrev pub base_of : List TimedEvent → Option (List ℕ) → Base
+base_of above None = record { alarm = None; from = 0 }
 base_of above (Some name) = first_called name above
 
 abbrev pub placed : List TimedEvent → TimedEvent → TimedEvent
-placed above e = record e { from = base_of above e.after }
+placed above e = record e { base = base_of above e.after }
 
--- events, each with the centisecond from which it counts; those above are counted
+-- events, each with what it counts from; those above are counted
 abbrev pub counted : List TimedEvent → List TimedEvent → List TimedEvent
 counted above [] = []
 counted above (e ∷ es) = placed above e ∷ counted (above ++ placed above e ∷ []) es
 
+-- when an event comes that counts from the start, or from an alarm, where these came so far
+abbrev pub counted_by : Alarms → Option Alarm → Coming → Coming
+counted_by alarms None times = times
+counted_by alarms (Some alarm) times = times_after (first_came alarm alarms) times
+
 -- an event of a scenario that lasts so many centiseconds
-abbrev pub event_of : ℕ → TimedEvent → Event
-event_of lasts e =
-    record { times = comes_by (first_of e) e.every (last_time_of e) lasts; requests = e.requests }
+abbrev pub event_of : ℕ → Alarms → TimedEvent → Event
+event_of lasts alarms e = record {
+  times = counted_by alarms e.base.alarm (comes_by (first_of e) e.every (last_time_of e) lasts);
+  requests = e.requests;
+}
 
 -- how a job leaves by this request, if it does
 abbrev pub then_of : Request → Option Then
@@ -137,14 +158,14 @@ cost_of j = record {
 abbrev pub seed_of : Timed → ℕ
 seed_of t = unwrap_or t.seed 0
 
--- what is set down for a clock
-abbrev pub schedule_of : Timed → Schedule
-schedule_of t =
+-- what is set down for a clock, where these alarms came so far
+abbrev pub schedule_of : Timed → Alarms → Schedule
+schedule_of t alarms =
     record {
       lasts = t.seconds * 100;
       stolen = t.stolen;
       costs = map cost_of t.jobs;
-      events = map (event_of (t.seconds * 100)) t.events;
+      events = map (event_of (t.seconds * 100) alarms) t.events;
     }
 
 -- the texts of what a job costs
@@ -222,7 +243,7 @@ pub record IsTimedEvent (e : TimedEvent) : Type 0 where
   pub after : can_be_shown e.after ≡ true
   pub name : can_be_shown e.name ≡ true
 
--- the ranges of how time passes, in which each event counts from the one that it names
+-- the ranges of how time passes, in which each event counts from what it names
 pub record IsTimed (t : Timed) : Type 0 where
   pub title : can_be_shown t.title ≡ true
   pub bases : counted [] t.events ≡ t.events

@@ -1,6 +1,8 @@
 -- The numbers and texts of a scenario, before any text is read.
-use Rattle.std.specs.Prelude.{ℕ, List, Option, Some, None, Bool, false}
+use Rattle.std.specs.Prelude.{ℕ, List, Option, Some, None, Bool, false, if◌then◌else◌, codes}
 use Rattle.std.specs.Str.{bytes_eq}
+use Rattle.agc_plan.specs.declared.reply.Alarm.{Alarm}
+use Rattle.agc_plan.specs.declared.reply.Alarm.TheVariants.{A1201, A1202, A1203}
 use Rattle.agc_document.specs.Texts.{Texts, RowTexts, EntryTexts}
 use Rattle.agc_clock.specs.declared.timetable.Stolen.{Stolen}
 use Rattle.agc_scenario.specs.declared.timing.CostRange.{CostRange}
@@ -9,6 +11,14 @@ use Rattle.agc_scenario.specs.declared.timing.CostRange.{CostRange}
 abbrev pub is_named : List ℕ → Option (List ℕ) → Bool
 is_named called None = false
 is_named called (Some name) = bytes_eq name called
+
+-- the alarm that a name calls, if it is one
+abbrev pub alarm_called : List ℕ → Option Alarm
+alarm_called name =
+    if bytes_eq name (codes "1201") then Some A1201
+    else if bytes_eq name (codes "1202") then Some A1202
+    else if bytes_eq name (codes "1203") then Some A1203
+    else None
 
 -- a task's row and its name
 pub record NamedRow : Type 0 where
@@ -34,9 +44,9 @@ pub record JobTexts : Type 0 where
   pub requests : List (List ℕ)
   pub name : Option (List ℕ)
 
--- an event: its first centisecond, the name of the event from whose first it counts, a text for
--- each request, after how many centiseconds it comes again, the last centisecond at which it may,
--- and its name
+-- an event: its first centisecond, the name of the event or the alarm from whose first it counts, a
+-- text for each request, after how many centiseconds it comes again, the last centisecond at which
+-- it may, and its name
 pub record EventTexts : Type 0 where
   pub at : ℕ
   pub after : Option (List ℕ)

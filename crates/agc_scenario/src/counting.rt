@@ -1,4 +1,5 @@
-//! Costs that are drawn by lot without a seed, and events that count from none above them.
+//! Costs that are drawn by lot without a seed, and events that count from none above them and from
+//! no alarm.
 ghost use Rattle.std.specs.Prelude.{◌≡◌, [], true, false, not, nat_lt, IfSome, IfNone};
 ghost use Rattle.std.specs.List.{list_all, list_any};
 ghost use Rattle.agc_scenario.specs.Texts.{is_named};
@@ -6,6 +7,7 @@ ghost use Rattle.agc_scenario.specs.Keys.{can_draw, count_from_above, has_named}
 
 use crate::rows::{AFTER, COST, EVENTS, JOBS};
 use crate::texts::{EventTexts, JobTexts};
+use crate::timing::alarm_called;
 use agc_document::{KeyFault, KeyNote, Notes, Place, Text};
 
 /// Whether a job costs the same each time.
@@ -62,18 +64,20 @@ fn is_any_named(events: &[EventTexts<'_>], called: &str) -> bool
     events.iter().any(|event| is_named(&event.name, called))
 }
 
-/// Whether one of these events has the name, if it is there.
+/// Whether one of these events has the name, if it is there, or it calls an alarm.
 fn has_named(events: &[EventTexts<'_>], name: &Option<Text<'_>>) -> bool
     ensures { result ≡ has_named events.now name.now }
 {
     match name {
         None => true,
-        Some(called) => is_any_named(events, called.as_str()),
+        Some(called) => {
+            is_any_named(events, called.as_str()) || alarm_called(called.as_str()).is_some()
+        }
     }
 }
 
-/// What is wrong with the first event that counts from none above it. None where each that counts
-/// from another has that one above it.
+/// What is wrong with the first event that counts from none above it, and from no alarm. None where
+/// each that counts from another has that one above it.
 pub(crate) fn none_above<'a>(
     events: &[EventTexts<'a>],
     notes: &mut Notes<'a>,

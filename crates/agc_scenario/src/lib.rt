@@ -8,10 +8,12 @@ mod counting;
 mod keys;
 pub mod rows;
 mod scenario;
+mod so_far;
 mod texts;
 mod timing;
 mod values;
 
 pub use changing::Number;
 pub use scenario::{Scenario, is_scenario, read_scenario, scenario_of};
+pub use so_far::SoFar;
 pub use timing::{CostRange, Name, TimedEvent, TimedJob, Timing};

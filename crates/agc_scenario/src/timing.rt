@@ -1,13 +1,13 @@
 //! How time passes in a scenario.
-ghost use Rattle.std.specs.Prelude.{◌≡◌, ◌≤◌, [], map, option_map, string_bytes};
+ghost use Rattle.std.specs.Prelude.{◌≡◌, ◌≤◌, ◌*◌, [], map, option_map, string_bytes};
 ghost use Rattle.std.specs.List.{range_with_len};
-ghost use Rattle.agc_scenario.specs.Texts.{is_named};
-ghost use Rattle.agc_scenario.specs.Scenarios.{base_of, comes_by, cost_of, counted, first_called};
-ghost use Rattle.agc_scenario.specs.Scenarios.{first_of, last_time_of, later, leaves_by};
-ghost use Rattle.agc_scenario.specs.Scenarios.{schedule_of, seed_of, step_in, then_of};
+ghost use Rattle.agc_scenario.specs.Texts.{alarm_called, is_named};
+ghost use Rattle.agc_scenario.specs.Scenarios.{base_of, comes_by, cost_of, counted, counted_by};
+ghost use Rattle.agc_scenario.specs.Scenarios.{first_called, first_of, last_time_of, later};
+ghost use Rattle.agc_scenario.specs.Scenarios.{leaves_by, seed_of, step_in, then_of};
 
-use agc_clock::{Cost, Step, Stolen, Then, Times, Timetables, step_of};
-use agc_plan::{Address, Request};
+use agc_clock::{Alarms, Cost, Step, Stolen, Then, Times, step_of};
+use agc_plan::{Address, Alarm, Request};
 use std::marker::Model;
 
 /// A name, if it is there. Source: profile.
@@ -51,6 +51,21 @@ pub(crate) fn is_named(name: &Name, called: &str) -> bool
     match name.as_str() {
         None => false,
         Some(text) => text == called,
+    }
+}
+
+/// The alarm that a name calls, if it is one.
+pub(crate) fn alarm_called(called: &str) -> Option<Alarm>
+    ensures { result ≡ alarm_called called.now }
+{
+    if called == "1201" {
+        Some(Alarm::A1201)
+    } else if called == "1202" {
+        Some(Alarm::A1202)
+    } else if called == "1203" {
+        Some(Alarm::A1203)
+    } else {
+        None
     }
 }
 
@@ -175,7 +190,8 @@ impl TimedJob {
         self.name.as_str()
     }
 
-    fn hundredths(&self) -> Cost
+    /// What it costs, for a clock.
+    pub(crate) fn hundredths(&self) -> Cost
         ensures { result ≡ cost_of self.now }
     {
         Cost {
@@ -188,13 +204,20 @@ impl TimedJob {
     }
 }
 
+/// From what an event counts: so many centiseconds after the first alarm of a code, or after the
+/// start.
+#[derive(Clone, Copy)]
+pub(crate) struct Base {
+    pub(crate) alarm: Option<Alarm>,
+    pub(crate) from: u32,
+}
+
 /// An event: when it comes, what it asks for, and its name. Source: profile.
 #[derive(Drop)]
 pub struct TimedEvent {
     pub(crate) at: u32,
     pub(crate) after: Name,
-    /// The centisecond from which it counts.
-    pub(crate) from: u32,
+    pub(crate) base: Base,
     pub(crate) requests: Vec<Request>,
     pub(crate) every: Option<u32>,
     pub(crate) until: Option<u32>,
@@ -210,7 +233,7 @@ impl Model for TimedEvent {
     ghost view = { λ e. record {
       at = e.at;
       after = e.after;
-      from = e.from;
+      base = e.base;
       requests = e.requests.items;
       every = e.every;
       until = e.until;
@@ -228,21 +251,33 @@ fn later(from: u32, long: u32) -> u32
 }
 
 impl TimedEvent {
-    /// Its first centisecond, or the first after a day, where it is later. Source: profile.
+    /// The alarm from whose first it counts, if it counts from one. Source: profile.
+    pub fn alarm(&self) -> Option<Alarm>
+        ensures { result ≡ self.now.base.alarm }
+    {
+        self.base.alarm
+    }
+
+    /// Its first centisecond, or the first after a day, where it is later; if it counts from an
+    /// alarm, how long after that it comes, at least 1. Source: profile.
     pub fn first(&self) -> u32
         ensures { result ≡ first_of self.now }
     {
-        later(self.from, self.at)
+        let first = later(self.base.from, self.at);
+        match self.base.alarm {
+            None => first,
+            Some(_alarm) => first.max(1),
+        }
     }
 
     /// The last centisecond at which it may come again, if one is told, or the first after a day,
-    /// where it is later. Source: profile.
+    /// where it is later; if it counts from an alarm, how long after that. Source: profile.
     pub fn last(&self) -> Option<u32>
         ensures { result ≡ last_time_of self.now }
     {
         match self.until {
             None => None,
-            Some(until) => Some(later(self.from, until)),
+            Some(until) => Some(later(self.base.from, until)),
         }
     }
 
@@ -267,8 +302,8 @@ impl TimedEvent {
         self.name.as_str()
     }
 
-    /// When it comes in a scenario that lasts so many centiseconds.
-    fn times(&self, lasts: u32) -> Times
+    /// When it comes in a scenario that lasts so many centiseconds, or how long after an alarm.
+    fn distances(&self, lasts: u32) -> Times
         ensures { result
             ≡ comes_by (first_of self.now) self.now.every (last_time_of self.now) lasts }
     {
@@ -285,45 +320,67 @@ impl TimedEvent {
             None => unreachable!(),
         }
     }
+
+    /// When it comes, where these alarms came so far.
+    pub(crate) fn times(&self, lasts: u32, alarms: &Alarms) -> Times
+        ensures { result ≡ counted_by alarms.now self.now.base.alarm
+            (comes_by (first_of self.now) self.now.every (last_time_of self.now) lasts) }
+    {
+        let times = self.distances(lasts);
+        match self.base.alarm {
+            None => times,
+            Some(alarm) => times.after(alarms.first(alarm)),
+        }
+    }
 }
 
-/// The first centisecond of the first of these events that has the name.
-fn first_called(events: &[TimedEvent], called: &str) -> u32
+/// What counts from the first of these events that has the name, or else from the alarm that it
+/// calls.
+fn first_called(events: &[TimedEvent], called: &str) -> Base
     ensures { result ≡ first_called called.now events.now }
 {
     for event in events {
         if is_named(&event.name, called) {
-            return event.first();
+            return Base {
+                alarm: event.base.alarm,
+                from: event.first(),
+            };
         }
     }
-    0
+    Base {
+        alarm: alarm_called(called),
+        from: 0,
+    }
 }
 
-/// The centisecond from which an event counts that names this one, if any, of those above it.
-fn base_of(above: &[TimedEvent], after: &Name) -> u32
+/// From what an event counts that names this, if any, below these.
+fn base_of(above: &[TimedEvent], after: &Name) -> Base
     ensures { result ≡ base_of above.now after.now }
 {
     match after.as_str() {
-        None => 0,
+        None => Base {
+            alarm: None,
+            from: 0,
+        },
         Some(called) => first_called(above, called),
     }
 }
 
-/// An event counts from this centisecond.
-fn count_from(event: &mut TimedEvent, from: u32)
-    ensures { event.new ≡ record event.old { from = from } }
+/// An event counts from this.
+fn count_from(event: &mut TimedEvent, base: Base)
+    ensures { event.new ≡ record event.old { base = base } }
 {
-    event.from = from;
+    event.base = base;
 }
 
-/// Sets for each event the centisecond from which it counts.
+/// Sets for each event from what it counts.
 #[tactic(auto, using(crate::proofs::Counted::count_step))]
 pub(crate) fn count(events: &mut Vec<TimedEvent>)
     ensures { events.new.items ≡ counted [] events.old.items }
 {
     for k in 0..events.len() {
-        let from = base_of(&events[..k], &events[k].after);
-        count_from(&mut events[k], from);
+        let base = base_of(&events[..k], &events[k].after);
+        count_from(&mut events[k], base);
     }
 }
 
@@ -365,6 +422,20 @@ impl Timing {
         self.seconds
     }
 
+    /// How many centiseconds it lasts. Source: profile.
+    pub fn lasts(&self) -> u32
+        ensures { result ≡ self.now.seconds * 100 }
+    {
+        self.seconds * 100
+    }
+
+    /// The rows of stolen time. Source: profile.
+    pub fn stolen(&self) -> &[Stolen]
+        ensures { result.now ≡ self.now.stolen }
+    {
+        self.stolen.as_slice()
+    }
+
     /// Its title, if it has one. Source: profile.
     pub fn title(&self) -> Option<&str>
         ensures { option_map (λ s. s.now) result ≡ self.now.title }
@@ -391,53 +462,5 @@ impl Timing {
         ensures { result.now ≡ self.now.events }
     {
         self.events.as_slice()
-    }
-}
-
-impl Timetables for Timing {
-    ghost set_down = { schedule_of };
-
-    fn lasts(&self) -> u32 {
-        self.seconds * 100
-    }
-
-    fn stolen(&self) -> &[Stolen] {
-        self.stolen.as_slice()
-    }
-
-    fn costs(&self) -> usize {
-        self.jobs.len()
-    }
-
-    fn cost(&self, row: usize) -> Option<Cost> {
-        match self.jobs.get(row) {
-            None => None,
-            Some(job) => Some(job.hundredths()),
-        }
-    }
-
-    fn events(&self) -> usize {
-        self.events.len()
-    }
-
-    fn times(&self, event: usize) -> Option<Times> {
-        match self.events.get(event) {
-            None => None,
-            Some(event) => Some(event.times(self.seconds * 100)),
-        }
-    }
-
-    fn requests(&self, event: usize) -> usize {
-        match self.events.get(event) {
-            None => 0,
-            Some(event) => event.requests.len(),
-        }
-    }
-
-    fn request(&self, event: usize, index: usize) -> Option<Request> {
-        match self.events.get(event) {
-            None => None,
-            Some(event) => event.requests.get(index).copied(),
-        }
     }
 }

@@ -12,7 +12,7 @@ ghost use Rattle.agc_scenario.specs.Scenarios.{event_texts, job_texts};
 ghost use Rattle.agc_scenario.specs.Scenarios.{timing_texts, IsTimed, IsTimedEvent, IsTimedJob};
 
 use crate::texts::{EventTexts, JobTexts, TimingTexts};
-use crate::timing::{Name, TimedEvent, TimedJob, Timing, count, then_of};
+use crate::timing::{Base, Name, TimedEvent, TimedJob, Timing, count, then_of};
 use agc_clock::step_of;
 use agc_document::{BenchFault, Spelled, Text, all_spelled, is_name, or_line};
 use agc_plan::Request;
@@ -151,7 +151,10 @@ impl<'a> Spelled<EventTexts<'a>> for TimedEvent {
         Ok(TimedEvent {
             at: texts.at,
             after: after?,
-            from: 0,
+            base: Base {
+                alarm: None,
+                from: 0,
+            },
             requests: requests?,
             every: texts.every,
             until: texts.until,

@@ -1,7 +1,6 @@
 // How long a run lasts, and how many requests it has.
 ghost use Rattle.std.specs.Prelude.{◌≡◌, IfErr};
 
-use agc_clock::Timetables;
 use agc_run::{Subject, WatchedRun};
 use agc_session::{RunFault, count_requests};
 use std::alloc::Global;

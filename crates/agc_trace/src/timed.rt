@@ -8,7 +8,6 @@ use crate::palette::Palette;
 use crate::scale::Scale;
 use crate::sheet::{Sheet, put_foot, put_ground, put_head, put_stolen};
 use crate::showing::Shows;
-use agc_clock::Timetables;
 use agc_run::{Source, Subject, WatchedRun};
 use agc_scenario::Timing;
 use agc_scene::{Event, Scene, Watched};

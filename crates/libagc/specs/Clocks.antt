@@ -40,6 +40,10 @@ pub record ClockAsks (table : Schedule) (jobs : Jobs) (old new : Clocked)
 abbrev pub began_told : AgcStep → Bool
 began_told step = (step.reply == 10) || ((step.reply == 13) || (step.reply == 14))
 
+-- the code of the alarm of a step, 0 where it has none
+abbrev pub alarm_told : AgcStep → ℕ
+alarm_told step = if (step.reply == 10) || (step.reply == 13) then step.number else 0
+
 -- a clock after a step that left a machine with these jobs
 abbrev pub clock_after : AgcStep → Jobs → Clocked → Clocked
 clock_after step jobs clock = record {

@@ -44,10 +44,12 @@ is_cost requests row =
     && (nat_le row.count 7 && (nat_le (row.first + row.count) (length requests)
     && are_steps (asked_by requests row.first row.count))))))
 
--- once, or again up to a time: never, where that is before the first
+-- once, or again up to a time: never, where that is before the first; since the start, or since an
+-- alarm
 abbrev pub is_coming : AgcEvent → Bool
 is_coming row =
-    nat_le row.at last_time && ((row.every == 0) || nat_le row.until last_time)
+    nat_le row.at last_time && (((row.every == 0) || nat_le row.until last_time)
+    && ((row.after == 0) || (nat_le 0o1201 row.after && nat_le row.after 0o1203)))
 
 -- an event asks for one to sixteen of so many requests
 abbrev pub is_event : ℕ → AgcEvent → Bool

@@ -1,10 +1,11 @@
 -- What a caller's timetable has set down.
-use Rattle.std.specs.Prelude.{ℕ, ◌==◌, nat_lt, ◌&&◌, if◌then◌else◌, List, map, take, drop}
-use Rattle.std.specs.Prelude.{Option, slice_get}
+use Rattle.std.specs.Prelude.{ℕ, ◌==◌, nat_lt, ◌&&◌, not, if◌then◌else◌, List, map, take, drop}
+use Rattle.std.specs.Prelude.{Option, Some, None, slice_get}
 use Rattle.std.specs.List.{range_with_len}
 use Rattle.std.specs.Option.{option_and_then, option_map_or}
 use Rattle.agc_plan.specs.declared.request.Request.{Request}
 use Rattle.agc_plan.specs.declared.request.Request.TheVariants.{Change}
+use Rattle.agc_clock.specs.Alarms.{times_after}
 use Rattle.agc_clock.specs.Coming.{Coming}
 use Rattle.agc_clock.specs.declared.timetable.Cost.{Cost}
 use Rattle.agc_clock.specs.declared.timetable.Step.{Step}
@@ -27,10 +28,26 @@ abbrev pub then_told : ℕ → Then
 then_told n = if n == 0 then then.End else then.Sleep (address_for n)
 
 -- an event comes once where it comes each 0 centiseconds
-abbrev pub times_told : AgcEvent → Coming
-times_told row =
+abbrev pub distances_told : AgcEvent → Coming
+distances_told row =
     if row.every == 0 then record { at = row.at; every = 1; until = row.at }
     else record { at = row.at; every = row.every; until = row.until }
+
+-- since the start; one that counts from an alarm of which nothing was told doesn't come
+abbrev pub times_told : AgcEvent → Coming
+times_told row =
+    if row.after == 0 then distances_told row else times_after None (distances_told row)
+
+-- an event whose first alarm came at a time, and from then on counts from the start
+abbrev pub event_at : ℕ → AgcEvent → AgcEvent
+event_at time row =
+    let times = times_after (Some time) (distances_told row) in
+    record row { at = times.at; every = times.every; until = times.until; after = 0 }
+
+-- an event after an alarm of this code at a time, 0 where there was none
+abbrev pub event_after : ℕ → ℕ → AgcEvent → AgcEvent
+event_after alarm time row =
+    if not (alarm == 0) && (row.after == alarm) then event_at time row else row
 
 -- a request; numbers that are none count as a change of job
 abbrev pub request_for : AgcRequest → Request

@@ -4,16 +4,17 @@ ghost use Rattle.agc_clock.specs.Clocks.{Clocked};
 ghost use Rattle.agc_exec.specs.Image.{jobs_in};
 ghost use Rattle.agc_image.specs.Codes.{Coded, code_for};
 ghost use Rattle.agc_image.specs.Images.{IsImage, IsLawful, image_of};
-ghost use Rattle.libagc.specs.Clocks.{ClockAsks, asker_told, source_told, began_told, clock_after};
+ghost use Rattle.libagc.specs.Clocks.{ClockAsks, alarm_told, asker_told, source_told, began_told};
+ghost use Rattle.libagc.specs.Clocks.{clock_after};
 ghost use Rattle.libagc.specs.LateTimes.{times_lack};
-ghost use Rattle.libagc.specs.LentTimes.{timetable_told};
+ghost use Rattle.libagc.specs.LentTimes.{event_after, timetable_told};
 ghost use Rattle.libagc.specs.Stepping.{ImageThen};
 
 use crate::lines::numbers_of;
 use crate::reply::AgcNumber;
 use crate::steps::AgcStep;
 use crate::times::times_lack;
-use crate::timetable::{AgcCost, AgcEvent, LentTimes};
+use crate::timetable::{AgcCost, AgcEvent, LentTimes, event_after};
 use agc_clock::{Clock, Source, Stolen};
 use agc_image::{AgcRequest, blank, image_fault, open};
 use agc_word::Erasable;
@@ -174,4 +175,29 @@ pub extern "C" fn agc_clock_served_trusted(
     open(words, sets, &mut image);
     clock.served(&image, began(step));
     0
+}
+
+/// The code of the alarm of a step, 0 where it has none.
+fn alarm_of(step: &AgcStep) -> u32
+    ensures { result ≡ alarm_told step.now }
+{
+    if step.reply == 10 || step.reply == 13 {
+        step.number
+    } else {
+        0
+    }
+}
+
+/// An event takes what came of a request, also of one that no clock asked for: if it counts from
+/// the alarm of this step, it does so from the clock's centisecond on, and then counts from the
+/// start. Any other stays. Returns the alarm for which it still waits, 0 for none. Call it for each
+/// event that waits, with each step of which `agc_clock_served` is told. Source: profile.
+#[unsafe(no_mangle)]
+pub extern "C" fn agc_clock_told(step: &AgcStep, clock: &Clock, event: &mut AgcEvent) -> u32
+    ensures event { event.new
+        ≡ event_after (alarm_told step.now) clock.now.time event.old }
+    ensures waits { result ≡ event.new.after }
+{
+    *event = event_after(event, alarm_of(step), clock.time());
+    event.after
 }

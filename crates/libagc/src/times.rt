@@ -58,11 +58,13 @@ fn is_cost(row: &AgcCost, requests: &[AgcRequest]) -> bool
         && are_steps(asked_by(requests, row.first, row.count))
 }
 
-/// Whether an event's times are in range.
+/// Whether an event's times are in range, and what they count from.
 fn is_coming(row: &AgcEvent) -> bool
     ensures { result ≡ is_coming row.now }
 {
-    row.at <= LAST_TIME && (row.every == 0 || row.until <= LAST_TIME)
+    row.at <= LAST_TIME
+        && (row.every == 0 || row.until <= LAST_TIME)
+        && (row.after == 0 || (0o1201 <= row.after && row.after <= 0o1203))
 }
 
 /// Whether numbers are an event's, which asks for some of so many requests.

@@ -1,6 +1,7 @@
 // A timetable in memory of a caller's own.
 ghost use Rattle.std.specs.Prelude.{◌≡◌};
 ghost use Rattle.libagc.specs.LentTimes.{address_for, then_told, cost_told, times_told};
+ghost use Rattle.libagc.specs.LentTimes.{distances_told, event_after, event_at};
 ghost use Rattle.libagc.specs.LentTimes.{request_for, asked_by, step_in, steps_told};
 ghost use Rattle.libagc.specs.LentTimes.{timetable_told};
 
@@ -28,8 +29,8 @@ pub struct AgcCost {
     pub spread: u32,
 }
 
-/// When an event comes, in centiseconds since the start, 0 to 8,640,000, and what it then asks for.
-/// Source: profile.
+/// When an event comes, in centiseconds since the start or since the first alarm of a code, 0 to
+/// 8,640,000, and what it then asks for. Source: profile.
 #[repr(C)]
 #[derive(Clone, Copy)]
 pub struct AgcEvent {
@@ -43,6 +44,9 @@ pub struct AgcEvent {
     pub first: u32,
     /// How many requests it has, 1 to 16.
     pub count: u32,
+    /// 0 where its times count from the start. Else they are distances from the first alarm of this
+    /// code, and the event doesn't come before `agc_clock_told` was told of that.
+    pub after: u32,
 }
 
 /// A timetable whose rows lie in memory of a caller's own: an address out of its range counts as
@@ -93,13 +97,51 @@ fn then_of(number: u32) -> Then
     }
 }
 
-/// When an event comes.
-fn times_of(row: &AgcEvent) -> Times
-    ensures { result ≡ times_told row.now }
+/// An event's times, whatever they count from.
+fn distances_of(row: &AgcEvent) -> Times
+    ensures { result ≡ distances_told row.now }
 {
     match Times::repeated(row.at, row.every, row.until) {
         Some(times) => times,
         None => Times::once(row.at),
+    }
+}
+
+/// When an event comes.
+fn times_of(row: &AgcEvent) -> Times
+    ensures { result ≡ times_told row.now }
+{
+    let times = distances_of(row);
+    if row.after == 0 {
+        times
+    } else {
+        times.after(None)
+    }
+}
+
+/// An event that counts from the start from now on, with the times that it has if the first alarm
+/// of its code came at this time.
+fn told_event(row: &AgcEvent, time: u32) -> AgcEvent
+    ensures { result ≡ event_at time row.now }
+{
+    let times = distances_of(row).after(Some(time));
+    AgcEvent {
+        at: times.at(),
+        every: times.every(),
+        until: times.until(),
+        after: 0,
+        ..*row
+    }
+}
+
+/// An event after an alarm of this code, 0 where there was none, at this time.
+pub(crate) fn event_after(row: &AgcEvent, alarm: u32, time: u32) -> AgcEvent
+    ensures { result ≡ event_after alarm time row.now }
+{
+    if alarm != 0 && row.after == alarm {
+        told_event(row, time)
+    } else {
+        *row
     }
 }
 

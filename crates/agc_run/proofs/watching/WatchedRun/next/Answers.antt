@@ -1,5 +1,4 @@
 use Rattle.std.proofs.Common.{◌≡◌, ◌∙◌, ◌∷◌, List, ap, sym, refl}
-use Rattle.agc_clock.specs.Runs.{begins_with}
 use Rattle.agc_exec.specs.Image.{jobs_in}
 use Rattle.agc_machine.specs.Machines.{Machined, after, answer_of, plain_of}
 use Rattle.agc_plan.specs.declared.request.Request.{Request}
@@ -33,9 +32,9 @@ returns c =
     let pulls : all_to_ask m c.self.inside.asks ≡ q ∷ all_to_ask (after m q.request) (asks_after m c.next.new.self q) =
     c.in-Some.ensures m (c.erasable.ensures.stands.jobs ∙ ap (λ (x : Machined). (plain_of x).work.jobs) c.machine.ensures) in
     let is : n ≡ after m q.request = ap (λ (x : Watching). x.machine) c.ask-event.ensures.after in
-    let began : c.began.result ≡ begins_with (answer_of m q.request) = c.began.ensures ∙ ap (λ (e : Event). begins_with e.answer) c.ask-event.ensures.event ∙ ap begins_with (answered w q.request) in
+    let answer : c.ask-event.result.answer ≡ answer_of m q.request = ap (λ (e : Event). e.answer) c.ask-event.ensures.event ∙ answered w q.request in
     let jobs : jobs_in c.erasable-2.result.now ≡ (plain_of n).work.jobs = c.erasable-2.ensures.stands.jobs ∙ ap (λ (x : Machined). (plain_of x).work.jobs) c.machine-2.ensures in
-    let same : all_to_ask n c.served.new.self ≡ all_to_ask (after m q.request) (asks_after m c.next.new.self q) = told_all m n c.began.result (jobs_in c.erasable-2.result.now) c.next.new.self c.served.new.self q is began jobs c.served.ensures in
+    let same : all_to_ask n c.served.new.self ≡ all_to_ask (after m q.request) (asks_after m c.next.new.self q) = told_all m n c.ask-event.result.answer (jobs_in c.erasable-2.result.now) c.next.new.self c.served.new.self q is answer jobs c.served.ensures in
     let its : q.request ≡ c.ask-event.result.request = sym (ap (λ (e : Event). e.request) c.ask-event.ensures.event ∙ requested w q.request) in (
       ap (λ (r : WatchingRun). all_to_ask r.watching.machine r.asks) (sym v) ∙ pulls ∙ ap (λ (xs : List Asked). q ∷ xs) (sym same) ∙ ap (λ (r : Request). record { source = q.source; request = r } ∷ all_to_ask n c.served.new.self) its,
       c.ask-event.ensures.event ∙ ap (event_of w) its ∙ ap (λ (r : WatchingRun). event_of r.watching c.ask-event.result.request) v,
