@@ -1,8 +1,8 @@
 //! The document that a text is. Of one that is none it is said what is wrong with it.
 use crate::stops::Stop;
 use agc_check::{
-    Checked, CheckedScenario, Document, Finding, NoDocument, bench_findings, bench_told,
-    scenario_findings,
+    Checked, CheckedExplored, CheckedScenario, Document, Explored, Finding, NoDocument,
+    bench_findings, bench_told, explored_findings, scenario_findings,
 };
 use agc_document::{Bench, BenchFault};
 use agc_program::Fault;
@@ -81,6 +81,19 @@ pub(crate) fn bench_in(alloc: Global, text: &str) -> Result<Bench, Stop> {
     let Checked { bench, findings } = bench_findings(alloc, &document)?;
     match bench {
         Some(bench) => Ok(bench),
+        None => Err(wrong(alloc, findings.as_slice())),
+    }
+}
+
+/// The bench that a text is where it is explored, and which of its workers repeat.
+pub(crate) fn explored_in(alloc: Global, text: &str) -> Result<Explored, Stop> {
+    let document = parsed(alloc, text)?;
+    if is_scenario(document.table()) {
+        return Err(Stop::IsScenario);
+    }
+    let CheckedExplored { explored, findings } = explored_findings(alloc, &document)?;
+    match explored {
+        Some(explored) => Ok(explored),
         None => Err(wrong(alloc, findings.as_slice())),
     }
 }

@@ -1,7 +1,7 @@
 //! What each command does with its input, which is a text.
 use crate::checking::{check_document, check_script};
 use crate::cores::write_core;
-use crate::documents::{bench_in, document_in, scenario_in};
+use crate::documents::{bench_in, document_in, explored_in, scenario_in};
 use crate::files::text_of;
 use crate::page::put_page;
 use crate::program::Console;
@@ -9,6 +9,7 @@ use crate::stops::Stop;
 use crate::sweeping::write_sweep;
 use crate::words::{Asked, Input as Source, Show, Task};
 use crate::workbench::Workbench;
+use agc_check::Explored;
 use agc_explore::{Options, Reach, explore};
 use agc_peaks::{Outcome, outcome_of, put_differences, scenario_bench, write_jobs, write_peaks};
 use agc_play::{Manner, PlayFault, play};
@@ -95,7 +96,9 @@ fn trace_requests(console: &mut Console<'_>, choice: Choice, text: &str) -> Resu
 fn explore_bench(console: &mut Console<'_>, options: Options, text: &str) -> Result<u8, Stop> {
     let alloc = console.rt.alloc();
     let (progress, output) = (&mut console.progress, &mut console.output);
-    let bench = bench_in(alloc, text)?;
+    let Explored { bench, repeats } = explored_in(alloc, text)?;
+    let manner = options.manner.with_repeats(repeats.as_slice());
+    let options = Options { manner, ..options };
     match explore(alloc, &bench, options, progress, output) {
         Ok(Reach::None) => Ok(0),
         Ok(Reach::Some) => Ok(4),
