@@ -18,7 +18,7 @@ const SPEEDS = [0.1, 0.2, 0.5, 1, 2, 5, 10, 20, 50, 100];
 const PATIENCE = 800;
 
 /** How many requests are asked at a stretch, so that the page goes on answering. */
-const STRETCH = 64_000;
+export const STRETCH = 64_000;
 
 /** How often the strip is drawn anew while the clock runs, in milliseconds. */
 const DRAWN_EACH = 300;
@@ -117,16 +117,6 @@ export class ClockPanel {
     if (run.hasRoomFor(left)) return run.askByClock(left, (it) => whoOf(run, it)) < left;
     for (let k = 0; k < left; k++) if (!this.step(run)) return true;
     return false;
-  }
-
-  /**
-   * A run of this bench to its end, to stand beside.
-   * @param {import("./bench.js").Bench} bench
-   */
-  wholeRunOf(bench) {
-    const run = this.begunOf(bench);
-    while (!this.passTime(run, STRETCH));
-    return run;
   }
 
   /** @param {Run} run */

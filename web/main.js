@@ -7,7 +7,7 @@ import { Names, accountOf, missionOf, orderOf, sentenceOf } from "./account.js";
 import { countOf, emptyBench, readBench, requestsOf, writeBench } from "./bench.js";
 import * as address from "./address.js";
 import { Strip, outcomeOf } from "./chart.js";
-import { ClockPanel } from "./clock.js";
+import { ClockPanel, STRETCH } from "./clock.js";
 import { Colours } from "./colours.js";
 import { button, by, closeDialog, fill, make, openDialog, withCode } from "./dom.js";
 import * as files from "./files.js";
@@ -472,7 +472,8 @@ class Workbench {
     const row = run.bench.seconds === undefined ? Math.min(at, other.count)
       : other.run.rowAtTime(run.ticksAt(at), other.count);
     const [shown] = other.run.show(row, row);
-    const said = `request ${row}, ${shown.reply}. In all ${outcomeOf(other.run, other.count)}`;
+    const until = other.isFilling ? "So far" : "In all";
+    const said = `request ${row}, ${shown.reply}. ${until} ${outcomeOf(other.run, other.count)}`;
     by("beside-name").textContent = `For comparison, ${other.name}: ${said}.`;
     drawSets("beside-sets", shown, this.names, this.colours);
   }
@@ -501,9 +502,26 @@ class Workbench {
     const sets = run.sets === 7 ? 8 : 7;
     const bench = { ...run.bench, sets };
     const isTimed = bench.seconds !== undefined;
-    const other = isTimed ? this.clock.wholeRunOf(bench) : new Run(bench);
-    if (!isTimed) for (const [line, who] of run.requests(count)) other.ask(line, who);
-    this.compare({ run: other, count: other.count, name: `with ${sets} core sets` });
+    const other = isTimed ? this.clock.begunOf(bench) : new Run(bench);
+    const asked = run.requests(count);
+    this.fillBeside({ run: other, count: 0, name: `with ${sets} core sets`, isFilling: true },
+      () => (isTimed ? this.clock.passTime(other, STRETCH) : other.askSome(asked, STRETCH)));
+  }
+
+  /**
+   * Shows a run beside, and asks for the rest of it in the background, as long as it stands there.
+   * @param {{ run: Run, count: number, name: string, isFilling: boolean }} beside
+   * @param {() => boolean} stretch asks for some more, and says whether that was all
+   */
+  fillBeside(beside, stretch) {
+    beside.isFilling = !stretch();
+    beside.count = beside.run.count;
+    this.beside = beside;
+    this.drawRow();
+    if (!beside.isFilling) return;
+    setTimeout(() => {
+      if (this.beside === beside) this.fillBeside(beside, stretch);
+    }, 0);
   }
 
   /** Keeps what came of the run that is shown, so that the next one can be compared with it. */

@@ -478,6 +478,20 @@ export class Run {
   }
 
   /**
+   * Asks at most so many of these requests. True where there are no more.
+   * @param {Iterator<[string, string]>} asked
+   * @param {number} most
+   */
+  askSome(asked, most) {
+    for (let k = 0; k < most; k++) {
+      const next = asked.next();
+      if (next.done) return true;
+      this.ask(...next.value);
+    }
+    return false;
+  }
+
+  /**
    * How many of the first rows each one asked.
    * @param {number} count
    */

@@ -11,6 +11,9 @@ KEYS = {"ArrowRight": 39, "ArrowLeft": 37, "ArrowUp": 38, "ArrowDown": 40, "Home
 PHONE, LAPTOP, PROJECTOR, WIDE = (390, 844), (1280, 900), (1920, 1080), (2560, 1440)
 SIZES = PHONE, LAPTOP, PROJECTOR, WIDE
 
+# How many seconds one waits at most for what comes at once on a quiet machine: a loaded one may be far slower.
+PATIENCE = 60
+
 # What the page shows.
 SHOWN = """(() => {
   const texts = (id) => Array.from(document.getElementById(id).children, (it) => it.innerText);
@@ -107,7 +110,7 @@ class Browser:
         self.open(path, mark)
         begun = time.monotonic()
         while self.value("document.documentElement.dataset.ready") != "yes":
-            if time.monotonic() - begun > 60:
+            if time.monotonic() - begun > PATIENCE:
                 raise OSError(f"the page isn't ready: {self.value('window.broken')}")
             time.sleep(0.01)
 
@@ -128,7 +131,7 @@ class Browser:
     def click(self, name):
         """Clicks on an element, which may not be there yet where a page has just been opened."""
         begun = time.monotonic()
-        while self.value(f"document.getElementById({json.dumps(name)}) === null") and time.monotonic() - begun < 60:
+        while self.value(f"document.getElementById({json.dumps(name)}) === null") and time.monotonic() - begun < PATIENCE:
             time.sleep(0.05)
         self.value(f"document.getElementById({json.dumps(name)}).click()")
 
@@ -146,12 +149,13 @@ class Browser:
         self.call("Emulation.setEmulatedMedia", media=media, features=wanted)
 
     def address(self, mark):
-        """Whether the address ends so, within a second."""
+        """Whether the address comes to end so."""
         begun = time.monotonic()
-        while time.monotonic() - begun < 1:
-            if self.value("location.hash") == mark:
-                return True
-        return False
+        while self.value("location.hash") != mark:
+            if time.monotonic() - begun > PATIENCE:
+                return False
+            time.sleep(0.05)
+        return True
 
     def press(self, key, shift=False):
         words = {"key": key, "modifiers": 8 if shift else 0}

@@ -6,7 +6,7 @@ import time
 
 import repository
 from browsing.benches import compare_words, random_bench, random_line
-from browsing.browser import LAPTOP, LISTED, SIZES
+from browsing.browser import LAPTOP, LISTED, PATIENCE, SIZES
 from browsing.clock import random_scenario
 from browsing.kept import again
 from browsing.opened import NAMED, THREE_ALARMS, TIGHT
@@ -55,7 +55,7 @@ def come_back(browser):
     while heard(browser, "document.documentElement?.dataset.ready !== 'yes' || document.body.ariaBusy === 'true'") is not False:
         if heard(browser, "location.protocol") == "about:":
             heard(browser, "setTimeout(() => { history.forward(); })")
-        if time.monotonic() - begun > 60:
+        if time.monotonic() - begun > PATIENCE:
             raise OSError(f"the page isn't ready: {browser.value('[location.href, window.broken]')}")
         time.sleep(0.05)
 
@@ -132,7 +132,7 @@ def hold_still(browser):
     browser.value("document.activeElement.blur()")
     browser.value("document.querySelector('#run[aria-pressed=true]')?.click()")
     begun, before = time.monotonic(), ""
-    while (told := browser.text("summary")) != before and time.monotonic() - begun < 60:
+    while (told := browser.text("summary")) != before and time.monotonic() - begun < PATIENCE:
         before = told
         time.sleep(0.1)
 

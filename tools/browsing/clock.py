@@ -8,6 +8,7 @@ import tomllib
 
 import repository
 from browsing.benches import compare_words, random_line
+from browsing.browser import PATIENCE
 from browsing.opened import TIGHT
 from browsing.pages import (
     COUNTS, PROGRAM, TOP, Trial, open_text, press_try, save, saved, says, set_slider, table, written)
@@ -73,6 +74,7 @@ def clock(browser, folder):
     try_never(browser, trial)
     try_time(browser, trial)
     try_alarm(browser, trial)
+    try_beside(browser, trial)
     try_landing(browser, trial)
     trial.expect(f"{browser.shown()['broken']}", not browser.shown()["broken"])
     return trial.faults
@@ -103,7 +105,7 @@ def try_time(browser, trial):
     begun = time.monotonic()
     browser.press(" ")
     at = 0.0
-    while at < 0.05 and time.monotonic() - begun < 10:
+    while at < 0.05 and time.monotonic() - begun < PATIENCE:
         said = browser.text("sentence")
         at = float(re.search(r"at ([0-9.]+) s", said)[1])
     live = "document.getElementById('sentence').getAttribute('aria-live')"
@@ -125,7 +127,7 @@ def try_alarm(browser, trial):
     says(browser, trial, "the first alarm", "alarm 1202")
     trial.expect("no eight core sets", press_try(browser, "With eight core sets?"))
     told = browser.text("beside-name")
-    trial.expect(f"beside: {told}", "with 8 core sets" in told and "of 8 core sets" in told)
+    trial.expect(f"beside: {told}", "with 8 core sets" in told and "In all" in told and "of 8 core sets" in told)
     trial.expect("no event to leave out", press_try(browser, "Without a word?"))
     told = browser.text("outcome")
     trial.expect(f"without an event: {told}", "Now: 1 alarm: 1202, " in told)
@@ -133,6 +135,38 @@ def try_alarm(browser, trial):
     told = browser.text("outcome")
     trial.expect(f"what came of it: {told}", re.match(
         r"Before: 1 alarm: 1202, .*\. Now: no alarm; at most 1 of 7 core sets\.$", told))
+
+
+def beside(browser):
+    """What is said of the run that stands beside, when it is whole."""
+    begun = time.monotonic()
+    while "So far" in browser.text("beside-name") and time.monotonic() - begun < PATIENCE:
+        time.sleep(0.05)
+    return browser.text("beside-name")
+
+
+def try_beside(browser, trial):
+    """A long run that stands beside comes a stretch at a time, and goes on no longer where it isn't compared with any more:
+    of a scenario, and of requests of which the alarm is one of the first."""
+    full = ["novac 20 04000 00005"] * 8
+    long = f"seconds = 1200\n{table('event', at=1, do=full)}", f"limit = 200000\nscript = {json.dumps(full + ['tick'] * 120_000)}\n"
+    for text, last in zip(long, (120_008, 120_008)):
+        open_text(browser, text)
+        press_try(browser, "To the first alarm")
+        told = browser.value("(() => { Array.from(document.querySelectorAll('#try button')).find((it) => it.textContent === 'With eight core sets?')"
+                             ".click(); return document.getElementById('beside-name').textContent; })()")
+        trial.expect(f"it comes at one stretch: {told}", "with 8 core sets: " in told and "So far" in told)
+        told = beside(browser)
+        trial.expect(f"{last}: beside: {told}", "In all" in told and "no alarm; at most 8 of 8 core sets" in told)
+        browser.press("End")
+        told = browser.text("beside-name")
+        trial.expect(f"its last row: {told}", re.search(r"request (\d+)", told)[1] == str(last))
+        browser.click("alarm-back")
+        press_try(browser, "Stop comparing")
+        browser.value("(() => { for (const name of ['With eight core sets?', 'Stop comparing']) Array.from(document.querySelectorAll('#try button'))"
+                      ".find((it) => it.textContent === name).click(); })()")
+        time.sleep(0.5)
+        trial.expect("what is stopped comes again", browser.value("document.getElementById('beside').hidden"))
 
 
 def try_landing(browser, trial):
@@ -149,7 +183,7 @@ def try_landing(browser, trial):
                  "by action 1 of the task MONITOR (02100): novac 30 05000 00007", "asleep at 06100, since request 5"):
         trial.expect(f"the account lacks {line}: {told}", line in told)
     press_try(browser, "With eight core sets?")
-    told = browser.text("beside-name")
+    told = beside(browser)
     trial.expect(f"with eight: {told}", "1 alarm: 1201, in request" in told and "at 38.01 s" in told)
     for it in "Without stolen time?", "Without monitor?":
         trial.expect(f"nothing to try: {it}", press_try(browser, it))

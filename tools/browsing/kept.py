@@ -1,7 +1,7 @@
 """Nothing is lost: the address says what is shown."""
 import time
 
-from browsing.browser import LAPTOP
+from browsing.browser import LAPTOP, PATIENCE
 from browsing.pages import PROGRAM, Trial, go_to, save, set_slider, texts, type_line, wait_for, written
 
 ROW = "document.getElementById('sentence').textContent"
@@ -12,7 +12,7 @@ STATE = """[document.getElementById('sentence').textContent, document.getElement
 def settled(browser):
     """The address, when it has been the same for a while."""
     found, since, begun = None, time.monotonic(), time.monotonic()
-    while time.monotonic() - since < 0.8 and time.monotonic() - begun < 20:
+    while time.monotonic() - since < 0.8 and time.monotonic() - begun < PATIENCE:
         now = browser.value("location.hash")
         if now != found:
             found, since = now, time.monotonic()
@@ -25,7 +25,7 @@ def again(browser):
     browser.value("window.before = true")
     browser.call("Page.reload")
     begun = time.monotonic()
-    while browser.value("window.before === true || document.documentElement?.dataset.ready !== 'yes'") and time.monotonic() - begun < 20:
+    while browser.value("window.before === true || document.documentElement?.dataset.ready !== 'yes'") and time.monotonic() - begun < PATIENCE:
         time.sleep(0.05)
 
 
@@ -46,7 +46,7 @@ def kept(browser, folder):
     again(browser)
     trial.expect(f"F5: {browser.value(STATE)}, not {before}", browser.value(STATE) == before)
     begun = time.monotonic()
-    while browser.value("document.getElementById('undo').disabled") and time.monotonic() - begun < 10:
+    while browser.value("document.getElementById('undo').disabled") and time.monotonic() - begun < PATIENCE:
         time.sleep(0.1)
     trial.expect("no branches after F5", "stolen time was changed" in browser.text("branches"))
     browser.press("u")

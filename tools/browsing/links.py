@@ -5,7 +5,7 @@ import random
 import time
 import zlib
 
-from browsing.browser import LAPTOP
+from browsing.browser import LAPTOP, PATIENCE
 from browsing.kept import again, settled
 from browsing.opened import TIGHT
 from browsing.pages import COUNTS, PROGRAM, Trial, save, set_slider, type_line, written
@@ -120,7 +120,7 @@ def links(browser, folder):
         if k % 97 == 0:
             again(browser)
         seen, begun = NOTHING, time.monotonic()
-        while not (seen[0] and seen[1]) and time.monotonic() - begun < 60:
+        while not (seen[0] and seen[1]) and time.monotonic() - begun < PATIENCE:
             seen = look_at(browser)
         told += seen[2] != ""
         trial.expect(f"{mark}: {seen}", seen[0] != "" and seen[1] != "" and seen[3] in (7, 8) and seen[4] == 5 and seen[5] != "" and seen[6] == "")

@@ -2,16 +2,16 @@
 import os
 import time
 
-from browsing.browser import LAPTOP, PHONE
+from browsing.browser import LAPTOP, PATIENCE, PHONE
 from browsing.pages import PROGRAM, Trial, says, save, set_slider, texts, written
 
 GUIDE = "document.getElementById('guide').hidden ? '' : document.getElementById('guide-text').textContent"
 
 
-def until(browser, text, seconds=20):
+def until(browser, text):
     """Waits until the guide says this. What it says."""
     begun = time.monotonic()
-    while text not in browser.value(GUIDE) and time.monotonic() - begun < seconds:
+    while text not in browser.value(GUIDE) and time.monotonic() - begun < PATIENCE:
         time.sleep(0.05)
     return browser.value(GUIDE)
 
@@ -76,7 +76,7 @@ def try_new(browser, trial):
     browser.value("document.getElementById('speed').value = '100'")
     browser.click("run")
     begun = time.monotonic()
-    while int(browser.text("sentence").split()[1]) < 1300 and time.monotonic() - begun < 30:
+    while int(browser.text("sentence").split()[1]) < 1300 and time.monotonic() - begun < PATIENCE:
         time.sleep(0.05)
     browser.click("run")
     said = browser.text("sentence")

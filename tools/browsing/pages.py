@@ -6,6 +6,7 @@ import time
 import zlib
 
 import repository
+from browsing.browser import PATIENCE
 
 TOP = repository.TOP
 PROGRAM = f"{TOP}/crates/agc_watch/out/agc_watch"
@@ -119,9 +120,9 @@ def type_line(browser, line):
 
 
 def wait_for(browser, text):
-    """Waits up to ten seconds until the sentence has this text."""
+    """Waits until the sentence has this text."""
     begun = time.monotonic()
-    while text not in browser.text("sentence") and time.monotonic() - begun < 60:
+    while text not in browser.text("sentence") and time.monotonic() - begun < PATIENCE:
         time.sleep(0.05)
 
 
@@ -170,7 +171,7 @@ def edit_text(browser, text):
     browser.value("(() => { const it = document.getElementById('edit-text');"
                   f" it.dataset.ran = 'no'; it.value = {json.dumps(text)}; it.dispatchEvent(new Event('input')); }})()")
     begun = time.monotonic()
-    while browser.value("document.getElementById('edit-text').dataset.ran") != "yes" and time.monotonic() - begun < 60:
+    while browser.value("document.getElementById('edit-text').dataset.ran") != "yes" and time.monotonic() - begun < PATIENCE:
         time.sleep(0.05)
 
 
@@ -188,7 +189,7 @@ def saved(browser):
     begun = time.monotonic()
     while not browser.value("!!document.querySelector('#dialog[open] textarea[readonly]') && "
                             "document.querySelector('#dialog-body input[type=text]')?.value !== ''"):
-        if time.monotonic() - begun > 60:
+        if time.monotonic() - begun > PATIENCE:
             raise OSError("nothing is saved")
     found = browser.value("['textarea', 'input[type=text]'].map((it) => "
                           "document.querySelector(`#dialog-body ${it}`)?.value ?? '')")

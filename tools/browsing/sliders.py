@@ -2,6 +2,7 @@
 import re
 import time
 
+from browsing.browser import PATIENCE
 from browsing.chart import STRIPED
 from browsing.exercises import CHANGED
 from browsing.pages import follow_link, go_to, open_text, says, set_slider, table, texts, type_line, wait_for
@@ -161,7 +162,7 @@ def try_panel(browser, trial):
     browser.value("document.getElementById('speed').value = '100'")
     browser.click("run")
     at, begun = 0.0, time.monotonic()
-    while at < 37 and time.monotonic() - begun < 10:
+    while at < 37 and time.monotonic() - begun < PATIENCE:
         at = float((re.search(r"at ([0-9.]+) s", browser.text("sentence")) or [0, 0])[1])
     trial.expect(f"on from an alarm, and beyond the bench: {browser.text('sentence')}", at >= 37)
     browser.click("run")

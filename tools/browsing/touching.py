@@ -3,7 +3,7 @@ import json
 import re
 import time
 
-from browsing.browser import LAPTOP, PHONE
+from browsing.browser import LAPTOP, PATIENCE, PHONE
 from browsing.pages import PROGRAM, TOP, Trial, exercise, go_to, open_text, says, save, texts, type_line, written
 
 ASKED = 'script = ["novac 20 04000 00005", "findvac 30 04100 00005", "sleep 06000", "list 100 02000 00005", "phase 3 2"]\n'
@@ -175,7 +175,7 @@ def try_flown(browser, trial, path):
     touch(browser, "sets", 7)
     browser.value("location.hash = '#landing'")
     begun = time.monotonic()
-    while not browser.text("title").startswith("A landing") and time.monotonic() - begun < 10:
+    while not browser.text("title").startswith("A landing") and time.monotonic() - begun < PATIENCE:
         time.sleep(0.05)
     time.sleep(0.2)
     told = browser.value("document.getElementById('touch').hidden"), browser.text("note")
@@ -207,7 +207,7 @@ def try_no_module(browser, trial, folder):
     page = written(PROGRAM, "page", "").replace("'wasm-unsafe-eval'", "")
     browser.open(save(folder, "no-module", page))
     begun = time.monotonic()
-    while browser.value("document.getElementById('broken').hidden") and time.monotonic() - begun < 5:
+    while browser.value("document.getElementById('broken').hidden") and time.monotonic() - begun < PATIENCE:
         time.sleep(0.05)
     told = browser.text("broken"), browser.value("document.getElementById('run').disabled")
     trial.expect(f"without WebAssembly: {told}", "WebAssembly" in told[0] and told[1])
