@@ -39,6 +39,16 @@ def try_alarms(browser, trial):
     trial.expect(f"{count} sets beside", count == 8)
 
 
+def try_single(browser, trial):
+    """Which action of a task raised an alarm is told only where it has several."""
+    asked = 7 * ["novac 20 04000 00005"] + ["list 1 02000 00005", "tick"]
+    for action, wanted in ("novac 10 05000 00005", ""), (["nothing", "novac 10 05000 00005"], "action 2 of "):
+        open_text(browser, f"script = {json.dumps(asked)}\n" + table("task", at="02000", bank="00005", action=action))
+        browser.press("a")
+        told = browser.text("account")
+        trial.expect(f"{action}: {told}", f"in the tick of request 9, by {wanted}the task 02000: novac 10 05000 00005." in told)
+
+
 # Of rows of that run: what their accounts have, and the boxes that are marked as changed.
 TOLD = {
     1: ("Group 2 is in phase 3. After a restart “novac 15 05100 00007” and “list 9 02100 00005” are asked for again.|Asked by event begin.", "group 2"),

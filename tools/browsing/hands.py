@@ -1,7 +1,7 @@
 """What is done by hand, one topic after the other."""
 from browsing.accounts import (
     try_accounts, try_alarms, try_endings, try_names, try_orders, try_phased, try_power, try_refused, try_restarts,
-    try_rows, try_since, try_tries)
+    try_rows, try_since, try_single, try_tries)
 from browsing.asking import try_bounds, try_form, try_forms, try_lines, try_offers, try_typing
 from browsing.browser import LAPTOP, PHONE
 from browsing.chart import try_axis, try_strip
@@ -29,7 +29,7 @@ def hands(browser, folder):
         try_form(browser, trial)
         try_plan(browser, trial)
         trial.expect(f"{browser.shown()['broken']}", not browser.shown()["broken"])
-    for part in try_alarms, try_history, try_lines, try_exercise, try_sliders, try_twins, try_accounts, try_phased, try_refused, try_power, try_since, try_rows:
+    for part in try_alarms, try_single, try_history, try_lines, try_exercise, try_sliders, try_twins, try_accounts, try_phased, try_refused, try_power, try_since, try_rows:
         part(browser, trial)
     trial.expect(f"{browser.shown()['broken']}", not browser.shown()["broken"])
     for part in (try_questions, try_editing, try_orders, try_restarts, try_axis, try_names, try_strip, try_panel, try_offers, try_bounds, try_forms, try_keys, try_meanings, try_files, try_examples, try_plans, try_beside,

@@ -4,7 +4,7 @@ import re
 import time
 
 from browsing.browser import LAPTOP, PHONE, SIZES
-from browsing.pages import DRAWN, PROGRAM, TOP, Trial, go_to, open_text, says, save, table, written
+from browsing.pages import DRAWN, PROGRAM, TOP, Trial, go_to, open_text, says, save, set_slider, table, written
 
 # Two jobs of different names in turn, one that sleeps, an event with a name, and an alarm at the end.
 LANED = "seconds = 20\nsteal = 20\n" + "".join((
@@ -152,11 +152,45 @@ def try_rows(browser, trial):
             (10, 1 / 20, ": a job runs"), (10, 10 / 20, ": no job runs"):
         pointer(browser, "mouseMoved", at, lane)
         trial.expect(f"{wanted}: {browser.text('block')}", wanted in browser.text("block"))
+    try_places(browser, trial)
+    try_eras(browser, trial)
+    open_text(browser, ROWS)
     red = [k for k in range(990, 1010) if browser.value(f"{COLUMN}({0.75 * k / 1000})").count("#cc0000") > 100]
     trial.expect(f"the alarm's line: {red}", red)
     inked = browser.value("(() => { const it = document.getElementById('lanes-chart'); const { data } = it.getContext('2d').getImageData(3, 0, 40, 10);"
                           " return data.filter((one, k) => k % 4 === 3 && one > 100).length; })()")
     trial.expect(f"the event's name has {inked} points", inked > 30)
+
+
+def try_places(browser, trial):
+    """Each task that waits has a line of its own: one that comes later takes the line of the one that left. A run that goes on
+    from where a task left has it no longer."""
+    nine = [f"list {it} 02000 00005" for it in (100, *range(300, 308))]
+    open_text(browser, "seconds = 4\n" + table("event", at=0, do=nine) + table("event", at=150, do="list 200 02000 00005"))
+    expect_tasks(browser, trial, (0.5, 9), (1.25, 8), (1.75, 9))
+    open_text(browser, "seconds = 4\n" + table("event", at=0, do="list 100 02000 00005"))
+    go_to(browser, "1 s")
+    says(browser, trial, "a task leaves", "tick 02000/00005")
+    browser.click("here")
+    set_slider(browser, 50)
+    browser.click("here")
+    expect_tasks(browser, trial, (0.5, 1), (2, 0))
+
+
+def try_eras(browser, trial):
+    """The job that begins again with a restart is another one, though it has the number and the core set of one before."""
+    jobs = "".join(table("job", name=name, at=at, cost=9999) for name, at in (("ALPHA", "04000"), ("BETA", "05000")))
+    open_text(browser, f"seconds = 4\n{jobs}" + table("phase", group=1, phase=1, job="novac 15 05000 00005")
+              + table("event", at=0, do=["phase 1 1", "novac 20 04000 00005"]) + table("event", at=200, do="restart"))
+    found = point(browser, 1 / 4, 0), point(browser, 3 / 4, 0)
+    trial.expect(f"ALPHA, and BETA after the restart: {found}", found == (BRIGHT[0], BRIGHT[1]))
+
+
+def expect_tasks(browser, trial, *counts):
+    """Whether so many tasks are drawn at these seconds of four."""
+    for at, wanted in counts:
+        bars = re.findall("(?:#8c564b)+", "".join(browser.value(f"{COLUMN}({at / 4})")))
+        trial.expect(f"{len(bars)} tasks at {at} s, not {wanted}", len(bars) == wanted)
 
 
 def try_zoom(browser, trial, row):
