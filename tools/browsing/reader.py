@@ -49,6 +49,29 @@ FORMS = (
     "\ufeff", "\ufeffsets = 8\n", "\ufeff\ufeffsets = 8\n", "#", "# é", " \t\n", "sets = 8", "sets =\n8\n", "sets\n= 8\n", "= 8\n", "sets 8\n",
     "\ud800", "# \udfff\n", 'script = ["\ud800"]\n')
 
+# Scenarios at the ends of what a key may have, and beyond, each with nothing else that could be wrong.
+STORES = ['"store 1 00001"'] * 17
+THENS = ('"end"', '"sleep 04000"', '"tick"', '["end", "end"]', '["store 1 00001"]', '["store 1 00001", "tick"]', "[]",
+         *(f"[{', '.join([*STORES[:count], *leaves])}]" for count in (6, 7, 8) for leaves in (['"end"'], ['"end"', '"end"'])))
+COSTS = ("0", "1", "1000000", "1000001", "{ from = 3, to = 3 }", "{ from = 3, to = 4 }", "{ from = 4, to = 3 }", "{ from = 0, to = 3 }",
+         "{ from = 1, to = 1000000 }", "{ from = 1, to = 1000001 }", "{ from = 1 }", "{}")
+STOLEN = ("0", "100", "101", "-1", "[]", *(f"[{{ {it} }}]" for it in (
+    "from = 0, to = 1, percent = 100", "from = 1, to = 1, percent = 1", "from = 0, to = 8640000, percent = 0", "from = 0, to = 8640001, percent = 0",
+    "from = 0, to = 5, percent = 1, every = 5", "from = 0, to = 5, percent = 1, every = 4", "from = 0, to = 5, percent = 101",
+    "from = 0, to = 5, percent = 1, every = 8640001", "from = 9, to = 10, percent = 1, every = 1, until = 0",
+    "from = 0, to = 5, percent = 1 }, { from = 5, to = 6, percent = 2", "from = 0, to = 5, percent = 1 }, { from = 4, to = 6, percent = 2",
+    "from = 0, to = 5, percent = 1 }, { from = 4, to = 6, percent = 2, every = 9", "from = 4, to = 6, percent = 2 }, { from = 0, to = 5, percent = 1")))
+EVENTS = ("at = 8640000", "at = 8640001", "at = -1", "at = 1\nevery = 0", "at = 1\nevery = 8640000", "at = 1\nevery = 8640001", "at = 1\nuntil = 0",
+          'at = 1\nname = "e"\nafter = "e"', 'at = 1\nafter = "e"', 'at = 1\nafter = "later"', 'at = 1\nname = ""\nafter = "before"', 'at = 1\nafter = ""')
+JOB = '[[job]]\nat = "04000"\n'
+EDGES = (
+    *(f"seconds = {it}\n" for it in (0, 1, 86401)), *(f"seconds = 1\nseed = {it}\n" for it in (0, 1, 2147483646, 2147483647)),
+    *(f"seconds = 1\n{seed}{JOB}cost = {it}\n" for it in COSTS for seed in ("", "seed = 7\n")),
+    *(f"seconds = 1\n{JOB}cost = 1\nthen = {it}\n" for it in THENS), *(f"seconds = 1\n{JOB}cost = 1\ndeadline = {it}\n" for it in (0, 1, 8640000, 8640001)),
+    *(f"seconds = 1\nsteal = {it}\n" for it in STOLEN), *(f"seconds = 1\n{JOB}cost = 1\nname = \"{it}\"\n" for it in ("", "\u001f", "\u007f", "\u0080", "\u202e")),
+    *(f'seconds = 1\n[[event]]\nname = "before"\nat = 1\ndo = "tick"\n[[event]]\n{it}\ndo = "tick"\n[[event]]\nname = "later"\nat = 1\ndo = "tick"\n' for it in EVENTS),
+    *(f"seconds = 1\n[[event]]\nat = 1\ndo = [{', '.join(STORES[:count])}]\n" for count in (0, 1, 15, 16, 17)))
+
 # Documents that aren't read, and in which line that is said to be.
 LINES = (("\n\n# a\nfoo = 1\n", 4), ('script = ["""\na\nb"""]\nsets = x\n', 4), ('script = ["""\ntick"""]\n\nsets = "7"\n', 4), ("limit = [\n1,\n\n", 4),
          ("sets = 7\r\n\r\nsets = 8\r\n", 3), (f"[[task]]\n{ROW}[[task]]\nat = \"02000\"\nbank = 5\n", 7),
@@ -66,8 +89,8 @@ def damaged(dice, texts):
 
 
 def documents():
-    """The documents that the reader is tried on: those of all cases and examples, those that try one rule each, and
-    5,000 by lot."""
+    """The documents that the reader is tried on: those of all cases and examples, those that try one rule or one end of a
+    key each, and 5,000 by lot."""
     texts = [repository.text_of(f"{TOP}/examples/{it}") for it in sorted(os.listdir(f"{TOP}/examples"))
              if it.endswith(".toml")]
     sys.path.insert(0, f"{TOP}/tests/runners")
@@ -79,7 +102,7 @@ def documents():
             texts.append(text)
     dice = random.Random(11)
     small = [it for it in texts if len(it) < 5000]
-    return [*(it for it, _ in LINES), *FORMS, *texts, *(damaged(dice, small) for _ in range(5000))]
+    return [*(it for it, _ in LINES), *FORMS, *EDGES, *texts, *(damaged(dice, small) for _ in range(5000))]
 
 
 def is_taken(text):
@@ -119,6 +142,8 @@ def reader(_browser, folder):
     read = json.loads(ran.stdout)
     for (text, line), found in zip(LINES, read):
         trial.expect(f"{text!r}: {found}, not in line {line}", found.get("reason", "").startswith(f"line {line}: "))
+    for text, found in zip(EDGES, read[len(LINES) + len(FORMS):]):
+        trial.expect(f"{text!r}: {found} names no line", "scenario" in found or found.get("reason", "").startswith("line "))
     # (of what asks for very much nothing is compared)
     texts, read = zip(*(it for it in zip(texts, read, strict=True) if it[1].get("report") != "long"))
     with concurrent.futures.ThreadPoolExecutor(len(os.sched_getaffinity(0))) as pool:
