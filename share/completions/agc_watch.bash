@@ -5,7 +5,7 @@ _agc_watch() {
     case $COMP_CWORD:${COMP_WORDS[1]} in
         1:*) mapfile -t COMPREPLY < <(compgen -W "$commands help --help --version" -- "$2") ;;
         2:help) mapfile -t COMPREPLY < <(compgen -W "$commands" -- "$2") ;;
-        2:check) mapfile -t COMPREPLY < <(compgen -W '--script --progress --help' -- "$2") ;;
+        2:check) mapfile -t COMPREPLY < <(compgen -W '--script --help' -- "$2") ;;
         *:trace) mapfile -t COMPREPLY < <(compgen -W '--script --alarms --brief --from --to --csv --json --perfetto --progress --help' -- "$2") ;;
         *:explore) mapfile -t COMPREPLY < <(compgen -W '--states --alarm --through --peaks --bench --csv --help' -- "$2") ;;
         2:sweep) mapfile -t COMPREPLY < <(compgen -W 'steal sets seconds --and --find --csv --progress --help' -- "$2") ;;
@@ -13,7 +13,7 @@ _agc_watch() {
         2:peaks | 2:jobs) mapfile -t COMPREPLY < <(compgen -W '--csv --help' -- "$2") ;;
         2:bench | 2:compare | *:core | 2:play) mapfile -t COMPREPLY < <(compgen -W '--help' -- "$2") ;;
         *:picture) mapfile -t COMPREPLY < <(compgen -W '--time --width --from --to --progress --help' -- "$2") ;;
-        *:page) mapfile -t COMPREPLY < <(compgen -W '--workbench --progress --help' -- "$2") ;;
+        *:page) mapfile -t COMPREPLY < <(compgen -W '--workbench --help' -- "$2") ;;
     esac
 }
 complete -o default -F _agc_watch agc_watch

@@ -7,8 +7,8 @@ use std::fmt::Write;
 pub enum Piece<'a> {
     /// A text as it is.
     Text(&'a str),
-    /// The front of a text: at most sixty letters, none of which moves the cursor, and two points
-    /// where it has more.
+    /// The front of a text: at most sixty letters, none of which moves the cursor or turns the way
+    /// in which the line runs, and two points where it has more.
     Front(&'a str),
     /// A decimal number.
     Number(u64),
@@ -25,10 +25,19 @@ pub fn said<'a>(text: &'static str, first: Piece<'a>, second: Piece<'a>) -> Said
     (text, [first, second, second, second, second])
 }
 
+/// Whether a letter moves the cursor, ends a line, or turns the way in which it runs.
+fn moves(letter: char) -> bool {
+    matches!(
+        letter,
+        '\0'..='\u{1f}' | '\u{7f}'..='\u{9f}' | '\u{200e}' | '\u{200f}'
+            | '\u{2028}'..='\u{202e}' | '\u{2066}'..='\u{2069}'
+    )
+}
+
 /// Appends the front of a text.
 fn add_front(told: &mut String, text: &str) -> Result<(), AllocError> {
     for (k, letter) in text.chars().enumerate() {
-        if k >= 60 || letter.is_ascii_control() {
+        if k >= 60 || moves(letter) {
             return told.push_str("..");
         }
         told.push(letter)?;

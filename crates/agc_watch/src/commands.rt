@@ -13,6 +13,8 @@ const NAME: &str = "agc_watch";
 enum Form {
     /// An option that takes no value.
     Flag,
+    /// The same, of which the help says nothing: it changes nothing here.
+    Silent,
     /// An option with a value, which the help calls so.
     Option(&'static str),
     /// A word, here, which the help calls so, and whether the command must have it.
@@ -45,6 +47,9 @@ const PROGRESS: Argument = (
     Form::Flag,
     "Says on standard error, once a second, how far it has come",
 );
+
+/// The same where there is nothing to say.
+const SILENT: Argument = ("progress", Form::Silent, "");
 
 const CSV: Argument = ("csv", Form::Flag, "Writes comma-separated values");
 
@@ -122,7 +127,7 @@ const PAGE: Row = Row {
             Form::Option("FILE"),
             "Writes into this workbench, whatever AGC_WORKBENCH names",
         ),
-        PROGRESS,
+        SILENT,
     ],
 };
 
@@ -131,7 +136,7 @@ const CHECK: Row = Row {
     called: "agc_watch check",
     about: "Says what is wrong with an input, and in which line",
     example: "Example: agc_watch check examples/no-vac-area.toml",
-    arguments: &[FILE, ("script", Form::Flag, "Reads a script"), PROGRESS],
+    arguments: &[FILE, ("script", Form::Flag, "Reads a script"), SILENT],
 };
 
 const EXPLORE: Row = Row {
@@ -316,6 +321,7 @@ fn arg_of<'a>(alloc: Global, argument: &Argument) -> Arg<'a> {
     let arg = Arg::new(alloc, name).help(help);
     match form {
         Form::Flag => arg.long(name).action(ArgAction::SetTrue),
+        Form::Silent => arg.long(name).action(ArgAction::SetTrue).hide(true),
         Form::Option(value) => arg.long(name).value_name(value),
         Form::Word(value, is_required) => arg.value_name(value).required(is_required),
     }

@@ -81,9 +81,13 @@ fn not_one(alloc: Global, name: &str) -> Stop {
     said(alloc, 1, &[name, " is not an empty AGC workbench"])
 }
 
-/// The version behind this front of a text, up to the next blank: digits and dots.
+/// The version behind this front of a text, up to the next blank: digits and dots. None where the
+/// front comes again, as in two files that are joined.
 fn version_behind<'a>(front: &str, text: &'a str) -> Option<&'a str> {
-    let (version, _rest) = text.strip_prefix(front)?.split_once(' ')?;
+    let (version, rest) = text.strip_prefix(front)?.split_once(' ')?;
+    if rest.contains(front) {
+        return None;
+    }
     for byte in version.as_bytes() {
         if *byte != b'.' && !byte.is_ascii_digit() {
             return None;
