@@ -29,10 +29,10 @@ def hands(browser, folder):
         try_form(browser, trial)
         try_plan(browser, trial)
         trial.expect(f"{browser.shown()['broken']}", not browser.shown()["broken"])
-    for part in try_alarms, try_single, try_history, try_lines, try_exercise, try_sliders, try_twins, try_accounts, try_phased, try_refused, try_power, try_since, try_rows:
+    for part in try_alarms, try_history, try_lines, try_exercise, try_sliders, try_twins, try_accounts, try_phased, try_refused, try_power, try_since, try_rows:
         part(browser, trial)
     trial.expect(f"{browser.shown()['broken']}", not browser.shown()["broken"])
-    for part in (try_questions, try_editing, try_orders, try_restarts, try_axis, try_names, try_strip, try_panel, try_offers, try_bounds, try_forms, try_keys, try_meanings, try_files, try_examples, try_plans, try_beside,
+    for part in (try_single, try_questions, try_editing, try_orders, try_restarts, try_axis, try_names, try_strip, try_panel, try_offers, try_bounds, try_forms, try_keys, try_meanings, try_files, try_examples, try_plans, try_beside,
                  try_tries, try_looks, try_tops, try_asides, try_percent, try_endings):
         browser.show(path, "#new")
         part(browser, trial)
