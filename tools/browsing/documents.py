@@ -128,8 +128,8 @@ SHOWN_FIELDS = ('Seconds: 3, Title: A "title" \\, Seed: 7, Core sets: 8, Log\'s 
                 "Name: ALPHA, At: 02000, Bank: 00006, Actions: nothing;rouse 06000, Name: WORK, At: 05000, Cost, cs (or two: from, to): 9 12, "
                 "Then: prio 07;sleep 06000, Deadline, cs: 40, "
                 "Name: late, Group: 2, Phase: 3, Job: novac 15 05100 00007, Task: list 9 02000 00006, "
-                "Name: go, At: 1, After the event:, Asks for: tick;change, Every, cs: 7, Until, cs: 90, "
-                "Name:, At: 5, After the event: go, Asks for: tick, Every, cs:, Until, cs:")
+                "Name: go, At: 1, After the event, or alarm:, Asks for: tick;change, Every, cs: 7, Until, cs: 90, "
+                "Name:, At: 5, After the event, or alarm: go, Asks for: tick, Every, cs:, Until, cs:")
 
 
 def try_plans(browser, trial):

@@ -143,8 +143,8 @@ class Passing:
     def __init__(self, scenario, machine):
         self.scenario, self.machine = scenario, machine
         self.given, self.asked, self.time = {}, [], 0
-        self.alarms = {}
-        self.listed_events = counted(scenario.get("event", []), self.alarms)
+        self.came = {}
+        self.listed_events = counted(scenario.get("event", []), self.came)
         self.costs, self.needs, self.lot = {}, {}, scenario.get("seed")
         for job in scenario.get("job", []):
             self.costs.setdefault(int(job["at"], 8), (job["cost"], listed(job.get("then", "end"))))
@@ -152,9 +152,9 @@ class Passing:
     def ask(self, who, line):
         self.asked.append((self.time, who, line))
         began, alarm = self.machine.ask(line)
-        if alarm is not None and alarm not in self.alarms:
-            self.alarms[alarm] = self.time
-            self.listed_events = counted(self.scenario.get("event", []), self.alarms)
+        if alarm is not None and alarm not in self.came:
+            self.came[alarm] = self.time
+            self.listed_events = counted(self.scenario.get("event", []), self.came)
         awake = set() if began else self.machine.awake()
         self.given = {number: given for number, given in self.given.items() if number in awake}
 
