@@ -114,8 +114,10 @@ fn expected_value(key: Key) -> Said<'static> {
         Valued::OneOrMore(_form, low, high) => (ONE_OR_MORE, range(low, high, name)),
         Valued::Texts(_form, 0, _most) => said("expected an array of strings", NONE, NONE),
         Valued::Texts(_form, count, _most) => said(TEXTS, Piece::Number(count), NONE),
-        Valued::Tables(_level, _least, u64::MAX) => said(TABLES, name, NONE),
-        Valued::Tables(_level, _least, most) => said(FEW_TABLES, Piece::Number(most), name),
+        Valued::Tables(_least, u64::MAX) => said(TABLES, name, NONE),
+        Valued::Tables(_least, most) | Valued::Explored(_least, most) => {
+            said(FEW_TABLES, Piece::Number(most), name)
+        }
     }
 }
 
@@ -194,7 +196,10 @@ fn said_of_key<'a>(fault: KeyFault, text: &'a str) -> Said<'a> {
         KeyFault::Value(key) => return expected_value(key),
         KeyFault::Missing(key) => ("the key \"{}\" is missing", key.name()),
         KeyFault::Item(key) => match key.kind() {
-            Valued::Tables(..) | Valued::Integer(..) => ("expected a table", ""),
+            Valued::Tables(..) | Valued::Explored(..) | Valued::Integer(..) => (
+                "expected a table",
+                "",
+            ),
             _ => ("expected a string", ""),
         },
         KeyFault::Backward => ("\"from\" has to be below \"to\"", ""),

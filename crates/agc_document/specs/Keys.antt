@@ -9,7 +9,6 @@ use Rattle.agc_text.specs.Chain.{◌>>=◌}
 use Rattle.agc_document.specs.declared.key.Key.{Key as AnyKey}
 use Rattle.agc_document.specs.declared.key.Kind.{Kind}
 use Rattle.agc_document.specs.declared.key.Kind.TheVariants as kind
-use Rattle.agc_document.specs.declared.key_fault.Level.TheVariants as level
 use Rattle.agc_document.specs.declared.rows.TheConstants as key
 use Rattle.agc_document.specs.Rows.{name_of, kind_of, bounds_of}
 use Rattle.agc_document.specs.Texts.{RowTexts, EntryTexts, DeviceTexts, Settings, Lists, Texts}
@@ -124,7 +123,7 @@ entry d = table_of key.PHASE_KEYS d >>= entry_in
 
 -- the keys of a worker's table, by what the value of the key of the workers is
 abbrev pub worker_keys : Kind → List AnyKey
-worker_keys (kind.Tables level.Explored low high) = key.EXPLORED_WORKER_KEYS
+worker_keys (kind.Explored low high) = key.EXPLORED_WORKER_KEYS
 worker_keys _ = key.WORKER_KEYS
 
 -- the script of a worker

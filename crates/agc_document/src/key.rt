@@ -2,7 +2,6 @@
 ghost use Rattle.std.specs.Prelude.{◌≡◌};
 ghost use Rattle.agc_document.specs.Rows.{name_text, name_of, kind_of, bounds_of};
 
-use crate::key_fault::Level;
 use crate::values::{is_name, is_step, job_of, leaving_of, parse_kind, timed_of};
 use agc_text::{parse_action, parse_address, parse_line, parse_word};
 
@@ -87,8 +86,10 @@ pub enum Kind {
     OneOrMore(Form, u64, u64),
     /// An array of texts, as many as two bounds say.
     Texts(Form, u64, u64),
-    /// An array of tables of this level, as many as two bounds say.
-    Tables(Level, u64, u64),
+    /// An array of tables, as many as two bounds say.
+    Tables(u64, u64),
+    /// An array of workers that are explored, as many as two bounds say.
+    Explored(u64, u64),
 }
 
 /// A key of a table: what it is called, what its value is, and whether the table must have it.
@@ -190,7 +191,8 @@ impl Key {
             Kind::Flag | Kind::Text(_) => (0, ANY),
             Kind::OneOrMore(_form, low, high) => (low, high),
             Kind::Texts(_form, low, high) => (low, high),
-            Kind::Tables(_level, low, high) => (low, high),
+            Kind::Tables(low, high) => (low, high),
+            Kind::Explored(low, high) => (low, high),
         }
     }
 
@@ -203,7 +205,8 @@ impl Key {
             Kind::Text(form) => Some(form),
             Kind::OneOrMore(form, _low, _high) => Some(form),
             Kind::Texts(form, _low, _high) => Some(form),
-            Kind::Tables(_level, _low, _high) => None,
+            Kind::Tables(_low, _high) => None,
+            Kind::Explored(_low, _high) => None,
         }
     }
 }

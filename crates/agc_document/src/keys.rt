@@ -98,7 +98,7 @@ fn worker_keys(key: Key) -> (Level, &'static [Key])
     ensures { result.1.now ≡ worker_keys (kind_of key) }
 {
     match key.kind() {
-        Kind::Tables(Level::Explored, _low, _high) => (Level::Explored, &EXPLORED_WORKER_KEYS),
+        Kind::Explored(_low, _high) => (Level::Explored, &EXPLORED_WORKER_KEYS),
         _ => (Level::Worker, &WORKER_KEYS),
     }
 }

@@ -1,6 +1,5 @@
 //! The table of keys of a bench: each with what its value is, and whether it must be there.
 use crate::key::{ANY, Form, Key, KeyName, Kind};
-use crate::key_fault::Level;
 
 pub const SETS: Key = Key::Optional(KeyName::Sets, Kind::Integer(7, 8));
 
@@ -18,16 +17,16 @@ pub const POWER: Key = Key::Optional(KeyName::Power, Kind::Texts(Form::Word, 12,
 
 pub const SCRIPT: Key = Key::Optional(KeyName::Script, Kind::Texts(Form::Request, 0, ANY));
 
-pub const TASKS: Key = Key::Optional(KeyName::Task, Kind::Tables(Level::Task, 0, ANY));
+pub const TASKS: Key = Key::Optional(KeyName::Task, Kind::Tables(0, ANY));
 
-pub const PHASES: Key = Key::Optional(KeyName::Phase, Kind::Tables(Level::Phase, 0, ANY));
+pub const PHASES: Key = Key::Optional(KeyName::Phase, Kind::Tables(0, ANY));
 
-pub const WORKERS: Key = Key::Optional(KeyName::Worker, Kind::Tables(Level::Worker, 0, 32));
+pub const WORKERS: Key = Key::Optional(KeyName::Worker, Kind::Tables(0, 32));
 
-pub const DEVICES: Key = Key::Optional(KeyName::Device, Kind::Tables(Level::Device, 0, 32));
+pub const DEVICES: Key = Key::Optional(KeyName::Device, Kind::Tables(0, 32));
 
 /// The workers of a bench that is explored.
-pub const EXPLORED: Key = Key::Optional(KeyName::Worker, Kind::Tables(Level::Explored, 0, 32));
+pub const EXPLORED: Key = Key::Optional(KeyName::Worker, Kind::Explored(0, 32));
 
 /// The keys of a bench itself.
 pub const BENCH_KEYS: [Key; 12] = [

@@ -2,7 +2,7 @@
 use agc_document::rows::{
     ACTION, ALLOWANCE, AT, BANK, GROUP, JOB, KEY, LIMIT, LISTING, PHASE, POWER, RADAR, SETS,
 };
-use agc_document::{ANY, Form, Key, KeyName, Kind, Level, TimeName};
+use agc_document::{ANY, Form, Key, KeyName, Kind, TimeName};
 
 pub const SECONDS: Key = Key::Required(KeyName::Time(TimeName::Seconds), Kind::Integer(1, 86_400));
 
@@ -15,19 +15,13 @@ pub const SEED: Key = Key::Optional(
 
 pub const STEAL: Key = Key::Optional(KeyName::Time(TimeName::Steal), Kind::Integer(0, 100));
 
-pub const NAMED_TASKS: Key = Key::Optional(KeyName::Task, Kind::Tables(Level::NamedTask, 0, ANY));
+pub const NAMED_TASKS: Key = Key::Optional(KeyName::Task, Kind::Tables(0, ANY));
 
-pub const NAMED_PHASES: Key = Key::Optional(
-    KeyName::Phase,
-    Kind::Tables(Level::NamedPhase, 0, ANY),
-);
+pub const NAMED_PHASES: Key = Key::Optional(KeyName::Phase, Kind::Tables(0, ANY));
 
-pub const JOBS: Key = Key::Optional(KeyName::Job, Kind::Tables(Level::Job, 0, 100));
+pub const JOBS: Key = Key::Optional(KeyName::Job, Kind::Tables(0, 100));
 
-pub const EVENTS: Key = Key::Optional(
-    KeyName::Time(TimeName::Event),
-    Kind::Tables(Level::Event, 0, 1000),
-);
+pub const EVENTS: Key = Key::Optional(KeyName::Time(TimeName::Event), Kind::Tables(0, 1000));
 
 /// The keys of a scenario itself.
 pub const SCENARIO_KEYS: [Key; 14] = [
