@@ -5,6 +5,7 @@ use Rattle.std.proofs.lemmas.Grind.{common_steps}
 use Rattle.agc_plan.specs.declared.reply.Alarm.{Alarm}
 use Rattle.agc_plan.specs.declared.reply.Alarm.TheVariants.{A1201, A1202, A1203}
 use Rattle.agc_clock.specs.declared.alarms.Alarms.{Alarms}
+use Rattle.agc_clock.specs.declared.times.TheConstants.{LAST_TIME}
 use Rattle.agc_clock.specs.Alarms.{came, first_came, first_or, never, times_after}
 use Rattle.agc_clock.specs.Coming.{Coming, comes}
 
@@ -19,8 +20,8 @@ never_comes time = go (nat_le 1 time) refl where
 
 -- the alarm's own time is before all of its events
 later_alone : (times : Coming) (first time : ℕ) → time ≤ first → comes (times_after (Some first) times) time ≡ false
-later_alone times first time le = go (nat_le (first + max 1 times.at) 8640000) refl where
-  go : (b : Bool) → nat_le (first + max 1 times.at) 8640000 ≡ b → comes (times_after (Some first) times) time ≡ false
+later_alone times first time le = go (nat_le (first + max 1 times.at) LAST_TIME) refl where
+  go : (b : Bool) → nat_le (first + max 1 times.at) LAST_TIME ≡ b → comes (times_after (Some first) times) time ≡ false
   go true is =
       let more : 1 ≤ max 1 times.at = le-max_left 1 times.at in
       let late : nat_le (first + max 1 times.at) time ≡ false = not_yet time (first + max 1 times.at) (omega arith) in
@@ -53,15 +54,15 @@ moved_le first a b = go (nat_le a b) refl where
 least : (n : ℕ) → 1 ≤ n → max 1 n ≡ n
 least n some = grind (arith, common_steps)
 
-fits : (n : ℕ) → n ≤ 8640000 → min n 8640000 ≡ n
+fits : (n : ℕ) → n ≤ LAST_TIME → min n LAST_TIME ≡ n
 fits n le = grind (arith, common_steps)
 
-in_range : (n : ℕ) → n ≤ 8640000 → nat_le n 8640000 ≡ true
+in_range : (n : ℕ) → n ≤ LAST_TIME → nat_le n LAST_TIME ≡ true
 in_range n le = grind (arith, common_steps)
 
 moved_less : (first a b : ℕ) → (first + b) - (first + a) ≡ b - a
 moved_less first a b = omega arith
 
-pub as_long_after : (times : Coming) (first after : ℕ) → 1 ≤ times.at → 1 ≤ times.until → first + times.at ≤ 8640000 → first + times.until ≤ 8640000 → comes (times_after (Some first) times) (first + after) ≡ comes times after
+pub as_long_after : (times : Coming) (first after : ℕ) → 1 ≤ times.at → 1 ≤ times.until → first + times.at ≤ LAST_TIME → first + times.until ≤ LAST_TIME → comes (times_after (Some first) times) (first + after) ≡ comes times after
 as_long_after times first after at until room more =
     rw (least times.at at, least times.until until, in_range (first + times.at) room, fits (first + times.until) more, moved_le first times.at after, moved_le first after times.until, moved_less first times.at after) refl

@@ -3,6 +3,7 @@ use Rattle.std.specs.Prelude.{ℕ, ◌+◌, max, min, nat_le, if◌then◌else�
 use Rattle.agc_plan.specs.declared.reply.Alarm.{Alarm}
 use Rattle.agc_plan.specs.declared.reply.Alarm.TheVariants.{A1201, A1202, A1203}
 use Rattle.agc_clock.specs.declared.alarms.Alarms.{Alarms}
+use Rattle.agc_clock.specs.declared.times.TheConstants.{LAST_TIME}
 use Rattle.agc_clock.specs.Coming.{Coming}
 
 -- no alarm came
@@ -34,10 +35,10 @@ never = record { at = 1; every = 1; until = 0 }
 abbrev pub times_after : Option ℕ → Coming → Coming
 times_after None times = never
 times_after (Some first) times =
-    if nat_le (first + max 1 times.at) 8640000
+    if nat_le (first + max 1 times.at) LAST_TIME
     then record {
       at = first + max 1 times.at;
       every = times.every;
-      until = min (first + max 1 times.until) 8640000;
+      until = min (first + max 1 times.until) LAST_TIME;
     }
     else never

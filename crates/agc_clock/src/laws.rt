@@ -7,6 +7,7 @@ ghost use Rattle.agc_plan.specs.Jobs.{Jobs};
 ghost use Rattle.agc_plan.specs.declared.reply.Alarm.{Alarm};
 ghost use Rattle.agc_clock.specs.declared.alarms.Alarms.{Alarms};
 ghost use Rattle.agc_clock.specs.declared.counting.JobCost.{JobCost};
+ghost use Rattle.agc_clock.specs.declared.times.TheConstants.{LAST_TIME};
 ghost use Rattle.agc_clock.specs.declared.timetable.Cost.{Cost};
 ghost use Rattle.agc_clock.specs.declared.timetable.Stolen.{Stolen};
 ghost use Rattle.agc_clock.specs.Alarms.{came, first_came, times_after};
@@ -104,6 +105,6 @@ pub fn an_alarm_moves_nothing_that_came()
 /// after the start.
 pub fn an_event_comes_as_long_after_an_alarm()
     ensures { (times : Coming) (first after : ℕ) → 1 ≤ times.at → 1 ≤ times.until
-        → first + times.at ≤ 8640000 → first + times.until ≤ 8640000
+        → first + times.at ≤ LAST_TIME → first + times.until ≤ LAST_TIME
         → comes (times_after (Some first) times) (first + after) ≡ comes times after }
 {}

@@ -13,5 +13,5 @@ pub use alarms::Alarms;
 pub use asked::{Asked, Source};
 pub use clock::Clock;
 pub use counting::stolen_at;
-pub use times::Times;
+pub use times::{LAST_TIME, Times};
 pub use timetable::{Cost, Event, Step, Stolen, Then, Timetable, Timetables, step_of};

@@ -5,8 +5,8 @@ ghost use Rattle.agc_clock.specs.Coming.{comes};
 
 use std::marker::Model;
 
-/// The last centisecond of a day.
-const LAST_TIME: u32 = 8_640_000;
+/// The last centisecond of a day, which no timetable goes beyond. Source: profile.
+pub const LAST_TIME: u32 = 8_640_000;
 
 /// When an event comes, in centiseconds since the start: at a time, and again each so many
 /// centiseconds, up to a last time and at that too. Source: profile.
