@@ -69,16 +69,7 @@ impl Reply {
         match self {
             Reply::Alarmed(alarm) => Some(*alarm),
             Reply::Ticked(alarm) => *alarm,
-            Reply::Established(_) => None,
-            Reply::Left(_) => None,
-            Reply::Roused(_) => None,
-            Reply::NoSleeper => None,
-            Reply::NoJob => None,
-            Reply::Runs(_) => None,
-            Reply::Stored => None,
-            Reply::Listed => None,
-            Reply::Phased => None,
-            Reply::Restarted => None,
+            _ => None,
         }
     }
 
@@ -87,19 +78,8 @@ impl Reply {
         ensures { result ≡ begins self.now }
     {
         match self {
-            Reply::Alarmed(_) => true,
-            Reply::Ticked(Some(_)) => true,
             Reply::Restarted => true,
-            Reply::Ticked(None) => false,
-            Reply::Established(_) => false,
-            Reply::Left(_) => false,
-            Reply::Roused(_) => false,
-            Reply::NoSleeper => false,
-            Reply::NoJob => false,
-            Reply::Runs(_) => false,
-            Reply::Stored => false,
-            Reply::Listed => false,
-            Reply::Phased => false,
+            _ => self.alarm().is_some(),
         }
     }
 }
