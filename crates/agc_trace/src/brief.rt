@@ -112,14 +112,7 @@ fn quiet_reply(before: &Scene, event: &Event, reply: &Reply) -> Option<Quiet>
         Reply::Runs(number) => quiet_run(before, &event.request, number),
         Reply::NoSleeper => Some(Quiet::NoSleeper),
         Reply::NoJob => Some(Quiet::NoJob),
-        Reply::Established(_) => None,
-        Reply::Left(_) => None,
-        Reply::Roused(_) => None,
-        Reply::Stored => None,
-        Reply::Listed => None,
-        Reply::Phased => None,
-        Reply::Restarted => None,
-        Reply::Alarmed(_) => None,
+        _ => None,
     }
 }
 
