@@ -1,5 +1,6 @@
 -- What lots decide: how long a job computes that begins.
 use Rattle.std.proofs.Common.{◌≡◌, ℕ, zero, suc, ◌+◌, ◌-◌, ◌<◌, ◌≤◌, ◌==◌, ◌&&◌, nat_lt, min, Bool, true, false, cond, List, [], ◌++◌, length, length-set, replicate, Option, Some, None, get_or-set_same, append-nil, refl, sym, ap, ◌∙◌, inl, inr, arith}
+use Rattle.std.proofs.Math.Bool.{and-false}
 use Rattle.std.proofs.Math.Nat.{le_refl, min-le_left, min-le_right}
 use Rattle.std.proofs.lemmas.Bool.{cases_lt}
 use Rattle.std.proofs.lemmas.Grind.{common_steps}
@@ -29,15 +30,11 @@ drawn_least cost lot =
 not_drawn : (w : JobCost) (counts : Counts) → draws w counts ≡ false → begun w counts ≡ counts
 not_drawn w counts undrawn = rw undrawn refl
 
-never_both : (b : Bool) → b && false ≡ false
-never_both true = refl
-never_both false = refl
-
 pub plain_draws_nothing : (w : JobCost) (counts : Counts) → w.cost.spread ≡ 0 → begun w counts ≡ counts
 plain_draws_nothing w counts plain =
     let spread : spread_of w.cost ≡ 0 = (let least : spread_of w.cost ≤ w.cost.spread = min-le_left w.cost.spread (needs w.cost - 1) in omega arith) in
     let no : nat_lt 0 (spread_of w.cost) ≡ false = rw spread refl in
-    not_drawn w counts (ap (λ (b : Bool). (given_to w.number counts == 0) && b) no ∙ never_both (given_to w.number counts == 0))
+    not_drawn w counts (ap (λ (b : Bool). (given_to w.number counts == 0) && b) no ∙ and-false (given_to w.number counts == 0))
 
 -- where a job begins to count
 record IsBegun (w : JobCost) (counts start : Counts) : Type 0 where

@@ -1,20 +1,23 @@
 -- What is to come, and what is asked next.
 use Rattle.std.proofs.Common.{◌≡◌, ℕ, suc, ◌+◌, ◌-◌, ◌<◌, ◌≤◌, Bool, true, false, ◌&&◌, cond, List, [], ◌∷◌, ◌++◌, map, length, drop, replicate, Option, Some, None, slice_get, option_map, is_some, refl, sym, ap, subst, ◌∙◌, append_assoc, arith}
+use Rattle.std.proofs.Math.Bool.{and-false}
 use Rattle.std.proofs.lemmas.List.{length-map}
 use Rattle.std.proofs.lemmas.Option.{slice_get-map}
 use Rattle.agc_plan.specs.declared.request.Request.{Request}
 use Rattle.agc_plan.specs.declared.request.Request.TheVariants.{Change, Tick}
 use Rattle.agc_exec.specs.Seats.{named_of}
 use Rattle.agc_plan.specs.Jobs.{Jobs}
+use Rattle.agc_plan.specs.Steps.{is_tick}
 use Rattle.agc_clock.specs.declared.asked.Asked.{Asked}
 use Rattle.agc_clock.specs.Clocks.{AsksNext, Clocked, Next, events_left, look_left, next_of, time_after, to_come}
 use Rattle.agc_clock.specs.Coming.{comes}
 use Rattle.agc_clock.specs.Counts.{Counts}
 use Rattle.agc_clock.specs.Events.{Event}
-use Rattle.agc_clock.specs.Instants.{Instant, Asks, Looks, Works, asks_of, by_clock, by_event, centisecond, centiseconds, events_at, is_tick}
+use Rattle.agc_clock.specs.Instants.{Instant, Asks, Looks, Works, asks_of, by_clock, by_event, centisecond, centiseconds, events_at}
 use Rattle.agc_clock.specs.Reading.{AsksOrPasses, Passes, first_of}
 use Rattle.agc_clock.specs.Timetables.{Schedule, share_at}
-use Rattle.agc_clock.proofs.Scanning.{next_row, past_rows, no_row}
+use Rattle.agc_plan.proofs.Lists.{none_left}
+use Rattle.agc_clock.proofs.Scanning.{next_row, no_row}
 
 pub left_none : (time number : ℕ) (events : List Event) → events_left time number 0 events ≡ events_at time number events
 left_none time number [] = refl
@@ -25,11 +28,11 @@ over : (time number asked : ℕ) (event : Event) (b : Bool) → comes event.time
 over time number asked event true q none =
     let over : slice_get event.requests asked ≡ None = subst (λ (b : Bool). cond b (slice_get event.requests asked) None ≡ None) q none in
     let past : length event.requests ≤ asked = no_row event.requests asked over in
-    rw q (past_rows (map (λ request. Asks (by_event number request)) event.requests) asked (rw (length-map event.requests (λ request. Asks (by_event number request))) past))
-over time number asked event false q none = rw q (past_rows {X = Instant} [] asked (omega arith))
+    rw q (none_left (map (λ request. Asks (by_event number request)) event.requests) asked (rw (length-map event.requests (λ request. Asks (by_event number request))) past))
+over time number asked event false q none = rw q (none_left {X = Instant} [] asked (omega arith))
 
 pub events_pass : (time number asked : ℕ) (events : List Event) (o : Option Event) → slice_get events number ≡ o → first_of time asked o ≡ None → events_left time number asked (drop number events) ≡ events_left time (number + 1) 0 (drop (number + 1) events)
-events_pass time number asked events None is none = rw (past_rows events number (no_row events number is), past_rows events (number + 1) (let past : length events ≤ number = no_row events number is in omega arith)) refl
+events_pass time number asked events None is none = rw (none_left events number (no_row events number is), none_left events (number + 1) (let past : length events ≤ number = no_row events number is in omega arith)) refl
 events_pass time number asked events (Some event) is none =
     rw (next_row events number event is, over time number asked event (comes event.times time) refl none)
     (sym (left_none time (number + 1) (drop (number + 1) events)))
@@ -80,12 +83,8 @@ moved_events table old new before moved is =
     ∙ append_assoc before rest (behind table old.time old.looks old.left)
     ∙ ap (λ (l : List Instant). before ++ l) (ap (λ (l : List Instant). rest ++ l) (sym (same_behind table old new moved)) ∙ sym (to_come_is table new rest (ap (λ (t : ℕ). events_left t new.event new.asked (drop new.event table.events)) moved.time_is)))
 
-not_both : (b : Bool) → b && false ≡ false
-not_both true = refl
-not_both false = refl
-
 by_no_tick : (time number : ℕ) (request : Request) → time_after time (Some (by_event number request)) ≡ time
-by_no_tick time number request = ap (λ (b : Bool). cond b (time + 1) time) (not_both (is_tick request))
+by_no_tick time number request = ap (λ (b : Bool). cond b (time + 1) time) (and-false (is_tick request))
 
 pub event_asked : (table : Schedule) (jobs : Jobs) (old new : Clocked) (number : ℕ) (request : Request) → IsMoved old new → events_left old.time old.event old.asked (drop old.event table.events) ≡ Asks (by_event number request) ∷ events_left old.time new.event new.asked (drop new.event table.events) → AsksNext table jobs old (Some (by_event number request)) new
 event_asked table jobs old new number request moved is =
@@ -101,7 +100,7 @@ events_passed table jobs old new moved is = record {
 }
 
 pub nothing_left : (time number asked : ℕ) (events : List Event) → length events ≤ number → events_left time number asked (drop number events) ≡ []
-nothing_left time number asked events le = ap (events_left time number asked) (past_rows events number le)
+nothing_left time number asked events le = ap (events_left time number asked) (none_left events number le)
 
 -- where all events of the time were asked
 pub behind_is : (table : Schedule) (clock : Clocked) → length table.events ≤ clock.event → to_come table clock ≡ behind table clock.time clock.looks clock.left

@@ -3,6 +3,7 @@ use Rattle.std.proofs.Common.{◌≡◌, ℕ, zero, suc, ◌+◌, ◌-◌, ◌&&
 use Rattle.std.specs.List.{fold}
 use Rattle.std.proofs.lemmas.List.Sums.{fold_push}
 use Rattle.agc_plan.specs.Jobs.{Jobs}
+use Rattle.agc_plan.specs.Steps.{is_tick}
 use Rattle.agc_plan.specs.declared.request.Request.{Request}
 use Rattle.agc_plan.specs.declared.request.Request.TheVariants.{Change}
 use Rattle.agc_machine.specs.Machines.{Machined, after, after_all}
@@ -18,7 +19,7 @@ use Rattle.agc_clock.specs.Clocks.{Clocked, events_left, look_left, next_of, unl
 use Rattle.agc_clock.specs.Coming.{comes}
 use Rattle.agc_clock.specs.Counts.{Counts, Passed, begun, counted_on, given_to, passed, with_given, worked, worked_on, worker_of}
 use Rattle.agc_clock.specs.Events.{Event}
-use Rattle.agc_clock.specs.Instants.{Instant, Asks, Looks, Works, asks_of, by_clock, by_event, centisecond, centiseconds, events_at, instants, is_own_tick, is_tick}
+use Rattle.agc_clock.specs.Instants.{Instant, Asks, Looks, Works, asks_of, by_clock, by_event, centisecond, centiseconds, events_at, instants, is_own_tick}
 use Rattle.agc_clock.specs.Laws.{own_ticks, works_for, works_for_nobody, hundredths_given, hundredths_left}
 use Rattle.agc_clock.specs.Runs.{Serving, Standing, by_machine, goes_on, lived, lived_all, run, scenario_requests, standing_at}
 use Rattle.agc_clock.specs.Timetables.{Schedule, asked_of, needs, share_at, step_at}

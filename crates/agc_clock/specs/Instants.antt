@@ -4,6 +4,7 @@ use Rattle.std.specs.Prelude.{◌++◌, map, replicate}
 use Rattle.std.specs.List.{flat_map, range_with_len}
 use Rattle.agc_plan.specs.declared.request.Request.{Request}
 use Rattle.agc_plan.specs.declared.request.Request.TheVariants.{Tick}
+use Rattle.agc_plan.specs.Steps.{is_tick}
 use Rattle.agc_clock.specs.declared.asked.Asked.{Asked}
 use Rattle.agc_clock.specs.declared.asked.Source.{Source}
 use Rattle.agc_clock.specs.declared.asked.Source.TheVariants as source
@@ -25,15 +26,11 @@ by_clock request = record { request = request; source = source.Clock }
 abbrev pub by_event : ℕ → Request → Asked
 by_event number request = record { request = request; source = source.Event number }
 
--- a tick that the clock itself asks for
-abbrev pub is_tick : Request → Bool
-is_tick Tick = true
-is_tick request = false
-
 abbrev pub is_clock : Source → Bool
 is_clock source.Clock = true
 is_clock (source.Event number) = false
 
+-- a tick that the clock itself asks for
 abbrev pub is_own_tick : Asked → Bool
 is_own_tick asked = is_tick asked.request && is_clock asked.source
 

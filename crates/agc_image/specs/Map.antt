@@ -1,13 +1,10 @@
 -- Where the words of the tables are in a program's erasable memory.
-use Rattle.std.specs.Prelude.{◌≡◌, ◌⊎◌, ℕ, ◌+◌, ◌-◌, ◌*◌, ◌<◌, ◌≤◌, nat_lt, if◌then◌else◌, List}
+use Rattle.std.specs.Prelude.{◌≡◌, ℕ, ◌+◌, ◌-◌, ◌*◌, ◌<◌, ◌≤◌, nat_lt, if◌then◌else◌, List}
 use Rattle.std.specs.Prelude.{slice_index}
 use Rattle.agc_word.specs.Layout.{use_words, newjob, time3, lst1, lst2, phase_words, failreg}
 use Rattle.agc_word.specs.Layout.{last_set, set_size, others_size, area_size}
+use Rattle.agc_image.specs.Images.{IsSets}
 use Rattle.agc_image.specs.declared.map.AgcMap.{AgcMap}
-
--- seven core sets, or eight
-abbrev pub IsSets : ℕ → Type 0
-IsSets sets = (sets ≡ 7) ⊎ (sets ≡ 8)
 
 -- the model has this place, with as many core sets
 pub record HasPlace (map : AgcMap) (place : ℕ) : Type 0 where

@@ -1,7 +1,7 @@
 // What a caller's plan lacks.
 ghost use Rattle.std.specs.Prelude.{◌≡◌, IfNone, false};
 ghost use Rattle.agc_plan.specs.Plans.{has_task, task_twice, has_entry, phase_twice, group_wants};
-ghost use Rattle.agc_plan.specs.Plans.{wants_area, all_want};
+ghost use Rattle.agc_plan.specs.Plans.{all_want};
 ghost use Rattle.agc_plan.specs.Quiet.{BeginsQuietly};
 ghost use Rattle.agc_image.specs.Written.{rows_told, entries_told, written_told, job_told};
 ghost use Rattle.agc_image.specs.Lacking.{is_action, is_row, is_job, is_listed, is_entry};
@@ -11,7 +11,7 @@ use crate::asked::{AgcRequest, listing_of, start_of, task_of};
 use crate::fault::Fault;
 use crate::lent::{AgcPhaseEntry, AgcRow, job_of, listed_of};
 use crate::numbers::{address, group, phase};
-use agc_plan::JobStart;
+use agc_plan::wants_area;
 
 /// Whether a task has a row.
 fn has_row(rows: &[AgcRow], at: u32, bank: u32) -> bool
@@ -75,17 +75,6 @@ fn phase_twice(entries: &[AgcPhaseEntry]) -> bool
         }
     }
     false
-}
-
-/// Whether a job wants a VAC area.
-fn wants_area(job: Option<JobStart>) -> bool
-    ensures { result ≡ wants_area job }
-{
-    match job {
-        None => false,
-        Some(JobStart::Novac(_, _)) => false,
-        Some(JobStart::Findvac(_, _)) => true,
-    }
 }
 
 /// Whether an entry of the group names a job with an area.

@@ -7,11 +7,12 @@ use Rattle.std.specs.Option.{option_map_or}
 use Rattle.agc_plan.specs.declared.request.Request.{Request}
 use Rattle.agc_plan.specs.declared.request.Request.TheVariants.{Restart, Fresh}
 use Rattle.agc_plan.specs.declared.request.Task.{Task}
+use Rattle.agc_plan.specs.declared.reply.Alarm.{Alarm}
 use Rattle.agc_plan.specs.declared.reply.Reply.{Reply}
 use Rattle.agc_plan.specs.Base.{Base}
 use Rattle.agc_plan.specs.Plans.{Planned}
 use Rattle.agc_plan.specs.Seats.{placed}
-use Rattle.agc_plan.specs.Steps.{Plain, Stepped, step, reached, begins, fired_in}
+use Rattle.agc_plan.specs.Steps.{Plain, Stepped, step, reached, alarm_of, begins, fired_in}
 use Rattle.agc_phase.specs.Image.{IsLawfulBase}
 use Rattle.agc_machine.specs.declared.answer.Refusal.{Refusal}
 use Rattle.agc_machine.specs.declared.answer.Refusal.TheVariants.{Spent, LogFull}
@@ -72,6 +73,15 @@ result_of refusal reply = option_map_or Err refusal (Ok reply)
 -- what the request is answered
 abbrev pub answer_of : Machined → Request → Result Reply Refusal
 answer_of m asked = option_map_or Err (refusal_of m asked) (Ok (stepped m asked).reply)
+
+-- whether an era begins with an answer, and the alarm that it tells
+abbrev pub begins_with : Result Reply Refusal → Bool
+begins_with (Ok reply) = begins reply
+begins_with (Err refusal) = false
+
+abbrev pub alarm_with : Result Reply Refusal → Option Alarm
+alarm_with (Ok reply) = alarm_of reply
+alarm_with (Err refusal) = None
 
 -- the tasks that fire in it, in order: none where it is refused
 abbrev pub fired_of : Machined → Request → List Task

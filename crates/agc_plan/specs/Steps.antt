@@ -1,6 +1,6 @@
 -- The plain state, an action, a tick, a step, and what a log of requests reaches.
-use Rattle.std.specs.Prelude.{ℕ, zero, suc, Bool, true, if◌then◌else◌, List, [], ◌∷◌, ◌++◌, Option}
-use Rattle.std.specs.Prelude.{Some, None, length, slice_index_or, ◌-◌}
+use Rattle.std.specs.Prelude.{ℕ, zero, suc, Bool, true, false, if◌then◌else◌, List, [], ◌∷◌, ◌++◌}
+use Rattle.std.specs.Prelude.{Option, Some, None, length, slice_index_or, ◌-◌}
 use Rattle.std.specs.List.{fold}
 use Rattle.std.specs.Option.{is_some, option_map_or}
 use Rattle.agc_plan.specs.declared.reply.Alarm.{Alarm}
@@ -31,6 +31,11 @@ pub record Plain : Type 0 where
 pub record Acted : Type 0 where
   pub work : Work
   pub reply : Reply
+
+-- whether a centisecond passes
+abbrev pub is_tick : Request → Bool
+is_tick request.Tick = true
+is_tick asked = false
 
 -- what was done to the jobs
 abbrev pub with_jobs : Outcome → Work → Acted

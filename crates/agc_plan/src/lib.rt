@@ -20,7 +20,7 @@ pub use fired::Fired;
 pub use line::Line;
 pub use memory::NoMemory;
 pub use number::{Address, Delay, Group, JobNo, Limit, Phase, Place, Priority};
-pub use plan::{Plan, PlanFault};
+pub use plan::{Plan, PlanFault, wants_area};
 pub use plans::Plans;
 pub use pulse::{action_request, pulse_request};
 pub use reply::{Alarm, Code, Reply};

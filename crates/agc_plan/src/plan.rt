@@ -106,7 +106,7 @@ fn phase_twice(entries: &[PhaseEntry]) -> bool
 }
 
 /// Whether a job wants a VAC area.
-fn wants_area(job: Option<JobStart>) -> bool
+pub fn wants_area(job: Option<JobStart>) -> bool
     ensures { result ≡ wants_area job }
 {
     match job {

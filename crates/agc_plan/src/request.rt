@@ -1,5 +1,6 @@
 ghost use Rattle.std.specs.Prelude.{◌≡◌, ◌<◌, ◌↔◌, IsSome, IfSome};
 ghost use Rattle.agc_plan.specs.Ranges.{IsEntry, IsRequest, IsTask};
+ghost use Rattle.agc_plan.specs.Steps.{is_tick};
 
 use crate::number::{Address, Delay, Group, Phase, Place, Priority};
 use agc_word::Word;
@@ -101,6 +102,13 @@ fn task_is_in_range(task: Task)
 }
 
 impl Request {
+    /// Whether a centisecond passes.
+    pub fn is_tick(&self) -> bool
+        ensures { result ≡ is_tick self.now }
+    {
+        *self == Request::Tick
+    }
+
     /// A law: the numbers of a request are in the ranges of their types.
     pub fn is_in_range(&self)
         ensures { IsRequest self.now }

@@ -5,13 +5,14 @@ use Rattle.std.specs.Result.{is_ok}
 use Rattle.agc_plan.specs.declared.reply.Reply.{Reply}
 use Rattle.agc_plan.specs.declared.request.Request.{Request}
 use Rattle.agc_plan.specs.declared.request.Task.{Task}
+use Rattle.agc_plan.specs.Steps.{is_tick}
 use Rattle.agc_machine.specs.declared.answer.Refusal.{Refusal}
-use Rattle.agc_machine.specs.Machines.{Machined, after, answer_of, fired_of}
+use Rattle.agc_machine.specs.Machines.{Machined, after, answer_of, begins_with, fired_of}
 use Rattle.agc_scene.specs.declared.event.Event.{Event}
 use Rattle.agc_scene.specs.declared.listings.Listing.{Listing}
 use Rattle.agc_scene.specs.declared.origins.Origin.{Origin}
 use Rattle.agc_scene.specs.declared.origins.Since.{Since}
-use Rattle.agc_scene.specs.Events.{Watching, begins_with, counted, event_of, is_tick, one_more, raised_at, scene_at, scene_now, since}
+use Rattle.agc_scene.specs.Events.{Watching, counted, event_of, one_more, raised_at, scene_at, scene_now, since}
 use Rattle.agc_scene.specs.Origins.{left_by, listed, origins_after}
 use Rattle.agc_scene.specs.Scenes.{Scene}
 

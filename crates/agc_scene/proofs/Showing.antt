@@ -11,7 +11,7 @@ use Rattle.agc_machine.specs.declared.answer.Refusal.{Refusal}
 use Rattle.agc_machine.specs.Machines.{Machined, refusal_of, plain_of, places_of, starts_over}
 use Rattle.agc_machine.specs.Moments.{Acting, IsMoment}
 use Rattle.agc_scene.specs.Events.{leaves, raised_at, scene_at, scene_now}
-use Rattle.agc_scene.specs.Reading.{IsReadable, IsShown, scene_in}
+use Rattle.agc_scene.specs.Reading.{IsShown, scene_in}
 use Rattle.agc_scene.specs.Scenes.{Scene, scene_of}
 use Rattle.agc_scene.proofs.Scenes.{scene_is}
 
@@ -37,19 +37,13 @@ raised : (plan : Planned) (asked : Request) (plain : Plain) (refusal : Option Re
 raised plan asked plain None e = refl
 raised plan asked plain (Some refusal) e = absurd (let no : true ≡ false = e in cc)
 
-readable : (m : Machined) (asked : Request) (moment : Acting) → IsMoment m asked moment → IsReadable moment.words
-readable m asked moment is = record { size = is.tables.size; cores = is.tables.cores; waits = is.tables.waits; phases = is.tables.phases }
-
 -- a restart's moment is the state as it is
 pub scene_now_is : (m : Machined) (moment : Acting) → IsMoment m request.Restart moment → scene_in moment.words ≡ scene_now m
 scene_now_is m moment is = scene_is moment.words (plain_of m) (places_of m) is.tables.cores is.stands is.placed
 
-pub now_readable : (m : Machined) (moment : Acting) → IsMoment m request.Restart moment → IsReadable moment.words
-now_readable m moment is = readable m request.Restart moment is
-
 pub shown_left : (m : Machined) (asked : Request) (moment : Acting) → leaves m asked ≡ true → IsMoment m request.Restart moment → IsShown m asked moment
 shown_left m asked moment e is = record {
-  words = readable m request.Restart moment is;
+  words = is.tables;
   scene = scene_now_is m moment is
       ∙ ap (λ (b : Bool). if b then scene_now m else scene_of (acted m.plan asked (plain_of m)).plain (places_acted m.plan asked (plain_of m) (places_of m))) (sym e);
   raised = is.number ∙ none_raised m.plan asked (plain_of m) (refusal_of m asked) e;
@@ -57,7 +51,7 @@ shown_left m asked moment e is = record {
 
 pub shown_acted : (m : Machined) (asked : Request) (moment : Acting) → leaves m asked ≡ false → IsMoment m asked moment → IsShown m asked moment
 shown_acted m asked moment e is = record {
-  words = readable m asked moment is;
+  words = is.tables;
   scene = scene_is moment.words (acted m.plan asked (plain_of m)).plain (places_acted m.plan asked (plain_of m) (places_of m)) is.tables.cores is.stands is.placed
       ∙ ap (λ (b : Bool). if b then scene_now m else scene_of (acted m.plan asked (plain_of m)).plain (places_acted m.plan asked (plain_of m) (places_of m))) (sym e);
   raised = is.number ∙ raised m.plan asked (plain_of m) (refusal_of m asked) e;

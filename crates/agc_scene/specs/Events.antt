@@ -1,17 +1,13 @@
 -- A machine that is watched, and the event of each request.
 use Rattle.std.specs.Prelude.{ℕ, ◌+◌, ◌==◌, ◌&&◌, ◌||◌, Bool, true, false, if◌then◌else◌, List, []}
-use Rattle.std.specs.Prelude.{length, Option, Some, None, Result, Ok, Err, is_some}
+use Rattle.std.specs.Prelude.{length, Some, None, is_some}
 use Rattle.std.specs.Option.{option_map_or}
 use Rattle.std.specs.Result.{is_ok}
-use Rattle.agc_plan.specs.declared.reply.Reply.{Reply}
 use Rattle.agc_plan.specs.declared.request.Request.{Request}
-use Rattle.agc_plan.specs.declared.request.Request.TheVariants.{Tick}
 use Rattle.agc_plan.specs.Seats.{places_acted}
-use Rattle.agc_plan.specs.declared.reply.Alarm.{Alarm}
-use Rattle.agc_plan.specs.Steps.{raised_in, acted, alarm_of, begins}
-use Rattle.agc_machine.specs.declared.answer.Refusal.{Refusal}
-use Rattle.agc_machine.specs.Machines.{Machined, after, answer_of, fired_of, refusal_of}
-use Rattle.agc_machine.specs.Machines.{plain_of, places_of, starts_over}
+use Rattle.agc_plan.specs.Steps.{raised_in, acted, is_tick}
+use Rattle.agc_machine.specs.Machines.{Machined, after, answer_of, begins_with, fired_of}
+use Rattle.agc_machine.specs.Machines.{plain_of, places_of, refusal_of, starts_over}
 use Rattle.agc_scene.specs.declared.event.Event.{Event}
 use Rattle.agc_scene.specs.declared.listings.Listing.{Listing}
 use Rattle.agc_scene.specs.declared.origins.Origin.{Origin}
@@ -38,20 +34,6 @@ scene_at m asked = if leaves m asked then scene_now m
 abbrev pub raised_at : Machined → Request → ℕ
 raised_at m asked =
     option_map_or (λ refusal. 0) (refusal_of m asked) (raised_in m.plan asked (plain_of m))
-
--- whether an era begins with an answer
-abbrev pub begins_with : Result Reply Refusal → Bool
-begins_with (Ok reply) = begins reply
-begins_with (Err refusal) = false
-
--- the alarm that an answer tells
-abbrev pub alarm_told : Result Reply Refusal → Option Alarm
-alarm_told (Ok reply) = alarm_of reply
-alarm_told (Err refusal) = None
-
-abbrev pub is_tick : Request → Bool
-is_tick Tick = true
-is_tick asked = false
 
 -- one more, up to the greatest number of 64 bits
 abbrev pub one_more : ℕ → ℕ

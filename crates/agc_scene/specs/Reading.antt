@@ -1,14 +1,11 @@
 -- For the proofs: a scene, as it is read from the words.
 use Rattle.std.specs.Prelude.{◌≡◌, ℕ, ◌==◌, Bool, false, if◌then◌else◌, List, Option, Some, None}
-use Rattle.agc_word.specs.Layout.{IsSized}
 use Rattle.agc_plan.specs.declared.request.Request.{Request}
 use Rattle.agc_exec.specs.Image.{jobs_in, runner_in}
-use Rattle.agc_exec.specs.Image as cores
 use Rattle.agc_exec.specs.Seats.{named_of, seats_in}
 use Rattle.agc_wait.specs.Table.{waits_of}
-use Rattle.agc_wait.specs.Table as table
 use Rattle.agc_phase.specs.Image.{base_of}
-use Rattle.agc_phase.specs.Image as phases
+use Rattle.agc_machine.specs.Image.{AreLawful}
 use Rattle.agc_machine.specs.Machines.{Machined}
 use Rattle.agc_machine.specs.Moments.{Acting}
 use Rattle.agc_scene.specs.declared.listings.Listing.{Listing}
@@ -25,16 +22,9 @@ scene_in words = record {
   base = base_of words;
 }
 
--- each table's words are lawful
-pub record IsReadable (words : List ℕ) : Type 0 where
-  pub size : IsSized words
-  pub cores : cores.IsLawfulWords words
-  pub waits : table.IsLawfulTable words
-  pub phases : phases.IsLawfulTable words
-
 -- this moment is shown of a request
 pub record IsShown (m : Machined) (asked : Request) (moment : Acting) : Type 0 where
-  pub words : IsReadable moment.words
+  pub words : AreLawful moment.words
   pub scene : scene_in moment.words ≡ scene_at m asked
   pub raised : moment.number ≡ raised_at m asked
 

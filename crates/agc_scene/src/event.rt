@@ -1,6 +1,6 @@
 // One request, and all that is shown of it.
 ghost use Rattle.std.specs.Prelude.{◌≡◌};
-ghost use Rattle.agc_scene.specs.Events.{alarm_told};
+ghost use Rattle.agc_machine.specs.Machines.{alarm_with, begins_with};
 
 use crate::listings::Listings;
 use crate::origins::Origins;
@@ -34,15 +34,33 @@ pub struct Event {
     pub tasks: Listings,
 }
 
+/// Whether an era begins with an answer. Source: profile.
+pub fn begins_with(answer: &Result<Reply, Refusal>) -> bool
+    ensures { result ≡ begins_with answer.now }
+{
+    match answer {
+        Ok(reply) => reply.begins(),
+        Err(_refusal) => false,
+    }
+}
+
+/// The alarm that an answer tells, if one came. Source: the listings' EXECUTIVE and WAITLIST
+/// sections.
+pub fn alarm_with(answer: &Result<Reply, Refusal>) -> Option<Alarm>
+    ensures { result ≡ alarm_with answer.now }
+{
+    match answer {
+        Ok(reply) => reply.alarm(),
+        Err(_refusal) => None,
+    }
+}
+
 impl Event {
     /// The alarm that it raised, or that the action of a task raised in it, if one came. Source:
     /// the listings' EXECUTIVE and WAITLIST sections.
     pub fn alarm(&self) -> Option<Alarm>
-        ensures { result ≡ alarm_told self.now.answer }
+        ensures { result ≡ alarm_with self.now.answer }
     {
-        match &self.answer {
-            Ok(reply) => reply.alarm(),
-            Err(_refusal) => None,
-        }
+        alarm_with(&self.answer)
     }
 }

@@ -8,7 +8,7 @@ mod origins;
 mod scene;
 mod watched;
 
-pub use event::Event;
+pub use event::{Event, alarm_with, begins_with};
 pub use listings::{Listing, Listings};
 pub use origins::{Origin, Origins, Since};
 pub use scene::Scene;

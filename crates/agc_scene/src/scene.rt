@@ -2,7 +2,8 @@
 ghost use Rattle.std.specs.Prelude.{◌≡◌, ◌≤◌, length};
 ghost use Rattle.agc_word.specs.Layout.{IsSized};
 ghost use Rattle.agc_exec.specs.Seats.{seats_in};
-ghost use Rattle.agc_scene.specs.Reading.{IsReadable, scene_in};
+ghost use Rattle.agc_machine.specs.Image.{AreLawful};
+ghost use Rattle.agc_scene.specs.Reading.{scene_in};
 ghost use Rattle.agc_scene.specs.Scenes.{owner_of};
 
 use agc_exec::{Seat, job_at, named_job, running};
@@ -52,7 +53,7 @@ fn seats_of(e: &Erasable) -> ArrayVec<Option<Seat>, 8>
 
 /// What is shown of these words.
 pub(crate) fn scene_of(e: &Erasable) -> Scene
-    requires { IsReadable e.now }
+    requires { AreLawful e.now }
     ensures { result ≡ scene_in e.now }
 {
     Scene {

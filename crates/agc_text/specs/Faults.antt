@@ -7,7 +7,8 @@ use Rattle.agc_text.specs.declared.fault.ScriptFault.TheVariants.{NoMemory, Line
 use Rattle.agc_text.specs.declared.fault.ReadFault.{ReadFault}
 use Rattle.agc_text.specs.declared.fault.ReadFault.TheVariants.{NoMemory as NoMemoryToRead, Input}
 use Rattle.agc_text.specs.declared.fault.ReadFault.TheVariants.{TooLong, NotText}
-use Rattle.agc_text.specs.Input.{ReadsAll, most_bytes, most_at_once}
+use Rattle.agc_text.specs.declared.input.TheConstants.{MOST_BYTES}
+use Rattle.agc_text.specs.Input.{ReadsAll, most_at_once}
 use Rattle.agc_text.specs.Script.{IsFirstRefused}
 
 -- why these lines are no script, want of memory aside
@@ -19,8 +20,8 @@ RefusesScript ls (Line n) = IsFirstRefused ls n
 -- brought, at NotText all were read and are no text
 abbrev pub RefusesInput : Option (List ℕ) → Option (List ℕ) → ReadFault → Type 0
 RefusesInput old new NoMemoryToRead =
-    (bytes : List ℕ) × Consumes old new bytes × (length bytes ≤ most_bytes)
-RefusesInput old new Input = (bytes : List ℕ) × Consumes old new bytes × (length bytes ≤ most_bytes)
+    (bytes : List ℕ) × Consumes old new bytes × (length bytes ≤ MOST_BYTES)
+RefusesInput old new Input = (bytes : List ℕ) × Consumes old new bytes × (length bytes ≤ MOST_BYTES)
 RefusesInput old new TooLong = (bytes : List ℕ) × Consumes old new bytes
-    × (most_bytes < length bytes) × (length bytes ≤ most_bytes + most_at_once)
+    × (MOST_BYTES < length bytes) × (length bytes ≤ MOST_BYTES + most_at_once)
 RefusesInput old new NotText = (bytes : List ℕ) × ReadsAll old new bytes × (IsUtf8 bytes → ⊥)

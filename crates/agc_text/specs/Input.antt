@@ -1,10 +1,7 @@
 -- What was read of a reader.
 use Rattle.std.specs.Prelude.{◌≤◌, List, ℕ, Option, length}
 use Rattle.std.specs.Io.KnownBytes.{Consumes, IsAtEnd}
-
--- how many bytes an input may have
-abbrev pub most_bytes : ℕ
-most_bytes = 1048576
+use Rattle.agc_text.specs.declared.input.TheConstants.{MOST_BYTES}
 
 -- how many bytes one read may bring
 abbrev pub most_at_once : ℕ
@@ -14,4 +11,4 @@ most_at_once = 4096
 pub record ReadsAll (old new : Option (List ℕ)) (bytes : List ℕ) : Type 0 where
   pub read : Consumes old new bytes
   pub end : IsAtEnd new
-  pub fits : length bytes ≤ most_bytes
+  pub fits : length bytes ≤ MOST_BYTES

@@ -3,7 +3,7 @@ ghost use Rattle.std.specs.Prelude.{MatchResult};
 ghost use Rattle.std.specs.Str.{IsUtf8};
 ghost use Rattle.std.specs.Io.{ReadsAtMost};
 ghost use Rattle.std.specs.Io.KnownBytes.{Consumes, IsAtEnd, ReadConsumes};
-ghost use Rattle.agc_text.specs.Input.{ReadsAll, most_bytes};
+ghost use Rattle.agc_text.specs.Input.{ReadsAll};
 ghost use Rattle.agc_text.specs.Faults.{RefusesInput};
 
 use crate::fault::ReadFault;
@@ -11,7 +11,8 @@ use std::alloc::Global;
 use std::io;
 use std::io::Read;
 
-const MOST_BYTES: usize = 1_048_576;
+/// How many bytes an input may have. Source: profile.
+pub const MOST_BYTES: usize = 1_048_576;
 
 /// Bytes as a text.
 fn text_of(bytes: Vec<u8>) -> Result<String, ReadFault>
@@ -53,7 +54,7 @@ fn read_bytes<R: Read>(
     reads: &mut Reads,
 ) -> Result<Vec<u8>, ReadFault>
     requires { reads.old.made ≡ 0 }
-    ensures few { reads.new.made ≤ most_bytes + 1 }
+    ensures few { reads.new.made ≤ MOST_BYTES + 1 }
     ensures whole { IfOk result (λ v.
         ReadsAll (R.remaining reader.old) (R.remaining reader.new) v.items) }
     ensures refused { IfErr result (RefusesInput (R.remaining reader.old)

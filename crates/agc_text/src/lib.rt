@@ -19,7 +19,7 @@ mod writing;
 
 pub use draft::Draft;
 pub use fault::{Output, ReadFault, ScriptFault};
-pub use input::read_all;
+pub use input::{MOST_BYTES, read_all};
 pub use line::{parse_action, parse_line};
 pub use numbers::{parse_address, parse_word};
 pub use numerals::{add_number, add_octal_digit, add_priority, add_word};

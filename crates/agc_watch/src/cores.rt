@@ -1,6 +1,7 @@
 //! What the memory of a real computer says, by a map of its addresses.
 ghost use Rattle.std.specs.Prelude.{◌≡◌, ◌⊎◌, ◌+◌, ◌*◌, ◌<◌, length};
-ghost use Rattle.agc_image.specs.Map.{HasPlace, HasSet, IsSets, IsWithin};
+ghost use Rattle.agc_image.specs.Images.{IsSets};
+ghost use Rattle.agc_image.specs.Map.{HasPlace, HasSet, IsWithin};
 
 use crate::files::{read_file, unread};
 use crate::program::Console;

@@ -2,6 +2,7 @@
 use Rattle.std.specs.Prelude.{ℕ, ◌+◌, ◌-◌, ◌==◌, nat_lt, nat_le, ◌&&◌, ◌||◌, not, Bool, true}
 use Rattle.std.specs.Prelude.{false, if◌then◌else◌, List, [], ◌∷◌, length, Option, Some, None}
 use Rattle.std.specs.Option.{is_some, option_and_then}
+use Rattle.agc_clock.specs.declared.times.TheConstants.{LAST_TIME}
 use Rattle.agc_clock.specs.declared.timetable.Stolen.{Stolen}
 use Rattle.agc_clock.specs.Timetables.{comes_once, overlap, step_of}
 use Rattle.agc_image.specs.declared.asked.AgcRequest.{AgcRequest}
@@ -13,10 +14,7 @@ use Rattle.libagc.specs.declared.timetable.AgcCost.{AgcCost}
 use Rattle.libagc.specs.declared.timetable.AgcEvent.{AgcEvent}
 use Rattle.libagc.specs.LentTimes.{asked_by}
 
--- the last centisecond of the longest scenario, and the greatest cost in hundredths
-abbrev pub last_time : ℕ
-last_time = 8640000
-
+-- the greatest cost, in hundredths of a centisecond
 abbrev pub most_cost : ℕ
 most_cost = 100000000
 
@@ -48,7 +46,7 @@ is_cost requests row =
 -- alarm
 abbrev pub is_coming : AgcEvent → Bool
 is_coming row =
-    nat_le row.at last_time && (((row.every == 0) || nat_le row.until last_time)
+    nat_le row.at LAST_TIME && (((row.every == 0) || nat_le row.until LAST_TIME)
     && ((row.after == 0) || (nat_le 0o1201 row.after && nat_le row.after 0o1203)))
 
 -- an event asks for one to sixteen of so many requests

@@ -4,7 +4,8 @@ use Rattle.std.specs.Prelude.{replicate}
 use Rattle.agc_image.specs.declared.map.AgcMap.{AgcMap}
 use Rattle.agc_image.specs.declared.jobs.Job.{Job}
 use Rattle.agc_image.specs.declared.tasks.Waiting.{Waiting}
-use Rattle.agc_image.specs.Map.{IsSets, IsWithin, address_in, word_at}
+use Rattle.agc_image.specs.Images.{IsSets}
+use Rattle.agc_image.specs.Map.{IsWithin, address_in, word_at}
 use Rattle.agc_image.specs.Rules.{rule_at}
 use Rattle.libagc.specs.declared.reading.AgcCell.{AgcCell}
 use Rattle.libagc.specs.declared.tables.AgcJob.{AgcJob}

@@ -7,11 +7,8 @@ ghost use Rattle.libagc.specs.LateTimes.{are_steals, are_costs, are_events, are_
 ghost use Rattle.libagc.specs.LateTimes.{meets, steals_twice, has_cost, costs_twice, times_lack};
 
 use crate::timetable::{AgcCost, AgcEvent, asked_by};
-use agc_clock::{Stolen, step_of};
+use agc_clock::{LAST_TIME, Stolen, step_of};
 use agc_image::{AgcRequest, Fault, address, request_of};
-
-/// The last centisecond of the longest scenario.
-const LAST_TIME: u32 = 8640000;
 
 /// The greatest cost, in hundredths of a centisecond.
 const MOST_COST: u32 = 100000000;
