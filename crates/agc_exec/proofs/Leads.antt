@@ -1,6 +1,6 @@
 -- The rank of the best job, found one set at a time.
 use Rattle.std.proofs.Common.{◌≡◌, ◌⊎◌, ℕ, ◌+◌, ◌*◌, ◌/◌, ◌%◌, ◌<◌, ◌≤◌, nat_lt, cond, Bool, true, false, List, Option, None, length, slice_index, slice_index_or, refl, ap, sym, ◌∙◌, inl, inr, arith}
-use Rattle.std.proofs.lemmas.Bool.{cases_eq, cases_lt}
+use Rattle.std.proofs.lemmas.Bool.{cases_Bool, cases_eq, cases_lt}
 use Rattle.std.proofs.lemmas.Option.{same_Some}
 use Rattle.agc_word.specs.Layout.{sets_in, set_place}
 use Rattle.agc_exec.specs.HeldJob.{HeldJob}
@@ -39,15 +39,11 @@ awake_at words k lt low = at_words words k lt ∙ held_by-awake (block_in words 
 pub rank-none : (sets : List (Option HeldJob)) → IsBestRank sets 0 0
 rank-none sets = record { nobody = λ z j s lt at. absurd (omega arith); found = λ lt. absurd (omega arith) }
 
-bool_cases : (b : Bool) → (b ≡ true) ⊎ (b ≡ false)
-bool_cases true = inl refl
-bool_cases false = inr refl
-
 -- one more set, whose job, if it is awake, yields to the best so far
 pub rank-stays : (sets : List (Option HeldJob)) (n rank : ℕ) → IsBestRank sets n rank → ((s : HeldJob) → Holds sets n s → s.asleep ≡ false → 0 < rank) → ((b s : HeldJob) → Holds sets (rank % 8) b → b.asleep ≡ false → rank / 8 ≡ b.priority + 1 → Holds sets n s → s.asleep ≡ false → Yields s b) → IsBestRank sets (n + 1) rank
 rank-stays sets n rank is some yields = record {
   nobody = λ z j s lt at. elim (cases_eq j n) [
-    | inl same ↦ elim (bool_cases s.asleep) [ inl asleep ↦ asleep | inr awake ↦ absurd (let positive : 0 < rank = some s (ap (λ i. slice_index_or sets i None) (sym same) ∙ at) awake in omega arith) ]
+    | inl same ↦ elim (cases_Bool s.asleep) [ inl asleep ↦ asleep | inr awake ↦ absurd (let positive : 0 < rank = some s (ap (λ i. slice_index_or sets i None) (sym same) ∙ at) awake in omega arith) ]
     | inr ne ↦ is.nobody z j s (omega arith) at
   ];
   found = λ positive.

@@ -12,7 +12,7 @@ use Rattle.agc_exec.specs.Stages.{newjob_of}
 use Rattle.agc_exec.specs.Sets.{Holds, IsStanding, awake_in, running_in, slots_of}
 use Rattle.agc_exec.specs.Stages.{jobs_of}
 use Rattle.agc_exec.specs.Stages.{BestBelow}
-use Rattle.agc_exec.proofs.Bests.{best_ready}
+use Rattle.agc_exec.proofs.Bests.{best_ready, running_in-awake}
 use Rattle.agc_exec.proofs.Decoding.{length-sets}
 use Rattle.agc_exec.proofs.Finishing.{newjob_of-best}
 use Rattle.agc_exec.proofs.Named.{best_exists}
@@ -29,11 +29,6 @@ front_runs (Some r ∷ sets) n e = go r.asleep refl where
   go : (a : Bool) → r.asleep ≡ a → (s : HeldJob) × Holds (Some r ∷ sets) 0 s × (s.asleep ≡ false)
   go true q = absurd (let no : None ≡ Some n = ap (λ (b : Bool). cond b None (Some r.number)) (sym q) ∙ e in cc)
   go false q = (r, refl, q)
-
-running_front : (sets : List (Option HeldJob)) (job : HeldJob) → Holds sets 0 job → job.asleep ≡ false → running_in sets ≡ Some job.number
-running_front [] job here awake = absurd (cc)
-running_front (None ∷ sets) job here awake = absurd (cc)
-running_front (Some r ∷ sets) job here awake = ap awake_in here ∙ ap (λ (b : Bool). cond b None (Some job.number)) awake
 
 -- NEWJOB names nobody, or the job of a set behind set 0
 abbrev Says : List (Option HeldJob) → Type 0
@@ -52,7 +47,7 @@ says sets job standing here awake =
     go (Some b) h =
         let is : newjob_of sets ≡ cond (nat_lt job.priority b.1.priority) (12 * b.0) 0 = newjob_of-best sets b.0 b.1 job standing.lawful h here in
         let who : named_of (jobs_of sets) ≡ cond (nat_lt job.priority b.1.priority) (Some b.1.number) None =
-        ap (λ (n : Option ℕ). named_by n (slots_of sets)) (running_front sets job here awake)
+        ap (λ (n : Option ℕ). named_by n (slots_of sets)) (running_in-awake sets job here awake)
         ∙ ap (λ (first : Option Ready). named_before first (job_in (slots_of sets) job.number)) (best_ready sets b.0 b.1 standing.lawful h)
         ∙ ap (λ (j : Option Job). named_before (Some (record { number = b.1.number; priority = b.1.priority })) j) (numbered sets 0 job standing.lawful here) in
         elim (cases_lt job.priority b.1.priority) [

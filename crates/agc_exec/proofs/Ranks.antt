@@ -1,6 +1,6 @@
 -- Ranks: the greatest is the best job's, or the first sleeper's.
 use Rattle.std.proofs.Common.{◌≡◌, ◌≢◌, ◌⊎◌, ℕ, ◌+◌, ◌-◌, ◌*◌, ◌%◌, ◌<◌, ◌≤◌, ◌==◌, nat_lt, cond, Bool, true, false, List, Option, Some, None, length, slice_index, slice_index_or, slice_set, is_some, replicate, refl, ap, sym, ◌∙◌, inl, inr, arith}
-use Rattle.std.proofs.lemmas.Bool.{cases_eq, cases_lt}
+use Rattle.std.proofs.lemmas.Bool.{cases_Bool, cases_eq, cases_lt}
 use Rattle.std.proofs.lemmas.List.{get_or-set_same, get_or-set_other, get_or-replicate, length-set}
 use Rattle.std.proofs.lemmas.Option.{same_Some}
 use Rattle.std.proofs.lemmas.Grind.{common_steps}
@@ -86,16 +86,12 @@ IsMost-more f n most next e h = elim (cases_lt most next) [
       })
 ]
 
-bool_cases : (b : Bool) → (b ≡ true) ⊎ (b ≡ false)
-bool_cases true = inl refl
-bool_cases false = inr refl
-
 sleeper_rank-is : (at k : ℕ) (o : Option HeldJob) (r : HeldJob) → o ≡ Some r → is_sleeper at (job_of r) ≡ true → sleeper_rank at k o ≡ 8 * (9 - r.number) + k
 sleeper_rank-is at k o r e a = rw (e, a)
 
 -- with greatest rank 0 nobody sleeps there
 pub first_nobody : (sets : List (Option HeldJob)) (at first : ℕ) → IsLawful sets → length sets ≤ 8 → IsSleeperRank sets at (length sets) first → first ≡ 0 → FirstBelow sets at (length sets) None
-first_nobody sets at first lawful few is zero_is j s lt here = elim (bool_cases (is_sleeper at (job_of s))) [
+first_nobody sets at first lawful few is zero_is j s lt here = elim (cases_Bool (is_sleeper at (job_of s))) [
   | inl sleeps ↦
       let high : s.number ≤ length sets = lawful.high j s here in
       let rank : sleeper_rank at j (slice_index_or sets j None) ≡ 8 * (9 - s.number) + j = sleeper_rank-is at j (slice_index_or sets j None) s here sleeps in

@@ -2,6 +2,7 @@
 use Rattle.std.proofs.Common.{◌≡◌, ◌⊎◌, ℕ, zero, suc, ◌+◌, ◌<◌, ◌≤◌, Bool, true, false, List, [], ◌∷◌, Option, Some, None, length, slice_index_or, refl, inl, inr, is_some, nat_lt, arith}
 use Rattle.std.proofs.lemmas.Option.{same_Some}
 use Rattle.std.proofs.lemmas.Grind.{common_steps}
+use Rattle.std.proofs.lemmas.Bool.{cases_Bool}
 use Rattle.agc_plan.specs.Jobs.{Job, least_unused, Ready, best_from, more_urgent, is_sleeper, sleeper_from}
 
 -- the least unused number: its slot is empty, and each one before it isn't
@@ -20,15 +21,11 @@ least_unused-none from [] used = refl
 least_unused-none from (None ∷ slots) used = absurd (let h : false ≡ true = used 0 (omega arith) in cc)
 least_unused-none from (Some job ∷ slots) used = least_unused-none (from + 1) slots (λ j h. used (suc j) (omega arith))
 
-bool_cases : (b : Bool) → (b ≡ true) ⊎ (b ≡ false)
-bool_cases true = inl refl
-bool_cases false = inr refl
-
 more_urgent-bound : (first : Ready) (rest : Option Ready) (p : ℕ) → first.priority ≤ p → ((s : Ready) → rest ≡ Some s → s.priority ≤ p) → (r : Ready) → more_urgent first rest ≡ Some r → r.priority ≤ p
 more_urgent-bound first None p here behind r e = let same : first ≡ r = cc in rw (← same) here
 more_urgent-bound first (Some second) p here behind r e =
     let b : second.priority ≤ p = behind second refl in
-    elim (bool_cases (nat_lt first.priority second.priority)) [
+    elim (cases_Bool (nat_lt first.priority second.priority)) [
       | inl less ↦ let same : second ≡ r = same_Some second r (rw less at e) in rw (← same) b
       | inr more ↦ let same : first ≡ r = same_Some first r (rw more at e) in rw (← same) here
     ]
@@ -44,7 +41,7 @@ more_urgent-second first second lt = grind (arith, common_steps)
 pub best_from-bound : (from : ℕ) (slots : List (Option Job)) (p : ℕ) → ((j : ℕ) (job : Job) → slice_index_or slots j None ≡ Some job → job.asleep ≡ false → job.priority ≤ p) → (r : Ready) → best_from from slots ≡ Some r → r.priority ≤ p
 best_from-bound from [] p h r e = absurd (cc)
 best_from-bound from (None ∷ slots) p h r e = best_from-bound (from + 1) slots p (λ j. h (suc j)) r e
-best_from-bound from (Some job ∷ slots) p h r e = elim (bool_cases job.asleep) [
+best_from-bound from (Some job ∷ slots) p h r e = elim (cases_Bool job.asleep) [
   | inl asleep ↦ best_from-bound (from + 1) slots p (λ j. h (suc j)) r (rw asleep at e)
   | inr awake ↦ more_urgent-bound (record { number = from; priority = job.priority }) (best_from (from + 1) slots) p (h 0 job refl awake) (best_from-bound (from + 1) slots p (λ j. h (suc j))) r (rw awake at e)
 ]
@@ -75,7 +72,7 @@ best_from-is from (Some job ∷ slots) zero best at awake first =
 best_from-is from (Some job ∷ slots) (suc i) best at awake first =
     let z : from + suc i ≡ from + 1 + i = omega arith in
     let rest : best_from (from + 1) slots ≡ Some (record { number = from + 1 + i; priority = best.priority }) = best_from-is (from + 1) slots i best at awake (λ j other h a. elim (first (suc j) other h a) [ inl lt ↦ inl lt | inr both ↦ inr (both.0, omega arith) ]) in
-    elim (bool_cases job.asleep) [
+    elim (cases_Bool job.asleep) [
       | inl asleep ↦ rw (z, asleep) rest
       | inr ready ↦
           let lt : job.priority < best.priority = elim (first 0 job refl ready) [ inl lt ↦ lt | inr both ↦ absurd (omega arith) ] in

@@ -1,6 +1,6 @@
 -- A task that has two rows, looked for from the last row to the first.
 use Rattle.std.proofs.Common.{◌≡◌, ℕ, zero, suc, ◌+◌, ◌-◌, ◌<◌, ◌≤◌, ◌%◌, List, [], ◌∷◌, length, drop, take, get_or, slice_index_or, slice_set, ap, sym, ◌∙◌, refl, true, false, Bool, ◌||◌, inl, inr, arith}
-use Rattle.std.proofs.lemmas.Bool.{cases_eq}
+use Rattle.std.proofs.lemmas.Bool.{cases_eq, or_from, or_left, or_right}
 use Rattle.std.proofs.lemmas.Grind.{common_steps, get_or-set_at}
 use Rattle.std.proofs.lemmas.List.{drop_more, length-drop, get_or-drop, take_all, get_or-set_other}
 use Rattle.agc_plan.specs.declared.request.Action.{Action}
@@ -43,30 +43,21 @@ unmarked rows or marks p task marked off =
     let never : true ≡ false = sym on ∙ (ap (λ (n : ℕ). slice_index_or marks (n % 64) false) one ∙ off) in
     cc)
 
-after : (a b : Bool) → b ≡ true → (a || b) ≡ true
-after a b is = grind (arith, common_steps)
-
-before : (a b : Bool) → a ≡ true → (a || b) ≡ true
-before a b is = grind (arith, common_steps)
-
-neither : (a b : Bool) → a ≡ false → b ≡ false → (a || b) ≡ false
-neither a b is too = grind (arith, common_steps)
-
 -- two rows of one task among the later ones are two of all
 twice_later : (rows : List AgcRow) (p : ℕ) → task_twice (rows_told (drop p rows)) ≡ true → task_twice (rows_told rows) ≡ true
 twice_later rows zero is = is
 twice_later [] (suc p) is = is
-twice_later (row ∷ rows) (suc p) is = after (has_task (rows_told rows) (row_told row).0) (task_twice (rows_told rows)) (twice_later rows p is)
+twice_later (row ∷ rows) (suc p) is = or_right (has_task (rows_told rows) (row_told row).0) (task_twice (rows_told rows)) (twice_later rows p is)
 
 one_more : (rows : List AgcRow) (or : AgcRow) (p : ℕ) → p < length rows → task_twice (rows_told (drop p rows)) ≡ (has_task (rows_told (drop (p + 1) rows)) (record { at = (get_or rows p or).at; bank = (get_or rows p or).bank }) || task_twice (rows_told (drop (p + 1) rows)))
 one_more rows or p lt = ap (λ (l : List AgcRow). task_twice (rows_told l)) (drop_more rows p or lt)
 
 pub twice_at : (rows : List AgcRow) (or : AgcRow) (p : ℕ) → p < length rows → has_task (rows_told (drop (p + 1) rows)) (record { at = (get_or rows p or).at; bank = (get_or rows p or).bank }) ≡ true → task_twice (rows_told rows) ≡ true
 twice_at rows or p lt has =
-    twice_later rows p (one_more rows or p lt ∙ before _ (task_twice (rows_told (drop (p + 1) rows))) has)
+    twice_later rows p (one_more rows or p lt ∙ or_left _ (task_twice (rows_told (drop (p + 1) rows))) has)
 
 pub once_at : (rows : List AgcRow) (or : AgcRow) (p : ℕ) → p < length rows → has_task (rows_told (drop (p + 1) rows)) (record { at = (get_or rows p or).at; bank = (get_or rows p or).bank }) ≡ false → task_twice (rows_told (drop (p + 1) rows)) ≡ false → task_twice (rows_told (drop p rows)) ≡ false
-once_at rows or p lt has once = one_more rows or p lt ∙ neither _ _ has once
+once_at rows or p lt has once = one_more rows or p lt ∙ or_from _ _ has once
 
 -- one more mark is set
 pub marked_more : (rows : List AgcRow) (or : AgcRow) (marks : List Bool) (p : ℕ) → p < length rows → length marks ≡ 64 → ((j : ℕ) → p < j → j < length rows → slice_index_or marks ((get_or rows j or).at % 64) false ≡ true) → (j : ℕ) → p ≤ j → j < length rows → slice_index_or (slice_set marks ((get_or rows p or).at % 64) true) ((get_or rows j or).at % 64) false ≡ true

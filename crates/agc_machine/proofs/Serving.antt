@@ -4,6 +4,7 @@ use Rattle.std.proofs.lemmas.Grind.{common_steps}
 use Rattle.std.proofs.lemmas.List.{length-append}
 use Rattle.std.specs.List.{fold}
 use Rattle.std.proofs.lemmas.List.Sums.{fold_push}
+use Rattle.std.proofs.lemmas.Bool.{cases_Bool}
 use Rattle.agc_plan.specs.declared.reply.Alarm.{Alarm}
 use Rattle.agc_plan.specs.declared.reply.Alarm.TheVariants.{A1201, A1202, A1203}
 use Rattle.agc_plan.specs.declared.reply.Reply.{Reply}
@@ -26,10 +27,6 @@ use Rattle.agc_machine.specs.Image.{IsImage}
 use Rattle.agc_machine.specs.Machines.{Machined, IsLawful, plain_of, places_of, stepped, served, refusal_of, starts_over}
 use Rattle.agc_machine.specs.Stands.{IsReady, StandsFor, Steps, BeginsEra}
 use Rattle.agc_machine.proofs.Stepping.{tidy_of, ready_by, lawful_by, stands_by, words_stand, places_began}
-
-bool_cases : (b : Bool) → (b ≡ true) ⊎ (b ≡ false)
-bool_cases true = inl refl
-bool_cases false = inr refl
 
 -- what the log and one more request reach is one step on
 pub reached_more : (plan : Planned) (base : Base) (log : List Request) (asked : Request) → reached plan base (log ++ asked ∷ []) ≡ (step plan asked (reached plan base log)).plain
@@ -83,9 +80,9 @@ pub record IsServed (m : Machined) (asked : Request) : Type 0 where
   pub unfilled : starts_over asked ≡ false → length m.log ≢ m.limit
 
 pub served_if : (m : Machined) (asked : Request) → refusal_of m asked ≡ None → IsServed m asked
-served_if m asked e = elim (bool_cases (m.totals.served == m.allowance)) [
+served_if m asked e = elim (cases_Bool (m.totals.served == m.allowance)) [
   | inl spent ↦ let is : Some Spent ≡ None = rw spent at e in absurd (cc)
-  | inr left ↦ elim (bool_cases ((length m.log == m.limit) && not (starts_over asked))) [
+  | inr left ↦ elim (cases_Bool ((length m.log == m.limit) && not (starts_over asked))) [
     | inl full ↦ let is : Some LogFull ≡ None = rw (left, full) at e in absurd (cc)
     | inr fits ↦ record {
       unspent = λ same. grind (arith, common_steps);
@@ -106,7 +103,7 @@ counts_fit m asked lawful e =
 
 -- there is room in the log for a request that begins no era
 pub room_left : (m : Machined) (asked : Request) (plain : Plain) → length m.log ≤ m.limit → refusal_of m asked ≡ None → begins (step m.plan asked plain).reply ≡ false → length m.log < m.limit
-room_left m asked plain short e goes = elim (bool_cases (starts_over asked)) [
+room_left m asked plain short e goes = elim (cases_Bool (starts_over asked)) [
   | inl over ↦ let is : true ≡ false = sym (over_begins m.plan asked plain over) ∙ goes in absurd (cc)
   | inr goes_on ↦ let ne : length m.log ≢ m.limit = (served_if m asked e).unfilled goes_on in omega arith
 ]

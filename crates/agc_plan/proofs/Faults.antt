@@ -1,5 +1,5 @@
 use Rattle.std.proofs.Common.{◌≡◌, ◌↔◌, ◌⊎◌, ℕ, ◌<◌, ◌≤◌, ◌==◌, ◌&&◌, ◌||◌, zero, suc, Bool, true, false, List, [], ◌∷◌, length, get_or, Option, Some, None, inl, inr, arith, refl, sym, ap, ◌∙◌}
-use Rattle.std.proofs.lemmas.Bool.{or_cases, or_left, or_right, eqb-true, eq-eqb}
+use Rattle.std.proofs.lemmas.Bool.{and_from, and_parts, or_cases, or_left, or_right, eqb-true, eq-eqb}
 use Rattle.agc_plan.specs.declared.request.Action.{Action}
 use Rattle.agc_plan.specs.declared.request.JobStart.{JobStart}
 use Rattle.agc_plan.specs.declared.request.JobStart.TheVariants.{Novac, Findvac}
@@ -7,16 +7,6 @@ use Rattle.agc_plan.specs.declared.request.Task.{Task}
 use Rattle.agc_plan.specs.Begins.{Begins}
 use Rattle.agc_plan.specs.Plans.{Rows, same_task, has_task, task_twice, is_for, has_entry, phase_twice, wants_area, group_wants, all_want}
 use Rattle.agc_plan.specs.Laws.{IsOneTask, HasTwoRows, IsOnePhase, HasTwoEntries, IsWithArea, HasArea, HasEachArea}
-
--- both of two that hold together
-both : (x y : Bool) → (x && y) ≡ true → (x ≡ true) × (y ≡ true)
-both true y h = (refl, h)
-both false y h = absurd cc
-
--- two that hold, together
-together : (x y : Bool) → x ≡ true → y ≡ true → (x && y) ≡ true
-together true y h k = k
-together false y h k = absurd cc
 
 -- one of these is alike to x
 abbrev any_alike : {X : Type 0} → (X → X → Bool) → List X → X → Bool
@@ -79,10 +69,10 @@ task_twice_is [] = refl
 task_twice_is (row ∷ rows) = ap (λ b. b || task_twice rows) (has_task_is rows row) ∙ ap (λ b. any_alike same_row rows row || b) (task_twice_is rows)
 
 one_task : (a b : Task) → same_task a b ≡ true → IsOneTask b a
-one_task a b h = let r = both (a.at == b.at) (a.bank == b.bank) h in (sym (eqb-true a.at b.at r.0), sym (eqb-true a.bank b.bank r.1))
+one_task a b h = let r = and_parts (a.at == b.at) (a.bank == b.bank) h in (sym (eqb-true a.at b.at r.0), sym (eqb-true a.bank b.bank r.1))
 
 task_one : (a b : Task) → IsOneTask b a → same_task a b ≡ true
-task_one a b h = together (a.at == b.at) (a.bank == b.bank) (eq-eqb a.at b.at (sym h.0)) (eq-eqb a.bank b.bank (sym h.1))
+task_one a b h = and_from (a.at == b.at) (a.bank == b.bank) (eq-eqb a.at b.at (sym h.0)) (eq-eqb a.bank b.bank (sym h.1))
 
 pub two_rows_law : (rows : Rows) → (task_twice rows ≡ true) ↔ HasTwoRows rows
 two_rows_law rows = (
@@ -109,10 +99,10 @@ phase_twice_is [] = refl
 phase_twice_is (e ∷ entries) = ap (λ b. b || phase_twice entries) (has_entry_is entries e) ∙ ap (λ b. any_alike same_entry entries e || b) (phase_twice_is entries)
 
 one_phase : (a b : Begins) → same_entry a b ≡ true → IsOnePhase b a
-one_phase a b h = let r = both (a.group == b.group) (a.phase == b.phase) h in (sym (eqb-true a.group b.group r.0), sym (eqb-true a.phase b.phase r.1))
+one_phase a b h = let r = and_parts (a.group == b.group) (a.phase == b.phase) h in (sym (eqb-true a.group b.group r.0), sym (eqb-true a.phase b.phase r.1))
 
 phase_one : (a b : Begins) → IsOnePhase b a → same_entry a b ≡ true
-phase_one a b h = together (a.group == b.group) (a.phase == b.phase) (eq-eqb a.group b.group (sym h.0)) (eq-eqb a.phase b.phase (sym h.1))
+phase_one a b h = and_from (a.group == b.group) (a.phase == b.phase) (eq-eqb a.group b.group (sym h.0)) (eq-eqb a.phase b.phase (sym h.1))
 
 pub two_entries_law : (entries : List Begins) → (phase_twice entries ≡ true) ↔ HasTwoEntries entries
 two_entries_law entries = (
@@ -138,7 +128,7 @@ area_with job h = ap wants_area h.2
 wants_next : (e : Begins) (es : List Begins) (group : ℕ) → (group_wants es group ≡ true → HasArea es group)
     → (((e.group == group) && wants_area e.job) ≡ true) ⊎ (group_wants es group ≡ true) → HasArea (e ∷ es) group
 wants_next e es group rest (inl here) =
-    let r = both (e.group == group) (wants_area e.job) here in
+    let r = and_parts (e.group == group) (wants_area e.job) here in
     record { place = 0; within = omega arith; its = λ d. eqb-true e.group group r.0; with_area = λ d. with_area e.job r.1 }
 wants_next e es group rest (inr later) =
     let r = rest later in record { place = suc r.place; within = omega (arith, r.within); its = λ d. r.its d; with_area = λ d. r.with_area d }
@@ -151,7 +141,7 @@ at_wants : (es : List Begins) (group place : ℕ) → place < length es → ((d 
 at_wants [] group place within its area = absurd (omega (arith, within))
 at_wants (e ∷ es) group zero within its area =
     or_left ((e.group == group) && wants_area e.job) (group_wants es group)
-    (together (e.group == group) (wants_area e.job) (eq-eqb e.group group (its e)) (area_with e.job (area e)))
+    (and_from (e.group == group) (wants_area e.job) (eq-eqb e.group group (its e)) (area_with e.job (area e)))
 at_wants (e ∷ es) group (suc place) within its area =
     or_right ((e.group == group) && wants_area e.job) (group_wants es group) (at_wants es group place (omega (arith, within)) its area)
 
@@ -161,18 +151,18 @@ one_wants es group h = at_wants es group h.place h.within h.its h.with_area
 -- all of six that hold together
 six : (a b c d e f : Bool) → (a && (b && (c && (d && (e && f))))) ≡ true → (a ≡ true) × (b ≡ true) × (c ≡ true) × (d ≡ true) × (e ≡ true) × (f ≡ true)
 six a b c d e f h =
-    let p = both a (b && (c && (d && (e && f)))) h in
-    let q = both b (c && (d && (e && f))) p.1 in
-    let r = both c (d && (e && f)) q.1 in
-    let s = both d (e && f) r.1 in
-    let t = both e f s.1 in
+    let p = and_parts a (b && (c && (d && (e && f)))) h in
+    let q = and_parts b (c && (d && (e && f))) p.1 in
+    let r = and_parts c (d && (e && f)) q.1 in
+    let s = and_parts d (e && f) r.1 in
+    let t = and_parts e f s.1 in
     (p.0, q.0, r.0, s.0, t.0, t.1)
 
 -- six that hold, together
 all_six : (a b c d e f : Bool) → a ≡ true → b ≡ true → c ≡ true → d ≡ true → e ≡ true → f ≡ true → (a && (b && (c && (d && (e && f))))) ≡ true
 all_six a b c d e f p q r s t u =
-    together a (b && (c && (d && (e && f)))) p
-    (together b (c && (d && (e && f))) q (together c (d && (e && f)) r (together d (e && f) s (together e f t u))))
+    and_from a (b && (c && (d && (e && f)))) p
+    (and_from b (c && (d && (e && f))) q (and_from c (d && (e && f)) r (and_from d (e && f) s (and_from e f t u))))
 
 each_wants : (es : List Begins) → all_want es ≡ true → (group : ℕ) → 1 ≤ group → group ≤ 6 → group_wants es group ≡ true
 each_wants es h group low high =

@@ -1,6 +1,6 @@
 -- An era of an accepted plan begins with no alarm.
 use Rattle.std.proofs.Common.{◌≡◌, ◌≢◌, ℕ, zero, suc, ◌+◌, ◌-◌, ◌<◌, ◌≤◌, ◌==◌, Bool, true, false, ◌⊎◌, List, [], ◌∷◌, Option, Some, None, length, slice_index_or, slice_set, nat_lt, replicate, refl, ap, sym, ◌∙◌, subst, inl, inr, arith}
-use Rattle.std.proofs.lemmas.Bool.{cases_eq, cases_lt}
+use Rattle.std.proofs.lemmas.Bool.{cases_Bool, cases_eq, cases_lt}
 use Rattle.std.proofs.lemmas.List.{get_or-set_other, get_or-set_same, length-set, length-append, length-replicate}
 use Rattle.std.proofs.lemmas.Option.{same_Some}
 use Rattle.std.proofs.lemmas.Grind.{common_steps}
@@ -42,14 +42,10 @@ owned_within area a (Some job ∷ slots) h e = elim (cases_eq job.area area) [
   | inr ne ↦ let rest : is_owned area slots ≡ true = grind (arith, common_steps) in owned_within area a slots (λ j. h (suc j)) rest
 ]
 
-bool_cases : (b : Bool) → (b ≡ true) ⊎ (b ≡ false)
-bool_cases true = inl refl
-bool_cases false = inr refl
-
 -- an area that nobody can own bounds the least unowned one
 low_area : (more from a : ℕ) (slots : List (Option Job)) → ((j : ℕ) (job : Job) → slice_index_or slots j None ≡ Some job → job.area ≤ a) → from ≤ a + 1 → a + 1 < from + more → (area : ℕ) × (least_unowned more from slots ≡ Some area) × (area ≤ a + 1)
 low_area zero from a slots h low high = absurd (omega arith)
-low_area (suc more) from a slots h low high = elim (bool_cases (is_owned from slots)) [
+low_area (suc more) from a slots h low high = elim (cases_Bool (is_owned from slots)) [
   | inl e ↦ let le : from ≤ a = owned_within from a slots h e in rw e (low_area more (from + 1) a slots h (omega arith) (omega arith))
   | inr e ↦ rw e (from, refl, low)
 ]
@@ -128,7 +124,7 @@ group_quiet (Some e) k a work r t lt room =
 -- a group with no entry that wants an area has no such entry at any phase
 quiet_entry : (es : List Begins) (group phase : ℕ) → group_wants es group ≡ false → wants_of (entry_at es group phase) ≡ false
 quiet_entry [] group phase none_wants = refl
-quiet_entry (x ∷ es) group phase none_wants = elim (bool_cases (is_for x group phase)) [
+quiet_entry (x ∷ es) group phase none_wants = elim (cases_Bool (is_for x group phase)) [
   | inl here ↦
       let both : (x.group == group) ≡ true = grind (arith, common_steps) in
       let off : wants_area x.job ≡ false = grind (arith, common_steps) in
@@ -139,24 +135,24 @@ quiet_entry (x ∷ es) group phase none_wants = elim (bool_cases (is_for x group
 ]
 
 quiet_group : (es : List Begins) (group phase : ℕ) → group_wants es group ≡ false → wants_of (active es group phase) ≡ false
-quiet_group es group phase off = elim (bool_cases (phase == 0)) [
+quiet_group es group phase off = elim (cases_Bool (phase == 0)) [
   | inl zero_phase ↦ rw zero_phase refl
   | inr other ↦ rw other (quiet_entry es group phase off)
 ]
 
 -- one group in six has none
 some_group : (es : List Begins) → all_want es ≡ false → (g : ℕ) × (1 ≤ g) × (g ≤ 6) × (group_wants es g ≡ false)
-some_group es e = elim (bool_cases (group_wants es 1)) [
+some_group es e = elim (cases_Bool (group_wants es 1)) [
   | inr off ↦ (1, omega arith, omega arith, off)
-  | inl h1 ↦ elim (bool_cases (group_wants es 2)) [
+  | inl h1 ↦ elim (cases_Bool (group_wants es 2)) [
     | inr off ↦ (2, omega arith, omega arith, off)
-    | inl h2 ↦ elim (bool_cases (group_wants es 3)) [
+    | inl h2 ↦ elim (cases_Bool (group_wants es 3)) [
       | inr off ↦ (3, omega arith, omega arith, off)
-      | inl h3 ↦ elim (bool_cases (group_wants es 4)) [
+      | inl h3 ↦ elim (cases_Bool (group_wants es 4)) [
         | inr off ↦ (4, omega arith, omega arith, off)
-        | inl h4 ↦ elim (bool_cases (group_wants es 5)) [
+        | inl h4 ↦ elim (cases_Bool (group_wants es 5)) [
           | inr off ↦ (5, omega arith, omega arith, off)
-          | inl h5 ↦ elim (bool_cases (group_wants es 6)) [
+          | inl h5 ↦ elim (cases_Bool (group_wants es 6)) [
             | inr off ↦ (6, omega arith, omega arith, off)
             | inl h6 ↦ let no : true ≡ false = rw (h1, h2, h3, h4, h5, h6) at e in absurd (cc)
           ]
@@ -194,11 +190,11 @@ begins_roomy sets six = record {
 }
 
 accepted-areas : (plan : Written) → fault_of plan.rows plan.entries ≡ None → all_want plan.entries ≡ false
-accepted-areas plan accepted = elim (bool_cases (all_want plan.entries)) [
+accepted-areas plan accepted = elim (cases_Bool (all_want plan.entries)) [
   | inr off ↦ off
-  | inl all ↦ elim (bool_cases (task_twice plan.rows)) [
+  | inl all ↦ elim (cases_Bool (task_twice plan.rows)) [
     | inl twice ↦ let is : Some TaskTwice ≡ None = rw twice at accepted in absurd (cc)
-    | inr once ↦ elim (bool_cases (phase_twice plan.entries)) [
+    | inr once ↦ elim (cases_Bool (phase_twice plan.entries)) [
       | inl twice ↦ let is : Some PhaseTwice ≡ None = rw (once, twice) at accepted in absurd (cc)
       | inr one ↦ let is : Some TooManyAreas ≡ None = rw (once, one, all) at accepted in absurd (cc)
     ]

@@ -1,8 +1,8 @@
 -- Whether twelve phase words agree.
-use Rattle.std.proofs.Common.{◌≡◌, ◌==◌, ℕ, ◌<◌, ◌≤◌, ◌↔◌, IsTrue, nat_le, Bool, true, List, get_or, subst, sym, arith, Decides}
+use Rattle.std.proofs.Common.{◌≡◌, ◌==◌, eq-eqb, ℕ, ◌<◌, ◌≤◌, ◌↔◌, IsTrue, nat_le, Bool, true, List, get_or, subst, sym, arith, Decides}
 use Rattle.std.specs.List.{list_all, range_with_len}
-use Rattle.std.proofs.lemmas.Bool.{and_parts, and_from}
-use Rattle.std.proofs.lemmas.Bool.Decides.{nat_tests, same_from_decides}
+use Rattle.std.proofs.lemmas.Bool.{and_parts, and_from, eqb-true, le-leb, leb-true}
+use Rattle.std.proofs.lemmas.Bool.Decides.{same_from_decides}
 use Rattle.std.proofs.lemmas.List.FromFn.{get_or-range_with_len}
 use Rattle.std.proofs.lemmas.List.Sums.{AllPass-from_list_all, list_all-from_AllPass}
 use Rattle.agc_word.specs.Words.{complement}
@@ -10,25 +10,13 @@ use Rattle.agc_phase.specs.Image.{ArePairs, minus_in, phase_in}
 use Rattle.agc_phase.specs.Writing.{IsPair}
 use Rattle.agc_session.specs.Runs.{pair_agrees, pairs_agree}
 
-equal_is : (a b : ℕ) → (a == b) ≡ true → a ≡ b
-equal_is a b h = grind (arith, nat_tests)
-
-below_is : (a b : ℕ) → nat_le a b ≡ true → a ≤ b
-below_is a b h = grind (arith, nat_tests)
-
-equal_from : (a b : ℕ) → a ≡ b → (a == b) ≡ true
-equal_from a b h = grind (arith, nat_tests)
-
-below_from : (a b : ℕ) → a ≤ b → nat_le a b ≡ true
-below_from a b h = grind (arith, nat_tests)
-
 pair_is : (minus phase : ℕ) → pair_agrees minus phase ≡ true → IsPair minus phase
 pair_is minus phase h =
     let parts = and_parts (minus == complement phase) (nat_le phase 127) h in
-    (equal_is _ _ parts.0, below_is _ _ parts.1)
+    (eqb-true _ _ parts.0, leb-true _ _ parts.1)
 
 pair_from : (minus phase : ℕ) → IsPair minus phase → pair_agrees minus phase ≡ true
-pair_from minus phase h = and_from (minus == complement phase) (nat_le phase 127) (equal_from _ _ h.0) (below_from _ _ h.1)
+pair_from minus phase h = and_from (minus == complement phase) (nat_le phase 127) (eq-eqb _ _ h.0) (le-leb _ _ h.1)
 
 -- whether the pair of a group does
 abbrev group_agrees : List ℕ → ℕ → Bool

@@ -1,6 +1,7 @@
 -- The text of a session.
 use Rattle.std.proofs.Common.{◌≡◌, ℕ, List, [], ◌∷◌, ◌++◌, ◌⊎◌, Option, Result, subst, refl, sym, ap, ◌∙◌, append_assoc, inl, inr}
 use Rattle.std.specs.Io.KnownBytes.{Appends}
+use Rattle.std.proofs.KnownBytes.{Appends-nil, Appends-trans}
 use Rattle.std.specs.List.{fold}
 use Rattle.agc_plan.specs.declared.request.Request.{Request}
 use Rattle.agc_machine.specs.Image.{HandsOut}
@@ -8,7 +9,7 @@ use Rattle.agc_machine.specs.Machines.{Machined, after, after_all}
 use Rattle.agc_text.specs.Report.{report_text}
 use Rattle.agc_text.specs.Writing.{AppendsFront}
 use Rattle.agc_text.specs.Session.{line_for}
-use Rattle.agc_text.proofs.Steps.{appends_none, appends_both, up_to_start, up_to_more, up_to_front, up_to_more_front}
+use Rattle.agc_text.proofs.Steps.{up_to_start, up_to_more, up_to_front, up_to_more_front}
 use Rattle.agc_session.specs.Session.{IsSession, WritesSession, answer_lines}
 use Rattle.agc_session.specs.declared.run_fault.RunFault.{RunFault}
 use Rattle.agc_session.specs.Steps.{line_written, line_stopped}
@@ -17,8 +18,8 @@ use Rattle.agc_session.specs.Walks.{AllWritten, StopsIn}
 -- all of them wrote their lines
 pub lines_written : (machine : Machined) (rs : List Request) (o n : Option (List ℕ)) → AllWritten after line_written machine rs o n → Appends o n (answer_lines machine rs)
 unfolding AllWritten answer_lines
-lines_written machine [] o n is = subst (λ (x : Option (List ℕ)). Appends o x []) (sym is) (appends_none o)
-lines_written machine (r ∷ rs) o n h = appends_both o h.0 n (line_for machine r) (answer_lines (after machine r) rs) h.1 (lines_written (after machine r) rs h.0 n h.2)
+lines_written machine [] o n is = subst (λ (x : Option (List ℕ)). Appends o x []) (sym is) (Appends-nil o)
+lines_written machine (r ∷ rs) o n h = Appends-trans o h.0 n (line_for machine r) (answer_lines (after machine r) rs) h.1 (lines_written (after machine r) rs h.0 n h.2)
 
 lines_append : (machine : Machined) (a b : List Request) → answer_lines machine (a ++ b) ≡ answer_lines machine a ++ answer_lines (fold after machine a) b
 unfolding answer_lines
@@ -57,7 +58,7 @@ session_of machine m rs words is image = record {
 pub session_written : (o w n : Option (List ℕ)) (machine start m : Machined) (rs : List Request) → start ≡ machine → m ≡ fold after start rs → Appends o w (answer_lines start rs) → (words : List ℕ) × HandsOut m words × Appends w n (report_text m.plan.sets words m.totals) → (text : List ℕ) × IsSession machine rs text × Appends o n text
 session_written o w n machine start m rs from is h k =
     subst (λ (x : Machined). (text : List ℕ) × IsSession x rs text × Appends o n text) from
-    (answer_lines start rs ++ report_text m.plan.sets k.0 m.totals, session_of start m rs k.0 is k.1, appends_both o w n (answer_lines start rs) (report_text m.plan.sets k.0 m.totals) h k.2)
+    (answer_lines start rs ++ report_text m.plan.sets k.0 m.totals, session_of start m rs k.0 is k.1, Appends-trans o w n (answer_lines start rs) (report_text m.plan.sets k.0 m.totals) h k.2)
 
 -- a front of it was
 pub session_front : (o w n : Option (List ℕ)) (machine start m : Machined) (rs : List Request) → start ≡ machine → m ≡ fold after start rs → Appends o w (answer_lines start rs) → (words : List ℕ) × HandsOut m words × AppendsFront w n (report_text m.plan.sets words m.totals) → AppendsSessionFront o n machine rs

@@ -9,25 +9,16 @@ use Rattle.std.proofs.lemmas.Option.{get_or_from_slice_get, slice_get_within}
 use Rattle.std.specs.Prelude.{IsErr}
 use Rattle.std.proofs.lemmas.List.{append-nil, take-append-drop, take_more, nil_from_length}
 use Rattle.std.specs.Io.KnownBytes.{Appends, Keeps}
+use Rattle.std.proofs.KnownBytes.{Appends-nil, Appends-trans}
 use Rattle.agc_text.specs.Writing.{AppendsUpTo, AppendsFront, Writes}
-
-pub appends_none : (o : Option (List ℕ)) → Appends o o []
-appends_none None = tt
-appends_none (Some xs) = sym (append-nil xs)
-
-pub appends_both : (o m n : Option (List ℕ)) (a b : List ℕ) → Appends o m a → Appends m n b → Appends o n (a ++ b)
-appends_both None m n a b h k = tt
-appends_both (Some x) (Some y) None a b h k = k
-appends_both (Some x) (Some y) (Some z) a b h k = k ∙ ap (λ (s : List ℕ). s ++ b) h ∙ append_assoc x a b
-appends_both (Some x) None n a b h k = absurd h
 
 -- nothing of the text is written yet
 pub up_to_start : (o : Option (List ℕ)) (text : List ℕ) → AppendsUpTo o o text text
-up_to_start o text = record { front = []; whole = refl; written = appends_none o }
+up_to_start o text = record { front = []; whole = refl; written = Appends-nil o }
 
 -- a text after what stands written
 pub up_to_more : (o m n : Option (List ℕ)) (text a rest : List ℕ) → AppendsUpTo o m text (a ++ rest) → Appends m n a → AppendsUpTo o n text rest
-up_to_more o m n text a rest h k = record { front = h.front ++ a; whole = h.whole ∙ sym (append_assoc h.front a rest); written = appends_both o m n h.front a h.written k }
+up_to_more o m n text a rest h k = record { front = h.front ++ a; whole = h.whole ∙ sym (append_assoc h.front a rest); written = Appends-trans o m n h.front a h.written k }
 
 pub up_to_end : (o n : Option (List ℕ)) (text : List ℕ) → AppendsUpTo o n text [] → Appends o n text
 up_to_end o n text h = subst (λ (t : List ℕ). Appends o n t) (sym (h.whole ∙ append-nil h.front)) h.written
@@ -81,7 +72,7 @@ up_to_number f o m text n i l h =
 
 -- a front of a text, after another text
 pub up_to_more_front : (o m n : Option (List ℕ)) (a b rest : List ℕ) → Appends o m a → AppendsUpTo m n b rest → AppendsUpTo o n (a ++ b) rest
-up_to_more_front o m n a b rest h k = record { front = a ++ k.front; whole = ap (λ (s : List ℕ). a ++ s) k.whole ∙ sym (append_assoc a k.front rest); written = appends_both o m n a k.front h k.written }
+up_to_more_front o m n a b rest h k = record { front = a ++ k.front; whole = ap (λ (s : List ℕ). a ++ s) k.whole ∙ sym (append_assoc a k.front rest); written = Appends-trans o m n a k.front h k.written }
 
 -- a front of the first of two texts
 pub front_of_first : (o n : Option (List ℕ)) (a b : List ℕ) → AppendsFront o n a → AppendsFront o n (a ++ b)
@@ -94,7 +85,7 @@ writes_first o n a b (Err x) h is = front_of_first o n a b h
 
 -- the second of two texts, after the first
 pub writes_second : {U D : Type 0} → (o m n : Option (List ℕ)) (a b : List ℕ) (r : Result U D) → Appends o m a → Writes m n b r → Writes o n (a ++ b) r
-writes_second o m n a b (Ok x) h k = appends_both o m n a b h k
+writes_second o m n a b (Ok x) h k = Appends-trans o m n a b h k
 writes_second o m n a b (Err x) h k = (k.0, k.1, up_to_more_front o m n a b k.0 h k.2)
 
 kept_appends : (o n : Option (List ℕ)) → Keeps o n → Appends o n []
