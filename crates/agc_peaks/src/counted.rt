@@ -4,11 +4,10 @@ ghost use Rattle.std.specs.List.{fold};
 ghost use Rattle.agc_machine.specs.Machines.{after};
 ghost use Rattle.agc_run.specs.Runs.{to_ask};
 
-use crate::counting::{Counts, counts_of};
+use crate::counting::counts_of;
 use crate::era::{Era, Style};
 use crate::tally::Tally;
 use agc_document::put_script_line;
-use agc_machine::Machine;
 use agc_plan::{Fired, Request};
 use agc_run::Run;
 use agc_text::{Output, Pen};
@@ -42,12 +41,6 @@ impl Told {
     }
 }
 
-/// How full a machine's tables are when a request has been acted on, before an era begins with it.
-fn counts_then(machine: &Machine, request: &Request) -> Counts {
-    let moment = machine.moment(request);
-    counts_of(moment.words())
-}
-
 /// Asks for all requests of a run, in order, and for no others, takes note of what comes of each,
 /// and writes of it. Returns what was counted.
 pub(crate) fn counted_to_end<W: Write>(
@@ -60,7 +53,8 @@ pub(crate) fn counted_to_end<W: Write>(
 {
     let mut tally = Tally::new(run.machine());
     while let Some(asked) = run.next() {
-        let counts = counts_then(run.machine(), &asked.request);
+        // How full the tables are then, before an era begins with the request.
+        let counts = counts_of(run.machine().moment(&asked.request).words());
         tally.pass(run.clock());
         let mut fired = Fired::new();
         let answer = run.ask(&asked, &mut fired);

@@ -6,9 +6,8 @@ ghost use Rattle.agc_run.specs.Runs.{to_ask};
 
 use crate::jobs_rows::put_jobs;
 use crate::ledger::Ledger;
-use crate::lives::{Jobs, jobs_seen};
+use crate::lives::jobs_seen;
 use crate::reading::{Passed, Reading};
-use agc_machine::Machine;
 use agc_plan::{Fired, Request};
 use agc_run::{Run, Subject};
 use agc_scenario::Timing;
@@ -34,12 +33,6 @@ fn ticks_with(ticks: u64, request: &Request) -> u64 {
     ticks.saturating_add(u64::from(*request == Request::Tick))
 }
 
-/// The jobs when a request has been acted on, before an era begins with it.
-fn jobs_then(machine: &Machine, request: &Request) -> Jobs {
-    let moment = machine.moment(request);
-    jobs_seen(moment.words())
-}
-
 /// Asks for all requests of a run, in order, and for no others, and takes note of what becomes of
 /// its jobs.
 pub(crate) fn jobs_to_end<'a>(
@@ -54,7 +47,8 @@ pub(crate) fn jobs_to_end<'a>(
     let mut ticks: u64 = 0;
     let mut before = Reading::of(run.clock(), ticks);
     while let Some(asked) = run.next() {
-        let then = jobs_then(run.machine(), &asked.request);
+        // The jobs then, before an era begins with the request.
+        let then = jobs_seen(run.machine().moment(&asked.request).words());
         let after = Reading::of(run.clock(), ticks_with(ticks, &asked.request));
         let passed_now = passed(run, &before, &after, true);
         ledger.pass(passed_now, after.time, after.moment());

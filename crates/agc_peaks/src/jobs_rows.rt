@@ -1,7 +1,7 @@
 //! The table of a run's jobs.
 use crate::columns::{put_cells, put_spaces, seconds};
 use crate::ledger::{Kind, Ledger, Spent};
-use agc_scenario::Timing;
+use agc_scenario::{TimedJob, Timing};
 use agc_text::Filling::{Csv, Number, Octal, Seconds, Text};
 use agc_text::{Filling, Output, Pen};
 use std::io::Write;
@@ -118,15 +118,14 @@ pub(crate) fn deadline_cells(kind: &Kind, none: [&'static str; 2]) -> [Filling<'
     }
 }
 
+/// What a scenario says of an address's jobs, if it says anything.
+pub(crate) fn job_at(timing: Option<&Timing>, at: u16) -> Option<&TimedJob> {
+    timing?.jobs().iter().find(|job| job.at().get() == at)
+}
+
 /// The name of an address's jobs, if a scenario gives one.
 pub(crate) fn name_at(timing: Option<&Timing>, at: u16) -> Option<&str> {
-    let timing = timing?;
-    for job in timing.jobs() {
-        if job.at().get() == at {
-            return job.name();
-        }
-    }
-    None
+    job_at(timing, at)?.name()
 }
 
 /// How wide the column of names is: as wide as the longest.

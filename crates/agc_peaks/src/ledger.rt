@@ -1,4 +1,5 @@
 //! What the jobs of each address came to, and how the time of each era was used.
+use crate::jobs_rows::job_at;
 use crate::lives::{Change, Jobs, Life, MOST, Moment, State, see};
 use crate::reading::Passed;
 use agc_scenario::Timing;
@@ -94,13 +95,8 @@ pub(crate) struct Ledger<'a> {
 
 /// How long a job of an address may take, if a scenario says it.
 fn deadline_at(timing: Option<&Timing>, at: u16) -> Option<u64> {
-    for job in timing?.jobs() {
-        if job.at().get() == at {
-            let deadline = job.deadline()?;
-            return Some(u64::from(deadline).saturating_mul(100));
-        }
-    }
-    None
+    let deadline = job_at(timing, at)?.deadline()?;
+    Some(u64::from(deadline).saturating_mul(100))
 }
 
 /// An era that begins at a centisecond.

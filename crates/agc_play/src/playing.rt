@@ -8,7 +8,7 @@ use agc_machine::Refusal;
 use agc_plan::Request;
 use agc_session::{RunFault, Walk, written};
 use agc_text::Filling::{Number, Text};
-use agc_text::{Draft, Output, Pen};
+use agc_text::{Draft, MOST_BYTES, Output, Pen};
 use std::alloc::{AllocError, Global};
 use std::fs;
 use std::io::{BufRead, ErrorKind, Read, Write};
@@ -16,12 +16,6 @@ use std::marker::Model;
 
 /// How many bytes a line may have.
 const MOST_LINE: usize = 8192;
-
-/// How many bytes `agc` and `agc_watch` read of a bench.
-const MOST_BYTES: usize = 1_048_576;
-
-/// What is said of a bench that would have more.
-const TOO_LONG: &str = "{}: not written: it would have {} bytes, and agc reads 1048576\n";
 
 const GREETING: &str = "Type a request, such as findvac 20 02000 00005, or help. Ctrl-D ends.\n";
 
@@ -137,17 +131,12 @@ fn put_refusal(draft: &mut Draft, bench: &Bench, refusal: Refusal) {
 /// A bench of the same machine as another's, whose script is these requests.
 fn bench_of(alloc: Global, bench: &Bench, requests: &[Request]) -> Result<Vec<u8>, RunFault> {
     let mut text = Vec::new(alloc);
-    match put_script(&mut text, bench, requests) {
+    let mut pen = Pen::new(&mut text);
+    put_bench(&mut pen, bench, requests);
+    match pen.end() {
         Ok(()) => Ok(text),
         Err(Output) => Err(RunFault::NoMemory),
     }
-}
-
-/// Writes a bench of the same machine as another's, whose script is these requests.
-fn put_script<W: Write>(writer: &mut W, bench: &Bench, requests: &[Request]) -> Result<(), Output> {
-    let mut pen = Pen::new(writer);
-    put_bench(&mut pen, bench, requests);
-    pen.end()
 }
 
 impl<'a> Played<'a> {
@@ -249,14 +238,10 @@ impl<'a> Played<'a> {
     fn go_back(&mut self, taken: usize) -> Result<(), RunFault> {
         let left = self.requests.len().saturating_sub(taken);
         let requests = &self.requests.as_slice()[..left];
-        match Player::after(self.rt.alloc(), self.bench, requests, self.manner.folds) {
-            Ok(player) => {
-                self.player = player;
-                self.requests.truncate(left);
-                Ok(())
-            }
-            Err(fault) => Err(fault),
-        }
+        let player = Player::after(self.rt.alloc(), self.bench, requests, self.manner.folds)?;
+        self.player = player;
+        self.requests.truncate(left);
+        Ok(())
     }
 
     /// Takes back what the last line asked, or the last request of the bench.
@@ -284,18 +269,22 @@ impl<'a> Played<'a> {
     fn save(&mut self, name: &str) -> Result<(), RunFault> {
         let (rt, count) = (self.rt, self.requests.len());
         let text = bench_of(rt.alloc(), self.bench, self.requests.as_slice())?;
-        let (words, number) = if text.len() > MOST_BYTES {
-            (TOO_LONG, text.len())
+        if text.len() > MOST_BYTES {
+            let sizes = [
+                Text(name),
+                Number(text.len() as u64),
+                Number(MOST_BYTES as u64),
+            ];
+            let words = "{}: not written: it would have {} bytes, and agc reads {}\n";
+            self.draft.put(words, &sizes);
         } else if let Err(error) = fs::write(rt, name, text.as_slice()) {
             let told = format!(in rt.alloc(); "{name}: not written: {error}\n")?;
             self.draft.text(told.as_str());
-            return Ok(());
-        } else if count == 1 {
-            ("{}: a bench of {} request\n", 1)
         } else {
-            ("{}: a bench of {} requests\n", count)
-        };
-        self.draft.put(words, &[Text(name), Number(number as u64)]);
+            let ending = if count == 1 { "" } else { "s" };
+            let told = [Text(name), Number(count as u64), Text(ending)];
+            self.draft.put("{}: a bench of {} request{}\n", &told);
+        }
         Ok(())
     }
 
@@ -341,10 +330,8 @@ fn next_line<R: BufRead>(alloc: Global, reader: &mut R) -> Result<Vec<u8>, PlayF
 
 /// A line as a text, without its end.
 fn text_of(line: &[u8]) -> Option<&str> {
-    match str::from_utf8(line) {
-        Ok(text) => Some(text.strip_suffix('\n').unwrap_or(text)),
-        Err(_other) => None,
-    }
+    let text = str::from_utf8(line).ok()?;
+    Some(text.strip_suffix('\n').unwrap_or(text))
 }
 
 /// Answers a line of this number, which is this text.
@@ -425,8 +412,5 @@ pub fn play<R: BufRead, W: Write>(
     reader: &mut R,
     writer: &mut W,
 ) -> Result<(), PlayFault> {
-    match Played::new(rt, bench, manner) {
-        Ok(mut played) => answer_all(&mut played, reader, writer),
-        Err(fault) => Err(PlayFault::from(fault)),
-    }
+    answer_all(&mut Played::new(rt, bench, manner)?, reader, writer)
 }
