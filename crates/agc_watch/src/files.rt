@@ -2,14 +2,11 @@
 use crate::stops::Stop;
 use crate::words::Input;
 use agc_program::Fault;
-use agc_text::read_all;
+use agc_text::{MOST_BYTES, read_all};
 use std::alloc::Global;
 use std::fmt::Write;
 use std::io::{ErrorKind, Input as Standard, Read};
 use std::{fs, io};
-
-/// How many bytes an input may have.
-const MOST_BYTES: u64 = 1_048_576;
 
 /// The bench to play from if no file is named: an empty plan, and room for a million requests.
 const EMPTY: &str = "limit = 1000000\nallowance = 9223372036854775807\n";
@@ -17,7 +14,7 @@ const EMPTY: &str = "limit = 1000000\nallowance = 9223372036854775807\n";
 /// The bytes of a file, as many as an input may have, and one more.
 pub(crate) fn read_file(rt: &HostRuntime, name: &str) -> io::Result<Vec<u8>> {
     let mut bytes = Vec::new(rt.alloc());
-    let mut file = fs::open(rt, name)?.take(MOST_BYTES + 1);
+    let mut file = fs::open(rt, name)?.take(MOST_BYTES as u64 + 1);
     file.read_to_end(&mut bytes)?;
     Ok(bytes)
 }

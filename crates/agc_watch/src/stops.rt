@@ -6,6 +6,7 @@ ghost use Rattle.agc_program.specs.declared.fault.Fault.TheVariants as fault;
 use agc_document::BenchFault;
 use agc_program::{Fault, Program, ended};
 use agc_session::RunFault;
+use agc_text::MOST_BYTES;
 use clap::Error;
 use std::alloc::AllocError;
 use std::process::ExitCode;
@@ -85,7 +86,7 @@ fn ended_wrong(rt: &HostRuntime, fault: BenchFault, told: &str) -> ExitCode {
 
 /// Says that a bench is too long for `agc`.
 fn ended_too_long(rt: &HostRuntime, bytes: u64) -> ExitCode {
-    let _ = eprintln!(rt; "agc_watch: the bench has {bytes} bytes, and agc takes 1048576");
+    let _ = eprintln!(rt; "agc_watch: the bench has {bytes} bytes, and agc takes {MOST_BYTES}");
     ExitCode::from(1)
 }
 

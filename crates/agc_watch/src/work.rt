@@ -15,13 +15,10 @@ use agc_peaks::{Outcome, outcome_of, put_differences, scenario_bench, write_jobs
 use agc_play::{Manner, PlayFault, play};
 use agc_program::Fault;
 use agc_run::Subject;
-use agc_text::{ReadFault, read_script};
+use agc_text::{MOST_BYTES, ReadFault, read_script};
 use agc_trace::{Choice, picture, time_picture, trace, trace_script};
 use std::alloc::Global;
 use std::io::{Input, Write};
-
-/// How many bytes `agc` takes.
-const MOST_BYTES: u64 = 1_048_576;
 
 /// Writes the page of a text, which is a document.
 fn write_page(console: &mut Console<'_>, named: Option<&str>, text: &str) -> Result<(), Stop> {
@@ -132,7 +129,7 @@ fn write_bench(console: &mut Console<'_>, text: &str) -> Result<u8, Stop> {
     let alloc = console.rt.alloc();
     let scenario = scenario_in(alloc, text)?;
     let bytes = scenario_bench(alloc, &scenario, &mut console.output)?;
-    if bytes <= MOST_BYTES {
+    if bytes <= MOST_BYTES as u64 {
         return Ok(0);
     }
     match console.output.flush() {
