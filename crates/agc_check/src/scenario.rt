@@ -5,16 +5,13 @@ use crate::warning::{
     TWIN,
 };
 use crate::warnings::{Found, plain};
-use agc_clock::{Stolen, stolen_at};
+use agc_clock::{LAST_TIME, Stolen, stolen_at};
 use agc_document::{Key, Place};
 use agc_plan::{Action, Actions, Address, JobStart, PhaseEntry, Request, Task, action_request};
 use agc_scenario::rows::{EVENTS, JOBS, STEAL};
 use agc_scenario::{Scenario, TimedEvent, TimedJob, Timing};
 use std::alloc::{AllocError, Global};
 use std::collections::BTreeSet;
-
-/// The last centisecond of the longest scenario.
-const LAST_TIME: u32 = 8_640_000;
 
 /// The place of a row, which is numbered from 0.
 fn row_at(key: Key, row: usize) -> Place {

@@ -1,7 +1,6 @@
 -- A document's numbers and texts by key, before any text is read. None stands for a fault Key.
-use Rattle.std.specs.Prelude.{ℕ, ℤ, pos, negsuc, List, [], ◌∷◌, codes, map, length, Option, Some, None}
-use Rattle.std.specs.Prelude.{Bool, true, false, nat_lt, ◌&&◌, ◌||◌}
-use Rattle.std.specs.Prelude.{if◌then◌else◌}
+use Rattle.std.specs.Prelude.{ℕ, ℤ, pos, negsuc, List, [], ◌∷◌, codes, map, length, Option, Some}
+use Rattle.std.specs.Prelude.{None, Bool, true, false, nat_lt, ◌&&◌, ◌||◌, if◌then◌else◌}
 use Rattle.std.specs.Str.{bytes_eq}
 use Rattle.toml.specs.Data.{Data, Items, no_items, item, Members, no_members, member, get_member}
 use Rattle.toml.specs.Data.{as_str, as_integer, as_bool, as_array, as_table}
@@ -78,6 +77,15 @@ abbrev pub one_in : Kind → Data → Option (List ℕ)
 one_in (kind.OneOrMore form low high) d = as_str d
 one_in _ d = None
 
+-- what reading gives of a table that has these keys and no others
+abbrev pub table_with : {X : Type 0} → List AnyKey → (Members → Option X) → Data → Option X
+table_with keys fields d = table_of keys d >>= fields
+
+-- the tables of an array, as many as a key allows, each with these keys
+abbrev pub tables_of : {X : Type 0} → List AnyKey → (Members → Option X) → AnyKey → Data
+    → Option (List X)
+tables_of keys fields k d = items_of (table_with keys fields) k d
+
 -- some texts, or one alone
 abbrev pub texts_of : AnyKey → Data → Option (List (List ℕ))
 texts_of k d =
@@ -96,30 +104,22 @@ abbrev pub read_if : {X : Type 0} → (AnyKey → Data → Option X) → AnyKey 
     → Option (Option X)
 read_if read k ms = read_or None (λ key d. read key d >>= λ x. Some (Some x)) k ms
 
--- the texts of the row that a table has
-unfoldable pub row_in : Members → Option RowTexts
-row_in ms = do
+-- the texts of a row
+unfoldable pub row : Members → Option RowTexts
+row ms = do
   at ← read_at text_of key.AT ms
   bank ← read_at text_of key.BANK ms
   actions ← read_at texts_of key.ACTION ms
   Some (record { at = at; bank = bank; actions = actions })
 
--- the texts of a row
-unfoldable pub row : Data → Option RowTexts
-row d = table_of key.TASK_KEYS d >>= row_in
-
--- the numbers and texts of the phase entry that a table has
-unfoldable pub entry_in : Members → Option EntryTexts
-entry_in ms = do
+-- the numbers and texts of a phase entry
+unfoldable pub entry : Members → Option EntryTexts
+entry ms = do
   group ← read_at number_of key.GROUP ms
   phase ← read_at number_of key.PHASE ms
   job ← read_if text_of key.JOB ms
   task ← read_if text_of key.LISTING ms
   Some (record { group = group; phase = phase; job = job; task = task })
-
--- the numbers and texts of a phase entry
-unfoldable pub entry : Data → Option EntryTexts
-entry d = table_of key.PHASE_KEYS d >>= entry_in
 
 -- the keys of a worker's table, by what the value of the key of the workers is
 abbrev pub worker_keys : Kind → List AnyKey
@@ -127,13 +127,12 @@ worker_keys (kind.Explored low high) = key.EXPLORED_WORKER_KEYS
 worker_keys _ = key.WORKER_KEYS
 
 -- the script of a worker
-unfoldable pub worker : AnyKey → Data → Option (List (List ℕ))
-worker k d = table_of (worker_keys (kind_of k)) d >>= read_at texts_of key.REQUESTS
+abbrev pub worker : Members → Option (List (List ℕ))
+worker ms = read_at texts_of key.REQUESTS ms
 
 -- the text and number of a device
-unfoldable pub device : Data → Option DeviceTexts
-device d = do
-  ms ← table_of key.DEVICE_KEYS d
+unfoldable pub device : Members → Option DeviceTexts
+device ms = do
   line ← read_at text_of key.LINE ms
   pulses ← read_at number_of key.PULSES ms
   Some (record { line = line; pulses = pulses })
@@ -168,10 +167,10 @@ settings_in ms = do
 unfoldable pub lists_in : AnyKey → Members → Option Lists
 lists_in workers ms = do
   first ← read_or [] texts_of key.SCRIPT ms
-  rows ← read_or [] (items_of row) key.TASKS ms
-  phases ← read_or [] (items_of entry) key.PHASES ms
-  askers ← read_or [] (items_of (worker workers)) workers ms
-  lines ← read_or [] (items_of device) key.DEVICES ms
+  rows ← read_or [] (tables_of key.TASK_KEYS row) key.TASKS ms
+  phases ← read_or [] (tables_of key.PHASE_KEYS entry) key.PHASES ms
+  askers ← read_or [] (tables_of (worker_keys (kind_of workers)) worker) workers ms
+  lines ← read_or [] (tables_of key.DEVICE_KEYS device) key.DEVICES ms
   Some (record { script = first; rows = rows; entries = phases; workers = askers; devices = lines })
 
 -- the numbers and texts of a bench, by the key of its workers

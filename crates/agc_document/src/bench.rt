@@ -11,7 +11,6 @@ ghost use Rattle.agc_document.specs.Gives.{RefusedLine};
 use crate::fault::BenchFault;
 use crate::keys::texts_by;
 use crate::notes::Notes;
-use crate::place::Place;
 use crate::refusal::Refusal;
 use crate::rows::WORKERS;
 use crate::tables::{Site, table_of};
@@ -285,12 +284,7 @@ pub fn bench_of<'a>(
     ensures refused { IfErr result (λ r.
         RefusesBench (Some (table_view table.now)) (fault_of_refusal r)) }
 {
-    let site = Site {
-        alloc,
-        table,
-        place: Place::Whole,
-    };
-    let texts = texts_by(site, WORKERS, notes)?;
+    let texts = texts_by(Site::of_document(alloc, table), WORKERS, notes)?;
     bench_from(alloc, &texts, notes)
 }
 
@@ -313,9 +307,6 @@ pub fn read_bench(alloc: Global, text: &str) -> Result<Bench, BenchFault>
         Ok(table) => table,
         Err(_error) => return Err(BenchFault::NotToml),
     };
-    let mut notes = Notes::new(false);
-    match bench_of(alloc, &table, &mut notes) {
-        Ok(bench) => Ok(bench),
-        Err(refusal) => Err(refusal.fault()),
-    }
+    let bench = bench_of(alloc, &table, &mut Notes::new(false))?;
+    Ok(bench)
 }

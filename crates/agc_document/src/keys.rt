@@ -5,9 +5,9 @@ ghost use Rattle.agc_word.specs.Profiles.{count_of};
 ghost use Rattle.agc_plan.specs.Ranges.{IsBetween};
 ghost use Rattle.agc_document.specs.Gives.{GivesOrKey};
 ghost use Rattle.agc_document.specs.Rows.{kind_of, bounds_of};
-ghost use Rattle.agc_document.specs.Keys.{row, row_in, entry, entry_in, worker, device};
-ghost use Rattle.agc_document.specs.Keys.{worker_keys, numbers_in, settings_in, lists_in};
-ghost use Rattle.agc_document.specs.Keys.{texts_by};
+ghost use Rattle.agc_document.specs.Keys.{row, entry, worker, worker_keys, device};
+ghost use Rattle.agc_document.specs.Keys.{numbers_in, settings_in, lists_in, texts_by};
+ghost use Rattle.agc_document.specs.declared.rows.TheConstants as key_of;
 
 use crate::key::{Key, Kind};
 use crate::key_fault::Level;
@@ -18,124 +18,90 @@ use crate::rows::{
     GROUP, JOB, KEY, LIMIT, LINE, LISTING, PHASE, PHASE_KEYS, PHASES, POWER, PULSES, RADAR,
     REQUESTS, SCRIPT, SETS, TASK_KEYS, TASKS, WORKER_KEYS,
 };
-use crate::tables::{
-    FromData, Placed, Site, has_only, items_or_none, read_at, read_if, read_or, table_in,
-};
+use crate::tables::{FromTable, Site, has_only, items_or_none, read_at, read_if, read_or};
 use crate::texts::{
     DeviceTexts, EntryTexts, Lists, RowTexts, Settings, TextList, Texts, WorkerTexts,
 };
 use agc_word::Sets;
-use std::alloc::Global;
 
-/// The texts of the row that a table has.
-#[tactic(auto, unfolding(crate::specs::Keys::row_in))]
-pub fn row_in<'a>(site: Site<'a>, notes: &mut Notes<'a>) -> Result<RowTexts<'a>, Refusal<'a>>
-    ensures value { GivesOrKey (λ t. t) result (row_in (table_view site.entry.table.now)) }
-{
-    let at = read_at(site, AT, notes);
-    let bank = read_at(site, BANK, notes);
-    let actions = read_at(site, ACTION, notes);
-    Ok(RowTexts {
-        at: at?,
-        bank: bank?,
-        actions: actions?,
-    })
-}
+impl<'a> FromTable<'a> for RowTexts<'a> {
+    ghost keys = { λ k. key_of.TASK_KEYS };
 
-impl<'a> FromData<'a> for RowTexts<'a> {
-    ghost reads = { λ k. row };
+    ghost fields = { row };
 
-    ghost IsAllowed = { λ k t. Unit {0} };
+    fn known(site: Site<'a>, _key: Key, notes: &mut Notes<'a>) -> Result<(), Refusal<'a>> {
+        has_only(site, &TASK_KEYS, Level::Task, notes)
+    }
 
     #[tactic(auto, unfolding(crate::specs::Keys::row))]
-    fn from_value(
-        alloc: Global,
-        placed: Placed<'a>,
-        notes: &mut Notes<'a>,
-    ) -> Result<RowTexts<'a>, Refusal<'a>> {
-        let site = table_in(alloc, placed, notes)?;
-        let known = has_only(site, &TASK_KEYS, Level::Task, notes);
-        known.and(row_in(site, notes))
+    fn from_table(site: Site<'a>, notes: &mut Notes<'a>) -> Result<RowTexts<'a>, Refusal<'a>> {
+        let at = read_at(site, AT, notes);
+        let bank = read_at(site, BANK, notes);
+        let actions = read_at(site, ACTION, notes);
+        Ok(RowTexts {
+            at: at?,
+            bank: bank?,
+            actions: actions?,
+        })
     }
 }
 
-/// The numbers and texts of the phase entry that a table has.
-#[tactic(auto, unfolding(crate::specs::Keys::entry_in))]
-pub fn entry_in<'a>(site: Site<'a>, notes: &mut Notes<'a>) -> Result<EntryTexts<'a>, Refusal<'a>>
-    ensures value { GivesOrKey (λ t. t) result (entry_in (table_view site.entry.table.now)) }
-{
-    let group: Result<u64, Refusal<'a>> = read_at(site, GROUP, notes);
-    let phase: Result<u64, Refusal<'a>> = read_at(site, PHASE, notes);
-    let job = read_if(site, JOB, notes);
-    let task = read_if(site, LISTING, notes);
-    Ok(EntryTexts {
-        group: group? as u8,
-        phase: phase? as u8,
-        job: job?,
-        task: task?,
-    })
-}
+impl<'a> FromTable<'a> for EntryTexts<'a> {
+    ghost keys = { λ k. key_of.PHASE_KEYS };
 
-impl<'a> FromData<'a> for EntryTexts<'a> {
-    ghost reads = { λ k. entry };
+    ghost fields = { entry };
 
-    ghost IsAllowed = { λ k t. Unit {0} };
+    fn known(site: Site<'a>, _key: Key, notes: &mut Notes<'a>) -> Result<(), Refusal<'a>> {
+        has_only(site, &PHASE_KEYS, Level::Phase, notes)
+    }
 
     #[tactic(auto, unfolding(crate::specs::Keys::entry))]
-    fn from_value(
-        alloc: Global,
-        placed: Placed<'a>,
-        notes: &mut Notes<'a>,
-    ) -> Result<EntryTexts<'a>, Refusal<'a>> {
-        let site = table_in(alloc, placed, notes)?;
-        let known = has_only(site, &PHASE_KEYS, Level::Phase, notes);
-        known.and(entry_in(site, notes))
+    fn from_table(site: Site<'a>, notes: &mut Notes<'a>) -> Result<EntryTexts<'a>, Refusal<'a>> {
+        let group: Result<u64, Refusal<'a>> = read_at(site, GROUP, notes);
+        let phase: Result<u64, Refusal<'a>> = read_at(site, PHASE, notes);
+        let job = read_if(site, JOB, notes);
+        let task = read_if(site, LISTING, notes);
+        Ok(EntryTexts {
+            group: group? as u8,
+            phase: phase? as u8,
+            job: job?,
+            task: task?,
+        })
     }
 }
 
-/// The level of the tables that are a key's workers, and the keys of each.
-fn worker_keys(key: Key) -> (Level, &'static [Key])
-    ensures { result.1.now ≡ worker_keys (kind_of key) }
-{
-    match key.kind() {
-        Kind::Explored(_low, _high) => (Level::Explored, &EXPLORED_WORKER_KEYS),
-        _ => (Level::Worker, &WORKER_KEYS),
+impl<'a> FromTable<'a> for WorkerTexts<'a> {
+    ghost keys = { λ k. worker_keys (kind_of k) };
+
+    ghost fields = { worker };
+
+    fn known(site: Site<'a>, key: Key, notes: &mut Notes<'a>) -> Result<(), Refusal<'a>> {
+        match key.kind() {
+            Kind::Explored(_low, _high) => {
+                has_only(site, &EXPLORED_WORKER_KEYS, Level::Explored, notes)
+            }
+            _ => has_only(site, &WORKER_KEYS, Level::Worker, notes),
+        }
     }
-}
 
-impl<'a> FromData<'a> for WorkerTexts<'a> {
-    ghost reads = { worker };
-
-    ghost IsAllowed = { λ k t. Unit {0} };
-
-    #[tactic(auto, unfolding(crate::specs::Keys::worker))]
-    fn from_value(
-        alloc: Global,
-        placed: Placed<'a>,
-        notes: &mut Notes<'a>,
-    ) -> Result<WorkerTexts<'a>, Refusal<'a>> {
-        let site = table_in(alloc, placed, notes)?;
-        let (level, keys) = worker_keys(placed.key);
-        let known = has_only(site, keys, level, notes);
-        let script = known.and(read_at(site, REQUESTS, notes))?;
+    fn from_table(site: Site<'a>, notes: &mut Notes<'a>) -> Result<WorkerTexts<'a>, Refusal<'a>> {
+        let script = read_at(site, REQUESTS, notes)?;
         Ok(WorkerTexts { script })
     }
 }
 
-impl<'a> FromData<'a> for DeviceTexts<'a> {
-    ghost reads = { λ k. device };
+impl<'a> FromTable<'a> for DeviceTexts<'a> {
+    ghost keys = { λ k. key_of.DEVICE_KEYS };
 
-    ghost IsAllowed = { λ k t. Unit {0} };
+    ghost fields = { device };
+
+    fn known(site: Site<'a>, _key: Key, notes: &mut Notes<'a>) -> Result<(), Refusal<'a>> {
+        has_only(site, &DEVICE_KEYS, Level::Device, notes)
+    }
 
     #[tactic(auto, unfolding(crate::specs::Keys::device))]
-    fn from_value(
-        alloc: Global,
-        placed: Placed<'a>,
-        notes: &mut Notes<'a>,
-    ) -> Result<DeviceTexts<'a>, Refusal<'a>> {
-        let site = table_in(alloc, placed, notes)?;
-        let known = has_only(site, &DEVICE_KEYS, Level::Device, notes);
-        let line = known.and(read_at(site, LINE, notes));
+    fn from_table(site: Site<'a>, notes: &mut Notes<'a>) -> Result<DeviceTexts<'a>, Refusal<'a>> {
+        let line = read_at(site, LINE, notes);
         let pulses: Result<u64, Refusal<'a>> = read_at(site, PULSES, notes);
         Ok(DeviceTexts {
             line: line?,

@@ -22,13 +22,13 @@ pub use bench::{Bench, bench_from, bench_of, or_line, read_bench};
 pub use fault::BenchFault;
 pub use key::{ANY, Form, Key, KeyName, Kind, TimeName};
 pub use key_fault::{KeyFault, Level};
-pub use keys::{entry_in, row_in, settings_in, texts_by};
+pub use keys::{settings_in, texts_by};
 pub use notes::{KeyNote, Notes, TextNote};
 pub use place::Place;
 pub use refusal::Refusal;
 pub use tables::{
-    FromData, Placed, Site, has_only, items_of, items_or_none, read_at, read_if, read_or, table_in,
-    table_of, value_of,
+    FromData, FromTable, Placed, Site, has_only, items_of, items_or_none, read_at, read_if,
+    read_or, table_in, table_of, value_of,
 };
 pub use texts::{EntryTexts, Lists, RowTexts, Settings, Text, TextList, Texts};
 pub use values::{Spelled, all_spelled, is_name};

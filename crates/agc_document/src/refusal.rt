@@ -21,12 +21,11 @@ pub enum Refusal<'a> {
     Plan(PlanFault, Place),
 }
 
-impl<'a> Refusal<'a> {
-    /// The fault. Source: profile.
-    pub fn fault(&self) -> BenchFault
-        ensures { result ≡ fault_of_refusal self.now }
-    {
-        match *self {
+impl<'a> From<Refusal<'a>> for BenchFault {
+    ghost from_gives = { λ r fault. fault ≡ fault_of_refusal r };
+
+    fn from(refusal: Refusal<'a>) -> BenchFault {
+        match refusal {
             Refusal::NoMemory => BenchFault::NoMemory,
             Refusal::Key(_note) => BenchFault::Key,
             Refusal::Text(_note) => BenchFault::Line,

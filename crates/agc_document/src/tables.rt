@@ -1,10 +1,10 @@
 //! Tables, numbers and texts of a document, by the table of keys.
-ghost use Rattle.std.specs.Prelude.{◌≡◌, [], map, length, Option, Some, None, IfSome, IfOk, true};
-ghost use Rattle.std.specs.Prelude.{MatchResult, string_bytes};
+ghost use Rattle.std.specs.Prelude.{◌≡◌, List, [], map, length, Option, Some, None, IfSome};
+ghost use Rattle.std.specs.Prelude.{IfOk, MatchResult, string_bytes, true};
 ghost use Rattle.std.specs.Option.{option_map};
 ghost use Rattle.std.specs.List.{list_all};
 ghost use Rattle.std.specs.BTreeMap.{keys};
-ghost use Rattle.toml.specs.Data.{Data, get_member, as_table};
+ghost use Rattle.toml.specs.Data.{Data, Members, get_member, as_table};
 ghost use Rattle.toml.specs.Parse.{parse_document};
 ghost use Rattle.toml.specs.View.{view, items_view, table_view};
 ghost use Rattle.agc_plan.specs.Ranges.{IsBetween};
@@ -14,6 +14,7 @@ ghost use Rattle.agc_document.specs.Rows.{name_of, kind_of, is_required};
 ghost use Rattle.agc_document.specs.Keys.{is_among, has_only, known_to, value_of, number_of};
 ghost use Rattle.agc_document.specs.Keys.{flag_of, text_of, texts_of, least, most, read_at};
 ghost use Rattle.agc_document.specs.Keys.{read_or, read_if, each, counted, items_of, one_in};
+ghost use Rattle.agc_document.specs.Keys.{table_with};
 
 use crate::key::{Key, Kind};
 use crate::key_fault::{KeyFault, Level};
@@ -36,9 +37,51 @@ pub struct Site<'a> {
 /// A value, the key whose value or whose item it is, and its place in the document.
 #[derive(Clone, Copy)]
 pub struct Placed<'a> {
+    pub alloc: Global,
     pub value: &'a Value,
     pub key: Key,
     pub place: Place,
+}
+
+impl<'a> Site<'a> {
+    /// A document.
+    pub fn of_document(alloc: Global, table: &'a Table) -> Site<'a>
+        ensures { result.table.now ≡ table.entry.now }
+    {
+        Site {
+            alloc,
+            table,
+            place: Place::Whole,
+        }
+    }
+
+    /// The value that the table has of a key.
+    pub fn with_value(self, value: &'a Value, key: Key) -> Placed<'a>
+        ensures value { result.value.now ≡ value.entry.now }
+        ensures key { result.key ≡ key }
+    {
+        Placed {
+            alloc: self.alloc,
+            value,
+            key,
+            place: self.place.of_value(key),
+        }
+    }
+}
+
+impl<'a> Placed<'a> {
+    /// An item of the array that the value is, from 0.
+    fn with_item(self, value: &'a Value, k: usize) -> Placed<'a>
+        ensures value { result.value.now ≡ value.entry.now }
+        ensures key { result.key ≡ self.entry.key }
+    {
+        let place = self.place.of_item((k as u64).saturating_add(1));
+        Placed {
+            value,
+            place,
+            ..self
+        }
+    }
 }
 
 /// The table of the document that a text is, or why it is no document. Source: profile.
@@ -128,18 +171,28 @@ fn note_of<'a>(placed: Placed<'a>, notes: &mut Notes<'a>) -> KeyNote<'a> {
     notes.key(placed.place, "", placed.place.fault(placed.key))
 }
 
-/// The table that a value is, an item of a key's array.
-pub fn table_in<'a>(
-    alloc: Global,
+/// What a value was read as, or what is wrong with it, which is noted.
+fn or_note<'a, T: Drop>(
+    read: Option<T>,
     placed: Placed<'a>,
     notes: &mut Notes<'a>,
-) -> Result<Site<'a>, Refusal<'a>>
+) -> Result<T, Refusal<'a>>
+    ensures { GivesOrKey (λ x. x) result read }
+{
+    match read {
+        Some(found) => Ok(found),
+        None => Err(Refusal::Key(note_of(placed, notes))),
+    }
+}
+
+/// The table that a value is, an item of a key's array.
+pub fn table_in<'a>(placed: Placed<'a>, notes: &mut Notes<'a>) -> Result<Site<'a>, Refusal<'a>>
     ensures value { GivesOrKey (λ s. table_view s.table.now) result
         (as_table (view placed.entry.value.now)) }
 {
     match placed.value.as_table() {
         Some(table) => Ok(Site {
-            alloc,
+            alloc: placed.alloc,
             table,
             place: placed.place.of_table(),
         }),
@@ -170,14 +223,40 @@ pub trait FromData<'a>: Sized + Drop {
     ghost IsAllowed: { AnyKey → Self → Type 0 };
 
     /// What a value is. A fault `Key` where it is no such thing.
-    fn from_value(
-        alloc: Global,
-        placed: Placed<'a>,
-        notes: &mut Notes<'a>,
-    ) -> Result<Self, Refusal<'a>>
+    fn from_value(placed: Placed<'a>, notes: &mut Notes<'a>) -> Result<Self, Refusal<'a>>
         ensures value { GivesOrKey (λ x. x) result
             (reads placed.entry.key (view placed.entry.value.now)) }
         ensures range { IfOk result (IsAllowed placed.entry.key) };
+}
+
+/// What a table is read as, an item of a key's array: one that has these keys and no others.
+pub trait FromTable<'a>: Sized + Drop {
+    /// The keys that it may have, by the key of its array.
+    ghost keys: { AnyKey → List AnyKey };
+
+    /// What reading gives of it.
+    ghost fields: { Members → Option Self };
+
+    /// Whether a table has these keys and no others.
+    fn known(site: Site<'a>, key: Key, notes: &mut Notes<'a>) -> Result<(), Refusal<'a>>
+        ensures { GivesOrKey (λ _. table_view site.entry.table.now) result
+            (known_to (keys key) (table_view site.entry.table.now)) };
+
+    /// What it is. A fault `Key` where it is no such thing.
+    fn from_table(site: Site<'a>, notes: &mut Notes<'a>) -> Result<Self, Refusal<'a>>
+        ensures { GivesOrKey (λ x. x) result (fields (table_view site.entry.table.now)) };
+}
+
+impl<'a, T: FromTable<'a>> FromData<'a> for T {
+    ghost reads = { λ k. table_with (T.keys k) T.fields };
+
+    ghost IsAllowed = { λ k x. Unit {0} };
+
+    fn from_value(placed: Placed<'a>, notes: &mut Notes<'a>) -> Result<T, Refusal<'a>> {
+        let site = table_in(placed, notes)?;
+        let known = T::known(site, placed.key, notes);
+        known.and(T::from_table(site, notes))
+    }
 }
 
 /// An integer in the range of a key.
@@ -204,15 +283,8 @@ impl<'a> FromData<'a> for u64 {
 
     ghost IsAllowed = { λ k n. IsBetween (least k) (most k) n };
 
-    fn from_value(
-        _alloc: Global,
-        placed: Placed<'a>,
-        notes: &mut Notes<'a>,
-    ) -> Result<u64, Refusal<'a>> {
-        match number_in(placed.value, placed.key) {
-            Some(number) => Ok(number),
-            None => Err(Refusal::Key(note_of(placed, notes))),
-        }
+    fn from_value(placed: Placed<'a>, notes: &mut Notes<'a>) -> Result<u64, Refusal<'a>> {
+        or_note(number_in(placed.value, placed.key), placed, notes)
     }
 }
 
@@ -221,15 +293,8 @@ impl<'a> FromData<'a> for bool {
 
     ghost IsAllowed = { λ k b. Unit {0} };
 
-    fn from_value(
-        _alloc: Global,
-        placed: Placed<'a>,
-        notes: &mut Notes<'a>,
-    ) -> Result<bool, Refusal<'a>> {
-        match placed.value.as_bool() {
-            Some(flag) => Ok(flag),
-            None => Err(Refusal::Key(note_of(placed, notes))),
-        }
+    fn from_value(placed: Placed<'a>, notes: &mut Notes<'a>) -> Result<bool, Refusal<'a>> {
+        or_note(placed.value.as_bool(), placed, notes)
     }
 }
 
@@ -238,11 +303,7 @@ impl<'a> FromData<'a> for Text<'a> {
 
     ghost IsAllowed = { λ k t. Unit {0} };
 
-    fn from_value(
-        _alloc: Global,
-        placed: Placed<'a>,
-        notes: &mut Notes<'a>,
-    ) -> Result<Text<'a>, Refusal<'a>> {
+    fn from_value(placed: Placed<'a>, notes: &mut Notes<'a>) -> Result<Text<'a>, Refusal<'a>> {
         match placed.value.as_str() {
             Some(text) => {
                 notes.look_at(placed.place, text, placed.key);
@@ -268,53 +329,40 @@ impl<'a> FromData<'a> for TextList<'a> {
 
     ghost IsAllowed = { λ k ts. IsBetween (least k) (most k) (length ts) };
 
-    fn from_value(
-        alloc: Global,
-        placed: Placed<'a>,
-        notes: &mut Notes<'a>,
-    ) -> Result<TextList<'a>, Refusal<'a>> {
+    fn from_value(placed: Placed<'a>, notes: &mut Notes<'a>) -> Result<TextList<'a>, Refusal<'a>> {
         let texts: Vec<Text<'a>> = match one_in(placed.value, placed.key) {
             Some(text) => {
                 notes.look_at(placed.place, text, placed.key);
-                let alone = TextList::of(alloc, text)?;
+                let alone = TextList::of(placed.alloc, text)?;
                 counted(alone.texts, placed, notes)?
             }
-            None => items_of(alloc, placed, notes)?,
+            None => items_of(placed, notes)?,
         };
         Ok(TextList { texts })
     }
 }
 
 /// Looks at an item of an array, if it is wanted, and notes what is wrong with it.
-fn note_item<'a, T: FromData<'a>>(
-    alloc: Global,
-    placed: Placed<'a>,
-    is_wanted: bool,
-    notes: &mut Notes<'a>,
-) {
+fn note_item<'a, T: FromData<'a>>(placed: Placed<'a>, is_wanted: bool, notes: &mut Notes<'a>) {
     if is_wanted {
-        let _item: Result<T, Refusal<'a>> = T::from_value(alloc, placed, notes);
+        let _item: Result<T, Refusal<'a>> = T::from_value(placed, notes);
     }
 }
 
 /// Looks at the items of an array after the first that is no such thing, and notes what is wrong
 /// with them.
 fn note_others<'a, T: FromData<'a>>(
-    alloc: Global,
     values: &'a [Value],
     first: usize,
     array: Placed<'a>,
     notes: &mut Notes<'a>,
 ) {
-    let (key, place) = (array.key, array.place);
     for (k, value) in values.iter().enumerate() {
-        let place = place.of_item(k as u64 + 1);
-        note_item::<T>(alloc, Placed { value, key, place }, first < k, notes);
+        note_item::<T>(array.with_item(value, k), first < k, notes);
     }
 }
 
 fn items_in_order<'a, T: FromData<'a>>(
-    alloc: Global,
     values: &'a [Value],
     array: Placed<'a>,
     notes: &mut Notes<'a>,
@@ -322,14 +370,12 @@ fn items_in_order<'a, T: FromData<'a>>(
     ensures value { GivesOrKey (λ v. v.items) result
         (each (T.reads array.entry.key) (items_view values.now)) }
 {
-    let (key, place) = (array.key, array.place);
-    let mut items = Vec::new(alloc);
+    let mut items = Vec::new(array.alloc);
     for (k, value) in values.iter().enumerate() {
-        let place = place.of_item(k as u64 + 1);
-        match T::from_value(alloc, Placed { value, key, place }, notes) {
+        match T::from_value(array.with_item(value, k), notes) {
             Ok(item) => items.push(item)?,
             Err(fault) => {
-                note_others::<T>(alloc, values, k, array, notes);
+                note_others::<T>(values, k, array, notes);
                 return Err(fault);
             }
         }
@@ -357,7 +403,6 @@ fn counted<'a, T: Drop>(
 
 /// The items of an array, as many as the row of its key allows.
 pub fn items_of<'a, T: FromData<'a>>(
-    alloc: Global,
     placed: Placed<'a>,
     notes: &mut Notes<'a>,
 ) -> Result<Vec<T>, Refusal<'a>>
@@ -369,7 +414,7 @@ pub fn items_of<'a, T: FromData<'a>>(
     match placed.value.as_array() {
         None => Err(Refusal::Key(note_of(placed, notes))),
         Some(values) => {
-            let items: Vec<T> = items_in_order(alloc, values.as_slice(), placed, notes)?;
+            let items: Vec<T> = items_in_order(values.as_slice(), placed, notes)?;
             counted(items, placed, notes)
         }
     }
@@ -386,10 +431,9 @@ pub fn items_or_none<'a, T: FromData<'a>>(
         (read_or [] (λ k. items_of (T.reads k) k) key (table_view site.entry.table.now)) }
     ensures few { IfOk result (λ v. IsBetween (least key) (most key) (length v.items)) }
 {
-    let place = site.place.of_value(key);
     match value_of(site.table, key) {
         None => Ok(Vec::new(site.alloc)),
-        Some(value) => items_of(site.alloc, Placed { value, key, place }, notes),
+        Some(value) => items_of(site.with_value(value, key), notes),
     }
 }
 
@@ -404,9 +448,8 @@ pub fn read_at<'a, T: FromData<'a>>(
         (read_at T.reads key (table_view site.entry.table.now)) }
     ensures range { IfOk result (T.IsAllowed key) }
 {
-    let place = site.place.of_value(key);
     match value_of(site.table, key) {
-        Some(value) => T::from_value(site.alloc, Placed { value, key, place }, notes),
+        Some(value) => T::from_value(site.with_value(value, key), notes),
         None => Err(Refusal::Key(notes.key(site.place, "", KeyFault::Missing(key)))),
     }
 }
@@ -421,10 +464,9 @@ pub fn read_if<'a, T: FromData<'a>>(
         (read_if T.reads key (table_view site.entry.table.now)) }
     ensures range { IfOk result (λ o. IfSome o (T.IsAllowed key)) }
 {
-    let place = site.place.of_value(key);
     match value_of(site.table, key) {
         Some(value) => {
-            let read = T::from_value(site.alloc, Placed { value, key, place }, notes)?;
+            let read = T::from_value(site.with_value(value, key), notes)?;
             Ok(Some(read))
         }
         None => Ok(None),
@@ -443,9 +485,8 @@ pub fn read_or<'a, T: FromData<'a>>(
         (read_or missing T.reads key (table_view site.entry.table.now)) }
     ensures range { IfOk result (T.IsAllowed key) }
 {
-    let place = site.place.of_value(key);
     match value_of(site.table, key) {
-        Some(value) => T::from_value(site.alloc, Placed { value, key, place }, notes),
+        Some(value) => T::from_value(site.with_value(value, key), notes),
         None => Ok(missing),
     }
 }

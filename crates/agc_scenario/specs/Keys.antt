@@ -1,7 +1,7 @@
 -- A document's numbers and texts by key, as those of a scenario, before any text is read. None
 -- stands for a fault Key.
 use Rattle.std.specs.Prelude.{ℕ, List, [], ◌∷◌, codes, map, Option, Some, None}
-use Rattle.std.specs.Prelude.{Bool, true, nat_lt, nat_le, not, is_some, ◌-◌, ◌&&◌}
+use Rattle.std.specs.Prelude.{Bool, true, nat_lt, nat_le, not, is_some, ◌+◌, ◌-◌, ◌&&◌}
 use Rattle.std.specs.Prelude.{◌||◌, ◌++◌, if◌then◌else◌, unwrap_or}
 use Rattle.std.specs.List.{list_all, list_any}
 use Rattle.toml.specs.Data.{Data, Members, as_integer, as_table}
@@ -11,29 +11,21 @@ use Rattle.agc_document.specs.declared.rows.TheConstants as key
 use Rattle.agc_scenario.specs.declared.rows.TheConstants as own
 use Rattle.agc_document.specs.Texts.{Lists, Settings}
 use Rattle.agc_document.specs.Keys.{is_among, known_to, table_of, value_of, number_of, text_of}
-use Rattle.agc_document.specs.Keys.{texts_of, read_at, read_or, read_if, items_of}
-use Rattle.agc_document.specs.Keys.{row_in, entry_in, settings_in}
+use Rattle.agc_document.specs.Keys.{texts_of, read_at, read_or, read_if, tables_of}
+use Rattle.agc_document.specs.Keys.{row, entry, settings_in}
+use Rattle.agc_clock.specs.declared.times.TheConstants.{LAST_TIME}
 use Rattle.agc_clock.specs.declared.timetable.Stolen.{Stolen}
 use Rattle.agc_clock.specs.Timetables.{comes_once, overlap}
 use Rattle.agc_scenario.specs.declared.timing.CostRange.{CostRange}
-use Rattle.agc_scenario.specs.Texts.{NamedRow, NamedEntry, NamedTexts, JobTexts, EventTexts}
+use Rattle.agc_scenario.specs.Texts.{Named, NamedTexts, JobTexts, EventTexts}
 use Rattle.agc_scenario.specs.Texts.{TimingTexts, ScenarioTexts, alarm_called, is_named}
 
--- the texts of a task's row, and its name
-unfoldable pub named_row : Data → Option NamedRow
-named_row d = do
-  ms ← table_of own.NAMED_TASK_KEYS d
-  row ← row_in ms
+-- what reading gives of a table, and its name
+unfoldable pub named : {X : Type 0} → (Members → Option X) → Members → Option (Named X)
+named fields ms = do
+  item ← fields ms
   name ← read_if text_of own.NAME ms
-  Some (record { row = row; name = name })
-
--- the numbers and texts of a phase entry, and its name
-unfoldable pub named_entry : Data → Option NamedEntry
-named_entry d = do
-  ms ← table_of own.NAMED_PHASE_KEYS d
-  entry ← entry_in ms
-  name ← read_if text_of own.NAME ms
-  Some (record { entry = entry; name = name })
+  Some (record { item = item; name = name })
 
 -- a row of stolen time that ends after it begins, and if it comes again, not before it ends
 abbrev pub forward : Stolen → Option Stolen
@@ -42,9 +34,8 @@ forward row =
     then Some row else None
 
 -- a row of stolen time: it comes once, or repeats, up to its last time or to the end
-unfoldable pub stolen_row : Data → Option Stolen
-stolen_row d = do
-  ms ← table_of own.STEAL_KEYS d
+unfoldable pub stolen_row : Members → Option Stolen
+stolen_row ms = do
   from ← read_at number_of own.FROM ms
   to ← read_at number_of own.TO ms
   percent ← read_at number_of own.PERCENT ms
@@ -55,19 +46,19 @@ stolen_row d = do
     to = to;
     percent = percent;
     every = unwrap_or every 0;
-    until = unwrap_or until 8640000;
+    until = unwrap_or until LAST_TIME;
   })
 
 -- one row for all the time that a scenario may last
 abbrev pub always : ℕ → List Stolen
 always percent =
-    record { from = 0; to = 8640001; percent = percent; every = 0; until = 8640000 } ∷ []
+    record { from = 0; to = LAST_TIME + 1; percent = percent; every = 0; until = LAST_TIME } ∷ []
 
 -- the rows of stolen time: a percent alone, or an array of tables
 abbrev pub stolen_rows : AnyKey → Data → Option (List Stolen)
 stolen_rows k d = elim (as_integer d) [
   | Some n ↦ number_of k d >>= λ percent. Some (always percent)
-  | None ↦ items_of stolen_row k d
+  | None ↦ tables_of own.STEAL_KEYS stolen_row k d
 ]
 
 -- a cost of which the least isn't above the most
@@ -90,9 +81,8 @@ cost k d = elim (as_table d) [
 ]
 
 -- what a job costs, and what it is asked
-unfoldable pub job : Data → Option JobTexts
-job d = do
-  ms ← table_of own.JOB_KEYS d
+unfoldable pub job : Members → Option JobTexts
+job ms = do
   at ← read_at text_of key.AT ms
   costs ← read_at cost own.COST ms
   deadline ← read_if number_of own.DEADLINE ms
@@ -101,9 +91,8 @@ job d = do
   Some (record { at = at; cost = costs; deadline = deadline; requests = requests; name = name })
 
 -- an event
-unfoldable pub event : Data → Option EventTexts
-event d = do
-  ms ← table_of own.EVENT_KEYS d
+unfoldable pub event : Members → Option EventTexts
+event ms = do
   at ← read_at number_of own.MOMENT ms
   after ← read_if text_of own.AFTER ms
   requests ← read_at texts_of own.DO ms
@@ -162,8 +151,8 @@ timing_in ms = do
   title ← read_if text_of own.TITLE ms
   seed ← read_if number_of own.SEED ms
   stolen ← read_or [] stolen_rows own.STEAL ms
-  jobs ← read_or [] (items_of job) own.JOBS ms
-  events ← read_or [] (items_of event) own.EVENTS ms
+  jobs ← read_or [] (tables_of own.JOB_KEYS job) own.JOBS ms
+  events ← read_or [] (tables_of own.EVENT_KEYS event) own.EVENTS ms
   if_coherent (record {
     seconds = seconds;
     title = title;
@@ -176,8 +165,8 @@ timing_in ms = do
 -- the tasks and phases
 unfoldable pub named_in : Members → Option NamedTexts
 named_in ms = do
-  rows ← read_or [] (items_of named_row) own.NAMED_TASKS ms
-  entries ← read_or [] (items_of named_entry) own.NAMED_PHASES ms
+  rows ← read_or [] (tables_of own.NAMED_TASK_KEYS (named row)) own.NAMED_TASKS ms
+  entries ← read_or [] (tables_of own.NAMED_PHASE_KEYS (named entry)) own.NAMED_PHASES ms
   Some (record { rows = rows; entries = entries })
 
 -- the lists of a bench that has these tasks and phases, and asks for nothing by itself
@@ -185,8 +174,8 @@ abbrev pub lists_of : NamedTexts → Lists
 lists_of named =
     record {
       script = [];
-      rows = map (λ n. n.row) named.rows;
-      entries = map (λ n. n.entry) named.entries;
+      rows = map (λ n. n.item) named.rows;
+      entries = map (λ n. n.item) named.entries;
       workers = [];
       devices = [];
     }

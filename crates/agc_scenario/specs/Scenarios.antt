@@ -15,6 +15,7 @@ use Rattle.agc_document.specs.Kinds.{is_name}
 use Rattle.agc_document.specs.Benches as bench
 use Rattle.agc_document.specs.Benches.{Benched, IsBench, bench_texts}
 use Rattle.agc_clock.specs.declared.alarms.Alarms.{Alarms}
+use Rattle.agc_clock.specs.declared.times.TheConstants.{LAST_TIME}
 use Rattle.agc_clock.specs.Alarms.{first_came, times_after}
 use Rattle.agc_clock.specs.Coming.{Coming}
 use Rattle.agc_clock.specs.Events.{Event}
@@ -78,7 +79,7 @@ comes_by at (Some every) (Some until) lasts = record { at = at; every = every; u
 
 -- the centisecond that is so long after another, or the first after a day, where it is later
 abbrev pub later : ℕ → ℕ → ℕ
-later from long = min (from + long) 8640001
+later from long = min (from + long) (LAST_TIME + 1)
 
 -- what counts from an alarm comes at least a centisecond after it
 abbrev pub not_at_once : Option Alarm → ℕ → ℕ

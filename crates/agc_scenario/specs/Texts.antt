@@ -20,20 +20,15 @@ alarm_called name =
     else if bytes_eq name (codes "1203") then Some A1203
     else None
 
--- a task's row and its name
-pub record NamedRow : Type 0 where
-  pub row : RowTexts
-  pub name : Option (List ℕ)
-
--- a phase entry and its name
-pub record NamedEntry : Type 0 where
-  pub entry : EntryTexts
+-- a task's row or a phase entry, and its name
+pub record Named (X : Type 0) : Type 0 where
+  pub item : X
   pub name : Option (List ℕ)
 
 -- the tasks and phases of a scenario
 pub record NamedTexts : Type 0 where
-  pub rows : List NamedRow
-  pub entries : List NamedEntry
+  pub rows : List (Named RowTexts)
+  pub entries : List (Named EntryTexts)
 
 -- a job: the text of its address, its costs and its deadline in centiseconds, a text for each
 -- request for which it asks, and its name

@@ -3,9 +3,10 @@ ghost use Rattle.std.specs.Prelude.{◌≡◌, ◌≤◌, [], map, true, false, 
 ghost use Rattle.toml.specs.View.{view, table_view};
 ghost use Rattle.agc_document.specs.declared.key.Key.{Key as AnyKey};
 ghost use Rattle.agc_document.specs.Gives.{GivesOrKey};
-ghost use Rattle.agc_document.specs.Keys.{least, most, number_of, read_at, read_if, read_or};
+ghost use Rattle.agc_document.specs.Keys.{entry, least, most, number_of, read_at, read_if};
+ghost use Rattle.agc_document.specs.Keys.{read_or, row};
 ghost use Rattle.agc_scenario.specs.declared.rows.TheConstants as key_of;
-ghost use Rattle.agc_scenario.specs.Keys.{forward, stolen_rows, named_row, named_entry};
+ghost use Rattle.agc_scenario.specs.Keys.{forward, stolen_rows, named};
 ghost use Rattle.agc_scenario.specs.Keys.{stolen_row, job, event, always, ample_settings_in};
 ghost use Rattle.agc_scenario.specs.Keys.{ascending, cost, drawn_cost, if_coherent};
 ghost use Rattle.agc_scenario.specs.Keys.{timing_in, named_in, texts_with, scenario_in};
@@ -18,61 +19,61 @@ use crate::rows::{
     PERCENT, SCENARIO_KEYS, SECONDS, SEED, STEAL, STEAL_KEYS, THEN, TITLE, TO, UNTIL,
 };
 use crate::texts::{
-    EventTexts, JobTexts, NamedEntry, NamedRow, NamedTexts, ScenarioTexts, StolenRow, TimingTexts,
+    EventTexts, JobTexts, Named, NamedTexts, ScenarioTexts, StolenRow, TimingTexts,
 };
 use crate::timing::CostRange;
-use agc_clock::Stolen;
+use agc_clock::{LAST_TIME, Stolen};
 use agc_document::rows::{ALLOWANCE, AT, LIMIT};
 use agc_document::{
-    EntryTexts, FromData, Key, KeyFault, Level, Lists, Notes, Place, Placed, Refusal, RowTexts,
-    Settings, Site, Text, TextList, Texts, entry_in, has_only, items_of, items_or_none, read_at,
-    read_if, read_or, row_in, settings_in, table_in, value_of,
+    EntryTexts, FromData, FromTable, Key, KeyFault, Level, Lists, Notes, Place, Placed, Refusal,
+    RowTexts, Settings, Site, Text, TextList, Texts, has_only, items_of, items_or_none, read_at,
+    read_if, read_or, settings_in, table_in, value_of,
 };
 use agc_text::parse_line;
 use std::alloc::{AllocError, Global};
 use toml::{Table, Value};
 
-impl<'a> FromData<'a> for NamedRow<'a> {
-    ghost reads = { λ k. named_row };
+/// What a table is read as, and its name.
+#[tactic(auto, unfolding(crate::specs::Keys::named))]
+fn named<'a, T: FromTable<'a>>(
+    site: Site<'a>,
+    notes: &mut Notes<'a>,
+) -> Result<Named<'a, T>, Refusal<'a>>
+    ensures { GivesOrKey (λ n. n) result (named T.fields (table_view site.entry.table.now)) }
+{
+    let item = T::from_table(site, notes);
+    let name = read_if(site, NAME, notes);
+    Ok(Named {
+        item: item?,
+        name: name?,
+    })
+}
 
-    ghost IsAllowed = { λ k t. Unit {0} };
+impl<'a> FromTable<'a> for Named<'a, RowTexts<'a>> {
+    ghost keys = { λ k. key_of.NAMED_TASK_KEYS };
 
-    #[tactic(auto, unfolding(crate::specs::Keys::named_row))]
-    fn from_value(
-        alloc: Global,
-        placed: Placed<'a>,
-        notes: &mut Notes<'a>,
-    ) -> Result<NamedRow<'a>, Refusal<'a>> {
-        let site = table_in(alloc, placed, notes)?;
-        let known = has_only(site, &NAMED_TASK_KEYS, Level::NamedTask, notes);
-        let row = known.and(row_in(site, notes));
-        let name = read_if(site, NAME, notes);
-        Ok(NamedRow {
-            row: row?,
-            name: name?,
-        })
+    ghost fields = { named row };
+
+    fn known(site: Site<'a>, _key: Key, notes: &mut Notes<'a>) -> Result<(), Refusal<'a>> {
+        has_only(site, &NAMED_TASK_KEYS, Level::NamedTask, notes)
+    }
+
+    fn from_table(site: Site<'a>, notes: &mut Notes<'a>) -> Result<Self, Refusal<'a>> {
+        named(site, notes)
     }
 }
 
-impl<'a> FromData<'a> for NamedEntry<'a> {
-    ghost reads = { λ k. named_entry };
+impl<'a> FromTable<'a> for Named<'a, EntryTexts<'a>> {
+    ghost keys = { λ k. key_of.NAMED_PHASE_KEYS };
 
-    ghost IsAllowed = { λ k t. Unit {0} };
+    ghost fields = { named entry };
 
-    #[tactic(auto, unfolding(crate::specs::Keys::named_entry))]
-    fn from_value(
-        alloc: Global,
-        placed: Placed<'a>,
-        notes: &mut Notes<'a>,
-    ) -> Result<NamedEntry<'a>, Refusal<'a>> {
-        let site = table_in(alloc, placed, notes)?;
-        let known = has_only(site, &NAMED_PHASE_KEYS, Level::NamedPhase, notes);
-        let entry = known.and(entry_in(site, notes));
-        let name = read_if(site, NAME, notes);
-        Ok(NamedEntry {
-            entry: entry?,
-            name: name?,
-        })
+    fn known(site: Site<'a>, _key: Key, notes: &mut Notes<'a>) -> Result<(), Refusal<'a>> {
+        has_only(site, &NAMED_PHASE_KEYS, Level::NamedPhase, notes)
+    }
+
+    fn from_table(site: Site<'a>, notes: &mut Notes<'a>) -> Result<Self, Refusal<'a>> {
+        named(site, notes)
     }
 }
 
@@ -115,20 +116,18 @@ fn number_if<'a>(
     Ok(small(number))
 }
 
-impl<'a> FromData<'a> for StolenRow {
-    ghost reads = { λ k. stolen_row };
+impl<'a> FromTable<'a> for StolenRow {
+    ghost keys = { λ k. key_of.STEAL_KEYS };
 
-    ghost IsAllowed = { λ k t. Unit {0} };
+    ghost fields = { stolen_row };
+
+    fn known(site: Site<'a>, _key: Key, notes: &mut Notes<'a>) -> Result<(), Refusal<'a>> {
+        has_only(site, &STEAL_KEYS, Level::Steal, notes)
+    }
 
     #[tactic(auto, unfolding(crate::specs::Keys::stolen_row))]
-    fn from_value(
-        alloc: Global,
-        placed: Placed<'a>,
-        notes: &mut Notes<'a>,
-    ) -> Result<StolenRow, Refusal<'a>> {
-        let site = table_in(alloc, placed, notes)?;
-        let known = has_only(site, &STEAL_KEYS, Level::Steal, notes);
-        let from: Result<u64, Refusal<'a>> = known.and(read_at(site, FROM, notes));
+    fn from_table(site: Site<'a>, notes: &mut Notes<'a>) -> Result<StolenRow, Refusal<'a>> {
+        let from: Result<u64, Refusal<'a>> = read_at(site, FROM, notes);
         let to: Result<u64, Refusal<'a>> = read_at(site, TO, notes);
         let percent: Result<u64, Refusal<'a>> = read_at(site, PERCENT, notes);
         let every = number_if(site, EVERY, notes);
@@ -138,7 +137,7 @@ impl<'a> FromData<'a> for StolenRow {
             to: to? as u32,
             percent: percent? as u32,
             every: every?.unwrap_or(0),
-            until: until?.unwrap_or(8_640_000),
+            until: until?.unwrap_or(LAST_TIME),
         };
         forward(row, site.place, notes)
     }
@@ -189,16 +188,12 @@ fn ascending<'a>(
 
 /// A cost that is drawn by lot.
 #[tactic(auto, unfolding(crate::specs::Keys::drawn_cost))]
-fn drawn_cost<'a>(
-    alloc: Global,
-    placed: Placed<'a>,
-    notes: &mut Notes<'a>,
-) -> Result<CostRange, Refusal<'a>>
+fn drawn_cost<'a>(placed: Placed<'a>, notes: &mut Notes<'a>) -> Result<CostRange, Refusal<'a>>
     ensures value { GivesOrKey (λ c. c) result (drawn_cost (view placed.entry.value.now)) }
     ensures order { IfOk result (λ c. c.from ≤ c.to) }
     ensures range { IfOk result (λ c. c.to ≤ 1000000) }
 {
-    let site = table_in(alloc, placed, notes)?;
+    let site = table_in(placed, notes)?;
     let known = has_only(site, &COST_KEYS, Level::Cost, notes);
     let from: Result<u64, Refusal<'a>> = known.and(read_at(site, LEAST, notes));
     let to: Result<u64, Refusal<'a>> = read_at(site, MOST, notes);
@@ -219,15 +214,11 @@ fn cost_of<'a>(
     ensures order { IfOk result (λ c. c.from ≤ c.to) }
     ensures range { IfOk result (λ c. c.to ≤ 1000000) }
 {
-    let placed = Placed {
-        value,
-        key: COST,
-        place: site.place.of_value(COST),
-    };
+    let placed = site.with_value(value, COST);
     match value.as_table() {
-        Some(_table) => drawn_cost(site.alloc, placed, notes),
+        Some(_table) => drawn_cost(placed, notes),
         None => {
-            let cost: u64 = u64::from_value(site.alloc, placed, notes)?;
+            let cost: u64 = u64::from_value(placed, notes)?;
             Ok(CostRange {
                 from: cost as u32,
                 to: cost as u32,
@@ -249,23 +240,21 @@ fn cost_in<'a>(site: Site<'a>, notes: &mut Notes<'a>) -> Result<CostRange, Refus
     }
 }
 
-impl<'a> FromData<'a> for JobTexts<'a> {
-    ghost reads = { λ k. job };
+impl<'a> FromTable<'a> for JobTexts<'a> {
+    ghost keys = { λ k. key_of.JOB_KEYS };
 
-    ghost IsAllowed = { λ k t. Unit {0} };
+    ghost fields = { job };
+
+    fn known(site: Site<'a>, _key: Key, notes: &mut Notes<'a>) -> Result<(), Refusal<'a>> {
+        has_only(site, &JOB_KEYS, Level::Job, notes)
+    }
 
     #[tactic(auto, unfolding(crate::specs::Keys::job))]
-    fn from_value(
-        alloc: Global,
-        placed: Placed<'a>,
-        notes: &mut Notes<'a>,
-    ) -> Result<JobTexts<'a>, Refusal<'a>> {
-        let site = table_in(alloc, placed, notes)?;
-        let known = has_only(site, &JOB_KEYS, Level::Job, notes);
-        let at = known.and(read_at(site, AT, notes));
+    fn from_table(site: Site<'a>, notes: &mut Notes<'a>) -> Result<JobTexts<'a>, Refusal<'a>> {
+        let at = read_at(site, AT, notes);
         let cost = cost_in(site, notes);
         let deadline = number_if(site, DEADLINE, notes);
-        let end = TextList::of(alloc, "end")?;
+        let end = TextList::of(site.alloc, "end")?;
         let requests = read_or(site, THEN, end, notes);
         look_at_order(site, notes);
         let name = read_if(site, NAME, notes);
@@ -279,20 +268,18 @@ impl<'a> FromData<'a> for JobTexts<'a> {
     }
 }
 
-impl<'a> FromData<'a> for EventTexts<'a> {
-    ghost reads = { λ k. event };
+impl<'a> FromTable<'a> for EventTexts<'a> {
+    ghost keys = { λ k. key_of.EVENT_KEYS };
 
-    ghost IsAllowed = { λ k t. Unit {0} };
+    ghost fields = { event };
+
+    fn known(site: Site<'a>, _key: Key, notes: &mut Notes<'a>) -> Result<(), Refusal<'a>> {
+        has_only(site, &EVENT_KEYS, Level::Event, notes)
+    }
 
     #[tactic(auto, unfolding(crate::specs::Keys::event))]
-    fn from_value(
-        alloc: Global,
-        placed: Placed<'a>,
-        notes: &mut Notes<'a>,
-    ) -> Result<EventTexts<'a>, Refusal<'a>> {
-        let site = table_in(alloc, placed, notes)?;
-        let known = has_only(site, &EVENT_KEYS, Level::Event, notes);
-        let at: Result<u64, Refusal<'a>> = known.and(read_at(site, MOMENT, notes));
+    fn from_table(site: Site<'a>, notes: &mut Notes<'a>) -> Result<EventTexts<'a>, Refusal<'a>> {
+        let at: Result<u64, Refusal<'a>> = read_at(site, MOMENT, notes);
         let after = read_if(site, AFTER, notes);
         let requests = read_at(site, DO, notes);
         let every = number_if(site, EVERY, notes);
@@ -328,36 +315,32 @@ pub(crate) fn always(alloc: Global, percent: u64) -> Result<Vec<Stolen>, AllocEr
     let mut rows = Vec::new(alloc);
     rows.push(Stolen {
         from: 0,
-        to: 8_640_001,
+        to: LAST_TIME + 1,
         percent: percent as u32,
         every: 0,
-        until: 8_640_000,
+        until: LAST_TIME,
     })?;
     Ok(rows)
 }
 
 /// The rows of stolen time: a percent alone, or an array of tables.
 fn stolen_rows<'a>(
-    alloc: Global,
+    site: Site<'a>,
     value: &'a Value,
     notes: &mut Notes<'a>,
 ) -> Result<Vec<Stolen>, Refusal<'a>>
     ensures value { GivesOrKey (λ v. v.items) result (stolen_rows key_of.STEAL (view value.now)) }
 {
-    let placed = Placed {
-        value,
-        key: STEAL,
-        place: Place::Value(STEAL),
-    };
+    let placed = site.with_value(value, STEAL);
     match value.as_integer() {
         Some(_percent) => {
-            let percent: u64 = u64::from_value(alloc, placed, notes)?;
-            let rows = always(alloc, percent)?;
+            let percent: u64 = u64::from_value(placed, notes)?;
+            let rows = always(site.alloc, percent)?;
             Ok(rows)
         }
         None => {
-            let rows: Vec<StolenRow> = items_of(alloc, placed, notes)?;
-            let stolen = rows_of(alloc, rows.as_slice())?;
+            let rows: Vec<StolenRow> = items_of(placed, notes)?;
+            let stolen = rows_of(site.alloc, rows.as_slice())?;
             Ok(stolen)
         }
     }
@@ -370,7 +353,7 @@ fn stolen_in<'a>(site: Site<'a>, notes: &mut Notes<'a>) -> Result<Vec<Stolen>, R
 {
     match value_of(site.table, STEAL) {
         None => Ok(Vec::new(site.alloc)),
-        Some(value) => stolen_rows(site.alloc, value, notes),
+        Some(value) => stolen_rows(site, value, notes),
     }
 }
 
@@ -428,40 +411,22 @@ fn named_in<'a>(site: Site<'a>, notes: &mut Notes<'a>) -> Result<NamedTexts<'a>,
     })
 }
 
-/// The rows, and the names of these.
-fn rows_apart<'a>(
+/// The items, and the names of these.
+fn items_and_names<'a, T: Drop>(
     alloc: Global,
-    named: Vec<NamedRow<'a>>,
-) -> Result<(Vec<RowTexts<'a>>, Vec<Option<Text<'a>>>), AllocError>
-    ensures rows { IfOk result (λ r. r.0.items ≡ map (λ n. n.row) named.entry.items) }
+    named: Vec<Named<'a, T>>,
+) -> Result<(Vec<T>, Vec<Option<Text<'a>>>), AllocError>
+    ensures items { IfOk result (λ r. r.0.items ≡ map (λ n. n.item) named.entry.items) }
     ensures names { IfOk result (λ r. r.1.items ≡ map (λ n. n.name) named.entry.items) }
 {
-    let mut rows = Vec::new(alloc);
+    let mut items = Vec::new(alloc);
     let mut names = Vec::new(alloc);
     for one in named {
-        let NamedRow { row, name } = one;
-        rows.push(row)?;
+        let Named { item, name } = one;
+        items.push(item)?;
         names.push(name)?;
     }
-    Ok((rows, names))
-}
-
-/// The entries, and the names of these.
-fn entries_apart<'a>(
-    alloc: Global,
-    named: Vec<NamedEntry<'a>>,
-) -> Result<(Vec<EntryTexts<'a>>, Vec<Option<Text<'a>>>), AllocError>
-    ensures entries { IfOk result (λ r. r.0.items ≡ map (λ n. n.entry) named.entry.items) }
-    ensures names { IfOk result (λ r. r.1.items ≡ map (λ n. n.name) named.entry.items) }
-{
-    let mut entries = Vec::new(alloc);
-    let mut names = Vec::new(alloc);
-    for one in named {
-        let NamedEntry { entry, name } = one;
-        entries.push(entry)?;
-        names.push(name)?;
-    }
-    Ok((entries, names))
+    Ok((items, names))
 }
 
 /// The texts of a scenario that has these settings, tasks and phases.
@@ -473,8 +438,8 @@ fn texts_with<'a>(
 ) -> Result<ScenarioTexts<'a>, AllocError>
     ensures { IfOk result (λ t. t ≡ texts_with settings.entry named.entry timing.entry) }
 {
-    let (rows, row_names) = rows_apart(alloc, named.rows)?;
-    let (entries, entry_names) = entries_apart(alloc, named.entries)?;
+    let (rows, row_names) = items_and_names(alloc, named.rows)?;
+    let (entries, entry_names) = items_and_names(alloc, named.entries)?;
     let lists = Lists {
         script: TextList::none(alloc),
         rows,
@@ -522,11 +487,7 @@ pub(crate) fn scenario_in<'a>(
 ) -> Result<ScenarioTexts<'a>, Refusal<'a>>
     ensures { GivesOrKey (λ t. t) result (scenario_in (table_view table.now)) }
 {
-    let site = Site {
-        alloc,
-        table,
-        place: Place::Whole,
-    };
+    let site = Site::of_document(alloc, table);
     let known = has_only(site, &SCENARIO_KEYS, Level::Scenario, notes);
     let settings = ample_settings_in(site, notes);
     let named = named_in(site, notes);

@@ -1,4 +1,5 @@
 //! The table of keys of a scenario: each with what its value is, and whether it must be there.
+use agc_clock::LAST_TIME;
 use agc_document::rows::{
     ACTION, ALLOWANCE, AT, BANK, GROUP, JOB, KEY, LIMIT, LISTING, PHASE, POWER, RADAR, SETS,
 };
@@ -49,15 +50,21 @@ pub const NAMED_TASK_KEYS: [Key; 4] = [AT, BANK, ACTION, NAME];
 /// The keys of a phase entry.
 pub const NAMED_PHASE_KEYS: [Key; 5] = [GROUP, PHASE, JOB, LISTING, NAME];
 
-pub const FROM: Key = Key::Required(KeyName::Time(TimeName::From), Kind::Integer(0, 8_640_000));
+/// A centisecond of a day.
+const TIME: Kind = Kind::Integer(0, LAST_TIME as u64);
 
-pub const TO: Key = Key::Required(KeyName::Time(TimeName::To), Kind::Integer(0, 8_640_000));
+/// So many centiseconds, at least one.
+const LONG: Kind = Kind::Integer(1, LAST_TIME as u64);
+
+pub const FROM: Key = Key::Required(KeyName::Time(TimeName::From), TIME);
+
+pub const TO: Key = Key::Required(KeyName::Time(TimeName::To), TIME);
 
 pub const PERCENT: Key = Key::Required(KeyName::Time(TimeName::Percent), Kind::Integer(0, 100));
 
-pub const EVERY: Key = Key::Optional(KeyName::Time(TimeName::Every), Kind::Integer(1, 8_640_000));
+pub const EVERY: Key = Key::Optional(KeyName::Time(TimeName::Every), LONG);
 
-pub const UNTIL: Key = Key::Optional(KeyName::Time(TimeName::Until), Kind::Integer(0, 8_640_000));
+pub const UNTIL: Key = Key::Optional(KeyName::Time(TimeName::Until), TIME);
 
 /// The keys of a row of stolen time.
 pub const STEAL_KEYS: [Key; 5] = [FROM, TO, PERCENT, EVERY, UNTIL];
@@ -71,10 +78,7 @@ pub const MOST: Key = Key::Required(KeyName::Time(TimeName::To), Kind::Integer(1
 /// The keys of a cost that is drawn by lot.
 pub const COST_KEYS: [Key; 2] = [LEAST, MOST];
 
-pub const DEADLINE: Key = Key::Optional(
-    KeyName::Time(TimeName::Deadline),
-    Kind::Integer(1, 8_640_000),
-);
+pub const DEADLINE: Key = Key::Optional(KeyName::Time(TimeName::Deadline), LONG);
 
 pub const THEN: Key = Key::Optional(
     KeyName::Time(TimeName::Then),
@@ -90,7 +94,7 @@ pub const BEFORE: Key = Key::Optional(KeyName::Time(TimeName::Then), Kind::Text(
 /// The keys of what a job costs.
 pub const JOB_KEYS: [Key; 5] = [AT, COST, DEADLINE, THEN, NAME];
 
-pub const MOMENT: Key = Key::Required(KeyName::At, Kind::Integer(0, 8_640_000));
+pub const MOMENT: Key = Key::Required(KeyName::At, TIME);
 
 pub const AFTER: Key = Key::Optional(KeyName::Time(TimeName::After), Kind::Text(Form::Name));
 

@@ -156,11 +156,8 @@ pub fn read_scenario(alloc: Global, text: &str) -> Result<Scenario, BenchFault>
         Ok(table) => table,
         Err(_error) => return Err(BenchFault::NotToml),
     };
-    let mut notes = Notes::new(false);
-    match scenario_of(alloc, &table, &mut notes) {
-        Ok(scenario) => Ok(scenario),
-        Err(refusal) => Err(refusal.fault()),
-    }
+    let scenario = scenario_of(alloc, &table, &mut Notes::new(false))?;
+    Ok(scenario)
 }
 
 /// Whether a document has the key `seconds`, and so should be a scenario. Source: profile.

@@ -4,41 +4,26 @@ use agc_clock::Stolen;
 use agc_document::{EntryTexts, RowTexts, Text, TextList, Texts};
 use std::marker::Model;
 
-/// A task's row and its name.
+/// A task's row or a phase entry, and its name.
 #[derive(Drop)]
-pub(crate) struct NamedRow<'a> {
-    pub(crate) row: RowTexts<'a>,
+pub(crate) struct Named<'a, T> {
+    pub(crate) item: T,
     pub(crate) name: Option<Text<'a>>,
 }
 
-impl<'a> Model for NamedRow<'a> {
-    ghost use Rattle.agc_scenario.specs.Texts.{NamedRow as Named};
+impl<'a, T> Model for Named<'a, T> {
+    ghost use Rattle.agc_scenario.specs.Texts.{Named as NamedItem};
 
-    ghost Value = { Named };
+    ghost Value = { NamedItem T };
 
-    ghost view = { λ n. record { row = n.row; name = n.name } };
-}
-
-/// A phase entry and its name.
-#[derive(Drop)]
-pub(crate) struct NamedEntry<'a> {
-    pub(crate) entry: EntryTexts<'a>,
-    pub(crate) name: Option<Text<'a>>,
-}
-
-impl<'a> Model for NamedEntry<'a> {
-    ghost use Rattle.agc_scenario.specs.Texts.{NamedEntry as Named};
-
-    ghost Value = { Named };
-
-    ghost view = { λ n. record { entry = n.entry; name = n.name } };
+    ghost view = { λ n. record { item = n.item; name = n.name } };
 }
 
 /// The tasks and phases of a scenario.
 #[derive(Drop)]
 pub(crate) struct NamedTexts<'a> {
-    pub(crate) rows: Vec<NamedRow<'a>>,
-    pub(crate) entries: Vec<NamedEntry<'a>>,
+    pub(crate) rows: Vec<Named<'a, RowTexts<'a>>>,
+    pub(crate) entries: Vec<Named<'a, EntryTexts<'a>>>,
 }
 
 impl<'a> Model for NamedTexts<'a> {

@@ -6,7 +6,7 @@ ghost use Rattle.agc_scenario.specs.Scenarios.{base_of, comes_by, cost_of, count
 ghost use Rattle.agc_scenario.specs.Scenarios.{first_called, first_of, last_time_of, later};
 ghost use Rattle.agc_scenario.specs.Scenarios.{leaves_by, seed_of, step_in, then_of};
 
-use agc_clock::{Alarms, Cost, Step, Stolen, Then, Times, step_of};
+use agc_clock::{Alarms, Cost, LAST_TIME, Step, Stolen, Then, Times, step_of};
 use agc_plan::{Address, Alarm, Request};
 use std::marker::Model;
 
@@ -247,7 +247,7 @@ impl Model for TimedEvent {
 fn later(from: u32, long: u32) -> u32
     ensures { result ≡ later from long }
 {
-    from.saturating_add(long).min(8_640_001)
+    from.saturating_add(long).min(LAST_TIME + 1)
 }
 
 impl TimedEvent {
