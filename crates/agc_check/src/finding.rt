@@ -3,12 +3,13 @@ ghost use Rattle.std.specs.Prelude.{◌≡◌, ◌≤◌, length, map, IfOk, OnO
 ghost use Rattle.std.specs.List.{All};
 ghost use Rattle.std.specs.List.Sorted.{IsNonDecreasingBy, IsPermutation};
 ghost use Rattle.agc_check.specs.Findings.{line_ends, line_of, StandsIn, refusal_of};
-ghost use Rattle.agc_check.specs.Findings.{IsFound, AreFound, say, said, of_key, of_text};
+ghost use Rattle.agc_check.specs.Findings.{IsFound, AreFound, Said, say, said, of_key, of_text};
 ghost use Rattle.agc_check.specs.declared.wrong.Wrong.TheVariants as wrong_of;
+ghost use Rattle.agc_document.specs.declared.fault.BenchFault.{BenchFault};
 ghost use Rattle.agc_document.specs.declared.fault.BenchFault.TheVariants as refusal;
 ghost use Rattle.agc_document.specs.declared.place.Place.TheVariants as place_of;
 
-use crate::locate::{Spot, spots_of_keys, spots_of_texts};
+use crate::locate::{Located, Spot, spots_of};
 use crate::wrong::Wrong;
 use agc_document::{Form, KeyFault, KeyNote, Place, TextNote};
 use std::alloc::{AllocError, Global};
@@ -158,89 +159,48 @@ fn told_text<'a>(document: &'a str, note: &KeyNote<'a>, spot: Spot) -> &'a str
     }
 }
 
-/// What is found of a document's keys at these spots.
-fn found_keys<'a>(
-    alloc: Global,
-    document: &'a str,
-    notes: &[KeyNote<'a>],
-    spots: &[Spot],
-) -> Result<Vec<Finding>, AllocError>
-    ensures all { IfOk result (λ v. All (IsFound document.now refusal.Key) v.items) }
-    ensures length { IfOk result (λ v. length v.items ≡ length notes.now) }
-    ensures says { IfOk result (λ v. map said v.items ≡ map of_key notes.now) }
-{
-    let mut found: Vec<Finding> = Vec::new(alloc);
-    for note in notes {
-        let spot = spot_at(spots, found.len());
-        let told = Told {
+/// What was noted of a document: what is wrong with a key, or a text that isn't of its form.
+pub(crate) trait Noted<'a>: Located<'a> + Copy {
+    /// The fault of a bench with which this is wrong.
+    ghost fault: { BenchFault };
+
+    /// What there is to say of it.
+    ghost says: { Self → Said };
+
+    /// What is told of it at this spot.
+    fn told(&self, document: &'a str, spot: Spot) -> Told<'a>
+        ensures fault { refusal_of result.wrong ≡ fault }
+        ensures says { say result.place result.wrong result.text.now ≡ says self.now };
+}
+
+impl<'a> Noted<'a> for KeyNote<'a> {
+    ghost fault = { refusal.Key };
+
+    ghost says = { of_key };
+
+    fn told(&self, document: &'a str, spot: Spot) -> Told<'a> {
+        Told {
             at: spot.at,
-            place: note.place,
-            text: told_text(document, note, spot),
-            wrong: Wrong::Key(note.fault),
-        };
-        let one = make_finding(alloc, document, told)?;
-        found.push(one)?;
+            place: self.place,
+            text: told_text(document, self, spot),
+            wrong: Wrong::Key(self.fault),
+        }
     }
-    Ok(found)
 }
 
-/// What is found of a document's texts at these spots.
-fn found_texts<'a>(
-    alloc: Global,
-    document: &'a str,
-    notes: &[TextNote<'a>],
-    spots: &[Spot],
-) -> Result<Vec<Finding>, AllocError>
-    ensures all { IfOk result (λ v. All (IsFound document.now refusal.Line) v.items) }
-    ensures length { IfOk result (λ v. length v.items ≡ length notes.now) }
-    ensures says { IfOk result (λ v. map said v.items ≡ map of_text notes.now) }
-{
-    let mut found: Vec<Finding> = Vec::new(alloc);
-    for note in notes {
-        let told = Told {
-            at: spot_at(spots, found.len()).at,
-            place: note.place,
-            text: note.text,
-            wrong: Wrong::Text(note.form),
-        };
-        let one = make_finding(alloc, document, told)?;
-        found.push(one)?;
+impl<'a> Noted<'a> for TextNote<'a> {
+    ghost fault = { refusal.Line };
+
+    ghost says = { of_text };
+
+    fn told(&self, _document: &'a str, spot: Spot) -> Told<'a> {
+        Told {
+            at: spot.at,
+            place: self.place,
+            text: self.text,
+            wrong: Wrong::Text(self.form),
+        }
     }
-    Ok(found)
-}
-
-/// What is found of a document's keys.
-#[tactic(auto, using(crate::proofs::Found::in_order, crate::proofs::Found::says_in_order))]
-pub(crate) fn key_findings<'a>(
-    alloc: Global,
-    document: &'a str,
-    notes: &[KeyNote<'a>],
-) -> Result<Vec<Finding>, AllocError>
-    ensures are { IfOk result (λ v. AreFound document.now refusal.Key v.items) }
-    ensures length { IfOk result (λ v. length v.items ≡ length notes.now) }
-    ensures says { IfOk result (λ v. IsPermutation (map of_key notes.now) (map said v.items)) }
-{
-    let spots = spots_of_keys(alloc, document, notes)?;
-    let mut found = found_keys(alloc, document, notes, spots.as_slice())?;
-    put_in_order(&mut found)?;
-    Ok(found)
-}
-
-/// What is found of a document's texts.
-#[tactic(auto, using(crate::proofs::Found::in_order, crate::proofs::Found::says_in_order))]
-pub(crate) fn text_findings<'a>(
-    alloc: Global,
-    document: &'a str,
-    notes: &[TextNote<'a>],
-) -> Result<Vec<Finding>, AllocError>
-    ensures are { IfOk result (λ v. AreFound document.now refusal.Line v.items) }
-    ensures length { IfOk result (λ v. length v.items ≡ length notes.now) }
-    ensures says { IfOk result (λ v. IsPermutation (map of_text notes.now) (map said v.items)) }
-{
-    let spots = spots_of_texts(alloc, document, notes)?;
-    let mut found = found_texts(alloc, document, notes, spots.as_slice())?;
-    put_in_order(&mut found)?;
-    Ok(found)
 }
 
 /// One of these spots, or the begin where there are fewer.
@@ -249,4 +209,41 @@ fn spot_at(spots: &[Spot], k: usize) -> Spot {
         Some(spot) => *spot,
         None => Spot { at: 0, value: 0 },
     }
+}
+
+/// What is found at these spots.
+fn found_at_spots<'a, N: Noted<'a>>(
+    alloc: Global,
+    document: &'a str,
+    notes: &[N],
+    spots: &[Spot],
+) -> Result<Vec<Finding>, AllocError>
+    ensures all { IfOk result (λ v. All (IsFound document.now N.fault) v.items) }
+    ensures length { IfOk result (λ v. length v.items ≡ length notes.now) }
+    ensures says { IfOk result (λ v. map said v.items ≡ map N.says notes.now) }
+{
+    let mut found: Vec<Finding> = Vec::new(alloc);
+    for note in notes {
+        let told = note.told(document, spot_at(spots, found.len()));
+        let one = make_finding(alloc, document, told)?;
+        found.push(one)?;
+    }
+    Ok(found)
+}
+
+/// What is found of what was noted, in the order of the document.
+#[tactic(auto, using(crate::proofs::Found::in_order, crate::proofs::Found::says_in_order))]
+pub(crate) fn findings_of<'a, N: Noted<'a>>(
+    alloc: Global,
+    document: &'a str,
+    notes: &[N],
+) -> Result<Vec<Finding>, AllocError>
+    ensures are { IfOk result (λ v. AreFound document.now N.fault v.items) }
+    ensures length { IfOk result (λ v. length v.items ≡ length notes.now) }
+    ensures says { IfOk result (λ v. IsPermutation (map N.says notes.now) (map said v.items)) }
+{
+    let spots = spots_of(alloc, document, notes)?;
+    let mut found = found_at_spots(alloc, document, notes, spots.as_slice())?;
+    put_in_order(&mut found)?;
+    Ok(found)
 }

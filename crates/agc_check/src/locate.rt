@@ -14,7 +14,7 @@ enum Step<'a> {
 
 /// The way to a value, from the document on.
 #[derive(Clone, Copy)]
-struct Way<'a> {
+pub(crate) struct Way<'a> {
     steps: [Option<Step<'a>>; 4],
 }
 
@@ -49,14 +49,6 @@ impl<'a> Way<'a> {
             _ => [unknown, None, None, None],
         };
         Way { steps }
-    }
-
-    /// The way to what is wrong with a key.
-    fn to_key(note: &KeyNote<'a>) -> Way<'a> {
-        match note.fault {
-            KeyFault::Unknown(_level) => Way::to_unknown(note.place, note.text),
-            _ => Way::to(note.place),
-        }
     }
 }
 
@@ -392,42 +384,51 @@ fn walk_all(walk: &mut Walk<'_>, text: &str) -> Result<(), AllocError> {
     Ok(())
 }
 
-/// Where the values stand to which the ways of these trails lead, in their order; of a way that
-/// leads to none, where as much of it leads as the document has.
-fn spots_of(alloc: Global, text: &str, trails: Vec<Trail<'_>>) -> Result<Vec<Spot>, AllocError> {
-    let mut walk = Walk::new(alloc, text, trails);
-    walk_all(&mut walk, text)?;
+/// What stands somewhere in a document.
+pub(crate) trait Located<'a> {
+    /// The way there.
+    fn way(&self) -> Way<'a>;
+}
+
+impl<'a> Located<'a> for Place {
+    fn way(&self) -> Way<'a> {
+        Way::to(*self)
+    }
+}
+
+impl<'a> Located<'a> for KeyNote<'a> {
+    fn way(&self) -> Way<'a> {
+        match self.fault {
+            KeyFault::Unknown(_level) => Way::to_unknown(self.place, self.text),
+            _ => Way::to(self.place),
+        }
+    }
+}
+
+impl<'a> Located<'a> for TextNote<'a> {
+    fn way(&self) -> Way<'a> {
+        Way::to(self.place)
+    }
+}
+
+/// Where these stand in a document, in their order; of what it hasn't, where as much of the way
+/// there leads as it has.
+pub(crate) fn spots_of<'a, L: Located<'a>>(
+    alloc: Global,
+    document: &str,
+    all: &[L],
+) -> Result<Vec<Spot>, AllocError> {
+    let mut trails = Vec::new(alloc);
+    for one in all {
+        trails.push(Trail::new(one.way()))?;
+    }
+    let mut walk = Walk::new(alloc, document, trails);
+    walk_all(&mut walk, document)?;
     let mut spots = Vec::new(alloc);
     for trail in walk.trails.as_slice() {
         spots.push(trail.spot)?;
     }
     Ok(spots)
-}
-
-/// Where what is wrong with keys stands, in the order of its notes.
-pub(crate) fn spots_of_keys(
-    alloc: Global,
-    document: &str,
-    notes: &[KeyNote<'_>],
-) -> Result<Vec<Spot>, AllocError> {
-    let mut trails = Vec::new(alloc);
-    for note in notes {
-        trails.push(Trail::new(Way::to_key(note)))?;
-    }
-    spots_of(alloc, document, trails)
-}
-
-/// Where texts stand, in the order of their notes.
-pub(crate) fn spots_of_texts(
-    alloc: Global,
-    document: &str,
-    notes: &[TextNote<'_>],
-) -> Result<Vec<Spot>, AllocError> {
-    let mut trails = Vec::new(alloc);
-    for note in notes {
-        trails.push(Trail::new(Way::to(note.place)))?;
-    }
-    spots_of(alloc, document, trails)
 }
 
 /// Where these places begin in a document, in their order; of one that it hasn't, where as much of
@@ -441,11 +442,7 @@ pub fn places_in(
     document: &str,
     places: &[Place],
 ) -> Result<Vec<usize>, AllocError> {
-    let mut trails = Vec::new(alloc);
-    for place in places {
-        trails.push(Trail::new(Way::to(*place)))?;
-    }
-    let spots = spots_of(alloc, document, trails)?;
+    let spots = spots_of(alloc, document, places)?;
     let mut places = Vec::new(alloc);
     for spot in spots.as_slice() {
         places.push(spot.at)?;

@@ -8,7 +8,7 @@ ghost use Rattle.agc_check.specs.Findings.{or_alone, say_plan, to_say};
 ghost use Rattle.agc_document.specs.declared.fault.BenchFault.TheVariants as refusal;
 
 use crate::document::{Document, NoDocument};
-use crate::finding::{Finding, Told, key_findings, make_finding, text_findings};
+use crate::finding::{Finding, Told, findings_of, make_finding};
 use crate::locate::places_in;
 use crate::wrong::Wrong;
 use agc_document::{Bench, KeyNote, Notes, Place, Refusal, TextNote, bench_of};
@@ -130,8 +130,8 @@ fn keys_and_texts(
         (map said v.items)) }
 {
     let alone = [note];
-    let mut found = key_findings(alloc, document, or_alone(&alone, notes.keys.as_slice()))?;
-    let mut texts = text_findings(alloc, document, notes.texts.as_slice())?;
+    let mut found = findings_of(alloc, document, or_alone(&alone, notes.keys.as_slice()))?;
+    let mut texts = findings_of(alloc, document, notes.texts.as_slice())?;
     found.append(&mut texts)?;
     Ok(found)
 }
@@ -149,7 +149,7 @@ fn texts_alone(
         (map of_text (or_alone note.entry notes.now.texts.items)) (map said v.items)) }
 {
     let alone = [note];
-    let found = text_findings(alloc, document, or_alone(&alone, notes.texts.as_slice()))?;
+    let found = findings_of(alloc, document, or_alone(&alone, notes.texts.as_slice()))?;
     Ok(found)
 }
 
