@@ -5,7 +5,7 @@
 import { pathToFileURL } from "node:url";
 
 const agc = await import(pathToFileURL(process.argv[2]).href);
-const { Clock, Code, Kind, Lacking, Machine, VERSION, pulseOf, readCore, refusalOf, replyText, sceneOf } = agc;
+const { Clock, Code, Kind, Lacking, Machine, VERSION, placeName, pulseOf, readCore, refusalOf, replyText, sceneOf } = agc;
 
 const SERVICER = {
   steal: 15,
@@ -223,6 +223,37 @@ function anAlarmMovesWhatCountsFromIt() {
   thrown(Lacking, () => new Clock({ event: [{ at: 1, after: "1204", do: "tick" }] }));
 }
 
+/** A lot is 48271 times the one before, modulo 2147483647; a seed that is named begins anew. */
+function lotsAreDrawn() {
+  const clock = new Clock({ seed: 5, job: [{ at: "04000", cost: { from: 1, to: 9 } }], event: [{ at: 0, do: "novac 20 04000 00005" }] });
+  const lot = () => clock.state.at.at(-1);
+  new Machine().run(clock, 1);
+  want(lot() === 241355, `a lot: ${lot()}`);
+  clock.change({ steal: 10 });
+  want(lot() === 241355, `a lot after a change: ${lot()}`);
+  clock.change({ seed: 9 });
+  want(lot() === 9, `a lot of another seed: ${lot()}`);
+}
+
+/** The last time of an event that counts from another counts from that, too. */
+function lastTimesCountFromEvents() {
+  const times = [];
+  const event = [{ name: "P64", at: 30, do: "restart" }, { after: "P64", at: 5, every: 10, until: 20, do: "phase 1 1" }];
+  new Machine().run(new Clock({ event }), 90, (asked, _, time) => { if (asked.name === "phase") times.push(time); });
+  want(same(times, [35, 45]), `an event that counts from another comes at ${times}`);
+}
+
+function wordsAreNamed() {
+  for (const [place, name] of [[0, "MPAC of core set 0"], [11, "PRIORITY of core set 0"], [83, "PRIORITY of core set 6"], [84, "VAC 1"], [89, "NEWJOB"],
+    [90, "TIME3"], [91, "LST1 0"], [98, "LST1 7"], [99, "LST2 0, the address"], [116, "LST2 8, the bank"], [117, "-PHASE of group 1"],
+    [128, "PHASE of group 6"], [129, "FAILREG 0"], [132, "MPAC of core set 7"], [143, "PRIORITY of core set 7"]]) {
+    want(placeName(place) === name, `word ${place} is called ${placeName(place)}`);
+  }
+  const machine = new Machine();
+  const seen = ["novac 20 04000 00005", "novac 30 04100 00005", "change"].map((it) => machine.ask(it) && machine.scene());
+  want(same(seen.map((it) => [it.running, it.next]), [[1, 0], [1, 2], [2, 0]]), "whom NEWJOB names");
+}
+
 timeGoesOn();
 anEventMayNeverCome();
 anEventMayComeAtTheStartAlone();
@@ -235,4 +266,7 @@ foreignWordsHaveNoScene();
 areKept();
 areKeptAfterEachRequest();
 anAlarmMovesWhatCountsFromIt();
+lotsAreDrawn();
+lastTimesCountFromEvents();
+wordsAreNamed();
 want(/^\d+\.\d+\.\d+$/.test(VERSION) && replyText(Kind.ALARMED) === "a table is full: an alarm" && Code.OK === 0, "texts");
