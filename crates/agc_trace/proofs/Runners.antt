@@ -1,8 +1,7 @@
 -- Who runs after a change of job or of priority, and what stays.
 use Rattle.std.proofs.Common.{◌≡◌, ◌⊎◌, ℕ, ◌-◌, ◌==◌, ◌&&◌, Bool, true, false, if◌then◌else◌, List, [], ◌∷◌, map, Option, Some, None, option_map, slice_index_or, slice_set, refl, sym, ap, ◌∙◌, inl, inr, arith}
 use Rattle.std.specs.List.{list_any}
-use Rattle.std.proofs.lemmas.Bool.{and_parts, cases_Bool}
-use Rattle.std.proofs.lemmas.Bool.Decides.{nat_tests}
+use Rattle.std.proofs.lemmas.Bool.{and_parts, cases_Bool, eqb-true}
 use Rattle.std.proofs.lemmas.List.{set-get_or}
 use Rattle.agc_plan.specs.Jobs.{Job, Jobs, job_in, with_job, with_changed, with_priority}
 use Rattle.agc_exec.specs.declared.seats.Seat.{Seat}
@@ -15,12 +14,9 @@ pub if_true : (b : Bool) (o : Option Quiet) (q : Quiet) → (if b then o else No
 if_true true o q e = (refl, e)
 if_true false o q e = absurd (let no : None ≡ Some q = e in cc)
 
-equal_is : (a b : ℕ) → (a == b) ≡ true → a ≡ b
-equal_is a b h = grind (arith, nat_tests)
-
 -- the job that runs is the one that ran
 same_runner : (before : Scene) (n now : ℕ) → before.running ≡ Some n → is_running before now ≡ true → n ≡ now
-same_runner before n now is runs = equal_is n now (rw is at runs)
+same_runner before n now is runs = eqb-true n now (rw is at runs)
 
 pub stays_runner : (jobs : Jobs) (before : Scene) (n now : ℕ) → before.running ≡ Some n → jobs.running ≡ Some n → is_running before now ≡ true → record { slots = jobs.slots; running = Some now } ≡ jobs
 stays_runner jobs before n now seen is runs =
@@ -34,8 +30,8 @@ job_kept : (jobs : Jobs) (n priority m : ℕ) (o : Option Job) → job_in jobs.s
 job_kept jobs n priority m None is h = absurd (cc)
 job_kept jobs n priority m (Some job) is h =
     let parts = and_parts (m == n) (job.priority == priority) h in
-    let here : job_in jobs.slots n ≡ Some job = ap (job_in jobs.slots) (sym (equal_is m n parts.0)) ∙ is in
-    ap (option_map (with_priority priority)) here ∙ kept_priority priority job (equal_is _ _ parts.1) ∙ sym here
+    let here : job_in jobs.slots n ≡ Some job = ap (job_in jobs.slots) (sym (eqb-true m n parts.0)) ∙ is in
+    ap (option_map (with_priority priority)) here ∙ kept_priority priority job (eqb-true _ _ parts.1) ∙ sym here
 
 seat_kept : (jobs : Jobs) (n priority m : ℕ) → is_of_priority n priority (seat_of jobs m) ≡ true → option_map (with_priority priority) (job_in jobs.slots n) ≡ job_in jobs.slots n
 seat_kept jobs n priority m h = elim (cases_Bool (m == 0)) [

@@ -24,17 +24,6 @@ pub(crate) struct Chart {
     gone: u64,
 }
 
-/// How many of the lanes from this one on, before that one, hold anything.
-fn count_of(lanes: &Lanes, from: usize, to: usize) -> u64 {
-    let mut count: u64 = 0;
-    for (k, lane) in lanes.iter().enumerate() {
-        if from <= k && k < to && lane.is_some() {
-            count = count.saturating_add(1);
-        }
-    }
-    count
-}
-
 /// Adds how an event begins: of this phase, on the track of this number.
 fn begin_event(draft: &mut Draft, phase: &str, track: usize, now: u64) {
     let event = [Text(phase), Number(track as u64), Number(now)];
@@ -155,9 +144,9 @@ impl Chart {
         let lanes = lanes_of(&self.lanes, scene, time);
         self.put_lanes(page, &lanes);
         let counts = [
-            count_of(&lanes, 0, AREAS),
-            count_of(&lanes, AREAS, TASKS),
-            count_of(&lanes, TASKS, LANES),
+            lanes.iter().take(AREAS).flatten().count() as u64,
+            lanes.iter().take(TASKS).skip(AREAS).flatten().count() as u64,
+            lanes.iter().skip(TASKS).flatten().count() as u64,
             self.stolen,
         ];
         self.put_counts(&mut page.draft, &counts);

@@ -26,12 +26,9 @@ fn put_job(page: &mut Page, seat: Option<Seat>) {
 /// Adds the running job and its priority, and how many core sets, VAC areas and tasks there are in
 /// the tables.
 fn put_counts(draft: &mut Draft, scene: &Scene) {
-    let mut sets: u64 = 0;
-    let mut areas: u64 = 0;
-    for seat in scene.seats().iter().flatten() {
-        sets = sets.saturating_add(1);
-        areas = areas.saturating_add(u64::from(seat.area > 0));
-    }
+    let sets = scene.seats().iter().flatten().count() as u64;
+    let with_areas = scene.seats().iter().flatten().filter(|seat| seat.area > 0);
+    let areas = with_areas.count() as u64;
     match (scene.running(), scene.seats().first()) {
         (Some(number), Some(Some(seat))) => {
             let runner = [Number(u64::from(number.get())), Priority(seat.priority)];
@@ -43,16 +40,6 @@ fn put_counts(draft: &mut Draft, scene: &Scene) {
     draft.put(",{},{},{}", &[Number(sets), Number(areas), Number(tasks)]);
 }
 
-/// The job of this number.
-fn job_of(scene: &Scene, number: Option<u16>) -> Option<Seat> {
-    for seat in scene.seats().iter().flatten() {
-        if Some(seat.number) == number {
-            return Some(*seat);
-        }
-    }
-    None
-}
-
 /// Adds the columns of a scene, and ends the line.
 fn put_scene(page: &mut Page, scene: &Scene) {
     put_counts(&mut page.draft, scene);
@@ -60,7 +47,8 @@ fn put_scene(page: &mut Page, scene: &Scene) {
         put_job(page, scene.seats().get(k).copied().flatten());
     }
     for area in 1..6u16 {
-        put_job(page, job_of(scene, scene.owner(area)));
+        let mut seats = scene.seats().iter().flatten();
+        put_job(page, seats.find(|seat| seat.area == area).copied());
     }
     page.draft.text("\n");
 }

@@ -4,7 +4,7 @@ use crate::held::{Place, put_name};
 use crate::labels::Labels;
 use crate::lane::Strip;
 use crate::scale::{LEFT, Scale, Stretch, short};
-use agc_clock::{Stolen, stolen_at};
+use agc_clock::{LAST_TIME, Stolen, stolen_at};
 use agc_text::Draft;
 use agc_text::Filling::{Bytes, Number, Seconds, Text};
 
@@ -66,9 +66,6 @@ const TOP: u64 = 142;
 
 /// How high the lanes of events, of stolen and of idle time are.
 const LOW: u64 = 24;
-
-/// Where the longest scenario ends, in centiseconds.
-const LONGEST: u64 = 8_640_001;
 
 /// Which lanes there are: so many core sets; and if a clock runs, events, stolen and idle time.
 #[derive(Clone, Copy)]
@@ -260,7 +257,7 @@ fn put_beats(draft: &mut Draft, lane: Strip, scale: Scale, rows: &[Stolen]) {
         stolen: 0,
         count: 0,
     };
-    let end = scale.to.min(LONGEST);
+    let end = scale.to.min(u64::from(LAST_TIME) + 1);
     for time in scale.from..end {
         let percent = u64::from(stolen_at(rows, time as u32)).min(100);
         beats.take(draft, time, percent);

@@ -25,24 +25,6 @@ pub(crate) trait Shows {
     fn send<W: Write>(&mut self, writer: &mut W) -> Result<(), Output>;
 }
 
-/// Asks for all that is still to be asked in a run, and shows each event.
-fn show_all<S: Shows, P: Progress, W: Write>(
-    run: &mut WatchedRun<'_>,
-    form: &mut S,
-    progress: &mut P,
-    writer: &mut W,
-) -> Result<(), Output>
-    ensures { OnOk result (run.new.watching
-        ≡ fold watched run.old.watching (to_ask run.old.watching.machine run.old.asks)) }
-{
-    while let Some((source, event)) = run.next() {
-        form.show(run, source, event);
-        form.send(writer)?;
-        progress.done();
-    }
-    Ok(())
-}
-
 /// Shows a run: asks for all that is still to be asked in it.
 pub(crate) fn show<S: Shows, P: Progress, W: Write>(
     run: &mut WatchedRun<'_>,
@@ -55,7 +37,11 @@ pub(crate) fn show<S: Shows, P: Progress, W: Write>(
 {
     form.begin(run.watched());
     form.send(writer)?;
-    show_all(run, form, progress, writer)?;
+    while let Some((source, event)) = run.next() {
+        form.show(run, source, event);
+        form.send(writer)?;
+        progress.done();
+    }
     form.finish();
     form.send(writer)
 }
