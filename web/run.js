@@ -552,7 +552,8 @@ export class Run {
   }
 
   /**
-   * Of the ticks of these rows, in how many percent no job was running.
+   * Of the ticks of these rows, in how many percent no job was running, rounded down as by
+   * `agc_watch peaks`.
    * @param {number} from
    * @param {number} to
    */
@@ -564,7 +565,7 @@ export class Run {
       count += 1;
       idle += uses.items[row - 1] >> 12;
     }
-    return count === 0 ? 0 : Math.round((100 * idle) / count);
+    return count === 0 ? 0 : Math.floor((100 * idle) / count);
   }
 
   /**

@@ -4,7 +4,7 @@ import time
 import repository
 from browsing.browser import LAPTOP, PHONE, SIZES
 from browsing.opened import TIGHT
-from browsing.pages import PROGRAM, TOP, Trial, press_try, save, written
+from browsing.pages import DRAWN, PROGRAM, TOP, Trial, press_try, save, written
 from browsing.pictures import SHOWN_EXAMPLE, SHOWN_REQUEST
 
 # What a reader who can't see needs, and who sees little: rules of this project's own.
@@ -150,7 +150,7 @@ def names(browser, folder):
             for opened in "", "open", "examples", "plan", "save", "help":
                 if opened:
                     browser.click(opened)
-                    time.sleep(0.1)
+                    browser.value(DRAWN, True)
                 told = f"{opened or 'the page'}, {size[0]} points, {scheme}"
                 for fault in browser.value(NAMES) + browser.value(ROLES) + browser.value(CONTRAST):
                     trial.expect(f"{told}: {fault}", False)
@@ -247,6 +247,7 @@ def calm(browser, folder):
     begun = time.monotonic()
     browser.click("run")
     time.sleep(1)
+    browser.wait("window.drawn > 0")
     browser.click("run")
     drawn, took = browser.value("window.drawn"), time.monotonic() - begun
     trial.expect(f"the clock is drawn {drawn} times in {took:.1f} s", 1 <= drawn <= 4 * took + 2)

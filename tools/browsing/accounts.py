@@ -1,11 +1,10 @@
 """What is told of a row: alarms and who holds the tables, restarts, names, and what is offered to try."""
 import json
-import time
 
 from browsing.browser import LISTED
 from browsing.opened import NAMED, THREE_ALARMS
 from browsing.pages import (
-    PROGRAM, exercise, go_to, open_text, press_try, says, table, texts, type_line, written)
+    PROGRAM, exercise, go_to, open_text, open_words, press_try, says, table, texts, type_line, written)
 from browsing.traces import rows_of
 
 
@@ -23,6 +22,11 @@ def try_alarms(browser, trial):
                  "place 9: task 02010, in 40 cs, since request 16 (0.01 s)",
                  "these begin again: job 1, priority 10, at 06000; task 05000 in 20 cs."):
         trial.expect(f"the account lacks {line}: {account}", line in account)
+    browser.press("Home")
+    for wanted in 7, 17, 24, 24:
+        browser.press("x")
+        says(browser, trial, "the next alarm, closer", f"Request {wanted} of 24")
+    browser.press("f")
     for typed, wanted in (("0.02 s", 18), ("0.01", 9), ("6", 6)):
         go_to(browser, typed)
         says(browser, trial, f"gone to {typed}", f"Request {wanted} of 24")
@@ -119,8 +123,7 @@ def try_accounts(browser, trial):
     sets = browser.shown()["sets"][:3]
     trial.expect(f"{sets}", sets[0].split("\n") == ["set 0", "job 1", "priority 20", "04000", "runs, area 1"]
                  and sets[1].split("\n")[:5] == ["set 1", "job 2", "priority 30", "04100", "NEWJOB"] and sets[2] == "set 2\nfree")
-    browser.value("document.getElementById('words-box').open = true")
-    time.sleep(0.1)
+    open_words(browser)
     words = browser.value("Array.from(document.querySelectorAll('#words-rows tr'), (it) => it.textContent)")
     for place, text in ((0, "00001core set 0, number"), (11, "20300core set 0, PRIORITY"), (20, "04100core set 1, LOC"),
                         (84, "00000use word of the VAC area at 00300"), (85, "00354use word of the VAC area at 00354"),
@@ -316,8 +319,7 @@ def try_restarts(browser, trial):
         "priority 20, at 02000; job 2, priority 25, at 05000; task 04100 in 10 cs; task 04000 in 100 cs."])
     before = "Core sets: 7 of 7 in use|VAC areas: 0 of 5 in use|Waitlist: 1 of 9 in use|job 2 job 1 job 3 job 4 job 5 job 6 job 7||04000"
     after = "Core sets, after the restart: 2 of 7 in use|VAC areas, after the restart: 1 of 5 in use|Waitlist, after the restart: 2 of 9 in use|job 1 job 2|job 1|04100 04000"
-    browser.value("document.getElementById('words-box').open = true")
-    time.sleep(0.1)
+    open_words(browser)
     for key, wanted in ("ArrowRight", after), ("ArrowRight", after), ("ArrowLeft", before), ("ArrowRight", after), ("ArrowLeft", before):
         browser.press(key)
         told = browser.value(TABLED), browser.value("document.querySelectorAll('.full').length"), texts(browser, "#words-rows tr:first-child")
@@ -365,6 +367,15 @@ def try_tries(browser, trial):
         trial.expect(f"{text[:30]!r}: {found}", found == "|".join(wanted) or (wanted[0] != before and found == ""))
     press_try(browser, "The row before")
     says(browser, trial, "the row before", "Request 7 of 8")
+    full = table("event", at=9, do=9 * ["novac 20 04000 00005"])
+    after = table("event", name="first", at=1, do="rouse 02000") + table("event", name="second", after="first", at=0, do="rouse 02100")
+    open_text(browser, f"seconds = 1\nsets = 8\n{after}{full}")
+    browser.click("alarm-next")
+    found = texts(browser, "#try button")
+    trial.expect(f"with eight core sets: {found}", found == "After the restart|The row before|Without first?|Without second?")
+    press_try(browser, "Without first?")
+    told = browser.text("differs"), browser.shown()["broken"]
+    trial.expect(f"without the first: {told}", told == ("This run differs from its document: without first; without second.", []))
 
 
 def try_endings(browser, trial):

@@ -3,7 +3,7 @@ import json
 import random
 
 from browsing.pages import (
-    COUNTS, PROGRAM, Trial, open_text, run_serial, save, table, type_line, words_in, written)
+    COUNTS, PROGRAM, Trial, open_text, open_words, run_serial, save, table, type_line, words_in, written)
 
 
 def compare_words(browser, trial, bench):
@@ -26,7 +26,7 @@ def words(browser, folder):
     those of agc serial."""
     trial, dice = Trial("words"), random.Random(7)
     browser.show(save(folder, "words", written(PROGRAM, "page", "")), "#new")
-    browser.value("document.getElementById('words-box').open = true")
+    open_words(browser)
     for k in range(COUNTS["benches"]):
         bench, lines = random_bench(dice)
         if k % 10 == 0:

@@ -14,6 +14,17 @@ SIZES = PHONE, LAPTOP, PROJECTOR, WIDE
 # How many seconds one waits at most for what comes at once on a quiet machine: a loaded one may be far slower.
 PATIENCE = 60
 
+
+def wait(holds):
+    """Waits until this holds, and says whether it came to."""
+    begun = time.monotonic()
+    while not holds():
+        if time.monotonic() - begun > PATIENCE:
+            return False
+        time.sleep(0.02)
+    return True
+
+
 # What the page shows.
 SHOWN = """(() => {
   const texts = (id) => Array.from(document.getElementById(id).children, (it) => it.innerText);
@@ -108,17 +119,18 @@ class Browser:
     def show(self, path, mark=""):
         """Opens a page of the workbench, and waits until its script has run."""
         self.open(path, mark)
-        begun = time.monotonic()
-        while self.value("document.documentElement.dataset.ready") != "yes":
-            if time.monotonic() - begun > PATIENCE:
-                raise OSError(f"the page isn't ready: {self.value('window.broken')}")
-            time.sleep(0.01)
+        if not self.wait("document.documentElement.dataset.ready === 'yes'"):
+            raise OSError(f"the page isn't ready: {self.value('window.broken')}")
 
     def value(self, text, is_awaited=False):
         got = self.call("Runtime.evaluate", expression=text, returnByValue=True, awaitPromise=is_awaited)
         if "exceptionDetails" in got:
             raise OSError(got["exceptionDetails"]["text"])
         return got["result"].get("value")
+
+    def wait(self, text):
+        """Waits until this holds on the page, and says whether it came to."""
+        return wait(lambda: self.value(text))
 
     def shown(self):
         return self.value(SHOWN)
@@ -130,9 +142,7 @@ class Browser:
 
     def click(self, name):
         """Clicks on an element, which may not be there yet where a page has just been opened."""
-        begun = time.monotonic()
-        while self.value(f"document.getElementById({json.dumps(name)}) === null") and time.monotonic() - begun < PATIENCE:
-            time.sleep(0.05)
+        self.wait(f"document.getElementById({json.dumps(name)}) !== null")
         self.value(f"document.getElementById({json.dumps(name)}).click()")
 
     def text(self, name):
@@ -150,12 +160,7 @@ class Browser:
 
     def address(self, mark):
         """Whether the address comes to end so."""
-        begun = time.monotonic()
-        while self.value("location.hash") != mark:
-            if time.monotonic() - begun > PATIENCE:
-                return False
-            time.sleep(0.05)
-        return True
+        return wait(lambda: self.value("location.hash") == mark)
 
     def press(self, key, shift=False):
         words = {"key": key, "modifiers": 8 if shift else 0}

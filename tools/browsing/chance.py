@@ -6,12 +6,12 @@ import time
 
 import repository
 from browsing.benches import compare_words, random_bench, random_line
-from browsing.browser import LAPTOP, LISTED, PATIENCE, SIZES
+from browsing.browser import LAPTOP, LISTED, SIZES, wait
 from browsing.clock import random_scenario
 from browsing.kept import again
 from browsing.opened import NAMED, THREE_ALARMS, TIGHT
 from browsing.pages import (
-    COUNTS, PROGRAM, TOP, Trial, go_to, open_text, save, saved, says, table, type_line, written)
+    COUNTS, PROGRAM, TOP, Trial, go_to, open_text, save, saved, says, steady, table, type_line, written)
 from browsing.reader import damaged
 from browsing.traces import rows_of
 
@@ -51,13 +51,20 @@ def heard(browser, text):
 
 def come_back(browser):
     """Waits until the workbench is there again; where Back has left it, Forward comes first."""
-    begun = time.monotonic()
-    while heard(browser, "document.documentElement?.dataset.ready !== 'yes' || document.body.ariaBusy === 'true'") is not False:
+    def is_back():
         if heard(browser, "location.protocol") == "about:":
             heard(browser, "setTimeout(() => { history.forward(); })")
-        if time.monotonic() - begun > PATIENCE:
-            raise OSError(f"the page isn't ready: {browser.value('[location.href, window.broken]')}")
-        time.sleep(0.05)
+        return heard(browser, "document.documentElement?.dataset.ready !== 'yes' || document.body.ariaBusy === 'true'") is False
+
+    if not wait(is_back):
+        raise OSError(f"the page isn't ready: {browser.value('[location.href, window.broken]')}")
+
+
+def can_go(browser, kind):
+    """Whether there is a place to go back or forward to: where there is none, nothing happens."""
+    found = browser.call("Page.getNavigationHistory")
+    to = found["currentIndex"] + (1 if kind == "forward" else -1)
+    return 0 <= to < len(found["entries"])
 
 
 def travel(browser, dice, path, links):
@@ -70,12 +77,9 @@ def travel(browser, dice, path, links):
         del links[:-20]
     elif kind == "saved":
         browser.call("Page.navigate", url=f"file://{path}{dice.choice(links)}")
-    else:
+    elif can_go(browser, kind):
         browser.value(MOVED.replace("KIND", kind))
-        begun = time.monotonic()
-        # (where there is nothing to go to, nothing happens)
-        while heard(browser, "window.isMoved === false") and time.monotonic() - begun < 3:
-            time.sleep(0.05)
+        wait(lambda: not heard(browser, "window.isMoved === false"))
     time.sleep(0.05)
     come_back(browser)
     return kind
@@ -131,10 +135,7 @@ def hold_still(browser):
     browser.press("Escape")
     browser.value("document.activeElement.blur()")
     browser.value("document.querySelector('#run[aria-pressed=true]')?.click()")
-    begun, before = time.monotonic(), ""
-    while (told := browser.text("summary")) != before and time.monotonic() - begun < PATIENCE:
-        before = told
-        time.sleep(0.1)
+    steady(browser, "document.getElementById('summary').textContent", 2)
 
 
 def play(browser, trial, tabs=(), path=""):

@@ -139,9 +139,7 @@ def try_alarm(browser, trial):
 
 def beside(browser):
     """What is said of the run that stands beside, when it is whole."""
-    begun = time.monotonic()
-    while "So far" in browser.text("beside-name") and time.monotonic() - begun < PATIENCE:
-        time.sleep(0.05)
+    browser.wait("!document.getElementById('beside-name').textContent.includes('So far')")
     return browser.text("beside-name")
 
 

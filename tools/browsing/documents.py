@@ -6,8 +6,10 @@ import re
 import time
 import tomllib
 
+from browsing.browser import wait
 from browsing.opened import NAMED
-from browsing.pages import follow_link, mark_of, open_text, run_serial, saved, says, table, texts, wait_for
+from browsing.pages import (
+    follow_link, mark_of, open_text, run_serial, saved, saved_here, says, table, texts, wait_for)
 
 
 def try_plan(browser, trial):
@@ -25,13 +27,10 @@ def try_plan(browser, trial):
     says(browser, trial, "a scenario", "Request 100 of 100, at 1.00 s: tick.")
     browser.press("u")
     browser.press("s")
-    time.sleep(0.5)
-    text = browser.value("document.querySelector('#dialog-body textarea[readonly]').value")
+    text, link = saved_here(browser)
     ran = run_serial(text)
     trial.expect(f"the bench that is saved: {text} {ran.stderr}", ran.returncode == 0)
-    link = browser.value("document.querySelector('#dialog-body input[type=text]').value")
     mark = link[link.index("#"):]
-    browser.press("Escape")
     browser.value(f"location.hash = {json.dumps(mark)}")
     wait_for(browser, "The beginning")
     says(browser, trial, "by a link", "The beginning")
@@ -68,7 +67,6 @@ def try_files(browser, trial):
                   " URL.createObjectURL = (blob) => { window.handed = [blob]; return '#'; }")
     for text, name, wanted in ("Save the bench", "bench.toml", '",\n    "tick", "tick"'), ("Save the scenario", "scenario.toml", "seconds = 1\n"):
         browser.click("save")
-        time.sleep(0.2)
         browser.value(f"Array.from(document.querySelectorAll('#dialog-body button')).find((it) => it.textContent === '{text}').click()")
         handed = browser.value("window.handed[0].text().then((it) => [window.handed[1], it])", is_awaited=True)
         trial.expect(f"{text}: {handed}", handed[0] == name and wanted in handed[1])
@@ -95,13 +93,13 @@ def try_examples(browser, trial):
     browser.click("show-answer")
     trial.expect("the button for the answer stays", browser.value("document.getElementById('show-answer') === null"))
     browser.value("location.hash = '#exercise-4'")
-    wait_for(browser, "The beginning")
-    time.sleep(0.2)
+    wait(lambda: texts(browser, "#question code") == "end")
     trial.expect(f"code in a question: {texts(browser, '#question code')}", texts(browser, "#question code") == "end")
     for mark, wanted in (mark_of(b"\xef\xbb\xbf\xef\xbb\xbfsets = 8\n"), "line 1: a key is expected"), (mark_of(b"#" * 2_000_000), ""):
-        browser.value(f"location.hash = {json.dumps(mark)}")
-        time.sleep(0.5)
-        found = browser.value("document.getElementById('fault')?.textContent ?? document.getElementById('note').textContent")
+        browser.value(f"document.getElementById('note').textContent = ''; location.hash = {json.dumps(mark)}")
+        told = "(document.getElementById('fault')?.textContent ?? document.getElementById('note').textContent)"
+        browser.wait(f"{told} !== ''")
+        found = browser.value(told)
         trial.expect(f"a link: {found}", wanted in found if wanted else
                      found == "The part of the link after # can't be read (its document is damaged or cut).")
         browser.press("Escape")

@@ -1,9 +1,8 @@
 """Exercises: their questions, their answers, and what a change makes of them."""
 import re
-import time
 
 from browsing.browser import LAPTOP, PHONE
-from browsing.pages import edit_text, exercise, open_text, saved, says, texts, type_line
+from browsing.pages import DRAWN, edit_text, exercise, open_text, saved, says, texts, type_line
 
 
 def try_exercise(browser, trial):
@@ -97,7 +96,7 @@ def try_editing(browser, trial):
         browser.click("open")
         trial.expect(f"the document after {key}", browser.value("document.getElementById('pasted').value") == wanted)
         browser.click("close")
-        time.sleep(0.1)
+        browser.value(DRAWN, True)
     browser.press("u")
     trial.expect("a question without its exercise", browser.value("document.getElementById('question').hidden"))
     browser.press("r")

@@ -1,6 +1,4 @@
 """Whether all that is shown can be read: nothing is cut or shines through, at four sizes."""
-import time
-
 from browsing.access import CONTRAST
 from browsing.browser import LAPTOP, PHONE
 from browsing.pages import DRAWN, PROGRAM, Trial, edit_text, save, set_slider, type_line, written
@@ -140,7 +138,7 @@ def try_why(browser, trial, path):
         browser.press("a")
         if size[0] < 960:
             browser.click("why")
-            time.sleep(0.1)
+            browser.wait(SEEN)
         trial.expect(f"the account isn't seen at {size}", browser.value(SEEN))
         told = browser.value("document.querySelector('#account li').textContent")
         trial.expect(f"first is told: {told}", told == "A job is in each core set. Since the beginning 48 jobs began and 41 ended, and the computer was idle 0 % "

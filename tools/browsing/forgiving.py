@@ -1,6 +1,4 @@
 """What is typed nearly right, scripts, and the document beside its run."""
-import time
-
 from browsing.browser import LAPTOP
 from browsing.pages import PROGRAM, Trial, edit_text, exercise, open_text, says, save, texts, type_line, written
 
@@ -64,8 +62,10 @@ def forgiving(browser, folder):
     trial.expect(f"a typo in line 3: {told}", told[0].startswith("line 3: ") and "3" in told[1])
     trial.expect("the run is gone", browser.text("question") != "")
     edit_text(browser, text.replace('"', '"', 1) + "\n# more\n")
-    time.sleep(0.3)
     trial.expect(f"mended: {browser.text('edit-fault')}", browser.text("edit-fault") == "" and texts(browser, "#edit-lines .wrong") == "")
+    edit_text(browser, "tick\nchange\n")
+    found = browser.value("document.getElementById('edit-text').value"), browser.text("edit-fault"), browser.value("document.getElementById('slider').max")
+    trial.expect(f"a script beside its run: {found}", found == ("tick\nchange\n", "", "2"))
     browser.click("edit-close")
     try_keys_of_others(browser, trial)
     browser.value("Array.from(document.querySelectorAll('#common button')).find((it) => it.textContent.startsWith('findvac')).click()")

@@ -1,8 +1,6 @@
 """Nothing is lost: the address says what is shown."""
-import time
-
-from browsing.browser import LAPTOP, PATIENCE
-from browsing.pages import PROGRAM, Trial, go_to, save, set_slider, texts, type_line, wait_for, written
+from browsing.browser import LAPTOP
+from browsing.pages import PROGRAM, Trial, go_to, save, set_slider, steady, texts, type_line, wait_for, written
 
 ROW = "document.getElementById('sentence').textContent"
 STATE = """[document.getElementById('sentence').textContent, document.getElementById('summary').textContent,
@@ -11,22 +9,14 @@ STATE = """[document.getElementById('sentence').textContent, document.getElement
 
 def settled(browser):
     """The address, when it has been the same for a while."""
-    found, since, begun = None, time.monotonic(), time.monotonic()
-    while time.monotonic() - since < 0.8 and time.monotonic() - begun < PATIENCE:
-        now = browser.value("location.hash")
-        if now != found:
-            found, since = now, time.monotonic()
-        time.sleep(0.05)
-    return found
+    return steady(browser, "location.hash", 16)
 
 
 def again(browser):
     """As F5 does."""
     browser.value("window.before = true")
     browser.call("Page.reload")
-    begun = time.monotonic()
-    while browser.value("window.before === true || document.documentElement?.dataset.ready !== 'yes'") and time.monotonic() - begun < PATIENCE:
-        time.sleep(0.05)
+    browser.wait("window.before !== true && document.documentElement?.dataset.ready === 'yes'")
 
 
 def kept(browser, folder):
@@ -45,20 +35,25 @@ def kept(browser, folder):
     trial.expect(f"the address: {mark}", mark.startswith("#landing-1202&do=") and "&at=" in mark and "&see=" in mark)
     again(browser)
     trial.expect(f"F5: {browser.value(STATE)}, not {before}", browser.value(STATE) == before)
-    begun = time.monotonic()
-    while browser.value("document.getElementById('undo').disabled") and time.monotonic() - begun < PATIENCE:
-        time.sleep(0.1)
+    browser.wait("!document.getElementById('undo').disabled")
     trial.expect("no branches after F5", "stolen time was changed" in browser.text("branches"))
     browser.press("u")
     trial.expect(f"undone after F5: {browser.text('differs')}", "by hand" not in browser.text("differs") and "steal 5 %" in browser.text("differs"))
     browser.show(path, mark)
     trial.expect(f"a copied address: {browser.value(STATE)}", browser.value(STATE) == before)
+    settled(browser)
+    trial.expect("undo and branches of another visit", browser.value(
+        "document.getElementById('undo').disabled && document.getElementById('branches-box').hidden"))
     browser.show(path, "#exercise-3")
     settled(browser)
     browser.click("show-answer")
     go_to(browser, "3")
     mark, question = settled(browser), browser.text("question")
     trial.expect(f"an exercise: {mark}", mark == "#exercise-3&shown&at=3")
+    go_to(browser, "1")
+    trial.expect(f"its first request: {settled(browser)}", settled(browser) == "#exercise-3&shown&at=1")
+    go_to(browser, "3")
+    settled(browser)
     browser.click("examples")
     browser.value("Array.from(document.querySelectorAll('#dialog-body button')).find((it) => it.textContent === 'landing').click()")
     trial.expect("another document", settled(browser) == "#landing")
@@ -69,6 +64,7 @@ def kept(browser, folder):
     wait_for(browser, "The beginning")
     trial.expect(f"Forward: {browser.text('title')}", browser.text("title").startswith("A landing: a radar"))
     try_links(browser, trial, path)
+    try_numbers(browser, trial, path)
     browser.show(path, "#landing-1202&at=3128&embed")
     seen = browser.value("['lanes-chart', 'sets', 'told', 'open', 'line', 'slider', 'rows'].filter((it) =>"
                          " document.getElementById(it).getClientRects().length > 0).join()")
@@ -76,6 +72,25 @@ def kept(browser, folder):
     trial.expect(f"embedded: {browser.value(ROW)}", "alarm 1202" in browser.value(ROW))
     trial.expect(f"{browser.shown()['broken']}", not browser.shown()["broken"])
     return trial.faults
+
+
+def try_numbers(browser, trial, path):
+    """F5 brings back another number of core sets, and a number of the clock that was changed behind the last row."""
+    browser.show(path, "#landing-1202")
+    browser.value("(() => { const it = document.querySelector('#sliders input[aria-label=\"Core sets\"]'); it.value = '8';"
+                  " it.dispatchEvent(new Event('change')); })()")
+    settled(browser)
+    again(browser)
+    told = browser.text("differs"), len(browser.shown()["sets"])
+    trial.expect(f"core sets after F5: {told}", told == ("This run differs from its document: core sets 8 (document: 7).", 8))
+    browser.show(path, "#new")
+    type_line(browser, "tick")
+    browser.press("Escape")
+    set_slider(browser, 30)
+    settled(browser)
+    again(browser)
+    told = browser.value("document.querySelector('#sliders input').value"), browser.value(ROW)
+    trial.expect(f"stolen time after F5: {told}", told[0] == "30" and told[1].startswith("Request 1 of 1"))
 
 
 def try_links(browser, trial, path):

@@ -1,8 +1,6 @@
 """Keys, and what the help says."""
-import time
-
 from browsing.opened import THREE_ALARMS
-from browsing.pages import go_to, open_text, says, texts, type_line
+from browsing.pages import DRAWN, go_to, open_text, open_words, says, texts, type_line
 
 # Which control each key stands for, and how the help and the control itself say it.
 KEYED = (("ArrowLeft", "back", "Row before (left arrow)"), ("ArrowRight", "next", "Next row (right arrow)"), ("Home", "first", "First row (Home)"),
@@ -42,8 +40,7 @@ def try_meanings(browser, trial):
                  and "a job that findvac establishes also holds one of these" in told)
     browser.press("Escape")
     open_text(browser, "sets = 8\n")
-    browser.value("document.getElementById('words-box').open = true")
-    browser.value("new Promise((resolve) => { setTimeout(resolve, 100); })", is_awaited=True)
+    open_words(browser)
     names = browser.value("Array.from(document.querySelectorAll('#words-rows tr'), (it) => it.lastChild.textContent)")
     trial.expect(f"{len(names)} words", len(names) == 144 and len(set(names)) == 144)
     for place, name in PLACES.items():
@@ -72,7 +69,7 @@ def try_keys(browser, trial):
                                " it.closest('dt').nextSibling.textContent).join('|')")
         trial.expect(f"the help says {helped}", key != "?" or list(dict.fromkeys(helped.split("|"))) == list(HELPED))
         browser.press("Escape")
-        time.sleep(0.05)
+        browser.value(DRAWN, True)
     browser.value("document.getElementById('line').value = ''")
     for key, field in ("g", "go"), ("i", "line"), ("/", "line"):
         browser.press(key)

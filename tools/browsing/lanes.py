@@ -1,9 +1,8 @@
 """The lanes of the chart: blocks, what is told of them, and zoom."""
 import json
 import re
-import time
 
-from browsing.browser import LAPTOP, PHONE, SIZES
+from browsing.browser import LAPTOP, PHONE, SIZES, wait
 from browsing.pages import DRAWN, PROGRAM, TOP, Trial, go_to, open_text, says, save, set_slider, table, written
 
 # Two jobs of different names in turn, one that sleeps, an event with a name, and an alarm at the end.
@@ -80,7 +79,7 @@ def lanes(browser, folder):
     open_text(browser, LANED)
     for size in SIZES:
         browser.width(*size)
-        time.sleep(0.1)
+        wait(lambda: point(browser, 0.97 / 20, 0) == BRIGHT[0])
         found = point(browser, 0.97 / 20, 0)
         trial.expect(f"{size[0]} points: {found}", found == BRIGHT[0])
     browser.width(*LAPTOP)
@@ -157,9 +156,17 @@ def try_rows(browser, trial):
     open_text(browser, ROWS)
     red = [k for k in range(990, 1010) if browser.value(f"{COLUMN}({0.75 * k / 1000})").count("#cc0000") > 100]
     trial.expect(f"the alarm's line: {red}", red)
-    inked = browser.value("(() => { const it = document.getElementById('lanes-chart'); const { data } = it.getContext('2d').getImageData(3, 0, 40, 10);"
-                          " return data.filter((one, k) => k % 4 === 3 && one > 100).length; })()")
-    trial.expect(f"the event's name has {inked} points", inked > 30)
+    trial.expect(f"the event's name has {inked(browser, 0)} points", inked(browser, 0) > 30)
+    open_text(browser, "seconds = 20\n" + table("event", name="again", at=0, every=500, do="phase 1 1"))
+    found = [inked(browser, part) > 30 for part in (0, 0.25, 0.5)]
+    trial.expect(f"an event that comes again is named {found}", found == [True, False, False])
+
+
+def inked(browser, part):
+    """How many points of ink are above the lanes, behind this part of the width, where an event has its name."""
+    return browser.value("(() => { const it = document.getElementById('lanes-chart');"
+                         f" const {{ data }} = it.getContext('2d').getImageData(Math.round({part} * it.width) + 3, 0, 40, 10);"
+                         " return data.filter((one, k) => k % 4 === 3 && one > 100).length; })()")
 
 
 def try_places(browser, trial):
@@ -195,7 +202,7 @@ def expect_tasks(browser, trial, *counts):
 
 def try_zoom(browser, trial, row):
     pointer(browser, "mouseWheel", 0.5, 3, deltaX=0, deltaY=-400)
-    time.sleep(0.2)
+    wait(lambda: browser.value(SEEN)[1] < 90)
     left, wide = browser.value(SEEN)
     trial.expect(f"by the wheel: {left} {wide}", 10 < wide < 90 and abs(left + wide / 2 - 50) < 3)
     browser.press("f")
@@ -219,9 +226,15 @@ def try_zoom(browser, trial, row):
     browser.press("Home")
     left, wide = browser.value(SEEN)
     trial.expect(f"what is shown is seen: {left} {wide}", left == 0)
+    browser.press("End")
+    left, wide = browser.value(SEEN)
+    trial.expect(f"the end is seen: {left} {wide}", wide < 80 and abs(left + wide - 100) < 1)
+    open_text(browser, LANED)
+    trial.expect(f"all of another document is seen: {browser.value(SEEN)}", browser.value(SEEN) == [0, 100])
     browser.press("f")
     browser.width(*PHONE)
     pinch(browser)
+    wait(lambda: browser.value(SEEN)[1] < 80)
     trial.expect(f"by two fingers: {browser.value(SEEN)}", browser.value(SEEN)[1] < 80)
     browser.width(*LAPTOP)
     browser.press("f")
@@ -235,4 +248,3 @@ def pinch(browser):
     for apart in 40, 55, 70, 90:
         browser.call("Input.dispatchTouchEvent", type="touchMove", touchPoints=points(apart))
     browser.call("Input.dispatchTouchEvent", type="touchEnd", touchPoints=[])
-    time.sleep(0.2)

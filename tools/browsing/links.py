@@ -1,11 +1,11 @@
-"""Links that are damaged: whatever stands behind #, there is a view or a message."""
+"""Links that are damaged: whatever stands behind # and ?, there is a view or a message."""
 import base64
 import json
 import random
 import time
 import zlib
 
-from browsing.browser import LAPTOP, PATIENCE
+from browsing.browser import LAPTOP, wait
 from browsing.kept import again, settled
 from browsing.opened import TIGHT
 from browsing.pages import COUNTS, PROGRAM, Trial, save, set_slider, type_line, written
@@ -74,6 +74,14 @@ def mutated(dice, marks):
     return "#" + "&".join(parts)
 
 
+def asked_before(dice, mark):
+    """What stands between the page's name and #: mostly nothing, else something by lot, with which the page is loaded anew."""
+    if dice.random() >= 0.05:
+        return ""
+    letters = "".join(dice.choice("&=-_%+/.?0129azAZ é\u2028\U0001f680") for _ in range(dice.randint(0, 12)))
+    return "?" + dice.choice(["", letters, mark[1:200], f"at={dice.randint(0, 99)}", "landing", "new&embed", "%", "%00", "=" * 5000, "<script>alert(1)</script>"])
+
+
 def good(browser, path):
     """Links that the page itself makes: of documents, of rows by hand, of sliders, of an exercise."""
     found = ["#new", "#jobs-faster-than-they-end&at=7", "#exercise-3&shown&at=2", "#no-vac-area&see=2-6&embed", "#race-order"]
@@ -105,8 +113,8 @@ def look_at(browser):
 
 
 def links(browser, folder):
-    """Links with letters, documents or what was done changed by lot always come to a view or to a message, by the address
-    and by F5; what was done is all done, or not at all."""
+    """Links with letters, documents or what was done changed by lot, behind # and ?, always come to a view or to a message, by
+    the address and by F5; what was done is all done, or not at all."""
     trial, dice = Trial(f"links from seed {COUNTS['seed']}"), random.Random(COUNTS["seed"])
     browser.width(*LAPTOP)
     path = save(folder, "links", written(PROGRAM, "page", ""))
@@ -116,12 +124,12 @@ def links(browser, folder):
     told = 0
     for k in range(COUNTS["links"]):
         mark = mutated(dice, marks)
+        mark = asked_before(dice, mark) + mark
         browser.call("Page.navigate", url=f"file://{path}{mark}")
         if k % 97 == 0:
             again(browser)
-        seen, begun = NOTHING, time.monotonic()
-        while not (seen[0] and seen[1]) and time.monotonic() - begun < PATIENCE:
-            seen = look_at(browser)
+        wait(lambda: all(look_at(browser)[:2]))
+        seen = look_at(browser)
         told += seen[2] != ""
         trial.expect(f"{mark}: {seen}", seen[0] != "" and seen[1] != "" and seen[3] in (7, 8) and seen[4] == 5 and seen[5] != "" and seen[6] == "")
         if trial.faults:

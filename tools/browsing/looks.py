@@ -1,7 +1,7 @@
 """How it looks: styles, and what is seen first at each size."""
 import json
-import time
 
+from browsing.kept import settled
 from browsing.pages import open_text, says, texts
 
 # How some things look, and what they are called, beside what is said elsewhere.
@@ -52,8 +52,7 @@ def try_tops(browser, trial):
         browser.click("alarm-next")
         full = browser.value("document.querySelector('.full').id"), browser.value("document.querySelector('#account a').getAttribute('href')")
         trial.expect(f"full: {full}", full == (part, f"#{part}-name"))
-        time.sleep(0.5)
-        mark = browser.value("location.hash")
+        mark = settled(browser)
         browser.value("document.querySelector('#account a').click()")
         trial.expect("a link changes the address", browser.value("location.hash") == mark)
         browser.value("document.getElementById('account').scrollTop = 999; document.getElementById('next').click()")

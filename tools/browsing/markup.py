@@ -1,7 +1,6 @@
 """Documents and links that try to break out of the page."""
 import json
 import re
-import time
 
 from browsing.chance import play
 from browsing.pages import (
@@ -11,6 +10,7 @@ from browsing.pages import (
 def try_links(browser, trial, folder, text):
     """Links carry documents and nothing else; an exercise's answer is hidden."""
     path = save(folder, "links", written(PROGRAM, "page", ""))
+    browser.call("Performance.enable", timeDomain="threadTicks")
     browser.show(path, mark_of(f"# {text}\nscript = [\"tick\"]\n".encode()))
     trial.expect(f"by a link: {browser.text('title')}", text in browser.text("title"))
     browser.press("End")
@@ -20,9 +20,9 @@ def try_links(browser, trial, folder, text):
                  "#-1", "#constructor", mark_of(b"\xff\xfe"), mark_of(text.encode()), mark_of(b"limit = " + b"[" * 100_000), "#__proto__", "#module",
                  mark_of(f"title = \"\u202e</script>{text}\"\nseconds = 1\n".encode()), mark_of(b"tick\0"),
                  "#data:text/html,<script>document.title='broken'</script>"):
-        begun = time.monotonic()
         browser.show(path, mark)
-        trial.expect(f"{mark[:40]}: {time.monotonic() - begun:.1f} s", time.monotonic() - begun < 5)
+        took = browser.worked()
+        trial.expect_within(3, mark[:40], took)
         shown = browser.shown()
         trial.expect(f"{mark[:40]}: {shown['broken']} {shown['sentence']}", not shown["broken"]
                      and shown["images"] == 0 and re.match("The beginning|The part of the link after #", shown["sentence"]))
@@ -68,7 +68,7 @@ def try_fields(browser, trial, text):
       }
       return found.join(); })()""")
     trial.expect(f"as a file is dragged: {dragged}", dragged == "drop,,drop,")
-    time.sleep(0.3)
+    browser.wait("document.getElementById('fault') !== null")
     fault = browser.value("document.getElementById('fault')?.textContent")
     trial.expect(f"a file of bytes: {fault}", fault == "This can't be opened. line 1: the document isn't text")
     browser.press("Escape")

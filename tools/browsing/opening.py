@@ -1,8 +1,7 @@
 """The first look: the page opens on a landing, and captions follow what the reader does."""
 import os
-import time
 
-from browsing.browser import LAPTOP, PATIENCE, PHONE
+from browsing.browser import LAPTOP, PHONE, wait
 from browsing.pages import PROGRAM, Trial, says, save, set_slider, texts, written
 
 GUIDE = "document.getElementById('guide').hidden ? '' : document.getElementById('guide-text').textContent"
@@ -10,9 +9,7 @@ GUIDE = "document.getElementById('guide').hidden ? '' : document.getElementById(
 
 def until(browser, text):
     """Waits until the guide says this. What it says."""
-    begun = time.monotonic()
-    while text not in browser.value(GUIDE) and time.monotonic() - begun < PATIENCE:
-        time.sleep(0.05)
+    wait(lambda: text in browser.value(GUIDE))
     return browser.value(GUIDE)
 
 
@@ -59,6 +56,11 @@ def opening(browser, folder):
         browser.show(path, mark)
         speed = browser.value("document.getElementById('speed').value")
         trial.expect(f"{mark}: {speed} times as fast", speed == wanted)
+    browser.value("localStorage.clear()")
+    browser.show(path)
+    trial.expect(browser.value(GUIDE), browser.value(GUIDE).startswith("1 of 4. "))
+    browser.value("location.hash = '#landing'")
+    trial.expect(f"captions of another landing: {browser.value(GUIDE)}", wait(lambda: browser.value(GUIDE) == ""))
     try_new(browser, trial)
     trial.expect(f"{browser.shown()['broken']}", not browser.shown()["broken"])
     return trial.faults
@@ -75,9 +77,7 @@ def try_new(browser, trial):
     says(browser, trial, "tried", "novac 20 04000 00005. Reply: job 1. Job 1 runs.")
     browser.value("document.getElementById('speed').value = '100'")
     browser.click("run")
-    begun = time.monotonic()
-    while int(browser.text("sentence").split()[1]) < 1300 and time.monotonic() - begun < PATIENCE:
-        time.sleep(0.05)
+    wait(lambda: int(browser.text("sentence").split()[1]) >= 1300)
     browser.click("run")
     said = browser.text("sentence")
     trial.expect(f"it runs on: {said}", "refused" not in said and int(said.split()[1]) > 1200)

@@ -6,7 +6,7 @@ import time
 import zlib
 
 import repository
-from browsing.browser import PATIENCE
+from browsing.browser import wait
 
 TOP = repository.TOP
 PROGRAM = f"{TOP}/crates/agc_watch/out/agc_watch"
@@ -75,13 +75,30 @@ DRAWN = """Promise.race([
 ])"""
 
 
+# Whether something stays the same for a while, by the page's own timers, which come after what it has begun to do.
+STEADY = """(async () => {
+  const before = WHAT;
+  for (let k = 0; k < TIMES; k++) {
+    await new Promise((done) => { setTimeout(done, 50); });
+    if (WHAT !== before) return false;
+  }
+  return true;
+})()"""
+
+
+def steady(browser, what, times):
+    """Waits until this has been the same for so many twentieths of a second, and says what it is."""
+    wait(lambda: browser.value(STEADY.replace("WHAT", what).replace("TIMES", str(times)), True))
+    return browser.value(what)
+
+
 def open_text(browser, text):
     """Opens a document by pasting it. What is said where it isn't one."""
-    for _ in range(50):
+    def is_open():
         browser.click("open")
-        if browser.value("document.getElementById('pasted') !== null"):
-            break
-        time.sleep(0.1)
+        return browser.value("document.getElementById('pasted') !== null")
+
+    wait(is_open)
     browser.value("document.getElementById('keep-question').checked = false")
     browser.value(f"document.getElementById('pasted').value = {json.dumps(text)}")
     browser.click("open-pasted")
@@ -121,9 +138,7 @@ def type_line(browser, line):
 
 def wait_for(browser, text):
     """Waits until the sentence has this text."""
-    begun = time.monotonic()
-    while text not in browser.text("sentence") and time.monotonic() - begun < PATIENCE:
-        time.sleep(0.05)
+    wait(lambda: text in browser.text("sentence"))
 
 
 def says(browser, trial, what, text):
@@ -170,9 +185,7 @@ def edit_text(browser, text):
     """Types a document beside its run, and waits until it runs."""
     browser.value("(() => { const it = document.getElementById('edit-text');"
                   f" it.dataset.ran = 'no'; it.value = {json.dumps(text)}; it.dispatchEvent(new Event('input')); }})()")
-    begun = time.monotonic()
-    while browser.value("document.getElementById('edit-text').dataset.ran") != "yes" and time.monotonic() - begun < PATIENCE:
-        time.sleep(0.05)
+    browser.wait("document.getElementById('edit-text').dataset.ran === 'yes'")
 
 
 def go_to(browser, text):
@@ -186,22 +199,36 @@ def go_to(browser, text):
 def saved(browser):
     """The bench that can be saved, and its link."""
     browser.click("save")
-    begun = time.monotonic()
-    while not browser.value("!!document.querySelector('#dialog[open] textarea[readonly]') && "
-                            "document.querySelector('#dialog-body input[type=text]')?.value !== ''"):
-        if time.monotonic() - begun > PATIENCE:
-            raise OSError("nothing is saved")
+    return saved_here(browser)
+
+
+def saved_here(browser):
+    """The bench in the dialog in which one is saved, and its link, which comes a moment later."""
+    if not browser.wait("!!document.querySelector('#dialog[open] textarea[readonly]') && "
+                        "document.querySelector('#dialog-body input[type=text]')?.value !== ''"):
+        raise OSError("nothing is saved")
     found = browser.value("['textarea', 'input[type=text]'].map((it) => "
                           "document.querySelector(`#dialog-body ${it}`)?.value ?? '')")
     browser.press("Escape")
     return found
 
 
+def open_words(browser):
+    """Opens the words of the memory, and waits until they are there."""
+    browser.value("(() => { if (document.getElementById('words-box').open) return;"
+                  " document.getElementById('words-rows').replaceChildren(); document.getElementById('words-box').open = true; })()")
+    browser.wait("document.getElementById('words-rows').children.length > 0")
+
+
 def follow_link(browser):
-    """Opens what the link carries."""
+    """Opens what the link carries: by way of an empty bench, where the address has it already."""
     link = saved(browser)[1]
+    mark = link[link.index("#"):]
+    if browser.value("location.hash") == mark:
+        browser.value("location.hash = '#new'")
+        browser.wait("document.getElementById('title').textContent === 'An empty bench'")
     browser.value("document.getElementById('sentence').textContent = ''")
-    browser.value(f"location.hash = {json.dumps(link[link.index('#'):])}")
+    browser.value(f"location.hash = {json.dumps(mark)}")
     wait_for(browser, "The beginning")
 
 

@@ -114,11 +114,12 @@ def print_long(browser, trial):
     """A title is printed; refused ticks are a line each; of very many rows the first 5,000 are printed, which is said."""
     many = json.dumps(3000 * ["phase 1 1", "phase 1 2"])
     refused = json.dumps(["tick"] * 6)
-    for text, count, wanted in ((f"# Phases, many times.\nscript = {many}\nlimit = 6000\n", 5000, "The first 4999 of 6000 requests."),
+    ticks = json.dumps(["tick", "tick", "change", "tick", "tick", "tick"])
+    for text, count, wanted in ((f"# Two ticks, and three.\nscript = {ticks}\n", 5, "4 to 60.03 to 0.05tick, 3 times"), (f"# Phases, many times.\nscript = {many}\nlimit = 6000\n", 5000, "The first 4999 of 6000 requests."),
                                 (f"# Six ticks.\nscript = {refused}\nlimit = 2\n", 7, "Over 6 requests")):
         open_text(browser, text)
         browser.value("window.dispatchEvent(new Event('beforeprint'))")
-        told = browser.value("document.getElementById('printed').textContent.slice(0, 400)")
+        told = browser.value("document.getElementById('printed').textContent.slice(0, 600)")
         found = browser.value("document.querySelectorAll('#printed tbody tr').length")
         trial.expect(f"{found} lines of {told}", found == count and wanted in told)
         title = browser.value("document.querySelector('#printed h1').textContent")

@@ -62,7 +62,8 @@ STOLEN = ("0", "100", "101", "-1", "[]", *(f"[{{ {it} }}]" for it in (
     "from = 0, to = 5, percent = 1 }, { from = 5, to = 6, percent = 2", "from = 0, to = 5, percent = 1 }, { from = 4, to = 6, percent = 2",
     "from = 0, to = 5, percent = 1 }, { from = 4, to = 6, percent = 2, every = 9", "from = 4, to = 6, percent = 2 }, { from = 0, to = 5, percent = 1")))
 EVENTS = ("at = 8640000", "at = 8640001", "at = -1", "at = 1\nevery = 0", "at = 1\nevery = 8640000", "at = 1\nevery = 8640001", "at = 1\nuntil = 0",
-          'at = 1\nname = "e"\nafter = "e"', 'at = 1\nafter = "e"', 'at = 1\nafter = "later"', 'at = 1\nname = ""\nafter = "before"', 'at = 1\nafter = ""')
+          'at = 1\nname = "e"\nafter = "e"', 'at = 1\nafter = "e"', 'at = 1\nafter = "later"', 'at = 1\nname = ""\nafter = "before"', 'at = 1\nafter = ""',
+          'at = 1\nafter = "1201"', 'at = 1\nafter = "1203"', 'at = 1\nafter = "1204"')
 JOB = '[[job]]\nat = "04000"\n'
 EDGES = (
     *(f"seconds = {it}\n" for it in (0, 1, 86401)), *(f"seconds = 1\nseed = {it}\n" for it in (0, 1, 2147483646, 2147483647)),
@@ -123,20 +124,29 @@ def compare_long(trial):
         trial.expect(f"a long run: {ran.stdout}", json.loads(ran.stdout) == [*TOLD.values()])
 
 
+def try_modules(trial):
+    """What is worked out by hand of the page's modules."""
+    ran = subprocess.run(["node", f"{TOP}/tools/browsing/modules.mjs"], capture_output=True, text=True, timeout=1200, check=False)
+    if trial.expect(f"node: {ran.stderr[-500:]}", ran.returncode == 0):
+        for fault in json.loads(ran.stdout):
+            trial.expect(fault, False)
+
+
 def reader(_browser, folder):
-    """The page's reader of documents takes what agc takes, and reads it so, or says that it doesn't know
-    the form: all cases, and 5,000 random and damaged documents. It takes a scenario where agc_watch does. A run that
-    is cut is said to be."""
+    """The page's modules write, count and tell what was worked out by hand. Its reader of documents takes what agc takes, and
+    reads it so, or says that it doesn't know the form: all cases, and 5,000 random and damaged documents. It takes a scenario
+    where agc_watch does. A run that is cut is said to be."""
     trial = Trial("reader")
     if shutil.which("node") is None:
         print("browse: there is no node, so the reader of documents was not tried")
         return []
+    try_modules(trial)
     compare_long(trial)
     texts = documents()
     with open(f"{folder}/documents.json", "w", encoding="utf-8") as file:
         json.dump(texts, file)
     ran = subprocess.run(["node", f"{TOP}/tools/browsing/read.mjs", f"{folder}/documents.json"],
-                         capture_output=True, text=True, timeout=120, check=False)
+                         capture_output=True, text=True, timeout=1200, check=False)
     if not trial.expect(f"node: {ran.stderr[-500:]}", ran.returncode == 0):
         return trial.faults
     read = json.loads(ran.stdout)

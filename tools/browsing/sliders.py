@@ -93,6 +93,12 @@ def try_twins(browser, trial):
                       f" it.value = '{value}'; it.dispatchEvent(new Event('change')); }})()")
         told = browser.text("differs")
         trial.expect(f"by slider {k}: {told}", told == f"This run differs from its document: {wanted}")
+    lists = lambda bank, other: table("task", name="T", at="02000", bank=bank, action=f"list 9 02000 {other}")
+    for tasks, wanted in (lists("00005", "00005") + lists("00006", "00006"), "Stolen time|T every (02000), 2|T every (02000), 3|Core sets"), \
+            (lists("00005", "00006"), "Stolen time|Core sets"):
+        open_text(browser, f"seconds = 1\n{tasks}")
+        told = texts(browser, "#sliders label span")
+        trial.expect(f"periods: {told}", told == wanted)
     open_text(browser, "")
 
 
@@ -146,6 +152,9 @@ def try_panel(browser, trial):
     told = browser.value("document.querySelector('#plan-fields [name=steal]').value")
     trial.expect(f"stolen time: {told}", told == "0 50 50\n50 100 10\n100 200 20")
     browser.press("Escape")
+    told = browser.value("document.querySelector('#sliders input').value")
+    trial.expect(f"stolen at last: {told}", told == "20")
+    try_own_bounds(browser, trial)
     open_text(browser, BEATING)
     go_to(browser, "1 s")
     told = browser.value("document.querySelector('#sliders input').value")
@@ -169,6 +178,19 @@ def try_panel(browser, trial):
     browser.click("here")
 
 
+def try_own_bounds(browser, trial):
+    """Another document's number has bounds of its own, and a seed is a slider where lots decide a cost. Events without a name have no
+    buttons."""
+    open_text(browser, PANEL.replace("cost = 10\n", "cost = 1000\n"))
+    told = browser.value(SLIDERS)
+    trial.expect(f"a greater cost: {told}", ", WORK 1 2000 1000 1000 cs 1000 cs, " in told)
+    for cost, seeds in ("{ from = 1, to = 9 }", "Seed 1 100 7 7 7, "), ("3", "05000 1 400 3 3 cs 3 cs, "):
+        open_text(browser, f"seconds = 1\nseed = 7\n[[job]]\nat = \"05000\"\ncost = {cost}\n" + table("event", at=0, do="tick"))
+        told = browser.value(SLIDERS)
+        trial.expect(f"a seed: {told}", told == f"Stolen time 0 100 0 0 % 0 %, {seeds}Core sets 7 8 7 7 7")
+    trial.expect("events without a name have buttons", browser.value("document.getElementById('events').hidden"))
+
+
 def try_asides(browser, trial):
     """Nothing is undone of what a page opens with. A request in the middle of an exercise says at once what it sets aside, and that the
     exercise is changed; undo takes both back. The tables' headings count what is in use."""
@@ -189,6 +211,8 @@ def try_asides(browser, trial):
         trial.expect(f"the question at {row}", CHANGED in browser.text("question") and "Back to the exercise as it was" in browser.text("question"))
         told = texts(browser, "#sets-name, #areas-name, #tasks-name")
         trial.expect(f"what is in use: {told}", told == f"Core sets: 0 of 7 in use|VAC areas: 0 of 5 in use|Waitlist: {row} of 9 in use")
+        browser.press("ArrowLeft")
+        trial.expect(f"beside another request: {texts(browser, '#note')}", texts(browser, "#note") == "")
         browser.press("u")
         says(browser, trial, "undone", f"Request {row} of 10")
 

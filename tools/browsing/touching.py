@@ -1,10 +1,10 @@
 """What is touched is told, what can be asked of it is offered, and what was seen wrong before."""
 import json
 import re
-import time
 
-from browsing.browser import LAPTOP, PATIENCE, PHONE
-from browsing.pages import PROGRAM, TOP, Trial, exercise, go_to, open_text, says, save, texts, type_line, written
+from browsing.browser import LAPTOP, PHONE
+from browsing.opened import THREE_ALARMS
+from browsing.pages import DRAWN, PROGRAM, TOP, Trial, exercise, go_to, open_text, says, save, texts, type_line, written
 
 ASKED = 'script = ["novac 20 04000 00005", "findvac 30 04100 00005", "sleep 06000", "list 100 02000 00005", "phase 3 2"]\n'
 
@@ -38,6 +38,10 @@ def touching(browser, folder):
     browser.press("ArrowRight")
     at = browser.value("document.activeElement.getAttribute('aria-label')")
     trial.expect(f"along the sets: {at}", at.startswith("set 1: "))
+    for key, wanted in ("ArrowLeft", "set 0: "), ("ArrowLeft", "set 6: "), ("ArrowRight", "set 0: "), ("ArrowRight", "set 1: "):
+        browser.press(key)
+        at = browser.value("document.activeElement.getAttribute('aria-label')")
+        trial.expect(f"along the sets by {key}: {at}", at.startswith(wanted))
     browser.press("Enter")
     trial.expect(f"by Enter: {browser.text('touch-name')}", browser.text("touch-name") == "Core set 1")
     browser.press("Escape")
@@ -46,6 +50,7 @@ def touching(browser, folder):
     browser.value("document.querySelector('#touch-body button').click()")
     says(browser, trial, "asked by touch", "Request 6 of 6, at 0.00 s: phase 3 0.")
     try_asked(browser, trial, path)
+    try_later(browser, trial)
     try_motion(browser, trial, path)
     try_predictions(browser, trial)
     try_also(browser, trial)
@@ -72,8 +77,30 @@ def try_asked(browser, trial, path):
         says(browser, trial, name, wanted)
 
 
-# What moves: the names of the animations, once each.
-MOVES = "Array.from(new Set(document.getAnimations().map((it) => it.animationName))).sort().join()"
+def try_later(browser, trial):
+    """The first, the second and the latest code tell their own alarms, and a task when it is due, after some time has passed."""
+    open_text(browser, THREE_ALARMS)
+    browser.press("End")
+    browser.press("ArrowRight")
+    for k, wanted in enumerate(("1201, since request 7.", "1203, since request 17 (0.01 s).", "1201, since request 24 (0.02 s).")):
+        told = touch(browser, "codes", k)[1]
+        trial.expect(f"code {k}: {told}", told.endswith(f"|{wanted}"))
+    go_to(browser, "9")
+    told = touch(browser, "tasks", 0)[1]
+    trial.expect(f"a task: {told}", "Task 05000 waits, since the restart of request 7, and is due in 19 cs, at 0.20 s." in told)
+    browser.press("Escape")
+
+
+# What begins to move is noted, by the names of the animations, once each: however slow a machine is, it is heard.
+NOTED = "window.moves = new Set(); document.addEventListener('animationstart', (event) => { window.moves.add(event.animationName); })"
+MOVES = "Array.from(window.moves).sort().join()"
+
+
+def moves(browser, wanted):
+    """What has begun to move since this was asked last, once that has come which is wanted, or two frames were drawn."""
+    browser.value(DRAWN, True)
+    browser.wait(f"{MOVES} === {json.dumps(wanted)}")
+    return browser.value(f"(() => {{ const found = {MOVES}; window.moves.clear(); return found; }})()")
 
 
 def try_motion(browser, trial, path):
@@ -81,13 +108,15 @@ def try_motion(browser, trial, path):
     for is_calm in False, True:
         browser.scheme("light", is_calm=is_calm)
         browser.show(path, "#new")
+        browser.value(NOTED)
         for line, wanted in ("novac 20 04000 00005", "come"), ("novac 10 04100 00005", "come"), ("sleep 06000", "nod"), ("rouse 06000", "nod"), ("restart", ""):
             type_line(browser, line)
-            found = browser.value(MOVES)
+            found = moves(browser, "" if is_calm else wanted)
             trial.expect(f"{line}, calm {is_calm}: {found}", found == ("" if is_calm else wanted))
             browser.press("Escape")
         browser.value("Array.from(document.querySelectorAll('#try button')).find((it) => it.textContent === 'After the restart').click()")
-        trial.expect(f"a restart, calm {is_calm}: {browser.value(MOVES)}", browser.value(MOVES) == ("" if is_calm else "swept"))
+        found = moves(browser, "" if is_calm else "swept")
+        trial.expect(f"a restart, calm {is_calm}: {found}", found == ("" if is_calm else "swept"))
     browser.scheme("light")
 
 
@@ -100,6 +129,14 @@ def try_predictions(browser, trial):
     trial.expect(told, told == "Right: 1 alarm.|You expected “1202”, and it is: alarm 1201. See request 12.|Right: in request 12.")
     browser.value("document.querySelector('#verdict a').click()")
     says(browser, trial, "where it went wrong", "Request 12 of 12")
+    for number, given, wanted in (1, {"runs": "0"}, "Right: no job runs."), \
+            (10, {"alarms": "0", "code": "none", "row": "0"}, "Right: 0 alarms.|Right: no alarm.|Right: no alarm."):
+        exercise(browser, number)
+        for name, it in given.items():
+            browser.value(f"document.querySelector('#prediction [name={name}]').value = '{it}'")
+        browser.click("check-prediction")
+        told = texts(browser, "#verdict li")
+        trial.expect(f"exercise {number}: {told}", told == wanted)
 
 
 def try_also(browser, trial):
@@ -137,7 +174,7 @@ def try_phone(browser, trial, path):
     browser.click("run")
     trial.expect(f"{browser.value(live)} of {loud} are read aloud while it runs", loud > 5 and browser.value(live) == 0)
     browser.value("document.getElementById('sets-name').scrollIntoView()")
-    time.sleep(0.3)
+    browser.value(DRAWN, True)
     seen = browser.value("(() => { const bar = document.querySelector('.bar').getBoundingClientRect();"
                          " return innerHeight - bar.bottom; })()")
     trial.expect(f"{seen} points of tables while it runs", seen > 300)
@@ -174,10 +211,7 @@ def try_flown(browser, trial, path):
     browser.press("Home")
     touch(browser, "sets", 7)
     browser.value("location.hash = '#landing'")
-    begun = time.monotonic()
-    while not browser.text("title").startswith("A landing") and time.monotonic() - begun < PATIENCE:
-        time.sleep(0.05)
-    time.sleep(0.2)
+    browser.wait("document.getElementById('title').textContent.startsWith('A landing') && document.body.ariaBusy !== 'true'")
     told = browser.value("document.getElementById('touch').hidden"), browser.text("note")
     trial.expect(f"a core set that isn't there any more: {told}", told == (True, ""))
     browser.show(path, "#apollo-11")
@@ -206,9 +240,7 @@ def try_words(browser, trial, path):
 def try_no_module(browser, trial, folder):
     page = written(PROGRAM, "page", "").replace("'wasm-unsafe-eval'", "")
     browser.open(save(folder, "no-module", page))
-    begun = time.monotonic()
-    while browser.value("document.getElementById('broken').hidden") and time.monotonic() - begun < PATIENCE:
-        time.sleep(0.05)
+    browser.wait("!document.getElementById('broken').hidden")
     told = browser.text("broken"), browser.value("document.getElementById('run').disabled")
     trial.expect(f"without WebAssembly: {told}", "WebAssembly" in told[0] and told[1])
     browser.width(*PHONE)

@@ -1,9 +1,8 @@
 """What if: sliders that act at once, what came of it beside what was, and how fast."""
 import json
-import time
 
 from browsing.browser import LAPTOP
-from browsing.pages import PROGRAM, Trial, go_to, open_text, save, set_slider, table, texts, written
+from browsing.pages import DRAWN, PROGRAM, Trial, go_to, open_text, save, set_slider, table, texts, written
 
 IN_VIEW = """['run', 'speed', 'sliders', 'lanes-chart'].filter((id) => {
   const box = document.getElementById(id).getBoundingClientRect();
@@ -21,7 +20,7 @@ def whatif(browser, folder):
         browser.width(*size)
         browser.show(path, "#landing-1202")
         browser.value("window.scrollTo(0, 400)")
-        time.sleep(0.2)
+        browser.value(DRAWN, True)
         trial.expect(f"out of view at {size}: {browser.value(IN_VIEW)}", browser.value(IN_VIEW) == "")
         seen = browser.value("innerHeight - document.querySelector('.bar').getBoundingClientRect().bottom")
         trial.expect(f"{seen} points are left below the bar at {size}", seen > 0.35 * size[1])
