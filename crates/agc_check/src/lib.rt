@@ -25,7 +25,7 @@ mod wrong;
 pub use bench::{add_where, bench_told};
 pub use checks::{CheckedScenario, scenario_findings};
 pub use document::{Document, NoDocument};
-pub use explored::{CheckedExplored, Explored, explored_findings};
+pub use explored::{CheckedExplored, Explored, Flags, explored_findings};
 pub use finding::{Finding, line_at};
 pub use kind::{Kind, Part};
 pub use line::LineFault;

@@ -49,7 +49,7 @@ refused_plan texts b f r t (inl is) = subst (λ x. RefusesTexts texts (bench_fau
 refused_plan texts b f r t (inr h) = plan_refused texts b f r t h
 
 -- a document whose texts spell none
-pub refused_texts : (document : Option Members) (ms : Members) (texts : Texts) (fault : BenchFault) → document ≡ Some ms → texts_by key.WORKERS ms ≡ Some texts → RefusesTexts texts fault → RefusesBench document fault
+pub refused_texts : (document : Option Members) (ms : Members) (texts : Texts) (fault : BenchFault) → document ≡ Some ms → texts_by key.WORKERS key.DEVICES ms ≡ Some texts → RefusesTexts texts fault → RefusesBench document fault
 refused_texts document ms texts NoMemory d t h = tt
 refused_texts document ms texts Line d t h = (texts, (ms, d, t), h)
 refused_texts document ms texts NotToml d t h = absurd h

@@ -16,7 +16,7 @@ use Rattle.agc_document.specs.declared.fault.BenchFault.TheVariants.{TooManyArea
 use Rattle.agc_document.specs.declared.refusal.Refusal.{Refusal}
 use Rattle.agc_document.specs.declared.refusal.Refusal.TheVariants as refusal
 use Rattle.agc_document.specs.Texts.{Texts}
-use Rattle.agc_document.specs.declared.rows.TheConstants.{WORKERS}
+use Rattle.agc_document.specs.declared.rows.TheConstants.{DEVICES, WORKERS}
 use Rattle.agc_document.specs.Keys.{texts_by}
 use Rattle.agc_document.specs.Benches.{Benched, bench_texts, IsInRange}
 
@@ -36,7 +36,7 @@ fault_of_refusal (refusal.Plan fault place) = bench_fault fault
 
 -- the document is there, and its keys and kinds give these texts
 abbrev pub HasTexts : Option Members → Texts → Type 0
-HasTexts document texts = (ms : Members) × (document ≡ Some ms) × (texts_by WORKERS ms ≡ Some texts)
+HasTexts read texts = (ms : Members) × (read ≡ Some ms) × (texts_by WORKERS DEVICES ms ≡ Some texts)
 
 -- why numbers and texts spell no bench, by their first fault, want of memory aside: a text of no
 -- form, or a bench in its ranges whose rows and entries make no plan
@@ -52,5 +52,5 @@ RefusesTexts texts fault = (b : Benched) × IsInRange b × (texts ≡ bench_text
 abbrev pub RefusesBench : Option Members → BenchFault → Type 0
 RefusesBench document NoMemoryForBench = Unit {0}
 RefusesBench document NotToml = document ≡ None
-RefusesBench document Key = (ms : Members) × (document ≡ Some ms) × (texts_by WORKERS ms ≡ None)
+RefusesBench read Key = (ms : Members) × (read ≡ Some ms) × (texts_by WORKERS DEVICES ms ≡ None)
 RefusesBench document fault = (texts : Texts) × HasTexts document texts × RefusesTexts texts fault

@@ -26,10 +26,6 @@ has_only names (member k d ms) = is_among names k && has_only names ms
 abbrev pub known_to : List AnyKey → Members → Option Members
 known_to ks ms = if has_only (map name_of ks) ms then Some ms else None
 
--- a table that has these keys and no others
-abbrev pub table_of : List AnyKey → Data → Option Members
-table_of ks d = as_table d >>= known_to ks
-
 -- the value of a key
 abbrev pub value_of : AnyKey → Members → Option Data
 value_of k ms = get_member (name_of k) ms
@@ -79,7 +75,7 @@ one_in _ d = None
 
 -- what reading gives of a table that has these keys and no others
 abbrev pub table_with : {X : Type 0} → List AnyKey → (Members → Option X) → Data → Option X
-table_with keys fields d = table_of keys d >>= fields
+table_with keys fields d = (as_table d >>= known_to keys) >>= fields
 
 -- the tables of an array, as many as a key allows, each with these keys
 abbrev pub tables_of : {X : Type 0} → List AnyKey → (Members → Option X) → AnyKey → Data
@@ -126,15 +122,17 @@ abbrev pub worker_keys : Kind → List AnyKey
 worker_keys (kind.Explored low high) = key.EXPLORED_WORKER_KEYS
 worker_keys _ = key.WORKER_KEYS
 
--- the script of a worker
-abbrev pub worker : Members → Option (List (List ℕ))
-worker ms = read_at texts_of key.REQUESTS ms
+-- how many pulses a device has, by what the value of the key of the devices is: one that is
+-- explored and has no number of them never stops, and is given one
+unfoldable pub pulses_by : Kind → Members → Option ℕ
+pulses_by (kind.Explored low high) ms = read_or 1 number_of key.PULSES ms
+pulses_by _ ms = read_at number_of key.PULSES ms
 
 -- the text and number of a device
-unfoldable pub device : Members → Option DeviceTexts
-device ms = do
+unfoldable pub device : AnyKey → Members → Option DeviceTexts
+device k ms = do
   line ← read_at text_of key.LINE ms
-  pulses ← read_at number_of key.PULSES ms
+  pulses ← pulses_by (kind_of k) ms
   Some (record { line = line; pulses = pulses })
 
 -- the numbers of a bench
@@ -163,20 +161,21 @@ settings_in ms = do
     power = power;
   })
 
--- what a bench has many of, by the key of its workers
-unfoldable pub lists_in : AnyKey → Members → Option Lists
-lists_in workers ms = do
+-- what a bench has many of, by the keys of its workers and its devices
+unfoldable pub lists_in : (workers devices : AnyKey) → Members → Option Lists
+lists_in workers devices ms = do
   first ← read_or [] texts_of key.SCRIPT ms
   rows ← read_or [] (tables_of key.TASK_KEYS row) key.TASKS ms
   phases ← read_or [] (tables_of key.PHASE_KEYS entry) key.PHASES ms
-  askers ← read_or [] (tables_of (worker_keys (kind_of workers)) worker) workers ms
-  lines ← read_or [] (tables_of key.DEVICE_KEYS device) key.DEVICES ms
+  askers ← read_or [] (tables_of (worker_keys (kind_of workers)) (read_at texts_of key.REQUESTS))
+      workers ms
+  lines ← read_or [] (tables_of key.DEVICE_KEYS (device devices)) devices ms
   Some (record { script = first; rows = rows; entries = phases; workers = askers; devices = lines })
 
--- the numbers and texts of a bench, by the key of its workers
-unfoldable pub texts_by : AnyKey → Members → Option Texts
-texts_by workers ms = do
+-- the numbers and texts of a bench, by the keys of its workers and its devices
+unfoldable pub texts_by : (workers devices : AnyKey) → Members → Option Texts
+texts_by workers devices ms = do
   known ← known_to key.BENCH_KEYS ms
   settings ← settings_in known
-  lists ← lists_in workers known
+  lists ← lists_in workers devices known
   Some (record { settings = settings; lists = lists })

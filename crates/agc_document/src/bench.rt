@@ -12,7 +12,7 @@ use crate::fault::BenchFault;
 use crate::keys::texts_by;
 use crate::notes::Notes;
 use crate::refusal::Refusal;
-use crate::rows::WORKERS;
+use crate::rows::{DEVICES, WORKERS};
 use crate::tables::{Site, table_of};
 use crate::texts::Texts;
 use crate::twice::refused_at;
@@ -284,7 +284,7 @@ pub fn bench_of<'a>(
     ensures refused { IfErr result (λ r.
         RefusesBench (Some (table_view table.now)) (fault_of_refusal r)) }
 {
-    let texts = texts_by(Site::of_document(alloc, table), WORKERS, notes)?;
+    let texts = texts_by(Site::of_document(alloc, table), WORKERS, DEVICES, notes)?;
     bench_from(alloc, &texts, notes)
 }
 

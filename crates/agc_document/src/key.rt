@@ -88,7 +88,7 @@ pub enum Kind {
     Texts(Form, u64, u64),
     /// An array of tables, as many as two bounds say.
     Tables(u64, u64),
-    /// An array of workers that are explored, as many as two bounds say.
+    /// An array of workers or devices that are explored, as many as two bounds say.
     Explored(u64, u64),
 }
 

@@ -5,8 +5,9 @@ ghost use Rattle.agc_word.specs.Profiles.{count_of};
 ghost use Rattle.agc_plan.specs.Ranges.{IsBetween};
 ghost use Rattle.agc_document.specs.Gives.{GivesOrKey};
 ghost use Rattle.agc_document.specs.Rows.{kind_of, bounds_of};
-ghost use Rattle.agc_document.specs.Keys.{row, entry, worker, worker_keys, device};
-ghost use Rattle.agc_document.specs.Keys.{numbers_in, settings_in, lists_in, texts_by};
+ghost use Rattle.agc_document.specs.Keys.{row, entry, worker_keys, pulses_by, device};
+ghost use Rattle.agc_document.specs.Keys.{texts_of, read_at, numbers_in, settings_in, lists_in};
+ghost use Rattle.agc_document.specs.Keys.{texts_by};
 ghost use Rattle.agc_document.specs.declared.rows.TheConstants as key_of;
 
 use crate::key::{Key, Kind};
@@ -14,9 +15,9 @@ use crate::key_fault::Level;
 use crate::notes::Notes;
 use crate::refusal::Refusal;
 use crate::rows::{
-    ACTION, ALLOWANCE, AT, ATTENDS, BANK, BENCH_KEYS, DEVICE_KEYS, DEVICES, EXPLORED_WORKER_KEYS,
-    GROUP, JOB, KEY, LIMIT, LINE, LISTING, PHASE, PHASE_KEYS, PHASES, POWER, PULSES, RADAR,
-    REQUESTS, SCRIPT, SETS, TASK_KEYS, TASKS, WORKER_KEYS,
+    ACTION, ALLOWANCE, AT, ATTENDS, BANK, BENCH_KEYS, DEVICE_KEYS, EXPLORED_WORKER_KEYS, GROUP,
+    JOB, KEY, LIMIT, LINE, LISTING, PHASE, PHASE_KEYS, PHASES, POWER, PULSES, RADAR, REQUESTS,
+    SCRIPT, SETS, TASK_KEYS, TASKS, WORKER_KEYS,
 };
 use crate::tables::{FromTable, Site, has_only, items_or_none, read_at, read_if, read_or};
 use crate::texts::{
@@ -27,14 +28,18 @@ use agc_word::Sets;
 impl<'a> FromTable<'a> for RowTexts<'a> {
     ghost keys = { λ k. key_of.TASK_KEYS };
 
-    ghost fields = { row };
+    ghost fields = { λ k. row };
 
     fn known(site: Site<'a>, _key: Key, notes: &mut Notes<'a>) -> Result<(), Refusal<'a>> {
         has_only(site, &TASK_KEYS, Level::Task, notes)
     }
 
     #[tactic(auto, unfolding(crate::specs::Keys::row))]
-    fn from_table(site: Site<'a>, notes: &mut Notes<'a>) -> Result<RowTexts<'a>, Refusal<'a>> {
+    fn from_table(
+        site: Site<'a>,
+        _key: Key,
+        notes: &mut Notes<'a>,
+    ) -> Result<RowTexts<'a>, Refusal<'a>> {
         let at = read_at(site, AT, notes);
         let bank = read_at(site, BANK, notes);
         let actions = read_at(site, ACTION, notes);
@@ -49,14 +54,18 @@ impl<'a> FromTable<'a> for RowTexts<'a> {
 impl<'a> FromTable<'a> for EntryTexts<'a> {
     ghost keys = { λ k. key_of.PHASE_KEYS };
 
-    ghost fields = { entry };
+    ghost fields = { λ k. entry };
 
     fn known(site: Site<'a>, _key: Key, notes: &mut Notes<'a>) -> Result<(), Refusal<'a>> {
         has_only(site, &PHASE_KEYS, Level::Phase, notes)
     }
 
     #[tactic(auto, unfolding(crate::specs::Keys::entry))]
-    fn from_table(site: Site<'a>, notes: &mut Notes<'a>) -> Result<EntryTexts<'a>, Refusal<'a>> {
+    fn from_table(
+        site: Site<'a>,
+        _key: Key,
+        notes: &mut Notes<'a>,
+    ) -> Result<EntryTexts<'a>, Refusal<'a>> {
         let group: Result<u64, Refusal<'a>> = read_at(site, GROUP, notes);
         let phase: Result<u64, Refusal<'a>> = read_at(site, PHASE, notes);
         let job = read_if(site, JOB, notes);
@@ -73,7 +82,7 @@ impl<'a> FromTable<'a> for EntryTexts<'a> {
 impl<'a> FromTable<'a> for WorkerTexts<'a> {
     ghost keys = { λ k. worker_keys (kind_of k) };
 
-    ghost fields = { worker };
+    ghost fields = { λ k. read_at texts_of key_of.REQUESTS };
 
     fn known(site: Site<'a>, key: Key, notes: &mut Notes<'a>) -> Result<(), Refusal<'a>> {
         match key.kind() {
@@ -84,9 +93,27 @@ impl<'a> FromTable<'a> for WorkerTexts<'a> {
         }
     }
 
-    fn from_table(site: Site<'a>, notes: &mut Notes<'a>) -> Result<WorkerTexts<'a>, Refusal<'a>> {
+    fn from_table(
+        site: Site<'a>,
+        _key: Key,
+        notes: &mut Notes<'a>,
+    ) -> Result<WorkerTexts<'a>, Refusal<'a>> {
         let script = read_at(site, REQUESTS, notes)?;
         Ok(WorkerTexts { script })
+    }
+}
+
+/// How many pulses the device has that a table is, by the key of the devices. One that is explored
+/// and has no number of them never stops; it is given one.
+#[tactic(auto, unfolding(crate::specs::Keys::pulses_by))]
+fn pulses_by<'a>(site: Site<'a>, devices: Key, notes: &mut Notes<'a>) -> Result<u64, Refusal<'a>>
+    ensures value { GivesOrKey (λ x. x) result
+        (pulses_by (kind_of devices) (table_view site.entry.table.now)) }
+    ensures range { IfOk result (λ x. x ≤ 1000000) }
+{
+    match devices.kind() {
+        Kind::Explored(_low, _high) => read_or(site, PULSES, 1, notes),
+        _ => read_at(site, PULSES, notes),
     }
 }
 
@@ -100,9 +127,13 @@ impl<'a> FromTable<'a> for DeviceTexts<'a> {
     }
 
     #[tactic(auto, unfolding(crate::specs::Keys::device))]
-    fn from_table(site: Site<'a>, notes: &mut Notes<'a>) -> Result<DeviceTexts<'a>, Refusal<'a>> {
+    fn from_table(
+        site: Site<'a>,
+        key: Key,
+        notes: &mut Notes<'a>,
+    ) -> Result<DeviceTexts<'a>, Refusal<'a>> {
         let line = read_at(site, LINE, notes);
-        let pulses: Result<u64, Refusal<'a>> = read_at(site, PULSES, notes);
+        let pulses = pulses_by(site, key, notes);
         Ok(DeviceTexts {
             line: line?,
             pulses: pulses? as u32,
@@ -166,17 +197,19 @@ pub fn settings_in<'a>(site: Site<'a>, notes: &mut Notes<'a>) -> Result<Settings
 fn lists_in<'a>(
     site: Site<'a>,
     workers: Key,
+    devices: Key,
     notes: &mut Notes<'a>,
 ) -> Result<Lists<'a>, Refusal<'a>>
-    requires { bounds_of (kind_of workers) ≡ (0, 32) }
+    requires workers { bounds_of (kind_of workers) ≡ (0, 32) }
+    requires devices { bounds_of (kind_of devices) ≡ (0, 32) }
     ensures value { GivesOrKey (λ l. l) result
-        (lists_in workers (table_view site.entry.table.now)) }
+        (lists_in workers devices (table_view site.entry.table.now)) }
 {
     let script = read_or(site, SCRIPT, TextList::none(site.alloc), notes);
     let rows = items_or_none(site, TASKS, notes);
     let entries = items_or_none(site, PHASES, notes);
     let workers = items_or_none(site, workers, notes);
-    let devices = items_or_none(site, DEVICES, notes);
+    let devices = items_or_none(site, devices, notes);
     Ok(Lists {
         script: script?,
         rows: rows?,
@@ -186,21 +219,23 @@ fn lists_in<'a>(
     })
 }
 
-/// The numbers and texts of a document, by the key of its workers. A fault `Key` where a key or the
-/// kind, range or length of its value is wrong, which is noted.
+/// The numbers and texts of a document, by the keys of its workers and its devices. A fault `Key`
+/// where a key or the kind, range or length of its value is wrong, which is noted.
 #[tactic(auto, unfolding(crate::specs::Keys::texts_by))]
 pub fn texts_by<'a>(
     site: Site<'a>,
     workers: Key,
+    devices: Key,
     notes: &mut Notes<'a>,
 ) -> Result<Texts<'a>, Refusal<'a>>
-    requires { bounds_of (kind_of workers) ≡ (0, 32) }
+    requires workers { bounds_of (kind_of workers) ≡ (0, 32) }
+    requires devices { bounds_of (kind_of devices) ≡ (0, 32) }
     ensures value { GivesOrKey (λ t. t) result
-        (texts_by workers (table_view site.entry.table.now)) }
+        (texts_by workers devices (table_view site.entry.table.now)) }
 {
     let known = has_only(site, &BENCH_KEYS, Level::Bench, notes);
     let settings = settings_in(site, notes);
-    let lists = lists_in(site, workers, notes);
+    let lists = lists_in(site, workers, devices, notes);
     known?;
     Ok(Texts {
         settings: settings?,

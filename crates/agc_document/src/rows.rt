@@ -28,6 +28,9 @@ pub const DEVICES: Key = Key::Optional(KeyName::Device, Kind::Tables(0, 32));
 /// The workers of a bench that is explored.
 pub const EXPLORED: Key = Key::Optional(KeyName::Worker, Kind::Explored(0, 32));
 
+/// Its devices.
+pub const EXPLORED_DEVICES: Key = Key::Optional(KeyName::Device, Kind::Explored(0, 32));
+
 /// The keys of a bench itself.
 pub const BENCH_KEYS: [Key; 12] = [
     SETS, LIMIT, ALLOWANCE, ATTENDS, KEY, RADAR, POWER, SCRIPT, TASKS, PHASES, WORKERS, DEVICES,

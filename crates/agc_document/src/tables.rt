@@ -235,7 +235,7 @@ pub trait FromTable<'a>: Sized + Drop {
     ghost keys: { AnyKey → List AnyKey };
 
     /// What reading gives of it.
-    ghost fields: { Members → Option Self };
+    ghost fields: { AnyKey → Members → Option Self };
 
     /// Whether a table has these keys and no others.
     fn known(site: Site<'a>, key: Key, notes: &mut Notes<'a>) -> Result<(), Refusal<'a>>
@@ -243,19 +243,19 @@ pub trait FromTable<'a>: Sized + Drop {
             (known_to (keys key) (table_view site.entry.table.now)) };
 
     /// What it is. A fault `Key` where it is no such thing.
-    fn from_table(site: Site<'a>, notes: &mut Notes<'a>) -> Result<Self, Refusal<'a>>
-        ensures { GivesOrKey (λ x. x) result (fields (table_view site.entry.table.now)) };
+    fn from_table(site: Site<'a>, key: Key, notes: &mut Notes<'a>) -> Result<Self, Refusal<'a>>
+        ensures { GivesOrKey (λ x. x) result (fields key (table_view site.entry.table.now)) };
 }
 
 impl<'a, T: FromTable<'a>> FromData<'a> for T {
-    ghost reads = { λ k. table_with (T.keys k) T.fields };
+    ghost reads = { λ k. table_with (T.keys k) (T.fields k) };
 
     ghost IsAllowed = { λ k x. Unit {0} };
 
     fn from_value(placed: Placed<'a>, notes: &mut Notes<'a>) -> Result<T, Refusal<'a>> {
         let site = table_in(placed, notes)?;
         let known = T::known(site, placed.key, notes);
-        known.and(T::from_table(site, notes))
+        known.and(T::from_table(site, placed.key, notes))
     }
 }
 

@@ -10,7 +10,7 @@ use Rattle.agc_document.specs.declared.key.Key.{Key as AnyKey}
 use Rattle.agc_document.specs.declared.rows.TheConstants as key
 use Rattle.agc_scenario.specs.declared.rows.TheConstants as own
 use Rattle.agc_document.specs.Texts.{Lists, Settings}
-use Rattle.agc_document.specs.Keys.{is_among, known_to, table_of, value_of, number_of, text_of}
+use Rattle.agc_document.specs.Keys.{is_among, known_to, value_of, number_of, text_of}
 use Rattle.agc_document.specs.Keys.{texts_of, read_at, read_or, read_if, tables_of}
 use Rattle.agc_document.specs.Keys.{row, entry, settings_in}
 use Rattle.agc_clock.specs.declared.times.TheConstants.{LAST_TIME}
@@ -68,7 +68,7 @@ ascending cost = if nat_le cost.from cost.to then Some cost else None
 -- a cost that is drawn by lot
 unfoldable pub drawn_cost : Data → Option CostRange
 drawn_cost d = do
-  ms ← table_of own.COST_KEYS d
+  ms ← as_table d >>= known_to own.COST_KEYS
   from ← read_at number_of own.LEAST ms
   to ← read_at number_of own.MOST ms
   ascending (record { from = from; to = to })

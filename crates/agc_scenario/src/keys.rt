@@ -37,11 +37,12 @@ use toml::{Table, Value};
 #[tactic(auto, unfolding(crate::specs::Keys::named))]
 fn named<'a, T: FromTable<'a>>(
     site: Site<'a>,
+    key: Key,
     notes: &mut Notes<'a>,
 ) -> Result<Named<'a, T>, Refusal<'a>>
-    ensures { GivesOrKey (λ n. n) result (named T.fields (table_view site.entry.table.now)) }
+    ensures { GivesOrKey (λ n. n) result (named (T.fields key) (table_view site.entry.table.now)) }
 {
-    let item = T::from_table(site, notes);
+    let item = T::from_table(site, key, notes);
     let name = read_if(site, NAME, notes);
     Ok(Named {
         item: item?,
@@ -52,28 +53,28 @@ fn named<'a, T: FromTable<'a>>(
 impl<'a> FromTable<'a> for Named<'a, RowTexts<'a>> {
     ghost keys = { λ k. key_of.NAMED_TASK_KEYS };
 
-    ghost fields = { named row };
+    ghost fields = { λ k. named row };
 
     fn known(site: Site<'a>, _key: Key, notes: &mut Notes<'a>) -> Result<(), Refusal<'a>> {
         has_only(site, &NAMED_TASK_KEYS, Level::NamedTask, notes)
     }
 
-    fn from_table(site: Site<'a>, notes: &mut Notes<'a>) -> Result<Self, Refusal<'a>> {
-        named(site, notes)
+    fn from_table(site: Site<'a>, key: Key, notes: &mut Notes<'a>) -> Result<Self, Refusal<'a>> {
+        named(site, key, notes)
     }
 }
 
 impl<'a> FromTable<'a> for Named<'a, EntryTexts<'a>> {
     ghost keys = { λ k. key_of.NAMED_PHASE_KEYS };
 
-    ghost fields = { named entry };
+    ghost fields = { λ k. named entry };
 
     fn known(site: Site<'a>, _key: Key, notes: &mut Notes<'a>) -> Result<(), Refusal<'a>> {
         has_only(site, &NAMED_PHASE_KEYS, Level::NamedPhase, notes)
     }
 
-    fn from_table(site: Site<'a>, notes: &mut Notes<'a>) -> Result<Self, Refusal<'a>> {
-        named(site, notes)
+    fn from_table(site: Site<'a>, key: Key, notes: &mut Notes<'a>) -> Result<Self, Refusal<'a>> {
+        named(site, key, notes)
     }
 }
 
@@ -119,14 +120,18 @@ fn number_if<'a>(
 impl<'a> FromTable<'a> for StolenRow {
     ghost keys = { λ k. key_of.STEAL_KEYS };
 
-    ghost fields = { stolen_row };
+    ghost fields = { λ k. stolen_row };
 
     fn known(site: Site<'a>, _key: Key, notes: &mut Notes<'a>) -> Result<(), Refusal<'a>> {
         has_only(site, &STEAL_KEYS, Level::Steal, notes)
     }
 
     #[tactic(auto, unfolding(crate::specs::Keys::stolen_row))]
-    fn from_table(site: Site<'a>, notes: &mut Notes<'a>) -> Result<StolenRow, Refusal<'a>> {
+    fn from_table(
+        site: Site<'a>,
+        _key: Key,
+        notes: &mut Notes<'a>,
+    ) -> Result<StolenRow, Refusal<'a>> {
         let from: Result<u64, Refusal<'a>> = read_at(site, FROM, notes);
         let to: Result<u64, Refusal<'a>> = read_at(site, TO, notes);
         let percent: Result<u64, Refusal<'a>> = read_at(site, PERCENT, notes);
@@ -243,14 +248,18 @@ fn cost_in<'a>(site: Site<'a>, notes: &mut Notes<'a>) -> Result<CostRange, Refus
 impl<'a> FromTable<'a> for JobTexts<'a> {
     ghost keys = { λ k. key_of.JOB_KEYS };
 
-    ghost fields = { job };
+    ghost fields = { λ k. job };
 
     fn known(site: Site<'a>, _key: Key, notes: &mut Notes<'a>) -> Result<(), Refusal<'a>> {
         has_only(site, &JOB_KEYS, Level::Job, notes)
     }
 
     #[tactic(auto, unfolding(crate::specs::Keys::job))]
-    fn from_table(site: Site<'a>, notes: &mut Notes<'a>) -> Result<JobTexts<'a>, Refusal<'a>> {
+    fn from_table(
+        site: Site<'a>,
+        _key: Key,
+        notes: &mut Notes<'a>,
+    ) -> Result<JobTexts<'a>, Refusal<'a>> {
         let at = read_at(site, AT, notes);
         let cost = cost_in(site, notes);
         let deadline = number_if(site, DEADLINE, notes);
@@ -271,14 +280,18 @@ impl<'a> FromTable<'a> for JobTexts<'a> {
 impl<'a> FromTable<'a> for EventTexts<'a> {
     ghost keys = { λ k. key_of.EVENT_KEYS };
 
-    ghost fields = { event };
+    ghost fields = { λ k. event };
 
     fn known(site: Site<'a>, _key: Key, notes: &mut Notes<'a>) -> Result<(), Refusal<'a>> {
         has_only(site, &EVENT_KEYS, Level::Event, notes)
     }
 
     #[tactic(auto, unfolding(crate::specs::Keys::event))]
-    fn from_table(site: Site<'a>, notes: &mut Notes<'a>) -> Result<EventTexts<'a>, Refusal<'a>> {
+    fn from_table(
+        site: Site<'a>,
+        _key: Key,
+        notes: &mut Notes<'a>,
+    ) -> Result<EventTexts<'a>, Refusal<'a>> {
         let at: Result<u64, Refusal<'a>> = read_at(site, MOMENT, notes);
         let after = read_if(site, AFTER, notes);
         let requests = read_at(site, DO, notes);

@@ -10,7 +10,7 @@ use crate::sweeping::write_sweep;
 use crate::words::{Asked, Input as Source, Show, Task};
 use crate::workbench::Workbench;
 use agc_check::Explored;
-use agc_explore::{Options, Reach, explore};
+use agc_explore::{Options, Reach, endless_lines, explore};
 use agc_peaks::{Outcome, outcome_of, put_differences, scenario_bench, write_jobs, write_peaks};
 use agc_play::{Manner, PlayFault, play};
 use agc_program::Fault;
@@ -93,8 +93,10 @@ fn trace_requests(console: &mut Console<'_>, choice: Choice, text: &str) -> Resu
 fn explore_bench(console: &mut Console<'_>, options: Options, text: &str) -> Result<u8, Stop> {
     let alloc = console.rt.alloc();
     let (progress, output) = (&mut console.progress, &mut console.output);
-    let Explored { bench, repeats } = explored_in(alloc, text)?;
-    let manner = options.manner.with_repeats(repeats.as_slice());
+    let Explored { bench, flags } = explored_in(alloc, text)?;
+    let lines = endless_lines(&bench, flags.endless.as_slice());
+    let workers = options.manner.with_repeats(0, flags.repeats.as_slice());
+    let manner = workers.with_repeats(bench.workers().len(), &lines);
     let options = Options { manner, ..options };
     match explore(alloc, &bench, options, progress, output) {
         Ok(Reach::None) => Ok(0),
