@@ -30,6 +30,7 @@ def try_alarms(browser, trial):
     for typed, wanted in (("0.02 s", 18), ("0.01", 9), ("6", 6)):
         go_to(browser, typed)
         says(browser, trial, f"gone to {typed}", f"Request {wanted} of 24")
+        trial.expect(f"a note of units at {typed}, without a clock: {texts(browser, '#note')}", texts(browser, "#note") == "")
     for key, wanted in ("a", 7), ("ArrowLeft", 6):
         browser.press(key)
         says(browser, trial, f"from request 6 by {key}", f"Request {wanted} of 24")
