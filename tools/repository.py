@@ -181,6 +181,7 @@ def block_of(line):
         return last_of(words), "", False
     name, _, types = trait.partition("<")
     types = without_brackets(types.rpartition(">")[0]).split(",")
+    types = [it for it in types if not it.strip().startswith("'")]
     return last_of(kind), "".join(map(last_of, [name, *types])), True
 
 
@@ -209,9 +210,13 @@ def function_at(crate, text, at, path):
 
 
 def key_of(crate, path, function):
-    """Returns the name of a function as a check has it: its crate, module, type with trait, and name."""
+    """Returns the name of a function as a check has it: its crate, module, type with trait, and name.
+    The module is that of the type, or of the impl of a trait; a type parameter is Any."""
     kind, trait = function.kind, function.trait
-    return "::".join([crate, *module_of(crate, kind, path), *([kind + trait] if kind else []), function.name])
+    module = module_of(crate, "" if trait else kind, path)
+    whole = "Any" if len(kind) == 1 else kind[:1].upper() + kind[1:]
+    called = whole + trait if trait else kind
+    return "::".join([crate, *module, *([called] if called else []), function.name])
 
 
 def module_of(crate, kind, path):
