@@ -3,7 +3,6 @@
 
     tools/repository.py below NAME    the crates on which a crate stands, low ones first
     tools/repository.py above NAME    the crates that stand on it
-    tools/repository.py often         the crates of the edits of which the gate tries a quarter
     tools/repository.py uses          fails where a line of crates.txt names a crate that its sources don't
     tools/repository.py find NAME     the places of a function, an edit or a case, and what tries it
 
@@ -444,9 +443,6 @@ def main(words):
     if kind in ("below", "above") and len(words) == 2 and name in crates():
         found = below([name]) if kind == "below" else above(name)
         print(*found, sep="\n", end="\n" if found else "")
-        return 0
-    if words == ["often"]:
-        print(*sorted({it.crate for it in edits().all if it.is_often}), sep="\n")
         return 0
     if words == ["uses"]:
         found = [*unnamed_uses()]

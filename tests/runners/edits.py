@@ -6,6 +6,7 @@
     tests/run edits --often          those with the mark 'often' at their heading
     tests/run edits --check          only looks whether each edit can be applied, and proves nothing
     tests/run edits --compile        only looks whether each edit still compiles, and proves nothing
+    tests/run edits --crates-only    only says of which crates they are, a line each
 
     --share K/N     cuts the edits into N shares of neighbours, most of which belong to the same crate
                     and can be made at once, and tries the K-th; K is any whole number from 0 on, and
@@ -464,6 +465,7 @@ def add_words(parser):
     parser.add_argument("--jobs", default=len(os.sched_getaffinity(0)), type=count, metavar="N")
     parser.add_argument("--together", default=1, type=count, metavar="N")
     parser.add_argument("--after-ci", action="store_true")
+    parser.add_argument("--crates-only", action="store_true")
 
 
 def count(text):
@@ -501,6 +503,9 @@ def run(given):
     if faults:
         return counting.checked("edits", len(edits.all), faults)
     wanted = chosen(edits.all, given)
+    if given.crates_only:
+        print(*dict.fromkeys(it.crate for it in wanted), sep="\n")
+        return 0
     try:
         tried = tried_in_copies(wanted, given)
     except Stopped as signal_name:
