@@ -10,7 +10,7 @@
  */
 import { readBench, requestsOf, writeBench } from "./bench.js";
 import { packed, unpacked } from "./files.js";
-import { isClock } from "./run.js";
+import { STRETCH, isClock } from "./run.js";
 
 const STORED = "agc-workbench-undo";
 
@@ -60,24 +60,31 @@ export function recipeOf(run, count) {
 }
 
 /**
- * Does to a run that has just begun what was done to it before.
+ * Does to a run that has just begun what was done to it before, a stretch at a time.
  * @param {Run} run
  * @param {Recipe} recipe
- * @param {import("./clock.js").ClockPanel} clock
+ * @param {{ passTime(run: Run, most: number): boolean }} clock
+ * @param {() => Promise<void>} others lets the page do what else it has to do
  */
-export function follow(run, { parts }, clock) {
+export async function follow(run, { parts }, clock, others) {
   const asked = requestsOf(run.given);
+  let rested = run.count;
+  /** Asks for so many, and says whether there were fewer. */
+  const ask = async (/** @type {number} */ many, /** @type {(most: number) => boolean} */ some) => {
+    for (let left = many; left > 0; left -= STRETCH) {
+      if (some(Math.min(left, STRETCH))) return true;
+      if (run.count < rested + STRETCH) continue;
+      rested = run.count;
+      await others();
+    }
+    return false;
+  };
   for (const [kind, one, who] of parts) {
-    if (kind === "c") clock.passTime(run, Number(one));
+    if (kind === "c") await ask(one, (most) => clock.passTime(run, most));
     else if (kind === "y") run.ask(String(one), String(who));
     else if (kind === "s") run.change(one, one);
-    else if (kind === "d") {
-      for (let k = 0; k < one; k++) {
-        const next = asked.next();
-        if (next.done) throw new Damaged("it asks for more than its document has");
-        run.ask(...next.value);
-      }
-    } else throw new Damaged("it has a part of an unknown kind");
+    else if (kind !== "d") throw new Damaged("it has a part of an unknown kind");
+    else if (await ask(one, (most) => run.askSome(asked, most))) throw new Damaged("it asks for more than its document has");
   }
 }
 

@@ -6,7 +6,7 @@
 import { Clock } from "../libagc/js/machine.js";
 import { writeBench } from "./bench.js";
 import { button, by, fill, make } from "./dom.js";
-import { MOST_ROWS, Run } from "./run.js";
+import { MOST_ROWS, Run, STRETCH } from "./run.js";
 import { Sliders, differencesOf } from "./sliders.js";
 import { stolenSince } from "./stolen.js";
 import { seconds, visible } from "./words.js";
@@ -16,9 +16,6 @@ const SPEEDS = [0.1, 0.2, 0.5, 1, 2, 5, 10, 20, 50, 100];
 
 /** How long one waits at most for the first alarm, or for the end, in ticks of the reader's time. */
 const PATIENCE = 800;
-
-/** How many requests are asked at a stretch, so that the page goes on answering. */
-export const STRETCH = 64_000;
 
 /** How often the strip is drawn anew while the clock runs, in milliseconds. */
 const DRAWN_EACH = 300;

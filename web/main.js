@@ -7,7 +7,7 @@ import { Names, accountOf, missionOf, orderOf, sentenceOf } from "./account.js";
 import { countOf, emptyBench, readBench, requestsOf, writeBench } from "./bench.js";
 import * as address from "./address.js";
 import { Strip, outcomeOf } from "./chart.js";
-import { ClockPanel, STRETCH } from "./clock.js";
+import { ClockPanel } from "./clock.js";
 import { Colours } from "./colours.js";
 import { button, by, closeDialog, fill, make, openDialog, withCode } from "./dom.js";
 import * as files from "./files.js";
@@ -15,7 +15,7 @@ import { drawCommon, drawTurns } from "./forms.js";
 import { History, parting } from "./history.js";
 import { drawList, drawPrinted, printQuestion } from "./list.js";
 import { openPlan } from "./plan.js";
-import { MOST_ASKED, NO_SOURCE, Run, afterOf } from "./run.js";
+import { MOST_ASKED, NO_SOURCE, Run, STRETCH, afterOf } from "./run.js";
 import { Editor } from "./editor.js";
 import { documentOfScript, isScript } from "./forgive.js";
 import { Guide } from "./guide.js";
@@ -837,7 +837,10 @@ class Workbench {
       const recipe = await address.readRecipe(done, given);
       const run = this.clock.begunOf({ ...given, ...recipe.plan });
       Object.assign(run, { title, about, source, given });
-      address.follow(run, recipe, this.clock);
+      this.noteOf("The requests that the link names are being asked again.");
+      this.drawNote();
+      await address.follow(run, recipe, this.clock, others);
+      if (this.view.run !== old) return;
       this.history.now = { run, count: run.count, at: 0 };
     }
     if (isShown) this.source.isHidden = false;
@@ -900,7 +903,7 @@ class Workbench {
     const viewsOf = async (/** @type {any[]} */ rows) => {
       const views = [];
       for (const { mark, at, name } of rows) {
-        await new Promise((done) => { setTimeout(done, 0); });
+        await others();
         const view = await this.viewOf(mark).catch(() => null);
         if (view !== null) views.push({ ...view, at: Math.min(at, view.count), name });
       }
@@ -931,9 +934,17 @@ class Workbench {
     const recipe = await address.readRecipe(done, now.given);
     const run = this.clock.begunOf({ ...now.given, ...recipe.plan });
     Object.assign(run, { title: now.title, about: now.about, source: now.source, given: now.given });
-    address.follow(run, recipe, this.clock);
+    await address.follow(run, recipe, this.clock, others);
     return { run, count: run.count };
   }
+}
+
+/**
+ * Until what else the page has to do is done.
+ * @returns {Promise<void>}
+ */
+function others() {
+  return new Promise((done) => { setTimeout(done, 0); });
 }
 
 /** How many rows the list has before and after the one that is shown. */

@@ -19,6 +19,9 @@ import { Lanes } from "./lanes.js";
 /** How many rows lie between two checkpoints. */
 const APART = 256;
 
+/** How many requests are asked at a stretch, so that the page goes on answering. */
+export const STRETCH = 64_000;
+
 /** How many rows a run has at most, and how many a bench may ask for. */
 export const MOST_ROWS = 4_000_000;
 export const MOST_ASKED = 2_000_000;

@@ -3,7 +3,7 @@
 import { readFileSync } from "node:fs";
 import { Clock, start } from "../../libagc/js/machine.js";
 import { Names, accountOf } from "../../web/account.js";
-import { readAddress, readRecipe } from "../../web/address.js";
+import { follow, readAddress, readRecipe } from "../../web/address.js";
 import { countOf, readBench, requestsOf, textFault, writeBench } from "../../web/bench.js";
 import { Strip } from "../../web/chart.js";
 import { Colours } from "../../web/colours.js";
@@ -289,6 +289,23 @@ async function recipesAreRead() {
     { name: "landing", bench: "", at: 7, see: [0, 90], done: "x", isShown: true, isEmbedded: true });
 }
 
+/** However many requests a link asks for, others get their turn after each 64,000; and it asks for no more than there are. */
+async function linksAreFollowedInStretches() {
+  const clock = { passTime: (/** @type {any} */ run, /** @type {number} */ most) => run.askByClock(most, () => "the clock") < most };
+  const followed = async (/** @type {Run} */ run, /** @type {any[]} */ parts) => {
+    let rests = 0;
+    const why = await follow(run, { parts }, clock, async () => { rests += 1; }).then(() => "", (fault) => fault.message);
+    return [run.count, rests, why];
+  };
+  const timed = () => clockedRun(readBench("seconds = 3000\n"));
+  expect("200,000 ticks", await followed(timed(), [["c", 200_000]]), [200_000, 3, ""]);
+  expect("those of two parts", await followed(timed(), [["c", 40_000], ["y", "tick", "you"], ["c", 40_000]]), [80_001, 1, ""]);
+  expect("more than the time has", await followed(timed(), [["c", Number.MAX_SAFE_INTEGER], ["c", 1]]), [300_000, 4, ""]);
+  const scripted = () => new Run(readBench('script = ["tick", "tick"]\n'));
+  expect("the document's own", await followed(scripted(), [["d", 2]]), [2, 0, ""]);
+  expect("more than it has", await followed(scripted(), [["d", 3]]), [2, 0, "it asks for more than its document has"]);
+}
+
 /** Where a task rouses job 1, a change of jobs brings it: so much is used in both runs. */
 function runsPart() {
   const lines = ["novac 20 04000 00005", "novac 10 05000 00005", "sleep 06000", "list 1 02000 00005", "tick", "change"];
@@ -345,6 +362,7 @@ refusedRequestsChangeNothing();
 whatIsLeftIsABranch();
 accountsAreGiven();
 await recipesAreRead();
+await linksAreFollowedInStretches();
 runsPart();
 theStripIsMeasured();
 linesAreForgiven();
