@@ -150,11 +150,19 @@ fn job_warning(scenario: &Scenario, job: &TimedJob, stolen: u64) -> Option<Said<
     }
 }
 
+/// The first centisecond after all those of a scenario in which a row of stolen time that repeats
+/// would hold.
+fn ceases(again: &Stolen, lasts: u32) -> u32 {
+    let rest = again.until.min(lasts).saturating_sub(again.from);
+    let beats = rest.checked_div(again.every).unwrap_or(0);
+    let last_beat = again.to.saturating_add(beats.saturating_mul(again.every));
+    last_beat.min(lasts.saturating_add(1))
+}
+
 /// Whether a row of stolen time that doesn't repeat always holds when one that repeats would.
 fn hides(row: &Stolen, again: &Stolen, lasts: u32) -> bool {
-    let long = again.to.saturating_sub(again.from);
-    let last = again.until.min(lasts).saturating_add(long);
-    row.every == 0 && again.every != 0 && row.from <= again.from && last <= row.to
+    let is_repeated = row.every == 0 && again.every != 0;
+    is_repeated && row.from <= again.from && ceases(again, lasts) <= row.to
 }
 
 /// The warning about a row of stolen time, if any; rows are numbered from 0.
