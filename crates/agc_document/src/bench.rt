@@ -1,10 +1,15 @@
 ghost use Rattle.std.specs.Prelude.{◌≡◌, ◌≢◌, ◌≤◌, ◌⊎◌, length, map, Some, None, IfOk, IfErr};
+ghost use Rattle.std.specs.Prelude.{IfSome, IfNone};
+ghost use Rattle.std.specs.Option.{option_map};
 ghost use Rattle.toml.specs.Parse.{parse_document};
 ghost use Rattle.toml.specs.View.{table_view};
 ghost use Rattle.agc_word.specs.Profiles.{count_of};
 ghost use Rattle.agc_plan.specs.Plans.{fault_of};
 ghost use Rattle.agc_plan.specs.Ranges.{IsBetween};
-ghost use Rattle.agc_document.specs.Benches.{Benched, bench_texts, IsInRange, IsBench};
+ghost use Rattle.agc_text.specs.Numbers.{octal};
+ghost use Rattle.agc_text.specs.Lines.{action_line_of};
+ghost use Rattle.agc_document.specs.Benches.{Benched, bench_texts, settings_texts, AreActions};
+ghost use Rattle.agc_document.specs.Benches.{IsPower, IsInRange, IsBench};
 ghost use Rattle.agc_document.specs.Faults.{fault_of_refusal, HasTexts, RefusesTexts, RefusesBench};
 ghost use Rattle.agc_document.specs.Gives.{RefusedLine};
 
@@ -14,7 +19,7 @@ use crate::notes::Notes;
 use crate::refusal::Refusal;
 use crate::rows::{DEVICES, WORKERS};
 use crate::tables::{Site, table_of};
-use crate::texts::Texts;
+use crate::texts::{Settings, Texts};
 use crate::twice::refused_at;
 use crate::values::{actions_of, all_spelled, power_of, workers_of};
 use agc_plan::{Actions, Limit, Line, PhaseEntry, Plan, PlanFault, Request, Task};
@@ -188,35 +193,60 @@ pub fn or_line<T: Drop>(value: Option<T>) -> Result<T, BenchFault>
     }
 }
 
+/// The limit, what is done for both pulses, and the power-up that numbers and texts spell.
+fn once_of(texts: &Settings<'_>) -> Option<(Limit, Actions, Actions, Option<[Word; 12]>)>
+    ensures limit { IfSome result (λ p. IsBetween 1 1000000 p.0 × (texts.now.limit ≡ p.0)) }
+    ensures key { IfSome result (λ p. AreActions p.1
+        × (texts.now.key ≡ map action_line_of p.1)) }
+    ensures radar { IfSome result (λ p. AreActions p.2
+        × (texts.now.radar ≡ map action_line_of p.2)) }
+    ensures power { IfSome result (λ p. IfSome p.3 IsPower
+        × (texts.now.power ≡ option_map (map (octal 5)) p.3)) }
+    ensures only { IfNone result
+        ((b : Benched) → IsInRange b → texts.now ≢ settings_texts b) }
+{
+    let limit = Limit::new(texts.limit);
+    let key = actions_of(texts.key.as_slice());
+    let radar = actions_of(texts.radar.as_slice());
+    let power = power_of(&texts.power);
+    match (limit, key, radar, power) {
+        (Some(limit), Some(key), Some(radar), Some(power)) => Some((limit, key, radar, power)),
+        _ => None,
+    }
+}
+
 /// The values that numbers and texts spell.
 fn parts_of(alloc: Global, texts: &Texts<'_>) -> Result<Parts, BenchFault>
     ensures found { IfOk result (λ p. IsInRange (p) × (texts.now ≡ bench_texts (p))) }
     ensures refused { IfErr result (RefusedLine
         ((b : Benched) → IsInRange b → texts.now ≢ bench_texts b)) }
 {
-    let limit = or_line(Limit::new(texts.settings.limit))?;
-    let key = or_line(actions_of(texts.settings.key.as_slice()))?;
-    let radar = or_line(actions_of(texts.settings.radar.as_slice()))?;
-    let power = or_line(power_of(&texts.settings.power))?;
-    let script = all_spelled(alloc, texts.lists.script.as_slice())?;
-    let rows = all_spelled(alloc, texts.lists.rows.as_slice())?;
-    let entries = all_spelled(alloc, texts.lists.entries.as_slice())?;
-    let workers = workers_of(alloc, texts.lists.workers.as_slice())?;
-    let devices = all_spelled(alloc, texts.lists.devices.as_slice())?;
-    Ok(Parts {
-        sets: texts.settings.sets,
-        limit,
-        allowance: texts.settings.allowance,
-        attends: texts.settings.attends,
-        key,
-        radar,
-        power,
-        script,
-        rows,
-        entries,
-        workers,
-        devices,
-    })
+    let Some((limit, key, radar, power)) = once_of(&texts.settings) else {
+        return Err(BenchFault::Line);
+    };
+    let script = all_spelled(alloc, texts.lists.script.as_slice());
+    let rows = all_spelled(alloc, texts.lists.rows.as_slice());
+    let entries = all_spelled(alloc, texts.lists.entries.as_slice());
+    let workers = workers_of(alloc, texts.lists.workers.as_slice());
+    let devices = all_spelled(alloc, texts.lists.devices.as_slice());
+    match (script, rows, entries, workers, devices) {
+        (Ok(script), Ok(rows), Ok(entries), Ok(workers), Ok(devices)) => Ok(Parts {
+            sets: texts.settings.sets,
+            limit,
+            allowance: texts.settings.allowance,
+            attends: texts.settings.attends,
+            key,
+            radar,
+            power,
+            script,
+            rows,
+            entries,
+            workers,
+            devices,
+        }),
+        (Err(fault), ..) | (_, Err(fault), ..) | (_, _, Err(fault), ..) => Err(fault),
+        (.., Err(fault), _) | (.., Err(fault)) => Err(fault),
+    }
 }
 
 /// Whether the rows and entries of parts make a plan.
@@ -259,11 +289,15 @@ pub fn bench_from<'a>(
     };
     match planned(alloc, &parts) {
         Ok(()) => Ok(Bench { parts }),
-        Err(fault) => {
-            let (rows, entries) = (parts.rows.as_slice(), parts.entries.as_slice());
-            let place = refused_at(alloc, fault, rows, entries)?;
-            Err(Refusal::Plan(fault, place))
-        }
+        Err(fault) => match refused_at(
+            alloc,
+            fault,
+            parts.rows.as_slice(),
+            parts.entries.as_slice(),
+        ) {
+            Ok(place) => Err(Refusal::Plan(fault, place)),
+            Err(_error) => Err(Refusal::NoMemory),
+        },
     }
 }
 
@@ -284,8 +318,14 @@ pub fn bench_of<'a>(
     ensures refused { IfErr result (λ r.
         RefusesBench (Some (table_view table.now)) (fault_of_refusal r)) }
 {
-    let texts = texts_by(Site::of_document(alloc, table), WORKERS, DEVICES, notes)?;
-    bench_from(alloc, &texts, notes)
+    match texts_by(Site::of_document(alloc, table), WORKERS, DEVICES, notes) {
+        Ok(texts) => {
+            let bench = bench_from(alloc, &texts, notes);
+            drop(texts);
+            bench
+        }
+        Err(refusal) => Err(refusal),
+    }
 }
 
 /// The bench that a TOML document is: its values, and for each key that is missing the value that
@@ -303,10 +343,12 @@ pub fn read_bench(alloc: Global, text: &str) -> Result<Bench, BenchFault>
         × HasTexts (parse_document text.now) (bench_texts b)) }
     ensures refused { IfErr result (RefusesBench (parse_document text.now)) }
 {
-    let table = match table_of(alloc, text)? {
-        Ok(table) => table,
-        Err(_error) => return Err(BenchFault::NotToml),
-    };
-    let bench = bench_of(alloc, &table, &mut Notes::new(false))?;
-    Ok(bench)
+    match table_of(alloc, text) {
+        Ok(Ok(table)) => match bench_of(alloc, &table, &mut Notes::new(false)) {
+            Ok(bench) => Ok(bench),
+            Err(refusal) => Err(BenchFault::from(refusal)),
+        },
+        Ok(Err(_error)) => Err(BenchFault::NotToml),
+        Err(_error) => Err(BenchFault::NoMemory),
+    }
 }

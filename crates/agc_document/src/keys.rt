@@ -1,13 +1,13 @@
 //! The numbers and texts of a bench, by the table of keys.
-ghost use Rattle.std.specs.Prelude.{◌≡◌, ◌≤◌, IfOk};
+ghost use Rattle.std.specs.Prelude.{◌≡◌, ◌≤◌, ◌∷◌, [], codes, length, IfOk};
 ghost use Rattle.toml.specs.View.{table_view};
 ghost use Rattle.agc_word.specs.Profiles.{count_of};
 ghost use Rattle.agc_plan.specs.Ranges.{IsBetween};
 ghost use Rattle.agc_document.specs.Gives.{GivesOrKey};
 ghost use Rattle.agc_document.specs.Rows.{kind_of, bounds_of};
 ghost use Rattle.agc_document.specs.Keys.{row, entry, worker_keys, pulses_by, device};
-ghost use Rattle.agc_document.specs.Keys.{texts_of, read_at, numbers_in, settings_in, lists_in};
-ghost use Rattle.agc_document.specs.Keys.{texts_by};
+ghost use Rattle.agc_document.specs.Keys.{least, most, texts_of, read_at, read_or};
+ghost use Rattle.agc_document.specs.Keys.{numbers_in, settings_in, lists_in, texts_by};
 ghost use Rattle.agc_document.specs.declared.rows.TheConstants as key_of;
 
 use crate::key::{Key, Kind};
@@ -43,11 +43,10 @@ impl<'a> FromTable<'a> for RowTexts<'a> {
         let at = read_at(site, AT, notes);
         let bank = read_at(site, BANK, notes);
         let actions = read_at(site, ACTION, notes);
-        Ok(RowTexts {
-            at: at?,
-            bank: bank?,
-            actions: actions?,
-        })
+        match (at, bank, actions) {
+            (Ok(at), Ok(bank), Ok(actions)) => Ok(RowTexts { at, bank, actions }),
+            (Err(refusal), ..) | (_, Err(refusal), _) | (.., Err(refusal)) => Err(refusal),
+        }
     }
 }
 
@@ -70,12 +69,16 @@ impl<'a> FromTable<'a> for EntryTexts<'a> {
         let phase: Result<u64, Refusal<'a>> = read_at(site, PHASE, notes);
         let job = read_if(site, JOB, notes);
         let task = read_if(site, LISTING, notes);
-        Ok(EntryTexts {
-            group: group? as u8,
-            phase: phase? as u8,
-            job: job?,
-            task: task?,
-        })
+        match (group, phase, job, task) {
+            (Ok(group), Ok(phase), Ok(job), Ok(task)) => Ok(EntryTexts {
+                group: group as u8,
+                phase: phase as u8,
+                job,
+                task,
+            }),
+            (Err(refusal), ..) | (_, Err(refusal), ..) => Err(refusal),
+            (.., Err(refusal), _) | (.., Err(refusal)) => Err(refusal),
+        }
     }
 }
 
@@ -98,8 +101,10 @@ impl<'a> FromTable<'a> for WorkerTexts<'a> {
         _key: Key,
         notes: &mut Notes<'a>,
     ) -> Result<WorkerTexts<'a>, Refusal<'a>> {
-        let script = read_at(site, REQUESTS, notes)?;
-        Ok(WorkerTexts { script })
+        match read_at(site, REQUESTS, notes) {
+            Ok(script) => Ok(WorkerTexts { script }),
+            Err(refusal) => Err(refusal),
+        }
     }
 }
 
@@ -134,10 +139,13 @@ impl<'a> FromTable<'a> for DeviceTexts<'a> {
     ) -> Result<DeviceTexts<'a>, Refusal<'a>> {
         let line = read_at(site, LINE, notes);
         let pulses = pulses_by(site, key, notes);
-        Ok(DeviceTexts {
-            line: line?,
-            pulses: pulses? as u32,
-        })
+        match (line, pulses) {
+            (Ok(line), Ok(pulses)) => Ok(DeviceTexts {
+                line,
+                pulses: pulses as u32,
+            }),
+            (Err(refusal), _) | (_, Err(refusal)) => Err(refusal),
+        }
     }
 }
 
@@ -167,7 +175,28 @@ fn numbers_in<'a>(
     let limit: Result<u64, Refusal<'a>> = read_or(site, LIMIT, 1000, notes);
     let allowance: Result<u64, Refusal<'a>> = read_or(site, ALLOWANCE, 1_000_000, notes);
     let attends: Result<u64, Refusal<'a>> = read_or(site, ATTENDS, 16, notes);
-    Ok((sets_for(sets?), limit? as u32, allowance?, attends? as u32))
+    match (sets, limit, allowance, attends) {
+        (Ok(sets), Ok(limit), Ok(allowance), Ok(attends)) => {
+            Ok((sets_for(sets), limit as u32, allowance, attends as u32))
+        }
+        (Err(refusal), ..) | (_, Err(refusal), ..) => Err(refusal),
+        (.., Err(refusal), _) | (.., Err(refusal)) => Err(refusal),
+    }
+}
+
+/// What is done for a pulse, by its key: nothing where it is missing.
+fn pulse_in<'a>(
+    site: Site<'a>,
+    key: Key,
+    notes: &mut Notes<'a>,
+) -> Result<TextList<'a>, Refusal<'a>>
+    requires { IsBetween (least key) (most key) 1 }
+    ensures value { GivesOrKey (λ t. t) result
+        (read_or (codes "nothing" ∷ []) texts_of key (table_view site.entry.table.now)) }
+    ensures range { IfOk result (λ t. IsBetween (least key) (most key) (length t)) }
+{
+    let nothing = TextList::of(site.alloc, "nothing")?;
+    read_or(site, key, nothing, notes)
 }
 
 /// What a bench has once, of the table of a document.
@@ -175,22 +204,23 @@ fn numbers_in<'a>(
 pub fn settings_in<'a>(site: Site<'a>, notes: &mut Notes<'a>) -> Result<Settings<'a>, Refusal<'a>>
     ensures value { GivesOrKey (λ s. s) result (settings_in (table_view site.entry.table.now)) }
 {
-    let nothing = TextList::of(site.alloc, "nothing")?;
     let numbers = numbers_in(site, notes);
-    let key = read_or(site, KEY, nothing, notes);
-    let nothing = TextList::of(site.alloc, "nothing")?;
-    let radar = read_or(site, RADAR, nothing, notes);
+    let key = pulse_in(site, KEY, notes);
+    let radar = pulse_in(site, RADAR, notes);
     let power = read_if(site, POWER, notes);
-    let (sets, limit, allowance, attends) = numbers?;
-    Ok(Settings {
-        sets,
-        limit,
-        allowance,
-        attends,
-        key: key?,
-        radar: radar?,
-        power: power?,
-    })
+    match (numbers, key, radar, power) {
+        (Ok((sets, limit, allowance, attends)), Ok(key), Ok(radar), Ok(power)) => Ok(Settings {
+            sets,
+            limit,
+            allowance,
+            attends,
+            key,
+            radar,
+            power,
+        }),
+        (Err(refusal), ..) | (_, Err(refusal), ..) => Err(refusal),
+        (.., Err(refusal), _) | (.., Err(refusal)) => Err(refusal),
+    }
 }
 
 #[tactic(auto, unfolding(crate::specs::Keys::lists_in))]
@@ -210,13 +240,17 @@ fn lists_in<'a>(
     let entries = items_or_none(site, PHASES, notes);
     let workers = items_or_none(site, workers, notes);
     let devices = items_or_none(site, devices, notes);
-    Ok(Lists {
-        script: script?,
-        rows: rows?,
-        entries: entries?,
-        workers: workers?,
-        devices: devices?,
-    })
+    match (script, rows, entries, workers, devices) {
+        (Ok(script), Ok(rows), Ok(entries), Ok(workers), Ok(devices)) => Ok(Lists {
+            script,
+            rows,
+            entries,
+            workers,
+            devices,
+        }),
+        (Err(refusal), ..) | (_, Err(refusal), ..) | (_, _, Err(refusal), ..) => Err(refusal),
+        (.., Err(refusal), _) | (.., Err(refusal)) => Err(refusal),
+    }
 }
 
 /// The numbers and texts of a document, by the keys of its workers and its devices. A fault `Key`
@@ -234,11 +268,10 @@ pub fn texts_by<'a>(
         (texts_by workers devices (table_view site.entry.table.now)) }
 {
     let known = has_only(site, &BENCH_KEYS, Level::Bench, notes);
-    let settings = settings_in(site, notes);
+    let settings = known.and(settings_in(site, notes));
     let lists = lists_in(site, workers, devices, notes);
-    known?;
-    Ok(Texts {
-        settings: settings?,
-        lists: lists?,
-    })
+    match (settings, lists) {
+        (Ok(settings), Ok(lists)) => Ok(Texts { settings, lists }),
+        (Err(refusal), _) | (_, Err(refusal)) => Err(refusal),
+    }
 }

@@ -1,5 +1,6 @@
 //! Tables, numbers and texts of a document, by the table of keys.
-ghost use Rattle.std.specs.Prelude.{◌≡◌, List, [], map, length, Option, Some, None, IfSome};
+ghost use Rattle.std.specs.Prelude.{◌≡◌, List, [], ◌∷◌, map, length, Option, Some, None};
+ghost use Rattle.std.specs.Prelude.{IfSome};
 ghost use Rattle.std.specs.Prelude.{IfOk, MatchResult, string_bytes, true};
 ghost use Rattle.std.specs.Option.{option_map};
 ghost use Rattle.std.specs.List.{list_all};
@@ -253,9 +254,13 @@ impl<'a, T: FromTable<'a>> FromData<'a> for T {
     ghost IsAllowed = { λ k x. Unit {0} };
 
     fn from_value(placed: Placed<'a>, notes: &mut Notes<'a>) -> Result<T, Refusal<'a>> {
-        let site = table_in(placed, notes)?;
-        let known = T::known(site, placed.key, notes);
-        known.and(T::from_table(site, placed.key, notes))
+        match table_in(placed, notes) {
+            Ok(site) => {
+                let known = T::known(site, placed.key, notes);
+                known.and(T::from_table(site, placed.key, notes))
+            }
+            Err(refusal) => Err(refusal),
+        }
     }
 }
 
@@ -324,21 +329,36 @@ fn one_in<'a>(value: &'a Value, key: Key) -> Option<&'a str>
     }
 }
 
+/// This text alone, if its key may have one text.
+fn alone<'a>(
+    text: &'a str,
+    placed: Placed<'a>,
+    notes: &mut Notes<'a>,
+) -> Result<Vec<Text<'a>>, Refusal<'a>>
+    ensures value { GivesOrKey (λ v. v.items) result
+        (counted placed.entry.key (text.entry.now ∷ [])) }
+    ensures few { IfOk result (λ v.
+        IsBetween (least placed.entry.key) (most placed.entry.key) (length v.items)) }
+{
+    notes.look_at(placed.place, text, placed.key);
+    let alone = TextList::of(placed.alloc, text)?;
+    counted(alone.texts, placed, notes)
+}
+
 impl<'a> FromData<'a> for TextList<'a> {
     ghost reads = { texts_of };
 
     ghost IsAllowed = { λ k ts. IsBetween (least k) (most k) (length ts) };
 
     fn from_value(placed: Placed<'a>, notes: &mut Notes<'a>) -> Result<TextList<'a>, Refusal<'a>> {
-        let texts: Vec<Text<'a>> = match one_in(placed.value, placed.key) {
-            Some(text) => {
-                notes.look_at(placed.place, text, placed.key);
-                let alone = TextList::of(placed.alloc, text)?;
-                counted(alone.texts, placed, notes)?
-            }
-            None => items_of(placed, notes)?,
+        let texts = match one_in(placed.value, placed.key) {
+            Some(text) => alone(text, placed, notes),
+            None => items_of(placed, notes),
         };
-        Ok(TextList { texts })
+        match texts {
+            Ok(texts) => Ok(TextList { texts }),
+            Err(refusal) => Err(refusal),
+        }
     }
 }
 
@@ -414,8 +434,15 @@ pub fn items_of<'a, T: FromData<'a>>(
     match placed.value.as_array() {
         None => Err(Refusal::Key(note_of(placed, notes))),
         Some(values) => {
-            let items: Vec<T> = items_in_order(values.as_slice(), placed, notes)?;
-            counted(items, placed, notes)
+            let items: Result<Vec<T>, Refusal<'a>> = items_in_order(
+                values.as_slice(),
+                placed,
+                notes,
+            );
+            match items {
+                Ok(items) => counted(items, placed, notes),
+                Err(refusal) => Err(refusal),
+            }
         }
     }
 }
@@ -465,10 +492,10 @@ pub fn read_if<'a, T: FromData<'a>>(
     ensures range { IfOk result (λ o. IfSome o (T.IsAllowed key)) }
 {
     match value_of(site.table, key) {
-        Some(value) => {
-            let read = T::from_value(site.with_value(value, key), notes)?;
-            Ok(Some(read))
-        }
+        Some(value) => match T::from_value(site.with_value(value, key), notes) {
+            Ok(read) => Ok(Some(read)),
+            Err(refusal) => Err(refusal),
+        },
         None => Ok(None),
     }
 }

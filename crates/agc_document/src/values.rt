@@ -201,11 +201,16 @@ fn entry_of(texts: &EntryTexts<'_>) -> Option<PhaseEntry>
     ensures found { IfSome result (λ b. IsEntry b × (texts.now ≡ entry_texts b)) }
     ensures only { IfNone result ((b : Begins) → IsEntry b → texts.now ≢ entry_texts b) }
 {
-    let group = Group::new(texts.group)?;
-    let phase = Phase::new(texts.phase)?;
-    let job = parse_job(&texts.job)?;
-    let task = parse_timed(&texts.task)?;
-    PhaseEntry::new(group, phase, job, task)
+    let group = Group::new(texts.group);
+    let phase = Phase::new(texts.phase);
+    let job = parse_job(&texts.job);
+    let task = parse_timed(&texts.task);
+    match (group, phase, job, task) {
+        (Some(group), Some(phase), Some(job), Some(task)) => {
+            PhaseEntry::new(group, phase, job, task)
+        }
+        _ => None,
+    }
 }
 
 impl<'a> Spelled<EntryTexts<'a>> for PhaseEntry {
