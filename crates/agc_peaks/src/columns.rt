@@ -1,16 +1,15 @@
 //! Numbers in columns.
-use agc_text::{Filling, Pen};
-use std::io::Write;
+use agc_text::{Draft, Filling};
 
-/// Writes spaces, up to a column, after so many letters.
-pub(crate) fn put_spaces<W: Write>(pen: &mut Pen<W>, letters: usize, column: usize) {
+/// Adds spaces, up to a column, after so many letters.
+pub(crate) fn put_spaces(draft: &mut Draft, letters: usize, column: usize) {
     for _letter in letters..column {
-        pen.text(" ");
+        draft.text(" ");
     }
 }
 
-/// Writes a number or seconds at the right end of a column of this width.
-pub(crate) fn put_cell<W: Write>(pen: &mut Pen<W>, width: usize, cell: Filling<'_>) {
+/// Adds a number or seconds at the right end of a column of this width.
+pub(crate) fn put_cell(draft: &mut Draft, width: usize, cell: Filling<'_>) {
     let (places, whole) = match cell {
         Filling::Number(number) => (width, number),
         Filling::Seconds(time) => (width.saturating_sub(3), time / 100),
@@ -20,22 +19,17 @@ pub(crate) fn put_cell<W: Write>(pen: &mut Pen<W>, width: usize, cell: Filling<'
     for _place in 1..places {
         rest /= 10;
         if rest == 0 {
-            pen.text(" ");
+            draft.text(" ");
         }
     }
-    pen.add(cell);
+    draft.add(cell);
 }
 
-/// Writes cells in columns of these widths, with this before each.
-pub(crate) fn put_cells<W: Write>(
-    pen: &mut Pen<W>,
-    before: &str,
-    widths: &[usize],
-    cells: &[Filling<'_>],
-) {
+/// Adds cells in columns of these widths, with this before each.
+pub(crate) fn put_cells(draft: &mut Draft, before: &str, widths: &[usize], cells: &[Filling<'_>]) {
     for (width, cell) in widths.iter().zip(cells.iter()) {
-        pen.text(before);
-        put_cell(pen, *width, *cell);
+        draft.text(before);
+        put_cell(draft, *width, *cell);
     }
 }
 

@@ -1,27 +1,29 @@
 //! What differs between the outcomes of two documents.
 use crate::columns::put_spaces;
+use crate::counted::sent;
 use crate::outcome::{JobsAt, Outcome};
+use agc_session::RunFault;
 use agc_text::Filling::{Number, Octal, Seconds, Text};
-use agc_text::{Filling, Output, Pen};
-use std::io;
+use agc_text::{Draft, Filling};
+use std::alloc::Global;
 use std::io::Write;
 
 /// What is compared of jobs, as `jobs` orders it.
 const COLUMNS: [&str; 14] = [
-    "began",
-    "ended",
-    "lost",
-    "alive",
-    "least",
-    "mean",
-    "95%",
-    "most",
-    "computing",
-    "waiting",
-    "sleeping",
-    "taken over",
-    "missed",
-    "first missed",
+    "  began",
+    "  ended",
+    "  lost",
+    "  alive",
+    "  least",
+    "  mean",
+    "  95%",
+    "  most",
+    "  computing",
+    "  waiting",
+    "  sleeping",
+    "  taken over",
+    "  missed",
+    "  first missed",
 ];
 
 /// How wide the column of the first document is.
@@ -60,24 +62,15 @@ fn letters(value: Filling<'_>) -> usize {
     }
 }
 
-/// Writes the values of both documents, each at the right end of its column, and ends the line.
-fn put_values<W: Write>(pen: &mut Pen<W>, one: Filling<'_>, other: Filling<'_>) {
+/// Adds a line: a name, and the values of both documents, each at the right end of its column.
+fn put_line(draft: &mut Draft, name: &str, one: Filling<'_>, other: Filling<'_>) {
+    draft.text(name);
+    put_spaces(draft, name.len(), 24);
     for value in [one, other] {
-        put_spaces(pen, letters(value), WIDTH);
-        pen.add(value);
+        put_spaces(draft, letters(value), WIDTH);
+        draft.add(value);
     }
-    pen.text("\n");
-}
-
-/// Writes the line of a value, if it differs, and returns how many lines that is.
-fn put_value<W: Write>(pen: &mut Pen<W>, name: &str, one: Filling<'_>, other: Filling<'_>) -> u64 {
-    if is_same(one, other) {
-        return 0;
-    }
-    pen.text(name);
-    put_spaces(pen, name.len(), 24);
-    put_values(pen, one, other);
-    1
+    draft.text("\n");
 }
 
 /// What is compared of runs.
@@ -113,14 +106,13 @@ fn total(outcome: &Outcome, place: usize) -> Filling<'static> {
     }
 }
 
-/// Writes what the jobs of an address are called.
-fn put_called<W: Write>(pen: &mut Pen<W>, jobs: &JobsAt) {
-    pen.text("job ");
-    match &jobs.name {
-        None => pen.add(Octal(jobs.at)),
-        Some(name) => pen.text(name.as_str()),
-    }
-    pen.text("\n");
+/// Adds what the jobs of an address are called.
+fn put_called(draft: &mut Draft, jobs: &JobsAt) {
+    let called = match &jobs.name {
+        None => Octal(jobs.at),
+        Some(name) => Text(name.as_str()),
+    };
+    draft.put("job {}\n", &[called]);
 }
 
 /// What a column has; a dash for jobs that a document doesn't have.
@@ -132,29 +124,19 @@ fn cell(jobs: Option<&JobsAt>, column: usize) -> Filling<'static> {
     cells.nth(column).copied().unwrap_or(Text("-"))
 }
 
-/// Writes the lines of jobs that differ, below what they are called, and returns how many values
-/// these are.
-fn put_jobs<W: Write>(
-    pen: &mut Pen<W>,
-    jobs: &JobsAt,
-    one: Option<&JobsAt>,
-    other: Option<&JobsAt>,
-) -> u64 {
-    let mut count: u64 = 0;
+/// Adds the lines of jobs that differ, below what they are called.
+fn put_jobs(draft: &mut Draft, jobs: &JobsAt, one: Option<&JobsAt>, other: Option<&JobsAt>) {
+    let mut is_called = false;
     for (column, name) in COLUMNS.iter().enumerate() {
         let (here, there) = (cell(one, column), cell(other, column));
         if !is_same(here, there) {
-            if count == 0 {
-                put_called(pen, jobs);
+            if !is_called {
+                put_called(draft, jobs);
+                is_called = true;
             }
-            pen.text("  ");
-            pen.text(name);
-            put_spaces(pen, name.len(), 22);
-            put_values(pen, here, there);
-            count = count.saturating_add(1);
+            put_line(draft, name, here, there);
         }
     }
-    count
 }
 
 /// Those among these jobs that are called as some of another document: where several are, those of
@@ -167,33 +149,27 @@ fn called_as<'a>(all: &'a [JobsAt], jobs: &JobsAt) -> Option<&'a JobsAt> {
     }
 }
 
-/// Writes the jobs that differ, those of the first document first, and returns how many values
-/// these are.
-fn put_all_jobs<W: Write>(pen: &mut Pen<W>, one: &[JobsAt], other: &[JobsAt]) -> u64 {
-    let mut count: u64 = 0;
+/// Adds the jobs that differ, those of the first document first.
+fn put_all_jobs(draft: &mut Draft, one: &[JobsAt], other: &[JobsAt]) {
     for jobs in one {
-        let there = called_as(other, jobs);
-        count = count.saturating_add(put_jobs(pen, jobs, Some(jobs), there));
+        put_jobs(draft, jobs, Some(jobs), called_as(other, jobs));
     }
     for jobs in other {
         if called_as(one, jobs).is_none() {
-            count = count.saturating_add(put_jobs(pen, jobs, None, Some(jobs)));
+            put_jobs(draft, jobs, None, Some(jobs));
         }
     }
-    count
 }
 
-/// Writes all that differs, and returns how many values these are.
-fn put_all<W: Write>(pen: &mut Pen<W>, one: &Outcome, other: &Outcome) -> u64 {
-    put_spaces(pen, 0, 24);
-    put_values(pen, Text("first"), Text("second"));
-    let mut count: u64 = 0;
+/// Adds all that differs.
+fn put_all(draft: &mut Draft, one: &Outcome, other: &Outcome) {
     for (place, name) in TOTALS.iter().enumerate() {
-        let lines = put_value(pen, name, total(one, place), total(other, place));
-        count = count.saturating_add(lines);
+        let (here, there) = (total(one, place), total(other, place));
+        if !is_same(here, there) {
+            put_line(draft, name, here, there);
+        }
     }
-    let jobs = put_all_jobs(pen, one.jobs.as_slice(), other.jobs.as_slice());
-    count.saturating_add(jobs)
+    put_all_jobs(draft, one.jobs.as_slice(), other.jobs.as_slice());
 }
 
 /// Writes what differs between the outcomes of two documents: how long they last, how many
@@ -203,17 +179,21 @@ fn put_all<W: Write>(pen: &mut Pen<W>, one: &Outcome, other: &Outcome) -> u64 {
 ///
 /// # Errors
 ///
-/// Where a write failed.
+/// `NoMemory`, and nothing was written. `Output`, where a write failed, or there was no memory for
+/// what has no room.
 pub fn put_differences<W: Write>(
+    alloc: Global,
     one: &Outcome,
     other: &Outcome,
     writer: &mut W,
-) -> Result<(), Output> {
-    let mut pen = Pen::new(writer);
-    if put_all(&mut Pen::new(io::sink()), one, other) == 0 {
-        pen.text("nothing differs\n");
-    } else {
-        let _values = put_all(&mut pen, one, other);
+) -> Result<(), RunFault> {
+    let mut draft = Draft::new(alloc)?;
+    put_line(&mut draft, "", Text("first"), Text("second"));
+    let heading = draft.as_bytes().len();
+    put_all(&mut draft, one, other);
+    if draft.as_bytes().len() == heading {
+        draft.clear();
+        draft.text("nothing differs\n");
     }
-    pen.end()
+    sent(&mut draft, writer)
 }

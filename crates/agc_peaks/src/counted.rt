@@ -7,10 +7,13 @@ ghost use Rattle.agc_run.specs.Runs.{to_ask};
 use crate::counting::counts_of;
 use crate::era::{Era, Style};
 use crate::tally::Tally;
-use agc_document::put_script_line;
 use agc_plan::{Fired, Request};
-use agc_run::Run;
-use agc_text::{Output, Pen};
+use agc_run::{Run, Subject};
+use agc_session::RunFault;
+use agc_text::Filling::Text;
+use agc_text::{Draft, Output, request_text};
+use std::alloc::Global;
+use std::io;
 use std::io::Write;
 
 /// What is written of a request.
@@ -24,28 +27,25 @@ pub(crate) enum Told {
 }
 
 impl Told {
-    /// Writes what is to be written of a request, and of the era that ended with it.
-    fn put<W: Write>(
-        self,
-        request: &Request,
-        ended: Option<Era>,
-        writer: &mut W,
-    ) -> Result<(), Output> {
-        let mut pen = Pen::new(writer);
+    /// Adds what is to be written of a request, and of the era that ended with it.
+    fn put(self, request: &Request, ended: Option<Era>, draft: &mut Draft) {
         match (self, ended) {
-            (Told::Requests, _) => put_script_line(&mut pen, request),
-            (Told::Eras(style), Some(era)) => era.put(style, &mut pen),
+            (Told::Requests, _) => {
+                let text = request_text(request);
+                draft.put("  \"{}\",\n", &[Text(text.as_str())]);
+            }
+            (Told::Eras(style), Some(era)) => era.put(style, draft),
             _ => {}
         }
-        pen.end()
     }
 }
 
 /// Asks for all requests of a run, in order, and for no others, takes note of what comes of each,
-/// and writes of it. Returns what was counted.
+/// and writes of it, behind what is in a draft. Returns what was counted.
 pub(crate) fn counted_to_end<W: Write>(
     run: &mut Run<'_>,
     told: Told,
+    draft: &mut Draft,
     writer: &mut W,
 ) -> Result<Tally, Output>
     ensures { IfOk result (λ _. run.new.machine
@@ -60,7 +60,26 @@ pub(crate) fn counted_to_end<W: Write>(
         let answer = run.ask(&asked, &mut fired);
         let ended = tally.come(run.machine(), &asked.request, counts, &answer);
         tally.keep(run.clock());
-        told.put(&asked.request, ended, writer)?;
+        told.put(&asked.request, ended, draft);
+        draft.send(writer)?;
     }
     Ok(tally)
+}
+
+/// What is counted of a run to its end, of whose requests nothing is written.
+pub(crate) fn counted(alloc: Global, run: &mut Run<'_>) -> Result<Tally, RunFault> {
+    let mut draft = Draft::new(alloc)?;
+    let tally = counted_to_end(run, Told::Nothing, &mut draft, &mut io::sink())?;
+    Ok(tally)
+}
+
+/// What is counted of the run of a bench or a scenario.
+pub(crate) fn counted_of(alloc: Global, subject: Subject<'_>) -> Result<Tally, RunFault> {
+    let mut run = subject.run(alloc)?;
+    counted(alloc, &mut run)
+}
+
+/// Writes what is in a draft.
+pub(crate) fn sent<W: Write>(draft: &mut Draft, writer: &mut W) -> Result<(), RunFault> {
+    Ok(draft.send(writer)?)
 }

@@ -2,8 +2,7 @@
 use crate::columns::{put_cell, put_cells, put_spaces, seconds};
 use crate::counting::Counts;
 use agc_text::Filling::{Number, Seconds, Text};
-use agc_text::{Filling, Pen};
-use std::io::Write;
+use agc_text::{Draft, Filling};
 
 /// The names of the columns.
 const HEADING: &str = " era    begins  by         lasts  requests  begun  ended   sets    since  \
@@ -111,31 +110,31 @@ impl Era {
         self.idle.saturating_mul(100) / lasts.max(1)
     }
 
-    /// Writes its row.
-    pub(crate) fn put<W: Write>(&self, style: Style, pen: &mut Pen<W>) {
+    /// Adds its row.
+    pub(crate) fn put(&self, style: Style, draft: &mut Draft) {
         if style.csv {
-            put_csv(self, style.has_time, pen);
+            put_csv(self, style.has_time, draft);
         } else {
-            self.put_columns(style.has_time, pen);
+            self.put_columns(style.has_time, draft);
         }
     }
 
-    /// Writes its row in columns.
-    fn put_columns<W: Write>(&self, has_time: bool, pen: &mut Pen<W>) {
-        put_cell(pen, 4, Number(self.number));
-        pen.text(" ");
-        put_cell(pen, 9, Seconds(self.began));
-        pen.fill("  ", Text(self.by));
-        put_spaces(pen, self.by.len(), 7);
-        put_cells(pen, " ", &WIDTHS, &numbers(self));
+    /// Adds its row in columns.
+    fn put_columns(&self, has_time: bool, draft: &mut Draft) {
+        put_cell(draft, 4, Number(self.number));
+        draft.text(" ");
+        put_cell(draft, 9, Seconds(self.began));
+        draft.fill("  ", Text(self.by));
+        put_spaces(draft, self.by.len(), 7);
+        put_cells(draft, " ", &WIDTHS, &numbers(self));
         if has_time {
-            pen.text(" ");
-            put_cell(pen, 4, Number(self.idle_percent()));
-            pen.text("%");
-            put_cells(pen, " ", &[7], &[seconds(self.lost)]);
+            draft.text(" ");
+            put_cell(draft, 4, Number(self.idle_percent()));
+            draft.text("%");
+            put_cells(draft, " ", &[7], &[seconds(self.lost)]);
         }
-        pen.fill("  ", Text(self.end));
-        pen.text("\n");
+        draft.fill("  ", Text(self.end));
+        draft.text("\n");
     }
 }
 
@@ -155,30 +154,30 @@ fn numbers(era: &Era) -> [Filling<'static>; 10] {
     ]
 }
 
-/// Writes an era's row as comma-separated values.
-fn put_csv<W: Write>(era: &Era, has_time: bool, pen: &mut Pen<W>) {
+/// Adds an era's row as comma-separated values.
+fn put_csv(era: &Era, has_time: bool, draft: &mut Draft) {
     let first = [Number(era.number), Seconds(era.began), Text(era.by)];
-    pen.put("{},{},{}", &first);
+    draft.put("{},{},{}", &first);
     for cell in numbers(era) {
-        pen.fill(",", cell);
+        draft.fill(",", cell);
     }
     if has_time {
         let fillings = [Number(era.idle_percent()), seconds(era.lost)];
-        pen.put(",{},{}", &fillings);
+        draft.put(",{},{}", &fillings);
     } else {
-        pen.text(",,");
+        draft.text(",,");
     }
-    pen.put(",{}\n", &[Text(era.end)]);
+    draft.put(",{}\n", &[Text(era.end)]);
 }
 
-/// Writes the names of the columns.
-pub(crate) fn put_heading<W: Write>(style: Style, pen: &mut Pen<W>) {
+/// Adds the names of the columns.
+pub(crate) fn put_heading(style: Style, draft: &mut Draft) {
     if style.csv {
-        pen.text(NAMES);
+        draft.text(NAMES);
         return;
     }
-    pen.text(HEADING);
-    pen.text(if style.has_time {
+    draft.text(HEADING);
+    draft.text(if style.has_time {
         "  idle    lost  ended by\n"
     } else {
         "  ended by\n"

@@ -1,10 +1,8 @@
 //! The smallest value of a scenario's number that raises an alarm.
-use crate::rows::{put_found, put_names};
-use crate::sweep::{Axis, found_with, runs_of, values_of};
+use crate::sweep::{Axis, Sweep, runs_of, values_of};
 use agc_scenario::Scenario;
 use agc_session::RunFault;
 use agc_text::Filling::Number;
-use agc_text::{Output, Pen};
 use std::alloc::Global;
 use std::io::Write;
 
@@ -15,24 +13,22 @@ struct Tried {
     is_alarmed: bool,
 }
 
-/// A search among the values of a number, the only one of these, and which were tried.
+/// A search among the values of a number, the only one of a sweep, and which were tried.
 #[derive(Drop)]
 struct Search<'a> {
-    alloc: Global,
-    axes: &'a [Axis<'a>],
-    csv: bool,
+    sweep: Sweep<'a>,
     tried: Vec<Tried>,
 }
 
 impl Search<'_> {
     /// The place of the last value.
     fn last(&self) -> u64 {
-        runs_of(self.axes).saturating_sub(1)
+        runs_of(self.sweep.axes).saturating_sub(1)
     }
 
     /// The value at a place.
     fn value(&self, place: u64) -> u64 {
-        let values = values_of(self.axes, place);
+        let values = values_of(self.sweep.axes, place);
         values[0]
     }
 
@@ -46,34 +42,22 @@ impl Search<'_> {
         None
     }
 
-    /// Whether the value at a place raises an alarm: a row is written where it wasn't tried before.
-    fn raises<W: Write>(
-        &mut self,
-        scenario: &mut Scenario,
-        place: u64,
-        writer: &mut W,
-    ) -> Result<bool, RunFault> {
+    /// Whether the value at a place raises an alarm: a row is added where it wasn't tried before.
+    fn raises(&mut self, scenario: &mut Scenario, place: u64) -> Result<bool, RunFault> {
         if let Some(is_alarmed) = self.known(place) {
             return Ok(is_alarmed);
         }
-        let values = values_of(self.axes, place);
-        let found = found_with(self.alloc, scenario, self.axes, &values)?;
-        put_found(self.axes, self.csv, &values, &found, writer)?;
-        let is_alarmed = found.alarms > 0;
+        let is_alarmed = self.sweep.put_run(scenario, place)?.alarms > 0;
         self.tried.push(Tried { place, is_alarmed })?;
         Ok(is_alarmed)
     }
 
     /// A place whose value raises an alarm. The first place is tried, then the last, and then those
     /// at three quarters, half and a quarter of the way.
-    fn first_raising<W: Write>(
-        &mut self,
-        scenario: &mut Scenario,
-        writer: &mut W,
-    ) -> Result<Option<u64>, RunFault> {
+    fn first_raising(&mut self, scenario: &mut Scenario) -> Result<Option<u64>, RunFault> {
         let last = self.last();
         for place in [0, last, last.saturating_sub(last / 4), last / 2, last / 4] {
-            if self.raises(scenario, place, writer)? {
+            if self.raises(scenario, place)? {
                 return Ok(Some(place));
             }
         }
@@ -82,18 +66,13 @@ impl Search<'_> {
 
     /// Halves the way down from a place whose value raises an alarm. The value of the place that is
     /// returned raises one, too, and the value before it, if there is one, raises none.
-    fn halved<W: Write>(
-        &mut self,
-        scenario: &mut Scenario,
-        raising: u64,
-        writer: &mut W,
-    ) -> Result<u64, RunFault> {
+    fn halved(&mut self, scenario: &mut Scenario, raising: u64) -> Result<u64, RunFault> {
         let mut low: u64 = 0;
         let mut high = raising;
         for _half in 0..64u32 {
             let middle = low.saturating_add(high.saturating_sub(low) / 2);
             if middle > low {
-                if self.raises(scenario, middle, writer)? {
+                if self.raises(scenario, middle)? {
                     high = middle;
                 } else {
                     low = middle;
@@ -104,18 +83,13 @@ impl Search<'_> {
     }
 
     /// Tries a few larger values.
-    fn try_larger<W: Write>(
-        &mut self,
-        scenario: &mut Scenario,
-        found: u64,
-        writer: &mut W,
-    ) -> Result<(), RunFault> {
+    fn try_larger(&mut self, scenario: &mut Scenario, found: u64) -> Result<(), RunFault> {
         let last = self.last();
         let half = found.saturating_add(last.saturating_sub(found) / 2);
         let next = found.saturating_add(1);
         for place in [next, next.saturating_add(1), half, last] {
             if place <= last {
-                let _known = self.raises(scenario, place, writer)?;
+                let _known = self.raises(scenario, place)?;
             }
         }
         Ok(())
@@ -136,27 +110,39 @@ impl Search<'_> {
         }
     }
 
-    /// Writes which value was found, in how many runs, and whether a larger one raises no alarm.
-    fn put_summary<W: Write>(&self, found: Option<u64>, writer: &mut W) -> Result<(), Output> {
-        let mut pen = Pen::new(writer);
+    /// Adds which value was found, in how many runs, and whether a larger one raises no alarm.
+    fn put_summary(&mut self, found: Option<u64>) {
         let runs = Number(self.tried.len() as u64);
-        match found {
-            None => pen.put("none of these values raises an alarm; {} runs\n", &[runs]),
-            Some(found) => {
-                let fillings = [Number(self.value(found)), runs];
-                pen.put(
-                    "the smallest value found that raises an alarm is {}; {} runs\n",
-                    &fillings,
-                );
-                if let Some(larger) = self.exception(found) {
-                    pen.put(
-                        "warning: {} is larger and raises none, so there may be a smaller one\n",
-                        &[Number(larger)],
-                    );
-                }
-            }
+        let Some(found) = found else {
+            let words = "none of these values raises an alarm; {} runs\n";
+            self.sweep.draft.put(words, &[runs]);
+            return;
+        };
+        let fillings = [Number(self.value(found)), runs];
+        self.sweep.draft.put(
+            "the smallest value found that raises an alarm is {}; {} runs\n",
+            &fillings,
+        );
+        if let Some(larger) = self.exception(found) {
+            self.sweep.draft.put(
+                "warning: {} is larger and raises none, so there may be a smaller one\n",
+                &[Number(larger)],
+            );
         }
-        pen.end()
+    }
+
+    /// Looks for the smallest value that raises an alarm, and writes what was found.
+    fn find<W: Write>(&mut self, scenario: &mut Scenario, writer: &mut W) -> Result<(), RunFault> {
+        let mut found = self.first_raising(scenario)?;
+        if let Some(raising) = found {
+            let least = self.halved(scenario, raising)?;
+            self.try_larger(scenario, least)?;
+            found = Some(least);
+        }
+        if !self.sweep.csv {
+            self.put_summary(found);
+        }
+        Ok(self.sweep.draft.send(writer)?)
     }
 }
 
@@ -167,7 +153,8 @@ impl Search<'_> {
 ///
 /// # Errors
 ///
-/// `NoMemory`, and no further row is written. `Output`, where a write failed.
+/// `NoMemory`, and nothing was written. `Output`, where a write failed, or there was no memory for
+/// what has no room.
 pub fn find_alarm<W: Write>(
     alloc: Global,
     scenario: &mut Scenario,
@@ -175,21 +162,8 @@ pub fn find_alarm<W: Write>(
     csv: bool,
     writer: &mut W,
 ) -> Result<(), RunFault> {
-    put_names(axes, csv, writer)?;
-    let mut search = Search {
-        alloc,
-        axes,
-        csv,
-        tried: Vec::new(alloc),
-    };
-    let mut found = search.first_raising(scenario, writer)?;
-    if let Some(raising) = found {
-        let least = search.halved(scenario, raising, writer)?;
-        search.try_larger(scenario, least, writer)?;
-        found = Some(least);
-    }
-    if !csv {
-        search.put_summary(found, writer)?;
-    }
-    Ok(())
+    let sweep = Sweep::new(alloc, axes, csv)?;
+    let tried = Vec::new(alloc);
+    let mut search = Search { sweep, tried };
+    search.find(scenario, writer)
 }

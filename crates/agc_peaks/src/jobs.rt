@@ -1,17 +1,18 @@
 //! What the jobs of a run came to.
-ghost use Rattle.std.specs.Prelude.{◌≡◌, IfOk};
+ghost use Rattle.std.specs.Prelude.{◌≡◌, OnOk};
 ghost use Rattle.std.specs.List.{fold};
 ghost use Rattle.agc_machine.specs.Machines.{after};
 ghost use Rattle.agc_run.specs.Runs.{to_ask};
 
+use crate::counted::sent;
 use crate::jobs_rows::put_jobs;
 use crate::ledger::Ledger;
 use crate::lives::jobs_seen;
 use crate::reading::{Passed, Reading};
 use agc_plan::{Fired, Request};
 use agc_run::{Run, Subject};
-use agc_scenario::Timing;
 use agc_session::RunFault;
+use agc_text::Draft;
 use std::alloc::{AllocError, Global};
 use std::io::Write;
 
@@ -35,15 +36,10 @@ fn ticks_with(ticks: u64, request: &Request) -> u64 {
 
 /// Asks for all requests of a run, in order, and for no others, and takes note of what becomes of
 /// its jobs.
-pub(crate) fn jobs_to_end<'a>(
-    alloc: Global,
-    timing: Option<&'a Timing>,
-    run: &mut Run<'_>,
-) -> Result<Ledger<'a>, AllocError>
-    ensures { IfOk result (λ _. run.new.machine
+fn jobs_to_end(ledger: &mut Ledger<'_>, run: &mut Run<'_>) -> Result<(), AllocError>
+    ensures { OnOk result (run.new.machine
         ≡ fold after run.old.machine (to_ask run.old.machine run.old.asks)) }
 {
-    let mut ledger = Ledger::new(alloc, timing, &jobs_seen(run.machine().erasable()))?;
     let mut ticks: u64 = 0;
     let mut before = Reading::of(run.clock(), ticks);
     while let Some(asked) = run.next() {
@@ -65,8 +61,18 @@ pub(crate) fn jobs_to_end<'a>(
     let after = Reading::of(run.clock(), ticks);
     let passed_last = passed(run, &before, &after, false);
     ledger.pass(passed_last, after.time, after.moment());
-    ledger.close()?;
-    Ok(ledger)
+    ledger.close()
+}
+
+/// What the jobs of a bench or a scenario came to.
+pub(crate) fn ledger_of<'a>(alloc: Global, subject: Subject<'a>) -> Result<Ledger<'a>, RunFault> {
+    let mut run = subject.run(alloc)?;
+    let jobs = jobs_seen(run.machine().erasable());
+    let mut ledger = Ledger::new(alloc, subject.timing(), &jobs)?;
+    match jobs_to_end(&mut ledger, &mut run) {
+        Ok(()) => Ok(ledger),
+        Err(_no_memory) => Err(RunFault::NoMemory),
+    }
 }
 
 /// Runs a bench or a scenario, and writes for the jobs of each address how many began, ended, were
@@ -79,14 +85,16 @@ pub(crate) fn jobs_to_end<'a>(
 ///
 /// # Errors
 ///
-/// `NoMemory`, and nothing was written. `Output`, where a write failed.
+/// `NoMemory`, and nothing was written. `Output`, where a write failed, or there was no memory for
+/// what has no room.
 pub fn write_jobs<W: Write>(
     alloc: Global,
     subject: Subject<'_>,
     csv: bool,
     writer: &mut W,
 ) -> Result<(), RunFault> {
-    let mut run = subject.run(alloc)?;
-    let ledger = jobs_to_end(alloc, subject.timing(), &mut run)?;
-    Ok(put_jobs(&ledger, subject.timing(), csv, writer)?)
+    let mut draft = Draft::new(alloc)?;
+    let ledger = ledger_of(alloc, subject)?;
+    put_jobs(&mut draft, &ledger, subject.timing(), csv);
+    sent(&mut draft, writer)
 }

@@ -3,8 +3,7 @@ use crate::columns::{put_cells, put_spaces, seconds};
 use crate::ledger::{Kind, Ledger, Spent};
 use agc_scenario::{TimedJob, Timing};
 use agc_text::Filling::{Csv, Number, Octal, Seconds, Text};
-use agc_text::{Filling, Output, Pen};
-use std::io::Write;
+use agc_text::{Draft, Filling};
 
 /// The names of the columns behind the first.
 const HEADING: &str =
@@ -36,15 +35,15 @@ fn thousandths(part: u64, whole: u64) -> u64 {
     part.saturating_mul(2000).saturating_add(whole) / doubled
 }
 
-/// Writes thousandths as a percentage with one decimal, at the right end of a column.
-fn put_percent<W: Write>(pen: &mut Pen<W>, width: usize, thousandths: u64) {
+/// Adds thousandths as a percentage with one decimal, at the right end of a column.
+fn put_percent(draft: &mut Draft, width: usize, thousandths: u64) {
     let letters = match thousandths {
         0..100 => 3,
         100..1000 => 4,
         _ => 5,
     };
-    put_spaces(pen, letters, width);
-    pen.put(
+    put_spaces(draft, letters, width);
+    draft.put(
         "{}.{}",
         &[Number(thousandths / 10), Number(thousandths % 10)],
     );
@@ -139,137 +138,125 @@ fn width_of(ledger: &Ledger<'_>, timing: Option<&Timing>) -> usize {
     width
 }
 
-/// Writes the name of an address's jobs, or the address, in a column of this width.
-fn put_name<W: Write>(pen: &mut Pen<W>, width: usize, name: Option<&str>, at: u16) {
+/// Adds the name of an address's jobs, or the address, in a column of this width.
+fn put_name(draft: &mut Draft, width: usize, name: Option<&str>, at: u16) {
     match name {
         None => {
-            pen.add(Octal(at));
-            put_spaces(pen, 5, width);
+            draft.add(Octal(at));
+            put_spaces(draft, 5, width);
         }
         Some(name) => {
-            pen.text(name);
-            put_spaces(pen, name.chars().count(), width);
+            draft.text(name);
+            put_spaces(draft, name.chars().count(), width);
         }
     }
 }
 
-/// Writes what became of an address's jobs, in a run of which so much time is known to have passed.
-fn put_kind<W: Write>(pen: &mut Pen<W>, kind: &Kind, time: Option<u64>) {
+/// Adds what became of an address's jobs, in a run of which so much time is known to have passed.
+fn put_kind(draft: &mut Draft, kind: &Kind, time: Option<u64>) {
     match time {
         None => {
-            put_cells(pen, "  ", &WIDTHS, &cells(kind, Some("        -")));
-            pen.text("       -");
+            put_cells(draft, "  ", &WIDTHS, &cells(kind, Some("        -")));
+            draft.text("       -");
         }
         Some(time) => {
-            put_cells(pen, "  ", &WIDTHS, &cells(kind, None));
-            put_percent(pen, 7, thousandths(kind.computed, time));
-            pen.text("%");
+            put_cells(draft, "  ", &WIDTHS, &cells(kind, None));
+            put_percent(draft, 7, thousandths(kind.computed, time));
+            draft.text("%");
         }
     }
 }
 
-/// Writes the heading, and the row of each address; and of all deadlines, if a job has one.
-fn put_rows<W: Write>(
-    pen: &mut Pen<W>,
-    ledger: &Ledger<'_>,
-    timing: Option<&Timing>,
-    time: Option<u64>,
-) {
+/// Adds the heading; and of all deadlines, if a job has one.
+fn put_heading(draft: &mut Draft, width: usize, has_deadline: bool) {
+    let deadline = if has_deadline { DEADLINE } else { "" };
+    draft.text("job");
+    put_spaces(draft, 3, width);
+    draft.put("{}{}\n", &[Text(HEADING), Text(deadline)]);
+}
+
+/// Adds the heading, and the row of each address.
+fn put_rows(draft: &mut Draft, ledger: &Ledger<'_>, timing: Option<&Timing>, time: Option<u64>) {
     let width = width_of(ledger, timing);
     let has_deadline = ledger.kinds.iter().any(|kind| kind.deadline.is_some());
-    pen.text("job");
-    put_spaces(pen, 3, width);
-    pen.text(HEADING);
-    pen.text(if has_deadline { DEADLINE } else { "" });
-    pen.text("\n");
+    put_heading(draft, width, has_deadline);
     for kind in ledger.kinds.iter() {
-        put_name(pen, width, name_at(timing, kind.at), kind.at);
-        put_kind(pen, kind, time);
+        put_name(draft, width, name_at(timing, kind.at), kind.at);
+        put_kind(draft, kind, time);
         if has_deadline {
-            put_cells(
-                pen,
-                "  ",
-                &DEADLINE_WIDTHS,
-                &deadline_cells(kind, NO_DEADLINE),
-            );
+            let deadline = deadline_cells(kind, NO_DEADLINE);
+            put_cells(draft, "  ", &DEADLINE_WIDTHS, &deadline);
         }
-        pen.text("\n");
+        draft.text("\n");
     }
 }
 
-/// Writes the same row as comma-separated values.
-fn put_csv<W: Write>(pen: &mut Pen<W>, name: Option<&str>, kind: &Kind, time: Option<u64>) {
+/// Adds the same row as comma-separated values.
+fn put_csv(draft: &mut Draft, name: Option<&str>, kind: &Kind, time: Option<u64>) {
     match name {
-        None => pen.add(Octal(kind.at)),
-        Some(name) => pen.add(Csv(name)),
+        None => draft.add(Octal(kind.at)),
+        Some(name) => draft.add(Csv(name)),
     }
     let unknown = if time.is_none() { Some("") } else { None };
     for cell in cells(kind, unknown) {
-        pen.fill(",", cell);
+        draft.fill(",", cell);
     }
-    pen.text(",");
+    draft.text(",");
     if let Some(time) = time {
-        put_percent(pen, 0, thousandths(kind.computed, time));
+        put_percent(draft, 0, thousandths(kind.computed, time));
     }
     for cell in deadline_cells(kind, ["", ""]) {
-        pen.fill(",", cell);
+        draft.fill(",", cell);
     }
-    pen.text("\n");
+    draft.text("\n");
 }
 
-/// Writes the row of an era, which ended at this centisecond.
-fn put_era<W: Write>(pen: &mut Pen<W>, number: u64, era: &Spent, ended: u64) {
+/// Adds the row of an era, which ended at this centisecond.
+fn put_era(draft: &mut Draft, number: u64, era: &Spent, ended: u64) {
     let lasts = ended.saturating_sub(era.began);
     let time = era
         .computed
         .saturating_add(era.stolen)
         .saturating_add(era.idle);
     put_cells(
-        pen,
+        draft,
         "",
         &[4, 10, 10],
         &[Number(number), Seconds(era.began), Seconds(lasts)],
     );
     for (width, part) in [(10, era.computed), (7, era.stolen), (7, era.idle)] {
-        put_percent(pen, width, thousandths(part, time));
-        pen.text("%");
+        put_percent(draft, width, thousandths(part, time));
+        draft.text("%");
     }
-    pen.text("\n");
+    draft.text("\n");
 }
 
-/// Writes how the time of each era was used.
-fn put_eras<W: Write>(pen: &mut Pen<W>, ledger: &Ledger<'_>) {
-    pen.text(ERAS);
+/// Adds how the time of each era was used.
+fn put_eras(draft: &mut Draft, ledger: &Ledger<'_>) {
+    draft.text(ERAS);
     let eras = ledger.eras.as_slice();
     for (k, era) in eras.iter().enumerate() {
         let ended = match eras.get(k.saturating_add(1)) {
             None => ledger.time,
             Some(next) => next.began,
         };
-        put_era(pen, (k as u64).saturating_add(1), era, ended);
+        put_era(draft, (k as u64).saturating_add(1), era, ended);
     }
 }
 
-/// Writes what the jobs of each address came to, and, where time passes by itself and not as CSV,
+/// Adds what the jobs of each address came to, and, where time passes by itself and not as CSV,
 /// how the time of each era was used.
-pub(crate) fn put_jobs<W: Write>(
-    ledger: &Ledger<'_>,
-    timing: Option<&Timing>,
-    csv: bool,
-    writer: &mut W,
-) -> Result<(), Output> {
-    let mut pen = Pen::new(writer);
+pub(crate) fn put_jobs(draft: &mut Draft, ledger: &Ledger<'_>, timing: Option<&Timing>, csv: bool) {
     let time = timing.map(|_timing| ledger.now);
     if csv {
-        pen.text(NAMES);
+        draft.text(NAMES);
         for kind in ledger.kinds.iter() {
-            put_csv(&mut pen, name_at(timing, kind.at), kind, time);
+            put_csv(draft, name_at(timing, kind.at), kind, time);
         }
-    } else {
-        put_rows(&mut pen, ledger, timing, time);
+        return;
     }
-    if timing.is_some() && !csv {
-        put_eras(&mut pen, ledger);
+    put_rows(draft, ledger, timing, time);
+    if timing.is_some() {
+        put_eras(draft, ledger);
     }
-    pen.end()
 }

@@ -1,6 +1,6 @@
 //! What the jobs of each address came to, and how the time of each era was used.
 use crate::jobs_rows::job_at;
-use crate::lives::{Change, Jobs, Life, MOST, Moment, State, see};
+use crate::lives::{Change, Jobs, Life, MOST, Moment, see};
 use crate::reading::Passed;
 use agc_scenario::Timing;
 use std::alloc::{AllocError, Global};
@@ -93,6 +93,15 @@ pub(crate) struct Ledger<'a> {
     pub(crate) time: u64,
 }
 
+impl Spent {
+    /// So much passed of it.
+    fn add(&mut self, passed: Passed) {
+        self.computed = self.computed.saturating_add(passed.computed);
+        self.stolen = self.stolen.saturating_add(passed.stolen);
+        self.idle = self.idle.saturating_add(passed.idle);
+    }
+}
+
 /// How long a job of an address may take, if a scenario says it.
 fn deadline_at(timing: Option<&Timing>, at: u16) -> Option<u64> {
     let deadline = job_at(timing, at)?.deadline()?;
@@ -145,34 +154,53 @@ impl<'a> Ledger<'a> {
     pub(crate) fn pass(&mut self, passed: Passed, time: u64, now: Moment) {
         self.time = time;
         self.now = now;
-        for life in self.lives.iter_mut().flatten() {
-            if life.state == State::Runs {
-                life.computed = life.computed.saturating_add(passed.computed);
+        for place in 0..MOST {
+            if let Some(mut life) = self.lives[place] {
+                life.compute(passed.computed);
+                self.lives[place] = Some(life);
             }
         }
         if let Some(era) = self.eras.last_mut() {
-            era.computed = era.computed.saturating_add(passed.computed);
-            era.stolen = era.stolen.saturating_add(passed.stolen);
-            era.idle = era.idle.saturating_add(passed.idle);
+            era.add(passed);
+        }
+    }
+
+    /// Counts what became of a job.
+    fn count(&mut self, change: Change) -> Result<(), AllocError> {
+        let now = self.now;
+        match change {
+            Change::None => Ok(()),
+            Change::Began(at) => {
+                let kind = self.kind_at(at)?;
+                kind.began = kind.began.saturating_add(1);
+                Ok(())
+            }
+            Change::Ended(life) => self.kind_at(life.at)?.end(&life, now),
         }
     }
 
     /// These jobs are there after a request: some began, ended, or do something else.
     pub(crate) fn see(&mut self, seen: &Jobs) -> Result<(), AllocError> {
         for place in 0..MOST {
-            let before = self.lives[place];
             let change = see(&mut self.lives[place], seen[place], self.now);
-            match (change, before, self.lives[place]) {
-                (Change::Began, _, Some(life)) => {
-                    let kind = self.kind_at(life.at)?;
-                    kind.began = kind.began.saturating_add(1);
+            self.count(change)?;
+        }
+        Ok(())
+    }
+
+    /// The jobs that live leave: they are lost, or alive as the run is over.
+    fn leave_all(&mut self, is_over: bool) -> Result<(), AllocError> {
+        for place in 0..MOST {
+            if let Some(life) = self.lives[place] {
+                self.lives[place] = None;
+                let now = self.now;
+                let kind = self.kind_at(life.at)?;
+                kind.leave(&life, now);
+                if is_over {
+                    kind.alive = kind.alive.saturating_add(1);
+                } else {
+                    kind.lost = kind.lost.saturating_add(1);
                 }
-                (Change::Ended, Some(life), _) => {
-                    self.lives[place] = None;
-                    let now = self.now;
-                    self.kind_at(life.at)?.end(&life, now)?;
-                }
-                _ => {}
             }
         }
         Ok(())
@@ -180,15 +208,7 @@ impl<'a> Ledger<'a> {
 
     /// An era begins with these jobs: those that live are lost.
     pub(crate) fn begin_era(&mut self, jobs: &Jobs) -> Result<(), AllocError> {
-        for place in 0..MOST {
-            if let Some(life) = self.lives[place] {
-                self.lives[place] = None;
-                let now = self.now;
-                let kind = self.kind_at(life.at)?;
-                kind.leave(&life, now);
-                kind.lost = kind.lost.saturating_add(1);
-            }
-        }
+        self.leave_all(false)?;
         self.eras.push(unspent(self.time))?;
         self.see(jobs)
     }
@@ -196,14 +216,7 @@ impl<'a> Ledger<'a> {
     /// The run is over: what the jobs that live still were given is added to their kinds, and the
     /// times of those that ended are sorted.
     pub(crate) fn close(&mut self) -> Result<(), AllocError> {
-        for place in 0..MOST {
-            if let Some(life) = self.lives[place] {
-                let now = self.now;
-                let kind = self.kind_at(life.at)?;
-                kind.leave(&life, now);
-                kind.alive = kind.alive.saturating_add(1);
-            }
-        }
+        self.leave_all(true)?;
         for kind in self.kinds.iter_mut() {
             kind.responses.sort()?;
         }

@@ -46,6 +46,13 @@ impl Life {
         }
     }
 
+    /// So much was computed by the job that runs.
+    pub(crate) fn compute(&mut self, computed: u64) {
+        if self.state == State::Runs {
+            self.computed = self.computed.saturating_add(computed);
+        }
+    }
+
     /// It does this from now on.
     fn turn(&mut self, state: State, now: Moment) {
         match (self.state, state) {
@@ -101,12 +108,12 @@ pub(crate) fn jobs_seen(words: &Erasable) -> Jobs
     all
 }
 
-/// What became of a job with a request.
+/// What became of a job with a request: one began at this address, or this one ended.
 #[derive(Clone, Copy)]
 pub(crate) enum Change {
     None,
-    Began,
-    Ended,
+    Began(u16),
+    Ended(Life),
 }
 
 /// Takes note of what the words show of a job number: one began, went on, or ended. Returns what
@@ -116,9 +123,12 @@ pub(crate) fn see(life: &mut Option<Life>, seen: Option<Seen>, now: Moment) -> C
         (None, None) => Change::None,
         (None, Some(seen)) => {
             *life = Some(Life::begin(seen.at, seen.state, now));
-            Change::Began
+            Change::Began(seen.at)
         }
-        (Some(_ended), None) => Change::Ended,
+        (Some(ended), None) => {
+            *life = None;
+            Change::Ended(ended)
+        }
         (Some(mut living), Some(seen)) => {
             living.turn(seen.state, now);
             *life = Some(living);

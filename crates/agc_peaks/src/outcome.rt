@@ -1,6 +1,6 @@
 //! What a document's run comes to, to be compared with that of another.
-use crate::counted::{Told, counted_to_end};
-use crate::jobs::jobs_to_end;
+use crate::counted::counted_of;
+use crate::jobs::ledger_of;
 use crate::jobs_rows::{cells, deadline_cells, name_at};
 use crate::ledger::Kind;
 use crate::tally::{Found, Tally};
@@ -9,7 +9,6 @@ use agc_scenario::Timing;
 use agc_session::RunFault;
 use agc_text::Filling;
 use std::alloc::{AllocError, Global};
-use std::io;
 
 /// What the jobs of an address came to: its name, if a scenario gives one, the address, and what
 /// the columns of `jobs` have of them.
@@ -58,17 +57,27 @@ fn jobs_of(alloc: Global, kind: &Kind, timing: Option<&Timing>) -> Result<JobsAt
     })
 }
 
-/// What the jobs of each address came to.
-fn all_jobs(
+/// Adds what the jobs of each address came to.
+fn add_jobs(
     alloc: Global,
+    jobs: &mut Vec<JobsAt>,
     kinds: &[Kind],
     timing: Option<&Timing>,
-) -> Result<Vec<JobsAt>, AllocError> {
-    let mut jobs = Vec::new(alloc);
+) -> Result<(), AllocError> {
     for kind in kinds {
         jobs.push(jobs_of(alloc, kind, timing)?)?;
     }
-    Ok(jobs)
+    Ok(())
+}
+
+/// What the jobs of a bench or a scenario came to.
+fn all_jobs(alloc: Global, subject: Subject<'_>) -> Result<Vec<JobsAt>, RunFault> {
+    let ledger = ledger_of(alloc, subject)?;
+    let mut jobs = Vec::new(alloc);
+    match add_jobs(alloc, &mut jobs, ledger.kinds.as_slice(), subject.timing()) {
+        Ok(()) => Ok(jobs),
+        Err(_no_memory) => Err(RunFault::NoMemory),
+    }
 }
 
 /// What the run of a bench or a scenario comes to. Source: profile.
@@ -77,14 +86,14 @@ fn all_jobs(
 ///
 /// Where there is no memory.
 pub fn outcome_of(alloc: Global, subject: Subject<'_>) -> Result<Outcome, RunFault> {
-    let tally = counted_to_end(&mut subject.run(alloc)?, Told::Nothing, &mut io::sink())?;
-    let ledger = jobs_to_end(alloc, subject.timing(), &mut subject.run(alloc)?)?;
+    let tally = counted_of(alloc, subject)?;
+    let jobs = all_jobs(alloc, subject)?;
     Ok(Outcome {
         time: tally.time,
         asked: tally.asked,
         refused: tally.refused,
         eras: tally.era("").number,
         found: tally.found(),
-        jobs: all_jobs(alloc, ledger.kinds.as_slice(), subject.timing())?,
+        jobs,
     })
 }

@@ -1,33 +1,37 @@
 //! How full the tables were, era by era.
-use crate::counted::{Told, counted_to_end};
+use crate::counted::{Told, counted_to_end, sent};
 use crate::era::{Style, put_heading};
 use crate::tally::Tally;
-use agc_run::Subject;
+use agc_run::{Run, Subject};
 use agc_session::RunFault;
+use agc_text::Draft;
 use agc_text::Filling::Number;
-use agc_text::{Output, Pen};
 use std::alloc::Global;
 use std::io::Write;
 
-/// Writes the names of the columns.
-fn put_first<W: Write>(style: Style, writer: &mut W) -> Result<(), Output> {
-    let mut pen = Pen::new(writer);
-    put_heading(style, &mut pen);
-    pen.end()
-}
-
-/// Writes the row of the last era, and in a table that isn't for other programs how many requests
+/// Adds the row of the last era, and in a table that isn't for other programs how many requests
 /// were refused.
-fn put_last<W: Write>(tally: &Tally, style: Style, writer: &mut W) -> Result<(), Output> {
-    let mut pen = Pen::new(writer);
-    tally.era("the end").put(style, &mut pen);
+fn put_last(draft: &mut Draft, tally: &Tally, style: Style) {
+    tally.era("the end").put(style, draft);
     match tally.refused {
         _ if style.csv => {}
         0 => {}
-        1 => pen.text("1 request was refused\n"),
-        count => pen.put("{} requests were refused\n", &[Number(count)]),
+        1 => draft.text("1 request was refused\n"),
+        count => draft.put("{} requests were refused\n", &[Number(count)]),
     }
-    pen.end()
+}
+
+/// Writes the names of the columns, the row of each era, and what is told after them.
+fn put_eras<W: Write>(
+    run: &mut Run<'_>,
+    style: Style,
+    draft: &mut Draft,
+    writer: &mut W,
+) -> Result<(), RunFault> {
+    put_heading(style, draft);
+    let tally = counted_to_end(run, Told::Eras(style), draft, writer)?;
+    put_last(draft, &tally, style);
+    sent(draft, writer)
 }
 
 /// Runs a bench or a scenario, and writes for each era when it began and why, how long it lasted,
@@ -51,7 +55,6 @@ pub fn write_peaks<W: Write>(
         has_time: subject.timing().is_some(),
         csv,
     };
-    put_first(style, writer)?;
-    let tally = counted_to_end(&mut run, Told::Eras(style), writer)?;
-    Ok(put_last(&tally, style, writer)?)
+    let mut draft = Draft::new(alloc)?;
+    put_eras(&mut run, style, &mut draft, writer)
 }

@@ -2,43 +2,36 @@
 use crate::columns::{put_cell, put_cells, put_spaces};
 use crate::sweep::Axis;
 use crate::tally::Found;
+use agc_text::Draft;
 use agc_text::Filling::{Csv, Number, Seconds, Text};
-use agc_text::{Output, Pen};
-use std::io::Write;
 
 /// How wide the column of a number is.
 fn width_of(axis: &Axis<'_>) -> usize {
     axis.name.chars().count().max(10)
 }
 
-/// Writes the names of the columns.
-pub(crate) fn put_names<W: Write>(
-    axes: &[Axis<'_>],
-    csv: bool,
-    writer: &mut W,
-) -> Result<(), Output> {
-    let mut pen = Pen::new(writer);
+/// Adds the names of the columns.
+pub(crate) fn put_names(draft: &mut Draft, axes: &[Axis<'_>], csv: bool) {
     let mut before = "";
     for axis in axes {
         if csv {
-            pen.put("{},", &[Csv(axis.name)]);
+            draft.put("{},", &[Csv(axis.name)]);
         } else {
-            pen.text(before);
+            draft.text(before);
             before = "  ";
-            put_spaces(&mut pen, axis.name.chars().count(), width_of(axis));
-            pen.text(axis.name);
+            put_spaces(draft, axis.name.chars().count(), width_of(axis));
+            draft.text(axis.name);
         }
     }
-    pen.text(if csv {
+    draft.text(if csv {
         "alarm,at,alarms,most_sets,most_areas,most_tasks\n"
     } else {
         "  alarm         at  alarms  sets  areas  tasks\n"
     });
-    pen.end()
 }
 
-/// Writes what was found, as comma-separated values.
-fn put_csv<W: Write>(pen: &mut Pen<W>, found: &Found) {
+/// Adds what was found, as comma-separated values.
+fn put_csv(draft: &mut Draft, found: &Found) {
     let at = match found.alarms {
         0 => Text(""),
         _ => Seconds(found.at),
@@ -51,16 +44,16 @@ fn put_csv<W: Write>(pen: &mut Pen<W>, found: &Found) {
         Number(found.areas),
         Number(found.tasks),
     ];
-    pen.put("{},{},{},{},{},{}\n", &fillings);
+    draft.put("{},{},{},{},{},{}\n", &fillings);
 }
 
-/// Writes what was found, in columns.
-fn put_row<W: Write>(pen: &mut Pen<W>, found: &Found) {
+/// Adds what was found, in columns.
+fn put_row(draft: &mut Draft, found: &Found) {
     if found.alarms == 0 {
-        pen.text("  none           -");
+        draft.text("  none           -");
     } else {
-        pen.put("  {}   ", &[Text(found.code)]);
-        put_cell(pen, 9, Seconds(found.at));
+        draft.put("  {}   ", &[Text(found.code)]);
+        put_cell(draft, 9, Seconds(found.at));
     }
     let cells = [
         Number(found.alarms),
@@ -68,33 +61,31 @@ fn put_row<W: Write>(pen: &mut Pen<W>, found: &Found) {
         Number(found.areas),
         Number(found.tasks),
     ];
-    put_cells(pen, "  ", &[6, 4, 5, 5], &cells);
-    pen.text("\n");
+    put_cells(draft, "  ", &[6, 4, 5, 5], &cells);
+    draft.text("\n");
 }
 
-/// Writes what comes of these values of numbers.
-pub(crate) fn put_found<W: Write>(
+/// Adds what comes of these values of numbers.
+pub(crate) fn put_found(
+    draft: &mut Draft,
     axes: &[Axis<'_>],
     csv: bool,
     values: &[u64],
     found: &Found,
-    writer: &mut W,
-) -> Result<(), Output> {
-    let mut pen = Pen::new(writer);
+) {
     let mut is_first = true;
     for (axis, value) in axes.iter().zip(values.iter()) {
         if csv {
-            pen.put("{},", &[Number(*value)]);
+            draft.put("{},", &[Number(*value)]);
         } else {
-            pen.text(if is_first { "" } else { "  " });
+            draft.text(if is_first { "" } else { "  " });
             is_first = false;
-            put_cell(&mut pen, width_of(axis).min(60), Number(*value));
+            put_cell(draft, width_of(axis).min(60), Number(*value));
         }
     }
     if csv {
-        put_csv(&mut pen, found);
+        put_csv(draft, found);
     } else {
-        put_row(&mut pen, found);
+        put_row(draft, found);
     }
-    pen.end()
 }

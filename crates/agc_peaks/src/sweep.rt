@@ -1,13 +1,13 @@
 //! A scenario's run for each value of one of its numbers.
-use crate::counted::{Told, counted_to_end};
+use crate::counted::counted;
 use crate::rows::{put_found, put_names};
 use crate::tally::Found;
 use agc_run::{Asks, Run};
 use agc_scenario::{Number, Scenario};
 use agc_session::{Progress, RunFault, machine_on};
+use agc_text::Draft;
 use agc_word::Sets;
-use std::alloc::Global;
-use std::io;
+use std::alloc::{AllocError, Global};
 use std::io::Write;
 
 /// Which number is exchanged: how many core sets there are, or one of the scenario. Source:
@@ -64,7 +64,10 @@ impl Axis<'_> {
 fn found_in(alloc: Global, scenario: &Scenario, sets: Sets) -> Result<Found, RunFault> {
     let machine = machine_on(alloc, scenario.bench(), sets)?;
     let mut run = Run::new(machine, Asks::of_scenario(scenario.timing()));
-    Ok(counted_to_end(&mut run, Told::Nothing, &mut io::sink())?.found())
+    match counted(alloc, &mut run) {
+        Ok(tally) => Ok(tally.found()),
+        Err(fault) => Err(fault),
+    }
 }
 
 /// What is counted of a scenario's run in which its numbers have these values. They keep them.
@@ -107,6 +110,58 @@ pub(crate) fn values_of(axes: &[Axis<'_>], run: u64) -> [u64; 2] {
     }
 }
 
+/// A sweep: its numbers, whether its rows are comma-separated values, and what is told next.
+#[derive(Drop)]
+pub(crate) struct Sweep<'a> {
+    alloc: Global,
+    pub(crate) axes: &'a [Axis<'a>],
+    pub(crate) csv: bool,
+    pub(crate) draft: Draft,
+}
+
+impl<'a> Sweep<'a> {
+    /// A sweep of these numbers: the names of the columns are told next.
+    pub(crate) fn new(
+        alloc: Global,
+        axes: &'a [Axis<'a>],
+        csv: bool,
+    ) -> Result<Sweep<'a>, AllocError> {
+        let mut draft = Draft::new(alloc)?;
+        put_names(&mut draft, axes, csv);
+        Ok(Sweep {
+            alloc,
+            axes,
+            csv,
+            draft,
+        })
+    }
+
+    /// Adds the row of this run of all, from 0. Returns what was counted.
+    pub(crate) fn put_run(&mut self, scenario: &mut Scenario, run: u64) -> Result<Found, RunFault> {
+        let values = values_of(self.axes, run);
+        let found = found_with(self.alloc, scenario, self.axes, &values)?;
+        put_found(&mut self.draft, self.axes, self.csv, &values, &found);
+        Ok(found)
+    }
+
+    /// Writes the row of each run.
+    fn run_all<P: Progress, W: Write>(
+        &mut self,
+        scenario: &mut Scenario,
+        progress: &mut P,
+        writer: &mut W,
+    ) -> Result<(), RunFault> {
+        let count = runs_of(self.axes);
+        progress.expect(count);
+        for run in 0..count {
+            let _found = self.put_run(scenario, run)?;
+            self.draft.send(writer)?;
+            progress.done();
+        }
+        Ok(())
+    }
+}
+
 /// Runs a scenario once for each value of a number, or for each value of one with each of a second,
 /// and writes a row for each: the values, the first alarm and the second at which it came, how many
 /// alarms came, and the most core sets, VAC areas and places of the Waitlist that were taken at
@@ -124,14 +179,6 @@ pub fn run_sweep<P: Progress, W: Write>(
     progress: &mut P,
     writer: &mut W,
 ) -> Result<(), RunFault> {
-    put_names(axes, csv, writer)?;
-    let count = runs_of(axes);
-    progress.expect(count);
-    for run in 0..count {
-        let values = values_of(axes, run);
-        let found = found_with(alloc, scenario, axes, &values)?;
-        put_found(axes, csv, &values, &found, writer)?;
-        progress.done();
-    }
-    Ok(())
+    let mut sweep = Sweep::new(alloc, axes, csv)?;
+    sweep.run_all(scenario, progress, writer)
 }

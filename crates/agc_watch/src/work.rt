@@ -152,13 +152,13 @@ fn compare_with(console: &mut Console<'_>, second: &str, text: &str) -> Result<u
         "-" => Source::Standard,
         name => Source::File(name),
     };
-    let (rt, output) = (console.rt, &mut console.output);
-    let other = text_of(rt, input)?;
-    let outcome = outcome_in(rt.alloc(), text)?;
-    let other = outcome_in(rt.alloc(), other.as_str())?;
-    match put_differences(&outcome, &other, output) {
+    let alloc = console.rt.alloc();
+    let other = text_of(console.rt, input)?;
+    let outcome = outcome_in(alloc, text)?;
+    let other = outcome_in(alloc, other.as_str())?;
+    match put_differences(alloc, &outcome, &other, &mut console.output) {
         Ok(()) => Ok(0),
-        Err(_failed) => Err(Stop::Fault(Fault::Output)),
+        Err(fault) => Err(Stop::from(fault)),
     }
 }
 
