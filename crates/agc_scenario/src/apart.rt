@@ -33,11 +33,7 @@ pub(crate) fn overlapping<'a>(
             if overlaps_none(*row, others) {
                 overlapping(others, number.saturating_add(1), notes)
             } else {
-                let later = others
-                    .iter()
-                    .take_while(|other| !row.overlaps(*other))
-                    .count();
-                let place = later_place(STEAL, number, later);
+                let place = overlap_place(*row, others, number);
                 Some(notes.key(place, "", KeyFault::Overlap))
             }
         }
@@ -48,6 +44,26 @@ pub(crate) fn overlapping<'a>(
 fn later_place(key: Key, number: u64, later: usize) -> Place {
     let number = number.saturating_add(later as u64).saturating_add(1);
     Place::Table(key, number)
+}
+
+/// The place of the first of these rows that this one overlaps, which has this number and stands
+/// before them.
+fn overlap_place(row: Stolen, others: &[Stolen], number: u64) -> Place {
+    let later = others
+        .iter()
+        .take_while(|other| !row.overlaps(*other))
+        .count();
+    later_place(STEAL, number, later)
+}
+
+/// The place of the first of these jobs that has this address, as that of this number has, which
+/// stands before them.
+fn twin_place(at: &str, others: &[JobTexts<'_>], number: u64) -> Place {
+    let later = others
+        .iter()
+        .take_while(|other| other.at.as_str() != at)
+        .count();
+    later_place(JOBS, number, later)
 }
 
 /// Whether one of these jobs has this address.
@@ -74,11 +90,7 @@ pub(crate) fn listed_twice<'a>(
         [] => None,
         [job, others @ ..] => {
             if is_listed(others, job.at.as_str()) {
-                let later = others
-                    .iter()
-                    .take_while(|other| other.at.as_str() != job.at.as_str())
-                    .count();
-                let place = later_place(JOBS, number, later);
+                let place = twin_place(job.at.as_str(), others, number);
                 Some(notes.key(place, "", KeyFault::JobTwice))
             } else {
                 listed_twice(others, number.saturating_add(1), notes)

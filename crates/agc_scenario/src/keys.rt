@@ -1,10 +1,11 @@
 //! The numbers and texts of a scenario, by the table of keys.
-ghost use Rattle.std.specs.Prelude.{◌≡◌, ◌≤◌, [], map, true, false, IfOk, IfSome, IfNone};
+ghost use Rattle.std.specs.Prelude.{◌≡◌, ◌≤◌, ◌∷◌, [], codes, map, true, false, IfOk, IfSome};
+ghost use Rattle.std.specs.Prelude.{IfNone};
 ghost use Rattle.toml.specs.View.{view, table_view};
 ghost use Rattle.agc_document.specs.declared.key.Key.{Key as AnyKey};
 ghost use Rattle.agc_document.specs.Gives.{GivesOrKey};
 ghost use Rattle.agc_document.specs.Keys.{entry, least, most, number_of, read_at, read_if};
-ghost use Rattle.agc_document.specs.Keys.{read_or, row};
+ghost use Rattle.agc_document.specs.Keys.{read_or, row, texts_of};
 ghost use Rattle.agc_scenario.specs.declared.rows.TheConstants as key_of;
 ghost use Rattle.agc_scenario.specs.Keys.{forward, stolen_rows, named};
 ghost use Rattle.agc_scenario.specs.Keys.{stolen_row, job, event, always, ample_settings_in};
@@ -44,10 +45,10 @@ fn named<'a, T: FromTable<'a>>(
 {
     let item = T::from_table(site, key, notes);
     let name = read_if(site, NAME, notes);
-    Ok(Named {
-        item: item?,
-        name: name?,
-    })
+    match (item, name) {
+        (Ok(item), Ok(name)) => Ok(Named { item, name }),
+        (Err(refusal), _) | (_, Err(refusal)) => Err(refusal),
+    }
 }
 
 impl<'a> FromTable<'a> for Named<'a, RowTexts<'a>> {
@@ -113,8 +114,10 @@ fn number_if<'a>(
         (read_if number_of key (table_view site.entry.table.now)) }
     ensures range { IfOk result (λ o. IfSome o (λ n. least key ≤ n)) }
 {
-    let number = read_if(site, key, notes)?;
-    Ok(small(number))
+    match read_if(site, key, notes) {
+        Ok(number) => Ok(small(number)),
+        Err(refusal) => Err(refusal),
+    }
 }
 
 impl<'a> FromTable<'a> for StolenRow {
@@ -137,14 +140,20 @@ impl<'a> FromTable<'a> for StolenRow {
         let percent: Result<u64, Refusal<'a>> = read_at(site, PERCENT, notes);
         let every = number_if(site, EVERY, notes);
         let until = number_if(site, UNTIL, notes);
-        let row = Stolen {
-            from: from? as u32,
-            to: to? as u32,
-            percent: percent? as u32,
-            every: every?.unwrap_or(0),
-            until: until?.unwrap_or(LAST_TIME),
-        };
-        forward(row, site.place, notes)
+        match (from, to, percent, every, until) {
+            (Ok(from), Ok(to), Ok(percent), Ok(every), Ok(until)) => {
+                let row = Stolen {
+                    from: from as u32,
+                    to: to as u32,
+                    percent: percent as u32,
+                    every: every.unwrap_or(0),
+                    until: until.unwrap_or(LAST_TIME),
+                };
+                forward(row, site.place, notes)
+            }
+            (Err(refusal), ..) | (_, Err(refusal), ..) | (_, _, Err(refusal), ..) => Err(refusal),
+            (.., Err(refusal), _) | (.., Err(refusal)) => Err(refusal),
+        }
     }
 }
 
@@ -202,11 +211,16 @@ fn drawn_cost<'a>(placed: Placed<'a>, notes: &mut Notes<'a>) -> Result<CostRange
     let known = has_only(site, &COST_KEYS, Level::Cost, notes);
     let from: Result<u64, Refusal<'a>> = known.and(read_at(site, LEAST, notes));
     let to: Result<u64, Refusal<'a>> = read_at(site, MOST, notes);
-    let cost = CostRange {
-        from: from? as u32,
-        to: to? as u32,
-    };
-    ascending(cost, site.place, notes)
+    match (from, to) {
+        (Ok(from), Ok(to)) => {
+            let cost = CostRange {
+                from: from as u32,
+                to: to as u32,
+            };
+            ascending(cost, site.place, notes)
+        }
+        (Err(refusal), _) | (_, Err(refusal)) => Err(refusal),
+    }
 }
 
 /// What a job costs: always as much, or by lot.
@@ -245,6 +259,17 @@ fn cost_in<'a>(site: Site<'a>, notes: &mut Notes<'a>) -> Result<CostRange, Refus
     }
 }
 
+/// What a job is asked when its cost is used up: to end, where its table doesn't say.
+fn requests_in<'a>(site: Site<'a>, notes: &mut Notes<'a>) -> Result<TextList<'a>, Refusal<'a>>
+    ensures value { GivesOrKey (λ t. t) result
+        (read_or (codes "end" ∷ []) texts_of key_of.THEN (table_view site.entry.table.now)) }
+{
+    let end = TextList::of(site.alloc, "end")?;
+    let requests = read_or(site, THEN, end, notes);
+    look_at_order(site, notes);
+    requests
+}
+
 impl<'a> FromTable<'a> for JobTexts<'a> {
     ghost keys = { λ k. key_of.JOB_KEYS };
 
@@ -263,17 +288,19 @@ impl<'a> FromTable<'a> for JobTexts<'a> {
         let at = read_at(site, AT, notes);
         let cost = cost_in(site, notes);
         let deadline = number_if(site, DEADLINE, notes);
-        let end = TextList::of(site.alloc, "end")?;
-        let requests = read_or(site, THEN, end, notes);
-        look_at_order(site, notes);
+        let requests = requests_in(site, notes);
         let name = read_if(site, NAME, notes);
-        Ok(JobTexts {
-            at: at?,
-            cost: cost?,
-            deadline: deadline?,
-            requests: requests?,
-            name: name?,
-        })
+        match (at, cost, deadline, requests, name) {
+            (Ok(at), Ok(cost), Ok(deadline), Ok(requests), Ok(name)) => Ok(JobTexts {
+                at,
+                cost,
+                deadline,
+                requests,
+                name,
+            }),
+            (Err(refusal), ..) | (_, Err(refusal), ..) | (_, _, Err(refusal), ..) => Err(refusal),
+            (.., Err(refusal), _) | (.., Err(refusal)) => Err(refusal),
+        }
     }
 }
 
@@ -298,14 +325,18 @@ impl<'a> FromTable<'a> for EventTexts<'a> {
         let every = number_if(site, EVERY, notes);
         let until = number_if(site, UNTIL, notes);
         let name = read_if(site, NAME, notes);
-        Ok(EventTexts {
-            at: at? as u32,
-            after: after?,
-            requests: requests?,
-            every: every?,
-            until: until?,
-            name: name?,
-        })
+        match (at, after, requests, every, until, name) {
+            (Ok(at), Ok(after), Ok(requests), Ok(every), Ok(until), Ok(name)) => Ok(EventTexts {
+                at: at as u32,
+                after,
+                requests,
+                every,
+                until,
+                name,
+            }),
+            (Err(refusal), ..) | (_, Err(refusal), ..) | (_, _, Err(refusal), ..) => Err(refusal),
+            (.., Err(refusal), _, _) | (.., Err(refusal), _) | (.., Err(refusal)) => Err(refusal),
+        }
     }
 }
 
@@ -400,15 +431,21 @@ fn timing_in<'a>(site: Site<'a>, notes: &mut Notes<'a>) -> Result<TimingTexts<'a
     let stolen = stolen_in(site, notes);
     let jobs = items_or_none(site, JOBS, notes);
     let events = items_or_none(site, EVENTS, notes);
-    let texts = TimingTexts {
-        seconds: seconds? as u32,
-        title: title?,
-        seed: seed?,
-        stolen: stolen?,
-        jobs: jobs?,
-        events: events?,
-    };
-    if_coherent(texts, notes)
+    match (seconds, title, seed, stolen, jobs, events) {
+        (Ok(seconds), Ok(title), Ok(seed), Ok(stolen), Ok(jobs), Ok(events)) => {
+            let texts = TimingTexts {
+                seconds: seconds as u32,
+                title,
+                seed,
+                stolen,
+                jobs,
+                events,
+            };
+            if_coherent(texts, notes)
+        }
+        (Err(refusal), ..) | (_, Err(refusal), ..) | (_, _, Err(refusal), ..) => Err(refusal),
+        (.., Err(refusal), _, _) | (.., Err(refusal), _) | (.., Err(refusal)) => Err(refusal),
+    }
 }
 
 /// The tasks and phases.
@@ -418,10 +455,10 @@ fn named_in<'a>(site: Site<'a>, notes: &mut Notes<'a>) -> Result<NamedTexts<'a>,
 {
     let rows = items_or_none(site, NAMED_TASKS, notes);
     let entries = items_or_none(site, NAMED_PHASES, notes);
-    Ok(NamedTexts {
-        rows: rows?,
-        entries: entries?,
-    })
+    match (rows, entries) {
+        (Ok(rows), Ok(entries)) => Ok(NamedTexts { rows, entries }),
+        (Err(refusal), _) | (_, Err(refusal)) => Err(refusal),
+    }
 }
 
 /// The items, and the names of these.
@@ -479,15 +516,14 @@ fn ample_settings_in<'a>(site: Site<'a>, notes: &mut Notes<'a>) -> Result<Settin
     let limit: Result<u64, Refusal<'a>> = read_or(site, LIMIT, 1_000_000, notes);
     let most = 9_223_372_036_854_775_807;
     let allowance: Result<u64, Refusal<'a>> = read_or(site, ALLOWANCE, most, notes);
-    Ok(Settings {
-        sets: settings.sets,
-        limit: limit? as u32,
-        allowance: allowance?,
-        attends: settings.attends,
-        key: settings.key,
-        radar: settings.radar,
-        power: settings.power,
-    })
+    match (limit, allowance) {
+        (Ok(limit), Ok(allowance)) => Ok(Settings {
+            limit: limit as u32,
+            allowance,
+            ..settings
+        }),
+        (Err(refusal), _) | (_, Err(refusal)) => Err(refusal),
+    }
 }
 
 /// The numbers and texts of a document. A fault `Key` where a key or the kind, range or length of
@@ -505,7 +541,12 @@ pub(crate) fn scenario_in<'a>(
     let settings = ample_settings_in(site, notes);
     let named = named_in(site, notes);
     let timing = timing_in(site, notes);
-    known?;
-    let texts = texts_with(alloc, settings?, named?, timing?)?;
-    Ok(texts)
+    match (known, settings, named, timing) {
+        (Ok(()), Ok(settings), Ok(named), Ok(timing)) => {
+            let texts = texts_with(alloc, settings, named, timing)?;
+            Ok(texts)
+        }
+        (Err(refusal), ..) | (_, Err(refusal), ..) => Err(refusal),
+        (.., Err(refusal), _) | (.., Err(refusal)) => Err(refusal),
+    }
 }

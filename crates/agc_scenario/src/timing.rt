@@ -58,14 +58,11 @@ pub(crate) fn is_named(name: &Name, called: &str) -> bool
 pub(crate) fn alarm_called(called: &str) -> Option<Alarm>
     ensures { result ≡ alarm_called called.now }
 {
-    if called == "1201" {
-        Some(Alarm::A1201)
-    } else if called == "1202" {
-        Some(Alarm::A1202)
-    } else if called == "1203" {
-        Some(Alarm::A1203)
-    } else {
-        None
+    match called {
+        "1201" => Some(Alarm::A1201),
+        "1202" => Some(Alarm::A1202),
+        "1203" => Some(Alarm::A1203),
+        _ => None,
     }
 }
 

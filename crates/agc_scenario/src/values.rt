@@ -123,16 +123,19 @@ impl<'a> Spelled<JobTexts<'a>> for TimedJob {
     ghost IsLawful = { IsTimedJob };
 
     fn spelled_by(alloc: Global, texts: &JobTexts<'a>) -> Result<TimedJob, BenchFault> {
-        let at = or_line(parse_address(texts.at.as_str()))?;
-        let requests = asked_by(alloc, texts.requests.as_slice())?;
-        let name = name_of(alloc, &texts.name)?;
-        Ok(TimedJob {
-            at,
-            cost: texts.cost,
-            deadline: texts.deadline,
-            requests,
-            name,
-        })
+        let at = or_line(parse_address(texts.at.as_str()));
+        let requests = asked_by(alloc, texts.requests.as_slice());
+        let name = name_of(alloc, &texts.name);
+        match (at, requests, name) {
+            (Ok(at), Ok(requests), Ok(name)) => Ok(TimedJob {
+                at,
+                cost: texts.cost,
+                deadline: texts.deadline,
+                requests,
+                name,
+            }),
+            (Err(fault), ..) | (_, Err(fault), _) | (.., Err(fault)) => Err(fault),
+        }
     }
 }
 
@@ -148,18 +151,21 @@ impl<'a> Spelled<EventTexts<'a>> for TimedEvent {
         );
         let after = name_of(alloc, &texts.after);
         let name = name_of(alloc, &texts.name);
-        Ok(TimedEvent {
-            at: texts.at,
-            after: after?,
-            base: Base {
-                alarm: None,
-                from: 0,
-            },
-            requests: requests?,
-            every: texts.every,
-            until: texts.until,
-            name: name?,
-        })
+        match (requests, after, name) {
+            (Ok(requests), Ok(after), Ok(name)) => Ok(TimedEvent {
+                at: texts.at,
+                after,
+                base: Base {
+                    alarm: None,
+                    from: 0,
+                },
+                requests,
+                every: texts.every,
+                until: texts.until,
+                name,
+            }),
+            (Err(fault), ..) | (_, Err(fault), _) | (.., Err(fault)) => Err(fault),
+        }
     }
 }
 
@@ -185,12 +191,15 @@ pub(crate) fn timing_of(alloc: Global, texts: TimingTexts<'_>) -> Result<Timing,
     let title = name_of(alloc, &texts.title);
     let jobs = all_spelled(alloc, texts.jobs.as_slice());
     let events = events_of(alloc, texts.events.as_slice());
-    Ok(Timing {
-        seconds: texts.seconds,
-        title: title?,
-        seed: texts.seed,
-        stolen: texts.stolen,
-        jobs: jobs?,
-        events: events?,
-    })
+    match (title, jobs, events) {
+        (Ok(title), Ok(jobs), Ok(events)) => Ok(Timing {
+            seconds: texts.seconds,
+            title,
+            seed: texts.seed,
+            stolen: texts.stolen,
+            jobs,
+            events,
+        }),
+        (Err(fault), ..) | (_, Err(fault), _) | (.., Err(fault)) => Err(fault),
+    }
 }
