@@ -370,6 +370,14 @@ impl<'a, 'b> Words<'a, 'b> {
         }
     }
 
+    /// The second document of two, of which standard input can be one.
+    fn compare(&mut self) -> Task<'a> {
+        let second = self.given.get_str("second").unwrap_or("-");
+        let is_named = self.file.is_some() || second != "-";
+        self.check(is_named, "FIRST and SECOND can't both be standard input");
+        Task::Compare(second)
+    }
+
     /// What the words after a command of this name ask for.
     fn task(&mut self, command: &str) -> Task<'a> {
         match command {
@@ -384,7 +392,7 @@ impl<'a, 'b> Words<'a, 'b> {
             "jobs" => Task::Show(Show::Jobs(self.given.get_flag("csv"))),
             "sweep" => Task::Sweep(self.sweep()),
             "core" => Task::Core(self.given.get_str("map").unwrap_or("")),
-            "compare" => Task::Compare(self.given.get_str("second").unwrap_or("-")),
+            "compare" => self.compare(),
             _ => Task::Play,
         }
     }
