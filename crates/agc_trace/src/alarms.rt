@@ -36,35 +36,40 @@ pub(crate) fn put_cause(draft: &mut Draft, event: &Event) {
 /// several.
 fn put_raiser(page: &mut Page, plan: &Plan, task: Task, number: usize) {
     let actions = plan.actions(&task);
-    page.draft.text("        raised by ");
     if actions.len() > 1 {
-        page.draft.put("action {} of ", &[Number(number as u64)]);
+        let number = [Number(number as u64)];
+        page.draft
+            .put("        raised by action {} of task ", &number);
+    } else {
+        page.draft.text("        raised by task ");
     }
-    page.draft.text("task ");
     page.columns.put_task(&mut page.draft, task);
-    page.draft.text(": ");
     match actions.get(number.saturating_sub(1)) {
-        None => {}
+        None => page.draft.text(": \n"),
         Some(action) => match action_request(*action) {
-            None => page.draft.text("nothing"),
-            Some(request) => page.draft.text(request_text(&request).as_str()),
+            None => page.draft.text(": nothing\n"),
+            Some(request) => {
+                let text = request_text(&request);
+                page.draft.put(": {}\n", &[Text(text.as_str())]);
+            }
         },
     }
-    page.draft.text("\n");
 }
 
 /// Ends a line by since when something is there, where that is known: with which request a job or a
 /// task came.
 fn end_known(draft: &mut Draft, since: Option<Since>) {
     match since {
-        None => {}
-        Some(Since { request: 0, .. }) => draft.text(", since power-up"),
+        None => draft.text("\n"),
+        Some(Since { request: 0, .. }) => draft.text(", since power-up\n"),
         Some(Since { request, restart }) => {
             let restarted = if restart { "the restart of " } else { "" };
-            draft.put(", since {}request {}", &[Text(restarted), Number(request)]);
+            draft.put(
+                ", since {}request {}\n",
+                &[Text(restarted), Number(request)],
+            );
         }
     }
-    draft.text("\n");
 }
 
 /// Adds the line of the job in core set k, up to since when it is there.

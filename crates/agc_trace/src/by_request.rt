@@ -169,6 +169,10 @@ fn put_part(canvas: &mut Canvas, column: Column, before: &Scene, (part, scene): 
     }
 }
 
+/// What ends a mark's title, its line, and what stands above that.
+const MARK: &str =
+    ", at request {}</title><path d=\"M{} 18V{}\"/><text x=\"{}\" y=\"14\">{}</text></g>\n";
+
 /// Adds the mark of an event's alarm, or of its restart, at the end of its column, down to this
 /// end.
 fn put_mark(draft: &mut Draft, event: &Event, x: u64, end: u64) {
@@ -179,16 +183,14 @@ fn put_mark(draft: &mut Draft, event: &Event, x: u64, end: u64) {
     draft.put("<g class=\"{}\"><title>", &[Text(class)]);
     put_cause(draft, event);
     draft.put(
-        ", at request {}</title><path d=\"M{} 18V{}\"/>",
+        MARK,
         &[
             Number(event.number),
             Number(x.saturating_sub(1)),
             Number(end),
+            Number(x),
+            Text(name),
         ],
-    );
-    draft.put(
-        "<text x=\"{}\" y=\"14\">{}</text></g>\n",
-        &[Number(x), Text(name)],
     );
 }
 

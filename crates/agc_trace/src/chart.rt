@@ -35,6 +35,19 @@ fn track_of(lane: usize) -> usize {
     lane.saturating_add(2)
 }
 
+/// What names a track, and says in which order they stand.
+const TRACK: &str = ",
+{\"ph\":\"M\",\"pid\":1,\"tid\":{},\"ts\":0,\"name\":\"thread_name\",\
+    \"args\":{\"name\":\"{} {}\"}},
+{\"ph\":\"M\",\"pid\":1,\"tid\":{},\"ts\":0,\"name\":\"thread_sort_index\",\
+    \"args\":{\"sort_index\":{}}}";
+
+/// What all charts begin with: their heading, and track 1.
+const HEADING: &str = "{\"displayTimeUnit\":\"ms\",\"traceEvents\":[
+{\"ph\":\"M\",\"pid\":1,\"tid\":1,\"ts\":0,\"name\":\"process_name\",\"args\":{\"name\":\"{}\"}},
+{\"ph\":\"M\",\"pid\":1,\"tid\":1,\"ts\":0,\"name\":\"thread_name\",\
+    \"args\":{\"name\":\"alarms\"}}";
+
 /// Adds what names a track.
 fn put_track(draft: &mut Draft, lane: usize) {
     let (kind, number) = if lane >= TASKS {
@@ -44,18 +57,14 @@ fn put_track(draft: &mut Draft, lane: usize) {
     } else {
         ("core set", lane)
     };
-    begin_event(draft, "M", track_of(lane), 0);
-    let name = [Text(kind), Number(number as u64)];
-    draft.put(
-        ",\"name\":\"thread_name\",\"args\":{\"name\":\"{} {}\"}}",
-        &name,
-    );
-    begin_event(draft, "M", track_of(lane), 0);
-    let place = [Number(track_of(lane) as u64)];
-    draft.put(
-        ",\"name\":\"thread_sort_index\",\"args\":{\"sort_index\":{}}}",
-        &place,
-    );
+    let track = Number(track_of(lane) as u64);
+    let number = Number(number as u64);
+    draft.put(TRACK, &[track, Text(kind), number, track, track]);
+}
+
+/// How many of the lanes from one on, before another, hold something.
+fn taken(lanes: &Lanes, from: usize, to: usize) -> u64 {
+    lanes.iter().take(to).skip(from).flatten().count() as u64
 }
 
 /// Adds a name, or else an address, and that a job sleeps.
@@ -143,12 +152,8 @@ impl Chart {
     fn put_scene(&mut self, page: &mut Page, scene: &Scene, time: u64) {
         let lanes = lanes_of(&self.lanes, scene, time);
         self.put_lanes(page, &lanes);
-        let counts = [
-            lanes.iter().take(AREAS).flatten().count() as u64,
-            lanes.iter().take(TASKS).skip(AREAS).flatten().count() as u64,
-            lanes.iter().skip(TASKS).flatten().count() as u64,
-            self.stolen,
-        ];
+        let (sets, areas) = (taken(&lanes, 0, AREAS), taken(&lanes, AREAS, TASKS));
+        let counts = [sets, areas, taken(&lanes, TASKS, LANES), self.stolen];
         self.put_counts(&mut page.draft, &counts);
     }
 
@@ -165,15 +170,8 @@ impl Chart {
 
     /// Adds the heading, and the scene with which all begins, if it is told.
     pub(crate) fn begin(&mut self, page: &mut Page, scene: Option<&Scene>) {
-        page.draft
-            .text("{\"displayTimeUnit\":\"ms\",\"traceEvents\":[\n");
-        page.draft.text(
-            "{\"ph\":\"M\",\"pid\":1,\"tid\":1,\"ts\":0,\"name\":\"process_name\",\"args\":",
-        );
         let title = page.columns.names.of(What::Title).unwrap_or("AGC");
-        page.draft.put("{\"name\":\"{}\"}}", &[Json(title)]);
-        begin_event(&mut page.draft, "M", 1, 0);
-        page.draft.text(",\"name\":\"thread_name\",\"args\":{\"name\":\"alarms\"}}");
+        page.draft.put(HEADING, &[Json(title)]);
         for lane in 0..LANES {
             put_track(&mut page.draft, lane);
         }

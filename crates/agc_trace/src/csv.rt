@@ -26,37 +26,53 @@ fn put_job(page: &mut Page, seat: Option<Seat>) {
 /// Adds the running job and its priority, and how many core sets, VAC areas and tasks there are in
 /// the tables.
 fn put_counts(draft: &mut Draft, scene: &Scene) {
-    let sets = scene.seats().iter().flatten().count() as u64;
-    let with_areas = scene.seats().iter().flatten().filter(|seat| seat.area > 0);
-    let areas = with_areas.count() as u64;
-    match (scene.running(), scene.seats().first()) {
-        (Some(number), Some(Some(seat))) => {
-            let runner = [Number(u64::from(number.get())), Priority(seat.priority)];
-            draft.put(",{},{}", &runner);
+    let (mut sets, mut areas) = (0u64, 0u64);
+    for seat in scene.seats() {
+        if let Some(seat) = *seat {
+            sets = sets.saturating_add(1);
+            areas = areas.saturating_add(u64::from(seat.area > 0));
         }
-        _ => draft.text(",,"),
     }
-    let tasks = scene.waits().len() as u64;
-    draft.put(",{},{},{}", &[Number(sets), Number(areas), Number(tasks)]);
+    let (number, priority) = match (scene.running(), scene.seats()) {
+        (Some(number), [Some(seat), ..]) => {
+            (Number(u64::from(number.get())), Priority(seat.priority))
+        }
+        _ => (Text(""), Text("")),
+    };
+    let tasks = Number(scene.waits().len() as u64);
+    let counts = [number, priority, Number(sets), Number(areas), tasks];
+    draft.put(",{},{},{},{},{}", &counts);
+}
+
+/// What the core set of the job holds that owns an area.
+fn owner(scene: &Scene, area: u16) -> Option<Seat> {
+    for seat in scene.seats() {
+        match *seat {
+            Some(seat) if seat.area == area => return Some(seat),
+            _ => {}
+        }
+    }
+    None
 }
 
 /// Adds the columns of a scene, and ends the line.
 fn put_scene(page: &mut Page, scene: &Scene) {
     put_counts(&mut page.draft, scene);
-    for k in 0..8usize {
-        put_job(page, scene.seats().get(k).copied().flatten());
+    for seat in scene.seats() {
+        put_job(page, *seat);
+    }
+    if scene.seats().len() < 8 {
+        page.draft.text(",");
     }
     for area in 1..6u16 {
-        let mut seats = scene.seats().iter().flatten();
-        put_job(page, seats.find(|seat| seat.area == area).copied());
+        put_job(page, owner(scene, area));
     }
     page.draft.text("\n");
 }
 
 /// Adds the row of power-up, with the scene with which the first era begins.
 pub(crate) fn put_power(page: &mut Page, reply: &str, scene: &Scene) {
-    page.draft.fill("0,0.00,0.00,,power-up,", Text(reply));
-    page.draft.text(",");
+    page.draft.put("0,0.00,0.00,,power-up,{},", &[Text(reply)]);
     put_scene(page, scene);
 }
 

@@ -6,7 +6,7 @@ use agc_plan::{Fired, Task};
 use agc_run::Source;
 use agc_scene::{Event, Scene, Since};
 use agc_text::Filling::{Bytes, Json, Number, Octal, Priority, Seconds, Text};
-use agc_text::{Draft, alarm_code, answer_text, request_text};
+use agc_text::{Draft, Filling, alarm_code, answer_text, request_text};
 
 /// Adds a name as a value.
 pub(crate) fn put_name(draft: &mut Draft, name: Option<&str>) {
@@ -26,21 +26,23 @@ pub(crate) fn put_source(page: &mut Page, source: Source) {
     page.draft.text("\"");
 }
 
-/// Adds a number as a value, if it is there.
-fn put_number(draft: &mut Draft, number: Option<u16>) {
+/// A number as a value, if it is there.
+fn value(number: Option<u16>) -> Filling<'static> {
     match number {
-        None => draft.text("null"),
-        Some(number) => draft.add(Number(u64::from(number))),
+        None => Text("null"),
+        Some(number) => Number(u64::from(number)),
     }
 }
 
 /// Adds since which request something is there, where that is known, and ends its object.
 fn end_known(draft: &mut Draft, since: Option<Since>) {
-    if let Some(Since { request, restart }) = since {
-        draft.fill(",\"since\":", Number(request));
-        draft.text(if restart { ",\"restart\":true" } else { "" });
+    match since {
+        None => draft.text("}"),
+        Some(Since { request, restart }) => {
+            let end = if restart { ",\"restart\":true}" } else { "}" };
+            draft.put(",\"since\":{}{}", &[Number(request), Text(end)]);
+        }
     }
-    draft.text("}");
 }
 
 /// Adds what a core set holds, in an object that isn't ended.
@@ -123,16 +125,18 @@ fn put_phases(page: &mut Page, scene: &Scene) {
 
 /// Adds the tables of a scene, as members of an object.
 fn put_scene(page: &mut Page, scene: &Scene, event: Option<&Event>) {
-    page.draft.text("\"running\":");
-    let running = scene.running().map(|number| u16::from(number.get()));
-    put_number(&mut page.draft, running);
-    page.draft.text(",\"newjob\":");
-    put_number(&mut page.draft, scene.named());
+    let running = match scene.running() {
+        None => Text("null"),
+        Some(number) => Number(u64::from(number.get())),
+    };
+    let named = value(scene.named());
+    page.draft
+        .put("\"running\":{},\"newjob\":{}", &[running, named]);
     put_seats(page, scene, event);
-    page.draft.text(",\"areas\":[");
+    let mut before = ",\"areas\":[";
     for area in 1..6u16 {
-        page.draft.text(if area == 1 { "" } else { "," });
-        put_number(&mut page.draft, scene.owner(area));
+        page.draft.fill(before, value(scene.owner(area)));
+        before = ",";
     }
     page.draft.text("]");
     put_waits(page, scene, event);
@@ -149,34 +153,36 @@ fn put_fired(page: &mut Page, fired: &Fired) {
             page.draft.text("}");
         }
     }
-    page.draft.text("]");
+    page.draft.text("],");
 }
+
+/// The front of the object of power-up.
+const POWER: &str = "{\"no\":0,\"time\":0.00,\"total\":0.00,\"by\":null,\
+    \"request\":\"power-up\",\"reply\":\"{}\",\"alarm\":null,\"fired\":[],";
 
 /// Adds the object of power-up, with the scene with which the first era begins.
 pub(crate) fn put_power(page: &mut Page, reply: &str, scene: &Scene) {
-    page.draft.text("{\"no\":0,\"time\":0.00,\"total\":0.00,\"by\":null,\"request\":\"power-up\"");
-    page.draft.put(
-        ",\"reply\":\"{}\",\"alarm\":null,\"fired\":[],",
-        &[Text(reply)],
-    );
+    page.draft.put(POWER, &[Text(reply)]);
     put_scene(page, scene, None);
     page.draft.text(",\"era\":null}\n");
 }
 
-/// Adds what was asked and answered, as members of an object.
+/// Adds the number of a request, and its times, as the first members of an object.
+fn put_times(draft: &mut Draft, event: &Event) {
+    let (time, total) = (Seconds(event.time), Seconds(event.total));
+    let front = [Number(event.number), time, total];
+    draft.put("{\"no\":{},\"time\":{},\"total\":{},\"by\":", &front);
+}
+
+/// Adds what was asked and answered, as the first members of an object.
 fn put_front(page: &mut Page, source: Source, event: &Event) {
-    page.draft.fill("{\"no\":", Number(event.number));
-    page.draft.fill(",\"time\":", Seconds(event.time));
-    page.draft.fill(",\"total\":", Seconds(event.total));
-    page.draft.text(",\"by\":");
+    put_times(&mut page.draft, event);
     put_source(page, source);
     let request = request_text(&event.request);
     let answer = answer_text(&event.answer, &event.fired);
-    page.draft.text(",\"request\":\"");
-    page.draft.text(request.as_str());
-    page.draft.text("\",\"reply\":\"");
-    page.draft.add(Bytes(answer.as_slice()));
-    page.draft.text("\",\"alarm\":");
+    let asked = [Text(request.as_str()), Bytes(answer.as_slice())];
+    page.draft
+        .put(",\"request\":\"{}\",\"reply\":\"{}\",\"alarm\":", &asked);
     put_name(&mut page.draft, event.alarm().map(alarm_code));
     put_fired(page, &event.fired);
 }
@@ -184,16 +190,13 @@ fn put_front(page: &mut Page, source: Source, event: &Event) {
 /// Adds the object of a request, and ends the line.
 pub(crate) fn put_event(page: &mut Page, source: Source, event: &Event) {
     put_front(page, source, event);
-    page.draft.text(",");
     put_scene(page, &event.scene, Some(event));
-    page.draft.text(",\"era\":");
     match &event.era {
-        None => page.draft.text("null"),
+        None => page.draft.text(",\"era\":null}\n"),
         Some(era) => {
-            page.draft.text("{");
+            page.draft.text(",\"era\":{");
             put_scene(page, era, None);
-            page.draft.text("}");
+            page.draft.text("}}\n");
         }
     }
-    page.draft.text("}\n");
 }

@@ -59,8 +59,8 @@ fn told_if(alloc: Global, text: Option<&str>) -> Result<Option<Told>, AllocError
     }
 }
 
-/// What a scenario calls itself, its jobs and its events.
-fn read(alloc: Global, timing: &Timing) -> Result<Labels, AllocError> {
+/// What the jobs of a scenario are called.
+fn job_labels(alloc: Global, timing: &Timing) -> Result<Vec<Label>, AllocError> {
     let mut jobs = Vec::new(alloc);
     for job in timing.jobs() {
         if let Some(name) = job.name() {
@@ -70,15 +70,16 @@ fn read(alloc: Global, timing: &Timing) -> Result<Labels, AllocError> {
             })?;
         }
     }
+    Ok(jobs)
+}
+
+/// What the events of a scenario are called, by their numbers.
+fn event_labels(alloc: Global, timing: &Timing) -> Result<Vec<Option<Told>>, AllocError> {
     let mut events = Vec::new(alloc);
     for event in timing.all_events() {
         events.push(told_if(alloc, event.name())?)?;
     }
-    Ok(Labels {
-        title: told_if(alloc, timing.title())?,
-        jobs,
-        events,
-    })
+    Ok(events)
 }
 
 impl Labels {
@@ -93,9 +94,18 @@ impl Labels {
                 events: Vec::new(alloc),
             });
         };
-        match read(alloc, timing) {
-            Ok(labels) => Ok(labels),
-            Err(_no_memory) => Err(RunFault::NoMemory),
+        let title = told_if(alloc, timing.title());
+        match (
+            title,
+            job_labels(alloc, timing),
+            event_labels(alloc, timing),
+        ) {
+            (Ok(title), Ok(jobs), Ok(events)) => Ok(Labels {
+                title,
+                jobs,
+                events,
+            }),
+            _ => Err(RunFault::NoMemory),
         }
     }
 

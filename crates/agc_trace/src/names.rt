@@ -50,18 +50,12 @@ impl Names {
     /// Adds the title, and the names of jobs and events.
     fn name_timed(&mut self, alloc: Global, scenario: &Scenario) -> Result<(), AllocError> {
         let timing = scenario.timing();
-        if let Some(title) = timing.title() {
-            self.name(alloc, What::Title, title)?;
-        }
+        self.name(alloc, What::Title, timing.title())?;
         for job in timing.jobs() {
-            if let Some(name) = job.name() {
-                self.name(alloc, What::Job(job.at().get()), name)?;
-            }
+            self.name(alloc, What::Job(job.at().get()), job.name())?;
         }
         for (k, event) in timing.all_events().iter().enumerate() {
-            if let Some(name) = event.name() {
-                self.name(alloc, What::Event(k), name)?;
-            }
+            self.name(alloc, What::Event(k), event.name())?;
         }
         Ok(())
     }
@@ -70,21 +64,20 @@ impl Names {
     fn name_planned(&mut self, alloc: Global, scenario: &Scenario) -> Result<(), AllocError> {
         let bench = scenario.bench();
         for (row, name) in bench.rows().iter().zip(scenario.row_names().iter()) {
-            if let Some(name) = name.as_str() {
-                self.name(alloc, What::Task(row.0), name)?;
-            }
+            self.name(alloc, What::Task(row.0), name.as_str())?;
         }
         for (entry, name) in bench.entries().iter().zip(scenario.entry_names().iter()) {
-            if let Some(name) = name.as_str() {
-                let group = usize::from(entry.group().get());
-                self.name(alloc, What::Phase(group, entry.phase()), name)?;
-            }
+            let group = usize::from(entry.group().get());
+            self.name(alloc, What::Phase(group, entry.phase()), name.as_str())?;
         }
         Ok(())
     }
 
-    /// Gives something a name. Where there is no memory nothing is changed.
-    fn name(&mut self, alloc: Global, what: What, name: &str) -> Result<(), AllocError> {
+    /// Gives something its name, if it has one. Where there is no memory nothing is changed.
+    fn name(&mut self, alloc: Global, what: What, name: Option<&str>) -> Result<(), AllocError> {
+        let Some(name) = name else {
+            return Ok(());
+        };
         let name = String::from_str(alloc, name)?;
         match self.all.push(Named { what, name }) {
             Ok(()) => Ok(()),

@@ -48,11 +48,14 @@ fn put_waits(draft: &mut Draft, columns: &Columns, scene: &Scene) {
 impl Page {
     /// Nothing is told yet.
     pub(crate) fn new(alloc: Global, columns: Columns) -> Result<Page, AllocError> {
-        Ok(Page {
-            draft: Draft::new(alloc)?,
-            row: Row::new(alloc)?,
-            columns,
-        })
+        match (Draft::new(alloc), Row::new(alloc)) {
+            (Ok(draft), Ok(row)) => Ok(Page {
+                draft,
+                row,
+                columns,
+            }),
+            _ => Err(AllocError),
+        }
     }
 
     /// Writes what is told, and begins anew.
@@ -68,11 +71,10 @@ impl Page {
 
     /// Adds the tables of a scene to the row.
     pub(crate) fn put_tables(&mut self, scene: &Scene) {
-        match scene.running() {
-            None => self.row.text.text("-"),
-            Some(number) => self.row.text.add(Number(u64::from(number.get()))),
-        }
-        self.row.end();
+        self.row.cell(match scene.running() {
+            None => Text("-"),
+            Some(number) => Number(u64::from(number.get())),
+        });
         for seat in scene.seats() {
             match *seat {
                 None => self.row.text.text(" ."),
@@ -97,13 +99,13 @@ impl Page {
             self.draft.put("{}\n", &[Text(title)]);
         }
         for name in ["no", "time", "total", "by", "request"] {
-            self.row.cell(name);
+            self.row.cell(Text(name));
         }
         self.row.text.text("reply");
         self.row.end_front();
         if !self.columns.folds {
             for name in ["running", " sets", " areas", " tasks"] {
-                self.row.cell(name);
+                self.row.cell(Text(name));
             }
         }
         self.put_row();
@@ -112,13 +114,9 @@ impl Page {
     /// Adds the row of power-up, with the scene with which the first era begins.
     pub(crate) fn put_power(&mut self, reply: &str, scene: &Scene) {
         let time = self.columns.time(0);
-        self.row.cell("0");
-        for _times in 0..2 {
-            self.row.text.add(time);
-            self.row.end();
+        for cell in [Text("0"), time, time, Text(""), Text("power-up")] {
+            self.row.cell(cell);
         }
-        self.row.cell("");
-        self.row.cell("power-up");
         self.row.text.text(reply);
         self.row.end_front();
         self.put_tables(scene);
@@ -128,15 +126,18 @@ impl Page {
     /// Adds the row of a request; the number of a refused one is followed by `!`.
     pub(crate) fn put_event(&mut self, source: Source, event: &Event) {
         self.row.text.add(Number(event.number));
-        self.row.cell(if event.answer.is_err() { "!" } else { "" });
+        if event.answer.is_err() {
+            self.row.text.text("!");
+        }
+        self.row.end();
         for time in [event.time, event.total] {
-            self.row.text.add(self.columns.time(time));
-            self.row.end();
+            self.row.cell(self.columns.time(time));
         }
         self.columns.put_source(&mut self.row.text, source);
         self.row.end();
         let request = request_text(&event.request);
-        self.row.cell(request.as_str());
+        self.row.text.text(request.as_str());
+        self.row.end();
         let answer = answer_text(&event.answer, &event.fired);
         self.row.text.add(Bytes(answer.as_slice()));
         self.row.end_front();

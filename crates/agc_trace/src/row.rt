@@ -1,7 +1,7 @@
 // A row as it is laid out: wide, its tables beside it; or on a terminal, its tables below it.
 use crate::columns::Columns;
-use agc_text::Draft;
 use agc_text::Filling::{Bytes, Text};
+use agc_text::{Draft, Filling};
 use std::alloc::{AllocError, Global};
 
 /// How many cells a row has: its number, two times, who asks, the request and the answer, and then
@@ -71,8 +71,8 @@ impl Row {
     }
 
     /// Adds a cell.
-    pub(crate) fn cell(&mut self, text: &str) {
-        self.text.text(text);
+    pub(crate) fn cell(&mut self, filling: Filling<'_>) {
+        self.text.add(filling);
         self.end();
     }
 

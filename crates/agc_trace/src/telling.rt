@@ -51,8 +51,8 @@ impl Choice {
     /// Whether the request of this number has a row, if it raised an alarm or not. Source: profile.
     pub fn tells(&self, number: u64, is_alarmed: bool) -> bool {
         (is_alarmed || !self.alarms)
-            && self.from.is_none_or(|from| from <= number)
-            && self.to.is_none_or(|to| number <= to)
+            && self.from.unwrap_or(0) <= number
+            && number <= self.to.unwrap_or(u64::MAX)
     }
 }
 

@@ -14,7 +14,7 @@ use agc_run::{Asks, Source, Subject, WatchedRun};
 use agc_scene::{Event, Watched};
 use agc_session::{Progress, RunFault, count_requests, script_machine};
 use agc_text::Output;
-use std::alloc::Global;
+use std::alloc::{AllocError, Global};
 use std::io::Write;
 
 /// A run that is told in rows: those of a bench end with what came of its pulses.
@@ -43,6 +43,18 @@ impl<'a> Shows for Told<'a> {
     }
 }
 
+/// The rows of a bench or a scenario, of which nothing was told yet.
+fn told_of<'a>(
+    alloc: Global,
+    subject: Subject<'a>,
+    choice: Choice,
+) -> Result<Told<'a>, AllocError> {
+    let columns = Columns::of(alloc, subject)?;
+    let rows = Rows::new(alloc, choice, columns)?;
+    let bench = Some(subject.bench());
+    Ok(Told { rows, bench })
+}
+
 /// Writes the trace of a bench or a scenario: the heading, and what came of power-up, where a bench
 /// has phase words; then its machine is asked for its requests in order, and for each that is
 /// chosen a row is written, with the scene of its event and the account of its alarm; and last how
@@ -64,12 +76,8 @@ pub fn trace<P: Progress, W: Write>(
         (fold watched (watching_from (machine_of subject.entry)) (asked_of subject.entry))
         (W.contents writer.old) (W.contents writer.new) result }
 {
+    let mut told = told_of(alloc, subject, choice)?;
     let mut run = subject.watched(alloc)?;
-    let columns = Columns::of(alloc, subject)?;
-    let mut told = Told {
-        rows: Rows::new(alloc, choice, columns)?,
-        bench: Some(subject.bench()),
-    };
     if let Subject::Bench(bench) = subject {
         progress.expect(count_requests(bench).requests);
     }
