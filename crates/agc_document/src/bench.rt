@@ -321,6 +321,7 @@ pub fn bench_of<'a>(
     match texts_by(Site::of_document(alloc, table), WORKERS, DEVICES, notes) {
         Ok(texts) => {
             let bench = bench_from(alloc, &texts, notes);
+            // (by name, since the prover goes through its parts at the end of each branch else)
             drop(texts);
             bench
         }

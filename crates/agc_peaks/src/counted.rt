@@ -7,11 +7,11 @@ ghost use Rattle.agc_run.specs.Runs.{to_ask};
 use crate::counting::counts_of;
 use crate::era::{Era, Style};
 use crate::tally::Tally;
+use agc_document::put_script_line;
 use agc_plan::{Fired, Request};
 use agc_run::{Run, Subject};
 use agc_session::RunFault;
-use agc_text::Filling::Text;
-use agc_text::{Draft, Output, request_text};
+use agc_text::{Draft, Output, Pen};
 use std::alloc::Global;
 use std::io;
 use std::io::Write;
@@ -27,15 +27,27 @@ pub(crate) enum Told {
 }
 
 impl Told {
-    /// Adds what is to be written of a request, and of the era that ended with it.
-    fn put(self, request: &Request, ended: Option<Era>, draft: &mut Draft) {
-        match (self, ended) {
-            (Told::Requests, _) => {
-                let text = request_text(request);
-                draft.put("  \"{}\",\n", &[Text(text.as_str())]);
+    /// Adds the row of an era that ended with a request, if eras are told.
+    fn put(self, ended: Option<Era>, draft: &mut Draft) {
+        if let (Told::Eras(style), Some(era)) = (self, ended) {
+            era.put(style, draft);
+        }
+    }
+
+    /// Writes what is in a draft, or a request, if requests are told.
+    fn write<W: Write>(
+        self,
+        request: &Request,
+        draft: &mut Draft,
+        writer: &mut W,
+    ) -> Result<(), Output> {
+        match self {
+            Told::Requests => {
+                let mut pen = Pen::new(writer);
+                put_script_line(&mut pen, request);
+                pen.end()
             }
-            (Told::Eras(style), Some(era)) => era.put(style, draft),
-            _ => {}
+            Told::Nothing | Told::Eras(_) => draft.send(writer),
         }
     }
 }
@@ -60,8 +72,8 @@ pub(crate) fn counted_to_end<W: Write>(
         let answer = run.ask(&asked, &mut fired);
         let ended = tally.come(run.machine(), &asked.request, counts, &answer);
         tally.keep(run.clock());
-        told.put(&asked.request, ended, draft);
-        draft.send(writer)?;
+        told.put(ended, draft);
+        told.write(&asked.request, draft, writer)?;
     }
     Ok(tally)
 }

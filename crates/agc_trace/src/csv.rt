@@ -61,6 +61,7 @@ fn put_scene(page: &mut Page, scene: &Scene) {
     for seat in scene.seats() {
         put_job(page, *seat);
     }
+    // (there is a column for an eighth core set, which is empty where there is none)
     if scene.seats().len() < 8 {
         page.draft.text(",");
     }

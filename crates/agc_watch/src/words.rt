@@ -370,7 +370,7 @@ impl<'a, 'b> Words<'a, 'b> {
         }
     }
 
-    /// The second document of two, of which standard input can be one.
+    /// What the words after `compare` ask for: one of both documents may be standard input.
     fn compare(&mut self) -> Task<'a> {
         let second = self.given.get_str("second").unwrap_or("-");
         let is_named = self.file.is_some() || second != "-";
