@@ -8,11 +8,11 @@ ghost use Rattle.agc_session.specs.Shown.{EndsIn};
 use crate::labels::Labels;
 use crate::scale::{Scale, Span};
 use crate::showing::show;
-use crate::sizing::length_of;
+use crate::sizing::{expect_counted, length_of};
 use crate::timed::OverTime;
 use agc_run::Subject;
 use agc_scene::Watched;
-use agc_session::{Progress, RunFault, count_requests};
+use agc_session::{Progress, RunFault};
 use std::alloc::Global;
 use std::io::Write;
 
@@ -57,11 +57,8 @@ pub fn time_picture<P: Progress, W: Write>(
         (fold watched (watching_from (machine_of subject.entry)) (asked_of subject.entry))
         (W.contents writer.old) (W.contents writer.new) result }
 {
-    let mut form = begun(alloc, subject, span)?;
-    let mut run = subject.watched(alloc)?;
-    if let Subject::Bench(bench) = subject {
-        progress.expect(count_requests(bench).requests);
-    }
-    show(&mut run, &mut form, progress, writer)?;
-    Ok(run.into_watched())
+    expect_counted(subject, progress);
+    let form = begun(alloc, subject, span)?;
+    let run = subject.watched(alloc)?;
+    show(run, form, progress, writer)
 }

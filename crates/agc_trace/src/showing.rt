@@ -3,10 +3,11 @@ ghost use Rattle.std.specs.Prelude.{◌≡◌, OnOk};
 ghost use Rattle.std.specs.List.{fold};
 ghost use Rattle.agc_run.specs.Runs.{to_ask};
 ghost use Rattle.agc_scene.specs.Events.{watched};
+ghost use Rattle.agc_session.specs.Shown.{EndsIn};
 
 use agc_run::{Source, WatchedRun};
 use agc_scene::{Event, Watched};
-use agc_session::Progress;
+use agc_session::{Progress, RunFault};
 use agc_text::Output;
 use std::io::Write;
 
@@ -25,8 +26,8 @@ pub(crate) trait Shows {
     fn send<W: Write>(&mut self, writer: &mut W) -> Result<(), Output>;
 }
 
-/// Shows a run: asks for all that is still to be asked in it.
-pub(crate) fn show<S: Shows, P: Progress, W: Write>(
+/// Asks for all that is still to be asked in a run, and shows what comes.
+fn follow<S: Shows, P: Progress, W: Write>(
     run: &mut WatchedRun<'_>,
     form: &mut S,
     progress: &mut P,
@@ -44,4 +45,21 @@ pub(crate) fn show<S: Shows, P: Progress, W: Write>(
     }
     form.finish();
     form.send(writer)
+}
+
+/// Shows a run to its end, in a form in which nothing was shown yet. Returns its machine.
+pub(crate) fn show<S: Shows + Drop, P: Progress, W: Write>(
+    mut run: WatchedRun<'_>,
+    mut form: S,
+    progress: &mut P,
+    writer: &mut W,
+) -> Result<Watched, RunFault>
+    ensures { EndsIn (fold watched run.entry.watching
+        (to_ask run.entry.watching.machine run.entry.asks))
+        (W.contents writer.old) (W.contents writer.new) result }
+{
+    match follow(&mut run, &mut form, progress, writer) {
+        Ok(()) => Ok(run.into_watched()),
+        Err(_failed) => Err(RunFault::Output),
+    }
 }

@@ -2,7 +2,7 @@
 ghost use Rattle.std.specs.Prelude.{◌≡◌, IfErr};
 
 use agc_run::{Subject, WatchedRun};
-use agc_session::{RunFault, count_requests};
+use agc_session::{Progress, RunFault, count_requests};
 use std::alloc::Global;
 
 /// The time of a run, and the number of its last request.
@@ -42,5 +42,12 @@ pub(crate) fn requests_of(alloc: Global, subject: Subject<'_>) -> Result<u64, Ru
     match subject {
         Subject::Bench(bench) => Ok(count_requests(bench).requests),
         Subject::Scenario(_scenario) => Ok(size_of(&mut subject.watched(alloc)?).requests),
+    }
+}
+
+/// Tells how many requests are to be done, where a count is enough: those of a bench.
+pub(crate) fn expect_counted<P: Progress>(subject: Subject<'_>, progress: &mut P) {
+    if let Subject::Bench(bench) = subject {
+        progress.expect(count_requests(bench).requests);
     }
 }

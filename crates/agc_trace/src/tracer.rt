@@ -7,12 +7,13 @@ ghost use Rattle.agc_session.specs.Shown.{EndsIn};
 
 use crate::columns::Columns;
 use crate::showing::{Shows, show};
+use crate::sizing::expect_counted;
 use crate::telling::{Choice, Rows};
 use agc_document::Bench;
 use agc_plan::Request;
 use agc_run::{Asks, Source, Subject, WatchedRun};
 use agc_scene::{Event, Watched};
-use agc_session::{Progress, RunFault, count_requests, script_machine};
+use agc_session::{Progress, RunFault, script_machine};
 use agc_text::Output;
 use std::alloc::{AllocError, Global};
 use std::io::Write;
@@ -76,13 +77,10 @@ pub fn trace<P: Progress, W: Write>(
         (fold watched (watching_from (machine_of subject.entry)) (asked_of subject.entry))
         (W.contents writer.old) (W.contents writer.new) result }
 {
-    let mut told = told_of(alloc, subject, choice)?;
-    let mut run = subject.watched(alloc)?;
-    if let Subject::Bench(bench) = subject {
-        progress.expect(count_requests(bench).requests);
-    }
-    show(&mut run, &mut told, progress, writer)?;
-    Ok(run.into_watched())
+    expect_counted(subject, progress);
+    let told = told_of(alloc, subject, choice)?;
+    let run = subject.watched(alloc)?;
+    show(run, told, progress, writer)
 }
 
 /// Writes the trace of a script in the same way: the machine is that of `run_script`. Source:
@@ -103,12 +101,11 @@ pub fn trace_script<P: Progress, W: Write>(
         (W.contents writer.old) (W.contents writer.new) result }
 {
     let machine = script_machine(alloc)?;
-    let mut told = Told {
+    let told = Told {
         rows: Rows::new(alloc, choice, Columns::of_bench(alloc, false))?,
         bench: None,
     };
     progress.expect(requests.len() as u64);
-    let mut run = WatchedRun::new(machine, Asks::of_script(requests));
-    show(&mut run, &mut told, progress, writer)?;
-    Ok(run.into_watched())
+    let run = WatchedRun::new(machine, Asks::of_script(requests));
+    show(run, told, progress, writer)
 }

@@ -38,8 +38,7 @@ pub fn picture<P: Progress, W: Write>(
 {
     let count = requests_of(alloc, subject)?;
     progress.expect(count);
-    let mut form = ByRequest::new(alloc, count, Labels::of(alloc, subject)?)?;
-    let mut run = subject.watched(alloc)?;
-    show(&mut run, &mut form, progress, writer)?;
-    Ok(run.into_watched())
+    let form = ByRequest::new(alloc, count, Labels::of(alloc, subject)?)?;
+    let run = subject.watched(alloc)?;
+    show(run, form, progress, writer)
 }

@@ -2,7 +2,7 @@ use Rattle.std.proofs.Common.{◌≡◌, length}
 use Rattle.std.specs.List.{fold}
 use Rattle.agc_run.specs.Runs.{to_ask}
 use Rattle.agc_scene.specs.Events.{watched}
-use Rattle.agc_trace.proofs.showing.show.Given as goal
+use Rattle.agc_trace.proofs.showing.follow.Given as goal
 
 abbrev pub invariant-loop-source : goal.invariant-loop-source
 invariant-loop-source g l =
