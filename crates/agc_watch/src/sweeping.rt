@@ -5,7 +5,7 @@ use crate::stops::Stop;
 use crate::words::{Sweep, Values, refused_words};
 use agc_check::add;
 use agc_peaks::{Axis, Column, find_alarm, run_sweep};
-use agc_scenario::Scenario;
+use agc_scenario::{Scenario, TimedEvent, TimedJob};
 use agc_text::add_word;
 use arrayvec::ArrayString;
 use std::alloc::{AllocError, Global};
@@ -14,31 +14,33 @@ use std::fmt::Write as Told;
 /// How many jobs and events are listed at most.
 const MOST_KEYS: usize = 20;
 
+/// Tells the key of a job's computing time, by its name or else its address.
+fn add_job(told: &mut String, job: &TimedJob) -> Result<(), AllocError> {
+    let mut address: ArrayString<32> = ArrayString::new();
+    add_word(&mut address, job.at().get());
+    let called = job.name().unwrap_or(address.as_str());
+    add(told, &[", job.", called, ".cost"])
+}
+
+/// Tells the keys of an event, if it has a name.
+fn add_event(told: &mut String, event: &TimedEvent) -> Result<(), AllocError> {
+    let Some(name) = event.name() else {
+        return Ok(());
+    };
+    add(told, &[", event.", name, ".at"])?;
+    match event.every() {
+        None => Ok(()),
+        Some(_every) => add(told, &[", event.", name, ".every, event.", name, ".until"]),
+    }
+}
+
 /// Tells which keys of a scenario a sweep can take: at most so many of its jobs, and of its events.
 fn add_keys(told: &mut String, scenario: &Scenario) -> Result<(), AllocError> {
     for job in scenario.timing().jobs().iter().take(MOST_KEYS) {
-        let mut address: ArrayString<32> = ArrayString::new();
-        add_word(&mut address, job.at().get());
-        let called = job.name().unwrap_or(address.as_str());
-        add(told, &[", job.", called, ".cost"])?;
+        add_job(told, job)?;
     }
     for event in scenario.timing().all_events().iter().take(MOST_KEYS) {
-        match (event.name(), event.every()) {
-            (Some(name), None) => add(told, &[", event.", name, ".at"])?,
-            (Some(name), Some(_every)) => {
-                let keys = [
-                    ", event.",
-                    name,
-                    ".at, event.",
-                    name,
-                    ".every, event.",
-                    name,
-                    ".until",
-                ];
-                add(told, &keys)?;
-            }
-            (None, _) => {}
-        }
+        add_event(told, event)?;
     }
     Ok(())
 }

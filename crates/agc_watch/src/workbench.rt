@@ -81,19 +81,23 @@ fn not_one(alloc: Global, name: &str) -> Stop {
     said(alloc, 1, &[name, " is not an empty AGC workbench"])
 }
 
-/// The version behind this front of a text, up to the next blank: digits and dots. None where the
-/// front comes again, as in two files that are joined.
-fn version_behind<'a>(front: &str, text: &'a str) -> Option<&'a str> {
-    let (version, rest) = text.strip_prefix(front)?.split_once(' ')?;
-    if rest.contains(front) {
-        return None;
-    }
-    for byte in version.as_bytes() {
+/// Whether a text is of digits and dots alone.
+fn is_version(text: &str) -> bool {
+    for byte in text.as_bytes() {
         if *byte != b'.' && !byte.is_ascii_digit() {
-            return None;
+            return false;
         }
     }
-    Some(version)
+    true
+}
+
+/// The version behind this front of a text, up to the next blank. None where the front comes again,
+/// as in two files that are joined.
+fn version_behind<'a>(front: &str, text: &'a str) -> Option<&'a str> {
+    match text.strip_prefix(front)?.split_once(' ') {
+        Some((version, rest)) if is_version(version) && !rest.contains(front) => Some(version),
+        _ => None,
+    }
 }
 
 /// Whether the file of this name, which has this text, is the workbench of this version.
