@@ -1,5 +1,7 @@
 // The lines that `agc` writes, in room that a caller lends.
 ghost use Rattle.std.specs.Prelude.{◌≡◌};
+ghost use Rattle.agc_image.specs.Codes.{Coded};
+ghost use Rattle.agc_image.specs.Images.{IsImage};
 
 use crate::reply::AgcNumber;
 use crate::steps::{AgcFired, AgcStep};
@@ -137,6 +139,8 @@ pub extern "C" fn agc_write_report(
     totals: &AgcTotals,
     text: &mut [u8],
 ) -> AgcNumber
+    ensures unopened { ¬ IsImage sets words.now
+        → Coded result.code sets words.now (Unit {0}) (Unit {0}) (Unit {0}) }
     ensures refused { ¬ (result.code ≡ 0) → text.new ≡ text.old }
 {
     match image_fault(words, sets) {
