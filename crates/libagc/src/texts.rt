@@ -1,5 +1,5 @@
 // The lines that `agc` writes, in room that a caller lends.
-ghost use Rattle.std.specs.Prelude.{◌≡◌};
+ghost use Rattle.std.specs.Prelude.{◌≡◌, ◌⊎◌};
 ghost use Rattle.agc_image.specs.Codes.{Coded};
 ghost use Rattle.agc_image.specs.Images.{IsImage};
 
@@ -92,6 +92,7 @@ fn fired_of(fired: &[AgcFired; 9], count: u32) -> Option<Fired> {
 
 /// Writes a text into room that is lent, if it fits: how many bytes it has.
 fn hand_out(line: &[u8], text: &mut [u8]) -> AgcNumber
+    ensures code { (result.code ≡ 0) ⊎ (result.code ≡ 14) }
     ensures refused { ¬ (result.code ≡ 0) → text.new ≡ text.old }
 {
     let number = match u32::try_from(line.len()) {
@@ -141,6 +142,8 @@ pub extern "C" fn agc_write_report(
 ) -> AgcNumber
     ensures unopened { ¬ IsImage sets words.now
         → Coded result.code sets words.now (Unit {0}) (Unit {0}) (Unit {0}) }
+    ensures opened { IsImage sets words.now
+        → (result.code ≡ 0) ⊎ (result.code ≡ 4) ⊎ (result.code ≡ 14) }
     ensures refused { ¬ (result.code ≡ 0) → text.new ≡ text.old }
 {
     match image_fault(words, sets) {
