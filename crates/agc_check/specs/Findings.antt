@@ -11,10 +11,6 @@ use Rattle.agc_document.specs.declared.key_fault.KeyFault.TheVariants.{Unknown, 
 use Rattle.agc_document.specs.declared.notes.KeyNote.{KeyNote}
 use Rattle.agc_document.specs.declared.notes.TextNote.{TextNote}
 use Rattle.agc_document.specs.declared.place.Place.{Place}
-use Rattle.agc_document.specs.declared.refusal.Refusal.{Refusal}
-use Rattle.agc_document.specs.declared.refusal.Refusal.TheVariants as no
-use Rattle.agc_plan.specs.declared.plan.PlanFault.{PlanFault}
-use Rattle.agc_plan.specs.declared.plan.PlanFault.TheVariants as plan
 use Rattle.agc_check.specs.declared.wrong.Wrong.{Wrong}
 use Rattle.agc_check.specs.declared.wrong.Wrong.TheVariants as wrong
 use Rattle.agc_document.specs.Benches.{Benched, IsBench, bench_texts}
@@ -122,25 +118,22 @@ of_text n = record { place = n.place; wrong = wrong.Text n.form; text = n.text.n
 abbrev pub alone : Place → Wrong → List Said
 alone place what = say place what [] ∷ []
 
--- what was noted, or this alone where nothing was
-abbrev pub or_alone : {N : Type 0} → N → List N → List N
-or_alone one [] = one ∷ []
-or_alone one (n ∷ ns) = n ∷ ns
+-- of a document that is refused for this fault of its keys or its texts, one was noted
+abbrev pub IsNoted : BenchFault → List KeyNote → List TextNote → Type 0
+IsNoted refusal.Key keys texts = 1 ≤ length keys
+IsNoted refusal.Line keys texts = 1 ≤ length texts
+IsNoted fault keys texts = Unit {0}
 
--- the one thing to say of rows and entries that make no plan
-abbrev pub say_plan : PlanFault → Place → List Said
-say_plan plan.NoMemory place = []
-say_plan plan.TaskTwice place = alone place wrong.TaskTwice
-say_plan plan.PhaseTwice place = alone place wrong.PhaseTwice
-say_plan plan.TooManyAreas place = alone place wrong.TooManyAreas
-
--- what there is to say of a document that is refused for this, of whose keys and texts this was
--- noted
-abbrev pub to_say : List KeyNote → List TextNote → Refusal → List Said
-to_say keys texts no.NoMemory = []
-to_say keys texts (no.Key note) = map of_key (or_alone note keys) ++ map of_text texts
-to_say keys texts (no.Text note) = map of_text (or_alone note texts)
-to_say keys texts (no.Plan fault place) = say_plan fault place
+-- what there is to say of a document that is refused for this fault, of whose keys, texts and plan
+-- this was noted
+abbrev pub to_say : BenchFault → List KeyNote → List TextNote → Place → List Said
+to_say refusal.NoMemory keys texts plan = []
+to_say refusal.NotToml keys texts plan = alone plan wrong.NotToml
+to_say refusal.Key keys texts plan = map of_key keys ++ map of_text texts
+to_say refusal.Line keys texts plan = map of_text texts
+to_say refusal.TaskTwice keys texts plan = alone plan wrong.TaskTwice
+to_say refusal.PhaseTwice keys texts plan = alone plan wrong.PhaseTwice
+to_say refusal.TooManyAreas keys texts plan = alone plan wrong.TooManyAreas
 
 -- what comes of a text: nothing is found, and it is a bench; or it is refused for the fault of what
 -- is found first

@@ -37,8 +37,8 @@ pub fn scenario_findings(
             scenario: Some(scenario),
             findings: Vec::new(alloc),
         }),
-        Err(refusal) => {
-            let findings = found_in(alloc, document.text(), &notes, refusal)?;
+        Err(fault) => {
+            let findings = found_in(alloc, document.text(), &notes, fault)?;
             Ok(CheckedScenario {
                 scenario: None,
                 findings,

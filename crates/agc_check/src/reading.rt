@@ -1,18 +1,16 @@
 //! A bench, or what is wrong with the document that should be one.
 ghost use Rattle.std.specs.Prelude.{◌≡◌, ◌≤◌, [], ◌∷◌, ◌++◌, length, map, Some, IfOk};
 ghost use Rattle.std.specs.List.Sorted.{IsPermutation};
-ghost use Rattle.agc_document.specs.Faults.{bench_fault, fault_of_refusal};
 ghost use Rattle.agc_check.specs.Findings.{AreFindings, ChecksAs, refusal_of};
 ghost use Rattle.agc_check.specs.Findings.{alone, say, said, of_key, of_text};
-ghost use Rattle.agc_check.specs.Findings.{or_alone, say_plan, to_say};
+ghost use Rattle.agc_check.specs.Findings.{IsNoted, to_say};
 ghost use Rattle.agc_document.specs.declared.fault.BenchFault.TheVariants as refusal;
 
 use crate::document::{Document, NoDocument};
 use crate::finding::{Finding, Told, findings_of, make_finding};
 use crate::locate::places_in;
 use crate::wrong::Wrong;
-use agc_document::{Bench, KeyNote, Notes, Place, Refusal, TextNote, bench_of};
-use agc_plan::PlanFault;
+use agc_document::{Bench, BenchFault, KeyNote, Notes, Place, TextNote, bench_of};
 use std::alloc::{AllocError, Global};
 use toml::de::Error;
 
@@ -106,7 +104,7 @@ pub(crate) fn found_no_document(
 /// What was noted, or this alone where nothing was.
 fn or_alone<'a, N: Copy>(alone: &'a [N], noted: &'a [N]) -> &'a [N]
     requires { length alone.now ≡ 1 }
-    ensures says { (one : N) → alone.now ≡ one ∷ [] → result.now ≡ or_alone one noted.now }
+    ensures same { 1 ≤ length noted.now → result.now ≡ noted.now }
     ensures some { 1 ≤ length result.now }
     ensures few { length noted.now ≤ 20 → length result.now ≤ 20 }
 {
@@ -121,15 +119,14 @@ fn or_alone<'a, N: Copy>(alone: &'a [N], noted: &'a [N]) -> &'a [N]
 fn keys_and_texts(
     alloc: Global,
     document: &str,
-    note: KeyNote<'_>,
     notes: &Notes<'_>,
 ) -> Result<Vec<Finding>, AllocError>
     ensures are { IfOk result (λ v. AreFindings document.now refusal.Key v.items) }
-    ensures says { IfOk result (λ v. IsPermutation
-        (map of_key (or_alone note.entry notes.now.keys.items) ++ map of_text notes.now.texts.items)
+    ensures says { IfOk result (λ v. 1 ≤ length notes.now.keys.items → IsPermutation
+        (map of_key notes.now.keys.items ++ map of_text notes.now.texts.items)
         (map said v.items)) }
 {
-    let alone = [note];
+    let alone = [KeyNote::default()];
     let mut found = findings_of(alloc, document, or_alone(&alone, notes.keys.as_slice()))?;
     let mut texts = findings_of(alloc, document, notes.texts.as_slice())?;
     found.append(&mut texts)?;
@@ -138,62 +135,41 @@ fn keys_and_texts(
 
 /// What is wrong with texts alone.
 #[tactic(auto, using(crate::proofs::Found::found_front))]
-fn texts_alone(
-    alloc: Global,
-    document: &str,
-    note: TextNote<'_>,
-    notes: &Notes<'_>,
-) -> Result<Vec<Finding>, AllocError>
+fn texts_alone(alloc: Global, document: &str, notes: &Notes<'_>) -> Result<Vec<Finding>, AllocError>
     ensures are { IfOk result (λ v. AreFindings document.now refusal.Line v.items) }
-    ensures says { IfOk result (λ v. IsPermutation
-        (map of_text (or_alone note.entry notes.now.texts.items)) (map said v.items)) }
+    ensures says { IfOk result (λ v. 1 ≤ length notes.now.texts.items → IsPermutation
+        (map of_text notes.now.texts.items) (map said v.items)) }
 {
-    let alone = [note];
-    let found = findings_of(alloc, document, or_alone(&alone, notes.texts.as_slice()))?;
-    Ok(found)
+    let alone = [TextNote::default()];
+    findings_of(alloc, document, or_alone(&alone, notes.texts.as_slice()))
 }
 
-/// What is wrong with rows and entries that make no plan, at a place.
-#[tactic(auto, using(crate::proofs::Found::says_alone))]
-fn plan_findings(
-    alloc: Global,
-    document: &str,
-    fault: PlanFault,
-    place: Place,
-) -> Result<Vec<Finding>, AllocError>
-    ensures are { IfOk result (λ v. AreFindings document.now (bench_fault fault) v.items) }
-    ensures says { IfOk result (λ v. IsPermutation (say_plan fault place) (map said v.items)) }
-{
-    match fault {
-        PlanFault::NoMemory => Err(AllocError),
-        PlanFault::TaskTwice => found_at(alloc, document, place, Wrong::TaskTwice),
-        PlanFault::PhaseTwice => found_at(alloc, document, place, Wrong::PhaseTwice),
-        PlanFault::TooManyAreas => found_at(alloc, document, place, Wrong::TooManyAreas),
-    }
-}
-
-/// What is wrong with a document that is refused for this: each fault that was noted is told once,
-/// or this alone where none was, and nothing else. Source: profile.
+/// What is wrong with a document that is refused for this fault: each fault that was noted is told
+/// once, and nothing else. Source: profile.
 ///
 /// # Errors
 ///
 /// Where there is no memory.
+#[tactic(auto, using(crate::proofs::Found::says_alone))]
 pub fn found_in(
     alloc: Global,
     document: &str,
     notes: &Notes<'_>,
-    refusal: Refusal<'_>,
+    fault: BenchFault,
 ) -> Result<Vec<Finding>, AllocError>
-    ensures are { IfOk result (λ v.
-        AreFindings document.now (fault_of_refusal refusal.entry) v.items) }
-    ensures says { IfOk result (λ v. IsPermutation
-        (to_say notes.now.keys.items notes.now.texts.items refusal.entry) (map said v.items)) }
+    ensures are { IfOk result (λ v. AreFindings document.now fault v.items) }
+    ensures says { IfOk result (λ v. IsNoted fault notes.now.keys.items notes.now.texts.items
+        → IsPermutation (to_say fault notes.now.keys.items notes.now.texts.items notes.now.plan)
+        (map said v.items)) }
 {
-    match refusal {
-        Refusal::NoMemory => Err(AllocError),
-        Refusal::Key(note) => keys_and_texts(alloc, document, note, notes),
-        Refusal::Text(note) => texts_alone(alloc, document, note, notes),
-        Refusal::Plan(fault, place) => plan_findings(alloc, document, fault, place),
+    match fault {
+        BenchFault::NoMemory => Err(AllocError),
+        BenchFault::NotToml => found_at(alloc, document, notes.plan, Wrong::NotToml),
+        BenchFault::Key => keys_and_texts(alloc, document, notes),
+        BenchFault::Line => texts_alone(alloc, document, notes),
+        BenchFault::TaskTwice => found_at(alloc, document, notes.plan, Wrong::TaskTwice),
+        BenchFault::PhaseTwice => found_at(alloc, document, notes.plan, Wrong::PhaseTwice),
+        BenchFault::TooManyAreas => found_at(alloc, document, notes.plan, Wrong::TooManyAreas),
     }
 }
 
@@ -215,8 +191,8 @@ pub fn bench_findings(alloc: Global, document: &Document<'_>) -> Result<Checked,
             bench: Some(bench),
             findings: Vec::new(alloc),
         }),
-        Err(refusal) => {
-            let findings = found_in(alloc, document.text(), &notes, refusal)?;
+        Err(fault) => {
+            let findings = found_in(alloc, document.text(), &notes, fault)?;
             Ok(Checked {
                 bench: None,
                 findings,

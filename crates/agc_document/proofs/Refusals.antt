@@ -1,5 +1,5 @@
 -- Why a bench is refused, from why a part of it is.
-use Rattle.std.proofs.Common.{◌≡◌, ◌≢◌, ◌⊎◌, inl, inr, Option, Some, refl, sym, ap, subst}
+use Rattle.std.proofs.Common.{◌≡◌, ◌≢◌, ◌⊎◌, inl, inr, Option, Some, sym, ap, subst}
 use Rattle.std.specs.Option.{option_map}
 use Rattle.agc_plan.specs.Plans.{fault_of}
 use Rattle.agc_plan.specs.declared.plan.PlanFault.{PlanFault}
@@ -23,19 +23,15 @@ refused_because why other TaskTwice f h = absurd h
 refused_because why other PhaseTwice f h = absurd h
 refused_because why other TooManyAreas f h = absurd h
 
--- what follows from want of memory, and from texts that spell nothing, follows from their refusal
-pub by_line : (why : Type 0) (P : BenchFault → Type 0) (fault r : BenchFault) → (fault ≡ NoMemory → r ≡ NoMemory) → (fault ≢ NoMemory → r ≡ Line) → P NoMemory → (why → P Line) → RefusedLine why fault → P r
-by_line why P NoMemory r m l none some h = subst P (sym (m refl)) none
-by_line why P Line r m l none some h = subst P (sym (l (λ e. cc))) (some h)
-by_line why P NotToml r m l none some h = absurd h
-by_line why P Key r m l none some h = absurd h
-by_line why P TaskTwice r m l none some h = absurd h
-by_line why P PhaseTwice r m l none some h = absurd h
-by_line why P TooManyAreas r m l none some h = absurd h
-
 -- texts that spell no bench
-pub refused_line : (texts : Texts) (fault r : BenchFault) → (fault ≡ NoMemory → r ≡ NoMemory) → (fault ≢ NoMemory → r ≡ Line) → RefusedLine ((b : Benched) → IsInRange b → texts ≢ bench_texts b) fault → RefusesTexts texts r
-refused_line texts fault r m l h = by_line _ (RefusesTexts texts) fault r m l tt (λ never. never) h
+pub refused_line : (texts : Texts) (fault : BenchFault) → RefusedLine ((b : Benched) → IsInRange b → texts ≢ bench_texts b) fault → RefusesTexts texts fault
+refused_line texts NoMemory h = tt
+refused_line texts Line h = h
+refused_line texts NotToml h = absurd h
+refused_line texts Key h = absurd h
+refused_line texts TaskTwice h = absurd h
+refused_line texts PhaseTwice h = absurd h
+refused_line texts TooManyAreas h = absurd h
 
 -- texts of a bench whose rows and entries make no plan
 plan_refused : (texts : Texts) (b : Benched) (f : PlanFault) → IsInRange b → texts ≡ bench_texts b → fault_of b.rows b.entries ≡ Some f → RefusesTexts texts (bench_fault f)
@@ -44,9 +40,13 @@ plan_refused texts b plan.TaskTwice r t h = (b, r, t, ap (option_map bench_fault
 plan_refused texts b plan.PhaseTwice r t h = (b, r, t, ap (option_map bench_fault) h)
 plan_refused texts b plan.TooManyAreas r t h = (b, r, t, ap (option_map bench_fault) h)
 
-pub refused_plan : (texts : Texts) (b : Benched) (f : PlanFault) → IsInRange b → texts ≡ bench_texts b → (f ≡ plan.NoMemory) ⊎ (fault_of b.rows b.entries ≡ Some f) → RefusesTexts texts (bench_fault f)
-refused_plan texts b f r t (inl is) = subst (λ x. RefusesTexts texts (bench_fault x)) (sym is) tt
-refused_plan texts b f r t (inr h) = plan_refused texts b f r t h
+plan_or_none : (texts : Texts) (b : Benched) (f : PlanFault) → IsInRange b → texts ≡ bench_texts b → (f ≡ plan.NoMemory) ⊎ (fault_of b.rows b.entries ≡ Some f) → RefusesTexts texts (bench_fault f)
+plan_or_none texts b f r t (inl is) = subst (λ x. RefusesTexts texts (bench_fault x)) (sym is) tt
+plan_or_none texts b f r t (inr h) = plan_refused texts b f r t h
+
+pub refused_plan : (texts : Texts) (b : Benched) (f : PlanFault) (fault : BenchFault) → IsInRange b → texts ≡ bench_texts b → (f ≡ plan.NoMemory) ⊎ (fault_of b.rows b.entries ≡ Some f) → (fault ≡ NoMemory) ⊎ (fault ≡ bench_fault f) → RefusesTexts texts fault
+refused_plan texts b f fault r t h (inl is) = subst (RefusesTexts texts) (sym is) tt
+refused_plan texts b f fault r t h (inr is) = subst (RefusesTexts texts) (sym is) (plan_or_none texts b f r t h)
 
 -- a document whose texts spell none
 pub refused_texts : (document : Option Members) (ms : Members) (texts : Texts) (fault : BenchFault) → document ≡ Some ms → texts_by key.WORKERS key.DEVICES ms ≡ Some texts → RefusesTexts texts fault → RefusesBench document fault

@@ -13,8 +13,6 @@ use Rattle.agc_document.specs.declared.fault.BenchFault.TheVariants.{NoMemory as
 use Rattle.agc_document.specs.declared.fault.BenchFault.TheVariants.{NotToml, Key, Line as NoLine}
 use Rattle.agc_document.specs.declared.fault.BenchFault.TheVariants.{TaskTwice, PhaseTwice}
 use Rattle.agc_document.specs.declared.fault.BenchFault.TheVariants.{TooManyAreas}
-use Rattle.agc_document.specs.declared.refusal.Refusal.{Refusal}
-use Rattle.agc_document.specs.declared.refusal.Refusal.TheVariants as refusal
 use Rattle.agc_document.specs.Texts.{Texts}
 use Rattle.agc_document.specs.declared.rows.TheConstants.{DEVICES, WORKERS}
 use Rattle.agc_document.specs.Keys.{texts_by}
@@ -26,13 +24,6 @@ bench_fault NoMemoryToPlan = NoMemoryForBench
 bench_fault TwiceTask = TaskTwice
 bench_fault TwicePhase = PhaseTwice
 bench_fault ManyAreas = TooManyAreas
-
--- the fault of a bench that is refused for this
-abbrev pub fault_of_refusal : Refusal → BenchFault
-fault_of_refusal refusal.NoMemory = NoMemoryForBench
-fault_of_refusal (refusal.Key note) = Key
-fault_of_refusal (refusal.Text note) = NoLine
-fault_of_refusal (refusal.Plan fault place) = bench_fault fault
 
 -- the document is there, and its keys and kinds give these texts
 abbrev pub HasTexts : Option Members → Texts → Type 0

@@ -1,15 +1,13 @@
 -- For proofs: what a step of reading a bench returns.
 use Rattle.std.specs.Prelude.{◌≡◌, Option, Some, None, Result, Ok, Err}
 use Rattle.agc_document.specs.declared.fault.BenchFault.{BenchFault}
-use Rattle.agc_document.specs.declared.fault.BenchFault.TheVariants.{NoMemory, Line}
-use Rattle.agc_document.specs.declared.refusal.Refusal.{Refusal}
-use Rattle.agc_document.specs.declared.refusal.Refusal.TheVariants as refusal
+use Rattle.agc_document.specs.declared.fault.BenchFault.TheVariants.{NoMemory, Key, Line}
 
 -- what a call returned, seen by view, is this, and None is a fault of a key; want of memory aside
-abbrev pub GivesOrKey : {X Y : Type 0} → (X → Y) → Result X Refusal → Option Y → Type 0
+abbrev pub GivesOrKey : {X Y : Type 0} → (X → Y) → Result X BenchFault → Option Y → Type 0
 GivesOrKey view (Ok x) o = o ≡ Some (view x)
-GivesOrKey view (Err refusal.NoMemory) o = Unit {0}
-GivesOrKey view (Err (refusal.Key note)) o = o ≡ None
+GivesOrKey view (Err NoMemory) o = Unit {0}
+GivesOrKey view (Err Key) o = o ≡ None
 GivesOrKey view (Err _) o = ⊥
 
 -- the fault is Line for this reason, want of memory aside

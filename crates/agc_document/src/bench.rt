@@ -10,13 +10,12 @@ ghost use Rattle.agc_text.specs.Numbers.{octal};
 ghost use Rattle.agc_text.specs.Lines.{action_line_of};
 ghost use Rattle.agc_document.specs.Benches.{Benched, bench_texts, settings_texts, AreActions};
 ghost use Rattle.agc_document.specs.Benches.{IsPower, IsInRange, IsBench};
-ghost use Rattle.agc_document.specs.Faults.{fault_of_refusal, HasTexts, RefusesTexts, RefusesBench};
+ghost use Rattle.agc_document.specs.Faults.{bench_fault, HasTexts, RefusesTexts, RefusesBench};
 ghost use Rattle.agc_document.specs.Gives.{RefusedLine};
 
 use crate::fault::BenchFault;
 use crate::keys::texts_by;
 use crate::notes::Notes;
-use crate::refusal::Refusal;
 use crate::rows::{DEVICES, WORKERS};
 use crate::tables::{Site, table_of};
 use crate::texts::{Settings, Texts};
@@ -267,37 +266,44 @@ fn planned(alloc: Global, parts: &Parts) -> Result<(), PlanFault>
     }
 }
 
-/// The bench that numbers and texts spell; each text was looked at when it was read. Source:
-/// profile.
+/// The fault of a bench whose plan has this one. Its place is noted.
+fn fault_at(alloc: Global, fault: PlanFault, parts: &Parts, notes: &mut Notes<'_>) -> BenchFault
+    ensures { (result ≡ BenchFault.NoMemory) ⊎ (result ≡ bench_fault fault) }
+{
+    match refused_at(
+        alloc,
+        fault,
+        parts.rows.as_slice(),
+        parts.entries.as_slice(),
+    ) {
+        Ok(place) => {
+            notes.plan = place;
+            BenchFault::from(fault)
+        }
+        Err(_error) => BenchFault::NoMemory,
+    }
+}
+
+/// The bench that numbers and texts spell; each text was looked at when it was read. Where rows and
+/// entries make no plan, the place is noted. Source: profile.
 ///
 /// # Errors
 ///
 /// The first that applies: a text that is not of its form, or rows and entries that make no plan.
 /// `NoMemory` may come in place of any.
 #[tactic(auto, using(crate::proofs::Refusals::refused_line, crate::proofs::Refusals::refused_plan))]
-pub fn bench_from<'a>(
+pub fn bench_from(
     alloc: Global,
     texts: &Texts<'_>,
-    notes: &Notes<'a>,
-) -> Result<Bench, Refusal<'a>>
+    notes: &mut Notes<'_>,
+) -> Result<Bench, BenchFault>
     ensures found { IfOk result (λ b. IsBench b × (texts.now ≡ bench_texts b)) }
-    ensures refused { IfErr result (λ r. RefusesTexts texts.now (fault_of_refusal r)) }
+    ensures refused { IfErr result (RefusesTexts texts.now) }
 {
-    let parts = match parts_of(alloc, texts) {
-        Ok(parts) => parts,
-        Err(fault) => return Err(notes.refusal(fault)),
-    };
+    let parts = parts_of(alloc, texts)?;
     match planned(alloc, &parts) {
         Ok(()) => Ok(Bench { parts }),
-        Err(fault) => match refused_at(
-            alloc,
-            fault,
-            parts.rows.as_slice(),
-            parts.entries.as_slice(),
-        ) {
-            Ok(place) => Err(Refusal::Plan(fault, place)),
-            Err(_error) => Err(Refusal::NoMemory),
-        },
+        Err(fault) => Err(fault_at(alloc, fault, &parts, notes)),
     }
 }
 
@@ -312,21 +318,13 @@ pub fn bench_of<'a>(
     alloc: Global,
     table: &'a Table,
     notes: &mut Notes<'a>,
-) -> Result<Bench, Refusal<'a>>
+) -> Result<Bench, BenchFault>
     ensures found { IfOk result (λ b. IsBench b
         × HasTexts (Some (table_view table.now)) (bench_texts b)) }
-    ensures refused { IfErr result (λ r.
-        RefusesBench (Some (table_view table.now)) (fault_of_refusal r)) }
+    ensures refused { IfErr result (RefusesBench (Some (table_view table.now))) }
 {
-    match texts_by(Site::of_document(alloc, table), WORKERS, DEVICES, notes) {
-        Ok(texts) => {
-            let bench = bench_from(alloc, &texts, notes);
-            // (by name, since the prover goes through its parts at the end of each branch else)
-            drop(texts);
-            bench
-        }
-        Err(refusal) => Err(refusal),
-    }
+    let texts = texts_by(Site::of_document(alloc, table), WORKERS, DEVICES, notes)?;
+    bench_from(alloc, &texts, notes)
 }
 
 /// The bench that a TOML document is: its values, and for each key that is missing the value that
@@ -345,10 +343,7 @@ pub fn read_bench(alloc: Global, text: &str) -> Result<Bench, BenchFault>
     ensures refused { IfErr result (RefusesBench (parse_document text.now)) }
 {
     match table_of(alloc, text) {
-        Ok(Ok(table)) => match bench_of(alloc, &table, &mut Notes::new(false)) {
-            Ok(bench) => Ok(bench),
-            Err(refusal) => Err(BenchFault::from(refusal)),
-        },
+        Ok(Ok(table)) => bench_of(alloc, &table, &mut Notes::new(false)),
         Ok(Err(_error)) => Err(BenchFault::NotToml),
         Err(_error) => Err(BenchFault::NoMemory),
     }

@@ -10,10 +10,10 @@ ghost use Rattle.agc_document.specs.Keys.{least, most, texts_of, read_at, read_o
 ghost use Rattle.agc_document.specs.Keys.{numbers_in, settings_in, lists_in, texts_by};
 ghost use Rattle.agc_document.specs.declared.rows.TheConstants as key_of;
 
+use crate::fault::BenchFault;
 use crate::key::{Key, Kind};
 use crate::key_fault::Level;
 use crate::notes::Notes;
-use crate::refusal::Refusal;
 use crate::rows::{
     ACTION, ALLOWANCE, AT, ATTENDS, BANK, BENCH_KEYS, DEVICE_KEYS, EXPLORED_WORKER_KEYS, GROUP,
     JOB, KEY, LIMIT, LINE, LISTING, PHASE, PHASE_KEYS, PHASES, POWER, PULSES, RADAR, REQUESTS,
@@ -30,7 +30,7 @@ impl<'a> FromTable<'a> for RowTexts<'a> {
 
     ghost fields = { λ k. row };
 
-    fn known(site: Site<'a>, _key: Key, notes: &mut Notes<'a>) -> Result<(), Refusal<'a>> {
+    fn known(site: Site<'a>, _key: Key, notes: &mut Notes<'a>) -> Result<(), BenchFault> {
         has_only(site, &TASK_KEYS, Level::Task, notes)
     }
 
@@ -39,13 +39,13 @@ impl<'a> FromTable<'a> for RowTexts<'a> {
         site: Site<'a>,
         _key: Key,
         notes: &mut Notes<'a>,
-    ) -> Result<RowTexts<'a>, Refusal<'a>> {
+    ) -> Result<RowTexts<'a>, BenchFault> {
         let at = read_at(site, AT, notes);
         let bank = read_at(site, BANK, notes);
         let actions = read_at(site, ACTION, notes);
         match (at, bank, actions) {
             (Ok(at), Ok(bank), Ok(actions)) => Ok(RowTexts { at, bank, actions }),
-            (Err(refusal), ..) | (_, Err(refusal), _) | (.., Err(refusal)) => Err(refusal),
+            (Err(fault), ..) | (_, Err(fault), _) | (.., Err(fault)) => Err(fault),
         }
     }
 }
@@ -55,7 +55,7 @@ impl<'a> FromTable<'a> for EntryTexts<'a> {
 
     ghost fields = { λ k. entry };
 
-    fn known(site: Site<'a>, _key: Key, notes: &mut Notes<'a>) -> Result<(), Refusal<'a>> {
+    fn known(site: Site<'a>, _key: Key, notes: &mut Notes<'a>) -> Result<(), BenchFault> {
         has_only(site, &PHASE_KEYS, Level::Phase, notes)
     }
 
@@ -64,9 +64,9 @@ impl<'a> FromTable<'a> for EntryTexts<'a> {
         site: Site<'a>,
         _key: Key,
         notes: &mut Notes<'a>,
-    ) -> Result<EntryTexts<'a>, Refusal<'a>> {
-        let group: Result<u64, Refusal<'a>> = read_at(site, GROUP, notes);
-        let phase: Result<u64, Refusal<'a>> = read_at(site, PHASE, notes);
+    ) -> Result<EntryTexts<'a>, BenchFault> {
+        let group: Result<u64, BenchFault> = read_at(site, GROUP, notes);
+        let phase: Result<u64, BenchFault> = read_at(site, PHASE, notes);
         let job = read_if(site, JOB, notes);
         let task = read_if(site, LISTING, notes);
         match (group, phase, job, task) {
@@ -76,8 +76,8 @@ impl<'a> FromTable<'a> for EntryTexts<'a> {
                 job,
                 task,
             }),
-            (Err(refusal), ..) | (_, Err(refusal), ..) => Err(refusal),
-            (.., Err(refusal), _) | (.., Err(refusal)) => Err(refusal),
+            (Err(fault), ..) | (_, Err(fault), ..) => Err(fault),
+            (.., Err(fault), _) | (.., Err(fault)) => Err(fault),
         }
     }
 }
@@ -87,7 +87,7 @@ impl<'a> FromTable<'a> for WorkerTexts<'a> {
 
     ghost fields = { λ k. read_at texts_of key_of.REQUESTS };
 
-    fn known(site: Site<'a>, key: Key, notes: &mut Notes<'a>) -> Result<(), Refusal<'a>> {
+    fn known(site: Site<'a>, key: Key, notes: &mut Notes<'a>) -> Result<(), BenchFault> {
         match key.kind() {
             Kind::Explored(_low, _high) => {
                 has_only(site, &EXPLORED_WORKER_KEYS, Level::Explored, notes)
@@ -100,18 +100,16 @@ impl<'a> FromTable<'a> for WorkerTexts<'a> {
         site: Site<'a>,
         _key: Key,
         notes: &mut Notes<'a>,
-    ) -> Result<WorkerTexts<'a>, Refusal<'a>> {
-        match read_at(site, REQUESTS, notes) {
-            Ok(script) => Ok(WorkerTexts { script }),
-            Err(refusal) => Err(refusal),
-        }
+    ) -> Result<WorkerTexts<'a>, BenchFault> {
+        let script = read_at(site, REQUESTS, notes)?;
+        Ok(WorkerTexts { script })
     }
 }
 
 /// How many pulses the device has that a table is, by the key of the devices. One that is explored
 /// and has no number of them never stops; it is given one.
 #[tactic(auto, unfolding(crate::specs::Keys::pulses_by))]
-fn pulses_by<'a>(site: Site<'a>, devices: Key, notes: &mut Notes<'a>) -> Result<u64, Refusal<'a>>
+fn pulses_by<'a>(site: Site<'a>, devices: Key, notes: &mut Notes<'a>) -> Result<u64, BenchFault>
     ensures value { GivesOrKey (λ x. x) result
         (pulses_by (kind_of devices) (table_view site.entry.table.now)) }
     ensures range { IfOk result (λ x. x ≤ 1000000) }
@@ -127,7 +125,7 @@ impl<'a> FromTable<'a> for DeviceTexts<'a> {
 
     ghost fields = { device };
 
-    fn known(site: Site<'a>, _key: Key, notes: &mut Notes<'a>) -> Result<(), Refusal<'a>> {
+    fn known(site: Site<'a>, _key: Key, notes: &mut Notes<'a>) -> Result<(), BenchFault> {
         has_only(site, &DEVICE_KEYS, Level::Device, notes)
     }
 
@@ -136,7 +134,7 @@ impl<'a> FromTable<'a> for DeviceTexts<'a> {
         site: Site<'a>,
         key: Key,
         notes: &mut Notes<'a>,
-    ) -> Result<DeviceTexts<'a>, Refusal<'a>> {
+    ) -> Result<DeviceTexts<'a>, BenchFault> {
         let line = read_at(site, LINE, notes);
         let pulses = pulses_by(site, key, notes);
         match (line, pulses) {
@@ -144,7 +142,7 @@ impl<'a> FromTable<'a> for DeviceTexts<'a> {
                 line,
                 pulses: pulses as u32,
             }),
-            (Err(refusal), _) | (_, Err(refusal)) => Err(refusal),
+            (Err(fault), _) | (_, Err(fault)) => Err(fault),
         }
     }
 }
@@ -166,30 +164,26 @@ fn sets_for(number: u64) -> Sets
 fn numbers_in<'a>(
     site: Site<'a>,
     notes: &mut Notes<'a>,
-) -> Result<(Sets, u32, u64, u32), Refusal<'a>>
+) -> Result<(Sets, u32, u64, u32), BenchFault>
     ensures value { GivesOrKey (λ n. (count_of n.0, n.1, n.2, n.3)) result
         (numbers_in (table_view site.entry.table.now)) }
     ensures range { IfOk result (λ n. (n.2 ≤ 9223372036854775807) × (n.3 ≤ 1000)) }
 {
-    let sets: Result<u64, Refusal<'a>> = read_or(site, SETS, 7, notes);
-    let limit: Result<u64, Refusal<'a>> = read_or(site, LIMIT, 1000, notes);
-    let allowance: Result<u64, Refusal<'a>> = read_or(site, ALLOWANCE, 1_000_000, notes);
-    let attends: Result<u64, Refusal<'a>> = read_or(site, ATTENDS, 16, notes);
+    let sets: Result<u64, BenchFault> = read_or(site, SETS, 7, notes);
+    let limit: Result<u64, BenchFault> = read_or(site, LIMIT, 1000, notes);
+    let allowance: Result<u64, BenchFault> = read_or(site, ALLOWANCE, 1_000_000, notes);
+    let attends: Result<u64, BenchFault> = read_or(site, ATTENDS, 16, notes);
     match (sets, limit, allowance, attends) {
         (Ok(sets), Ok(limit), Ok(allowance), Ok(attends)) => {
             Ok((sets_for(sets), limit as u32, allowance, attends as u32))
         }
-        (Err(refusal), ..) | (_, Err(refusal), ..) => Err(refusal),
-        (.., Err(refusal), _) | (.., Err(refusal)) => Err(refusal),
+        (Err(fault), ..) | (_, Err(fault), ..) => Err(fault),
+        (.., Err(fault), _) | (.., Err(fault)) => Err(fault),
     }
 }
 
 /// What is done for a pulse, by its key: nothing where it is missing.
-fn pulse_in<'a>(
-    site: Site<'a>,
-    key: Key,
-    notes: &mut Notes<'a>,
-) -> Result<TextList<'a>, Refusal<'a>>
+fn pulse_in<'a>(site: Site<'a>, key: Key, notes: &mut Notes<'a>) -> Result<TextList<'a>, BenchFault>
     requires { IsBetween (least key) (most key) 1 }
     ensures value { GivesOrKey (λ t. t) result
         (read_or (codes "nothing" ∷ []) texts_of key (table_view site.entry.table.now)) }
@@ -201,7 +195,7 @@ fn pulse_in<'a>(
 
 /// What a bench has once, of the table of a document.
 #[tactic(auto, unfolding(crate::specs::Keys::settings_in))]
-pub fn settings_in<'a>(site: Site<'a>, notes: &mut Notes<'a>) -> Result<Settings<'a>, Refusal<'a>>
+pub fn settings_in<'a>(site: Site<'a>, notes: &mut Notes<'a>) -> Result<Settings<'a>, BenchFault>
     ensures value { GivesOrKey (λ s. s) result (settings_in (table_view site.entry.table.now)) }
 {
     let numbers = numbers_in(site, notes);
@@ -218,8 +212,8 @@ pub fn settings_in<'a>(site: Site<'a>, notes: &mut Notes<'a>) -> Result<Settings
             radar,
             power,
         }),
-        (Err(refusal), ..) | (_, Err(refusal), ..) => Err(refusal),
-        (.., Err(refusal), _) | (.., Err(refusal)) => Err(refusal),
+        (Err(fault), ..) | (_, Err(fault), ..) => Err(fault),
+        (.., Err(fault), _) | (.., Err(fault)) => Err(fault),
     }
 }
 
@@ -229,7 +223,7 @@ fn lists_in<'a>(
     workers: Key,
     devices: Key,
     notes: &mut Notes<'a>,
-) -> Result<Lists<'a>, Refusal<'a>>
+) -> Result<Lists<'a>, BenchFault>
     requires workers { bounds_of (kind_of workers) ≡ (0, 32) }
     requires devices { bounds_of (kind_of devices) ≡ (0, 32) }
     ensures value { GivesOrKey (λ l. l) result
@@ -248,8 +242,8 @@ fn lists_in<'a>(
             workers,
             devices,
         }),
-        (Err(refusal), ..) | (_, Err(refusal), ..) | (_, _, Err(refusal), ..) => Err(refusal),
-        (.., Err(refusal), _) | (.., Err(refusal)) => Err(refusal),
+        (Err(fault), ..) | (_, Err(fault), ..) | (_, _, Err(fault), ..) => Err(fault),
+        (.., Err(fault), _) | (.., Err(fault)) => Err(fault),
     }
 }
 
@@ -261,7 +255,7 @@ pub fn texts_by<'a>(
     workers: Key,
     devices: Key,
     notes: &mut Notes<'a>,
-) -> Result<Texts<'a>, Refusal<'a>>
+) -> Result<Texts<'a>, BenchFault>
     requires workers { bounds_of (kind_of workers) ≡ (0, 32) }
     requires devices { bounds_of (kind_of devices) ≡ (0, 32) }
     ensures value { GivesOrKey (λ t. t) result
@@ -272,6 +266,6 @@ pub fn texts_by<'a>(
     let lists = lists_in(site, workers, devices, notes);
     match (settings, lists) {
         (Ok(settings), Ok(lists)) => Ok(Texts { settings, lists }),
-        (Err(refusal), _) | (_, Err(refusal)) => Err(refusal),
+        (Err(fault), _) | (_, Err(fault)) => Err(fault),
     }
 }

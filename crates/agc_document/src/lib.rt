@@ -9,7 +9,6 @@ mod key_fault;
 mod keys;
 mod notes;
 mod place;
-mod refusal;
 pub mod rows;
 mod tables;
 mod texts;
@@ -25,7 +24,6 @@ pub use key_fault::{KeyFault, Level};
 pub use keys::{settings_in, texts_by};
 pub use notes::{KeyNote, Notes, TextNote};
 pub use place::Place;
-pub use refusal::Refusal;
 pub use tables::{
     FromData, FromTable, Placed, Site, has_only, items_of, items_or_none, read_at, read_if,
     read_or, table_in, table_of, value_of,

@@ -1,13 +1,11 @@
 //! What is found wrong while a document is read.
-ghost use Rattle.std.specs.Prelude.{◌≡◌, ◌≢◌};
-ghost use Rattle.agc_document.specs.Faults.{fault_of_refusal};
-ghost use Rattle.agc_document.specs.declared.fault.BenchFault.TheVariants.{NoMemory, Line};
+ghost use Rattle.std.specs.Prelude.{◌≡◌};
+ghost use Rattle.agc_document.specs.declared.fault.BenchFault.TheVariants.{Key as WrongKey};
 
 use crate::fault::BenchFault;
 use crate::key::{Form, Key};
 use crate::key_fault::KeyFault;
 use crate::place::Place;
-use crate::refusal::Refusal;
 use crate::rows::SETS;
 use arrayvec::ArrayVec;
 
@@ -51,11 +49,13 @@ impl<'a> Default for TextNote<'a> {
 }
 
 /// All that is wrong with a document's keys, and with its texts, if that is wanted and not only the
-/// first: of either the first twenty.
+/// first fault: of either the first twenty. And the place for which its rows and entries make no
+/// plan.
 #[derive(Drop)]
 pub struct Notes<'a> {
     pub keys: ArrayVec<KeyNote<'a>, MOST_NOTED>,
     pub texts: ArrayVec<TextNote<'a>, MOST_NOTED>,
+    pub plan: Place,
     is_whole: bool,
 }
 
@@ -64,17 +64,19 @@ impl<'a> Notes<'a> {
         Notes {
             keys: ArrayVec::new(),
             texts: ArrayVec::new(),
+            plan: Place::Whole,
             is_whole,
         }
     }
 
-    /// What is wrong with a key, which is noted if that is wanted.
-    pub fn key(&mut self, place: Place, text: &'a str, fault: KeyFault) -> KeyNote<'a> {
-        let note = KeyNote { place, text, fault };
+    /// Notes what is wrong with a key, if that is wanted: a fault `Key`.
+    pub fn key(&mut self, place: Place, text: &'a str, fault: KeyFault) -> BenchFault
+        ensures { result ≡ WrongKey }
+    {
         if self.is_whole && self.keys.len() < MOST_NOTED {
-            self.keys.push(note);
+            self.keys.push(KeyNote { place, text, fault });
         }
-        note
+        BenchFault::Key
     }
 
     /// Notes a text that isn't of its key's form, if that is wanted.
@@ -84,20 +86,6 @@ impl<'a> Notes<'a> {
         };
         if self.is_whole && self.texts.len() < MOST_NOTED && !form.is_spelled_by(text) {
             self.texts.push(TextNote { place, text, form });
-        }
-    }
-
-    /// Why texts spell nothing, by the fault of one of them: each was looked at when it was read.
-    pub fn refusal(&self, fault: BenchFault) -> Refusal<'a>
-        ensures memory { fault ≡ NoMemory → fault_of_refusal result ≡ NoMemory }
-        ensures line { fault ≢ NoMemory → fault_of_refusal result ≡ Line }
-    {
-        match fault {
-            BenchFault::NoMemory => Refusal::NoMemory,
-            _ => match self.texts.first() {
-                Some(note) => Refusal::Text(*note),
-                None => Refusal::Text(TextNote::default()),
-            },
         }
     }
 }

@@ -17,11 +17,11 @@ ghost use Rattle.agc_document.specs.Keys.{flag_of, text_of, texts_of, least, mos
 ghost use Rattle.agc_document.specs.Keys.{read_or, read_if, each, counted, items_of, one_in};
 ghost use Rattle.agc_document.specs.Keys.{table_with};
 
+use crate::fault::BenchFault;
 use crate::key::{Key, Kind};
 use crate::key_fault::{KeyFault, Level};
-use crate::notes::{KeyNote, Notes};
+use crate::notes::Notes;
 use crate::place::Place;
-use crate::refusal::Refusal;
 use crate::texts::{Text, TextList};
 use std::alloc::{AllocError, Global};
 use toml::de::Error;
@@ -134,21 +134,13 @@ fn is_known(table: &Table, among: &[Key]) -> bool
     all_among(table, among)
 }
 
-/// The first key of a table that is none of these; each is noted.
-fn first_unknown<'a>(
-    site: Site<'a>,
-    among: &[Key],
-    level: Level,
-    notes: &mut Notes<'a>,
-) -> KeyNote<'a> {
-    let mut first: Option<KeyNote<'a>> = None;
+/// Notes each key of a table that is none of these.
+fn note_unknown<'a>(site: Site<'a>, among: &[Key], level: Level, notes: &mut Notes<'a>) {
     for name in site.table.keys() {
         if !is_among(among, name.as_str()) {
-            let note = notes.key(site.place, name.as_str(), KeyFault::Unknown(level));
-            first = first.or(Some(note));
+            notes.key(site.place, name.as_str(), KeyFault::Unknown(level));
         }
     }
-    first.unwrap_or(KeyNote::default())
 }
 
 /// Whether a table has these keys, those of its level, and no others.
@@ -157,37 +149,40 @@ pub fn has_only<'a>(
     among: &[Key],
     level: Level,
     notes: &mut Notes<'a>,
-) -> Result<(), Refusal<'a>>
+) -> Result<(), BenchFault>
     ensures value { GivesOrKey (λ _. table_view site.entry.table.now) result
         (known_to among.now (table_view site.entry.table.now)) }
 {
     if is_known(site.table, among) {
         return Ok(());
     }
-    Err(Refusal::Key(first_unknown(site, among, level, notes)))
+    note_unknown(site, among, level, notes);
+    Err(BenchFault::Key)
 }
 
-/// What is wrong with a value, which is noted.
-fn note_of<'a>(placed: Placed<'a>, notes: &mut Notes<'a>) -> KeyNote<'a> {
+/// Notes what is wrong with a value: a fault `Key`.
+fn wrong_value<'a>(placed: Placed<'a>, notes: &mut Notes<'a>) -> BenchFault
+    ensures { result ≡ BenchFault.Key }
+{
     notes.key(placed.place, "", placed.place.fault(placed.key))
 }
 
-/// What a value was read as, or what is wrong with it, which is noted.
+/// What a value was read as. A fault `Key` where it is nothing; it is noted.
 fn or_note<'a, T: Drop>(
     read: Option<T>,
     placed: Placed<'a>,
     notes: &mut Notes<'a>,
-) -> Result<T, Refusal<'a>>
+) -> Result<T, BenchFault>
     ensures { GivesOrKey (λ x. x) result read }
 {
     match read {
         Some(found) => Ok(found),
-        None => Err(Refusal::Key(note_of(placed, notes))),
+        None => Err(wrong_value(placed, notes)),
     }
 }
 
 /// The table that a value is, an item of a key's array.
-pub fn table_in<'a>(placed: Placed<'a>, notes: &mut Notes<'a>) -> Result<Site<'a>, Refusal<'a>>
+pub fn table_in<'a>(placed: Placed<'a>, notes: &mut Notes<'a>) -> Result<Site<'a>, BenchFault>
     ensures value { GivesOrKey (λ s. table_view s.table.now) result
         (as_table (view placed.entry.value.now)) }
 {
@@ -197,7 +192,7 @@ pub fn table_in<'a>(placed: Placed<'a>, notes: &mut Notes<'a>) -> Result<Site<'a
             table,
             place: placed.place.of_table(),
         }),
-        None => Err(Refusal::Key(note_of(placed, notes))),
+        None => Err(wrong_value(placed, notes)),
     }
 }
 
@@ -224,7 +219,7 @@ pub trait FromData<'a>: Sized + Drop {
     ghost IsAllowed: { AnyKey → Self → Type 0 };
 
     /// What a value is. A fault `Key` where it is no such thing.
-    fn from_value(placed: Placed<'a>, notes: &mut Notes<'a>) -> Result<Self, Refusal<'a>>
+    fn from_value(placed: Placed<'a>, notes: &mut Notes<'a>) -> Result<Self, BenchFault>
         ensures value { GivesOrKey (λ x. x) result
             (reads placed.entry.key (view placed.entry.value.now)) }
         ensures range { IfOk result (IsAllowed placed.entry.key) };
@@ -239,12 +234,12 @@ pub trait FromTable<'a>: Sized + Drop {
     ghost fields: { AnyKey → Members → Option Self };
 
     /// Whether a table has these keys and no others.
-    fn known(site: Site<'a>, key: Key, notes: &mut Notes<'a>) -> Result<(), Refusal<'a>>
+    fn known(site: Site<'a>, key: Key, notes: &mut Notes<'a>) -> Result<(), BenchFault>
         ensures { GivesOrKey (λ _. table_view site.entry.table.now) result
             (known_to (keys key) (table_view site.entry.table.now)) };
 
     /// What it is. A fault `Key` where it is no such thing.
-    fn from_table(site: Site<'a>, key: Key, notes: &mut Notes<'a>) -> Result<Self, Refusal<'a>>
+    fn from_table(site: Site<'a>, key: Key, notes: &mut Notes<'a>) -> Result<Self, BenchFault>
         ensures { GivesOrKey (λ x. x) result (fields key (table_view site.entry.table.now)) };
 }
 
@@ -253,14 +248,10 @@ impl<'a, T: FromTable<'a>> FromData<'a> for T {
 
     ghost IsAllowed = { λ k x. Unit {0} };
 
-    fn from_value(placed: Placed<'a>, notes: &mut Notes<'a>) -> Result<T, Refusal<'a>> {
-        match table_in(placed, notes) {
-            Ok(site) => {
-                let known = T::known(site, placed.key, notes);
-                known.and(T::from_table(site, placed.key, notes))
-            }
-            Err(refusal) => Err(refusal),
-        }
+    fn from_value(placed: Placed<'a>, notes: &mut Notes<'a>) -> Result<T, BenchFault> {
+        let site = table_in(placed, notes)?;
+        let known = T::known(site, placed.key, notes);
+        known.and(T::from_table(site, placed.key, notes))
     }
 }
 
@@ -288,7 +279,7 @@ impl<'a> FromData<'a> for u64 {
 
     ghost IsAllowed = { λ k n. IsBetween (least k) (most k) n };
 
-    fn from_value(placed: Placed<'a>, notes: &mut Notes<'a>) -> Result<u64, Refusal<'a>> {
+    fn from_value(placed: Placed<'a>, notes: &mut Notes<'a>) -> Result<u64, BenchFault> {
         or_note(number_in(placed.value, placed.key), placed, notes)
     }
 }
@@ -298,7 +289,7 @@ impl<'a> FromData<'a> for bool {
 
     ghost IsAllowed = { λ k b. Unit {0} };
 
-    fn from_value(placed: Placed<'a>, notes: &mut Notes<'a>) -> Result<bool, Refusal<'a>> {
+    fn from_value(placed: Placed<'a>, notes: &mut Notes<'a>) -> Result<bool, BenchFault> {
         or_note(placed.value.as_bool(), placed, notes)
     }
 }
@@ -308,13 +299,13 @@ impl<'a> FromData<'a> for Text<'a> {
 
     ghost IsAllowed = { λ k t. Unit {0} };
 
-    fn from_value(placed: Placed<'a>, notes: &mut Notes<'a>) -> Result<Text<'a>, Refusal<'a>> {
+    fn from_value(placed: Placed<'a>, notes: &mut Notes<'a>) -> Result<Text<'a>, BenchFault> {
         match placed.value.as_str() {
             Some(text) => {
                 notes.look_at(placed.place, text, placed.key);
                 Ok(Text::new(text))
             }
-            None => Err(Refusal::Key(note_of(placed, notes))),
+            None => Err(wrong_value(placed, notes)),
         }
     }
 }
@@ -334,7 +325,7 @@ fn alone<'a>(
     text: &'a str,
     placed: Placed<'a>,
     notes: &mut Notes<'a>,
-) -> Result<Vec<Text<'a>>, Refusal<'a>>
+) -> Result<Vec<Text<'a>>, BenchFault>
     ensures value { GivesOrKey (λ v. v.items) result
         (counted placed.entry.key (text.entry.now ∷ [])) }
     ensures few { IfOk result (λ v.
@@ -350,22 +341,19 @@ impl<'a> FromData<'a> for TextList<'a> {
 
     ghost IsAllowed = { λ k ts. IsBetween (least k) (most k) (length ts) };
 
-    fn from_value(placed: Placed<'a>, notes: &mut Notes<'a>) -> Result<TextList<'a>, Refusal<'a>> {
+    fn from_value(placed: Placed<'a>, notes: &mut Notes<'a>) -> Result<TextList<'a>, BenchFault> {
         let texts = match one_in(placed.value, placed.key) {
-            Some(text) => alone(text, placed, notes),
-            None => items_of(placed, notes),
+            Some(text) => alone(text, placed, notes)?,
+            None => items_of(placed, notes)?,
         };
-        match texts {
-            Ok(texts) => Ok(TextList { texts }),
-            Err(refusal) => Err(refusal),
-        }
+        Ok(TextList { texts })
     }
 }
 
 /// Looks at an item of an array, if it is wanted, and notes what is wrong with it.
 fn note_item<'a, T: FromData<'a>>(placed: Placed<'a>, is_wanted: bool, notes: &mut Notes<'a>) {
     if is_wanted {
-        let _item: Result<T, Refusal<'a>> = T::from_value(placed, notes);
+        let _item: Result<T, BenchFault> = T::from_value(placed, notes);
     }
 }
 
@@ -386,7 +374,7 @@ fn items_in_order<'a, T: FromData<'a>>(
     values: &'a [Value],
     array: Placed<'a>,
     notes: &mut Notes<'a>,
-) -> Result<Vec<T>, Refusal<'a>>
+) -> Result<Vec<T>, BenchFault>
     ensures value { GivesOrKey (λ v. v.items) result
         (each (T.reads array.entry.key) (items_view values.now)) }
 {
@@ -408,7 +396,7 @@ fn counted<'a, T: Drop>(
     items: Vec<T>,
     placed: Placed<'a>,
     notes: &mut Notes<'a>,
-) -> Result<Vec<T>, Refusal<'a>>
+) -> Result<Vec<T>, BenchFault>
     ensures value { GivesOrKey (λ v. v.items) result (counted placed.entry.key items.items) }
     ensures few { IfOk result (λ v.
         IsBetween (least placed.entry.key) (most placed.entry.key) (length v.items)) }
@@ -416,7 +404,7 @@ fn counted<'a, T: Drop>(
     let (low, high) = placed.key.bounds();
     let count = items.len() as u64;
     if count < low || high < count {
-        return Err(Refusal::Key(note_of(placed, notes)));
+        return Err(wrong_value(placed, notes));
     }
     Ok(items)
 }
@@ -425,24 +413,17 @@ fn counted<'a, T: Drop>(
 pub fn items_of<'a, T: FromData<'a>>(
     placed: Placed<'a>,
     notes: &mut Notes<'a>,
-) -> Result<Vec<T>, Refusal<'a>>
+) -> Result<Vec<T>, BenchFault>
     ensures value { GivesOrKey (λ v. v.items) result
         (items_of (T.reads placed.entry.key) placed.entry.key (view placed.entry.value.now)) }
     ensures few { IfOk result (λ v.
         IsBetween (least placed.entry.key) (most placed.entry.key) (length v.items)) }
 {
     match placed.value.as_array() {
-        None => Err(Refusal::Key(note_of(placed, notes))),
+        None => Err(wrong_value(placed, notes)),
         Some(values) => {
-            let items: Result<Vec<T>, Refusal<'a>> = items_in_order(
-                values.as_slice(),
-                placed,
-                notes,
-            );
-            match items {
-                Ok(items) => counted(items, placed, notes),
-                Err(refusal) => Err(refusal),
-            }
+            let items = items_in_order(values.as_slice(), placed, notes)?;
+            counted(items, placed, notes)
         }
     }
 }
@@ -452,7 +433,7 @@ pub fn items_or_none<'a, T: FromData<'a>>(
     site: Site<'a>,
     key: Key,
     notes: &mut Notes<'a>,
-) -> Result<Vec<T>, Refusal<'a>>
+) -> Result<Vec<T>, BenchFault>
     requires { least key ≡ 0 }
     ensures value { GivesOrKey (λ v. v.items) result
         (read_or [] (λ k. items_of (T.reads k) k) key (table_view site.entry.table.now)) }
@@ -469,7 +450,7 @@ pub fn read_at<'a, T: FromData<'a>>(
     site: Site<'a>,
     key: Key,
     notes: &mut Notes<'a>,
-) -> Result<T, Refusal<'a>>
+) -> Result<T, BenchFault>
     requires { is_required key ≡ true }
     ensures value { GivesOrKey (λ x. x) result
         (read_at T.reads key (table_view site.entry.table.now)) }
@@ -477,7 +458,7 @@ pub fn read_at<'a, T: FromData<'a>>(
 {
     match value_of(site.table, key) {
         Some(value) => T::from_value(site.with_value(value, key), notes),
-        None => Err(Refusal::Key(notes.key(site.place, "", KeyFault::Missing(key)))),
+        None => Err(notes.key(site.place, "", KeyFault::Missing(key))),
     }
 }
 
@@ -486,16 +467,16 @@ pub fn read_if<'a, T: FromData<'a>>(
     site: Site<'a>,
     key: Key,
     notes: &mut Notes<'a>,
-) -> Result<Option<T>, Refusal<'a>>
+) -> Result<Option<T>, BenchFault>
     ensures value { GivesOrKey (λ o. o) result
         (read_if T.reads key (table_view site.entry.table.now)) }
     ensures range { IfOk result (λ o. IfSome o (T.IsAllowed key)) }
 {
     match value_of(site.table, key) {
-        Some(value) => match T::from_value(site.with_value(value, key), notes) {
-            Ok(read) => Ok(Some(read)),
-            Err(refusal) => Err(refusal),
-        },
+        Some(value) => {
+            let read = T::from_value(site.with_value(value, key), notes)?;
+            Ok(Some(read))
+        }
         None => Ok(None),
     }
 }
@@ -506,7 +487,7 @@ pub fn read_or<'a, T: FromData<'a>>(
     key: Key,
     missing: T,
     notes: &mut Notes<'a>,
-) -> Result<T, Refusal<'a>>
+) -> Result<T, BenchFault>
     requires { T.IsAllowed key missing }
     ensures value { GivesOrKey (λ x. x) result
         (read_or missing T.reads key (table_view site.entry.table.now)) }

@@ -136,13 +136,16 @@ count_from_above above [] = true
 count_from_above above (event ∷ events) =
     has_named above event.after && count_from_above (above ++ event ∷ []) events
 
--- the timing, if its rows of stolen time are apart, no two jobs have one address, lots can be
--- drawn, and events count from events above them or from alarms
-abbrev pub if_coherent : TimingTexts → Option TimingTexts
-if_coherent t =
-    if (are_apart t.stolen && are_distinct (map (λ j. j.at) t.jobs))
+-- whether the rows of stolen time are apart, no two jobs have one address, lots can be drawn, and
+-- events count from events above them or from alarms
+abbrev pub is_coherent : TimingTexts → Bool
+is_coherent t =
+    (are_apart t.stolen && are_distinct (map (λ j. j.at) t.jobs))
     && (can_draw t.seed t.jobs && count_from_above [] t.events)
-    then Some t else None
+
+-- the timing, if it is coherent
+abbrev pub if_coherent : TimingTexts → Option TimingTexts
+if_coherent t = if is_coherent t then Some t else None
 
 -- how time passes
 unfoldable pub timing_in : Members → Option TimingTexts

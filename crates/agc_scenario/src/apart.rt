@@ -1,5 +1,5 @@
 //! Rows of stolen time that overlap, and jobs of one address.
-ghost use Rattle.std.specs.Prelude.{◌≡◌, map, not, true, false, IfSome, IfNone};
+ghost use Rattle.std.specs.Prelude.{◌≡◌, map, not};
 ghost use Rattle.std.specs.List.{list_all};
 ghost use Rattle.agc_document.specs.Keys.{is_among};
 ghost use Rattle.agc_clock.specs.Timetables.{overlap};
@@ -8,7 +8,7 @@ ghost use Rattle.agc_scenario.specs.Keys.{are_apart, are_distinct};
 use crate::rows::{JOBS, STEAL};
 use crate::texts::JobTexts;
 use agc_clock::Stolen;
-use agc_document::{Key, KeyFault, KeyNote, Notes, Place};
+use agc_document::{Key, KeyFault, Notes, Place};
 
 /// Whether a row of stolen time overlaps none of these.
 fn overlaps_none(row: Stolen, others: &[Stolen]) -> bool
@@ -17,24 +17,19 @@ fn overlaps_none(row: Stolen, others: &[Stolen]) -> bool
     others.iter().all(|other| !row.overlaps(other))
 }
 
-/// What is wrong with the first row of stolen time that an earlier one overlaps, of rows of which
-/// the first has this number. None where all are apart.
-pub(crate) fn overlapping<'a>(
-    rows: &[Stolen],
-    number: u64,
-    notes: &mut Notes<'a>,
-) -> Option<KeyNote<'a>>
-    ensures apart { IfNone result (are_apart rows.now ≡ true) }
-    ensures refused { IfSome result (λ _. are_apart rows.now ≡ false) }
+/// Whether no two of these rows of stolen time overlap; the first has this number. The first row
+/// that an earlier one overlaps is noted.
+pub(crate) fn are_apart(rows: &[Stolen], number: u64, notes: &mut Notes<'_>) -> bool
+    ensures { result ≡ are_apart rows.now }
 {
     match rows {
-        [] => None,
+        [] => true,
         [row, others @ ..] => {
             if overlaps_none(*row, others) {
-                overlapping(others, number.saturating_add(1), notes)
+                are_apart(others, number.saturating_add(1), notes)
             } else {
-                let place = overlap_place(*row, others, number);
-                Some(notes.key(place, "", KeyFault::Overlap))
+                notes.key(overlap_place(*row, others, number), "", KeyFault::Overlap);
+                false
             }
         }
     }
@@ -76,24 +71,20 @@ fn is_listed(jobs: &[JobTexts<'_>], at: &str) -> bool
     }
 }
 
-/// What is wrong with a job whose address is that of an earlier one, of jobs of which the first has
-/// this number. None where all have different addresses.
-pub(crate) fn listed_twice<'a>(
-    jobs: &[JobTexts<'a>],
-    number: u64,
-    notes: &mut Notes<'a>,
-) -> Option<KeyNote<'a>>
-    ensures distinct { IfNone result (are_distinct (map (λ j. j.at) jobs.now) ≡ true) }
-    ensures refused { IfSome result (λ _. are_distinct (map (λ j. j.at) jobs.now) ≡ false) }
+/// Whether all these jobs have different addresses; the first has this number. The first job whose
+/// address is that of an earlier one is noted.
+pub(crate) fn are_distinct(jobs: &[JobTexts<'_>], number: u64, notes: &mut Notes<'_>) -> bool
+    ensures { result ≡ are_distinct (map (λ j. j.at) jobs.now) }
 {
     match jobs {
-        [] => None,
+        [] => true,
         [job, others @ ..] => {
             if is_listed(others, job.at.as_str()) {
                 let place = twin_place(job.at.as_str(), others, number);
-                Some(notes.key(place, "", KeyFault::JobTwice))
+                notes.key(place, "", KeyFault::JobTwice);
+                false
             } else {
-                listed_twice(others, number.saturating_add(1), notes)
+                are_distinct(others, number.saturating_add(1), notes)
             }
         }
     }

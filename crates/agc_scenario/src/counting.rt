@@ -1,6 +1,6 @@
 //! Costs that are drawn by lot without a seed, and events that count from none above them and from
 //! no alarm.
-ghost use Rattle.std.specs.Prelude.{◌≡◌, [], true, false, not, nat_lt, IfSome, IfNone};
+ghost use Rattle.std.specs.Prelude.{◌≡◌, [], not, nat_lt};
 ghost use Rattle.std.specs.List.{list_all, list_any};
 ghost use Rattle.agc_scenario.specs.Texts.{is_named};
 ghost use Rattle.agc_scenario.specs.Keys.{can_draw, count_from_above, has_named};
@@ -8,7 +8,7 @@ ghost use Rattle.agc_scenario.specs.Keys.{can_draw, count_from_above, has_named}
 use crate::rows::{AFTER, COST, EVENTS, JOBS};
 use crate::texts::{EventTexts, JobTexts};
 use crate::timing::alarm_called;
-use agc_document::{KeyFault, KeyNote, Notes, Place, Text};
+use agc_document::{KeyFault, Notes, Place, Text};
 
 /// Whether a job costs the same each time.
 fn is_plain(job: &JobTexts<'_>) -> bool
@@ -24,27 +24,18 @@ fn are_plain(jobs: &[JobTexts<'_>]) -> bool
     jobs.iter().all(|job| is_plain(job))
 }
 
-/// What is wrong with the first cost that is drawn by lot, if there is no seed. None where lots can
-/// be drawn.
-pub(crate) fn without_seed<'a>(
-    seed: Option<u32>,
-    jobs: &[JobTexts<'a>],
-    notes: &mut Notes<'a>,
-) -> Option<KeyNote<'a>>
-    ensures drawn { IfNone result (can_draw seed jobs.now ≡ true) }
-    ensures refused { IfSome result (λ _. can_draw seed jobs.now ≡ false) }
+/// Whether lots can be drawn: there is a seed, or no cost is by lot. If not, the first cost that is
+/// by lot is noted.
+pub(crate) fn can_draw(seed: Option<u32>, jobs: &[JobTexts<'_>], notes: &mut Notes<'_>) -> bool
+    ensures { result ≡ can_draw seed jobs.now }
 {
-    match seed {
-        Some(_seed) => None,
-        None => {
-            if are_plain(jobs) {
-                return None;
-            }
-            let before = jobs.iter().take_while(|job| is_plain(job)).count();
-            let place = Place::Field(JOBS, (before as u64).saturating_add(1), COST);
-            Some(notes.key(place, "", KeyFault::NoSeed))
-        }
+    if seed.is_some() || are_plain(jobs) {
+        return true;
     }
+    let before = jobs.iter().take_while(|job| is_plain(job)).count();
+    let place = Place::Field(JOBS, (before as u64).saturating_add(1), COST);
+    notes.key(place, "", KeyFault::NoSeed);
+    false
 }
 
 /// Whether a name is there, and is this text.
@@ -76,20 +67,17 @@ fn has_named(events: &[EventTexts<'_>], name: &Option<Text<'_>>) -> bool
     }
 }
 
-/// What is wrong with the first event that counts from none above it, and from no alarm. None where
-/// each that counts from another has that one above it.
-pub(crate) fn none_above<'a>(
-    events: &[EventTexts<'a>],
-    notes: &mut Notes<'a>,
-) -> Option<KeyNote<'a>>
-    ensures above { IfNone result (count_from_above [] events.now ≡ true) }
-    ensures refused { IfSome result (λ _. count_from_above [] events.now ≡ false) }
+/// Whether each event that counts from another has that one above it, or counts from an alarm. The
+/// first that doesn't is noted.
+pub(crate) fn count_from_above(events: &[EventTexts<'_>], notes: &mut Notes<'_>) -> bool
+    ensures { result ≡ count_from_above [] events.now }
 {
     for (k, event) in events.iter().enumerate() {
         if !has_named(&events[..k], &event.after) {
             let place = Place::Field(EVENTS, (k as u64).saturating_add(1), AFTER);
-            return Some(notes.key(place, "", KeyFault::NoneAbove));
+            notes.key(place, "", KeyFault::NoneAbove);
+            return false;
         }
     }
-    None
+    true
 }

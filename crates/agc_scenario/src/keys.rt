@@ -1,6 +1,6 @@
 //! The numbers and texts of a scenario, by the table of keys.
-ghost use Rattle.std.specs.Prelude.{◌≡◌, ◌≤◌, ◌∷◌, [], codes, map, true, false, IfOk, IfSome};
-ghost use Rattle.std.specs.Prelude.{IfNone};
+ghost use Rattle.std.specs.Prelude.{◌≡◌, ◌≤◌, ◌∷◌, ◌++◌, [], codes, map, IfOk, IfSome, OnOk};
+ghost use Rattle.std.specs.Prelude.{if◌then◌else◌, Some, None};
 ghost use Rattle.toml.specs.View.{view, table_view};
 ghost use Rattle.agc_document.specs.declared.key.Key.{Key as AnyKey};
 ghost use Rattle.agc_document.specs.Gives.{GivesOrKey};
@@ -9,11 +9,11 @@ ghost use Rattle.agc_document.specs.Keys.{read_or, row, texts_of};
 ghost use Rattle.agc_scenario.specs.declared.rows.TheConstants as key_of;
 ghost use Rattle.agc_scenario.specs.Keys.{forward, stolen_rows, named};
 ghost use Rattle.agc_scenario.specs.Keys.{stolen_row, job, event, always, ample_settings_in};
-ghost use Rattle.agc_scenario.specs.Keys.{ascending, cost, drawn_cost, if_coherent};
+ghost use Rattle.agc_scenario.specs.Keys.{ascending, cost, drawn_cost, is_coherent};
 ghost use Rattle.agc_scenario.specs.Keys.{timing_in, named_in, texts_with, scenario_in};
 
-use crate::apart::{listed_twice, overlapping};
-use crate::counting::{none_above, without_seed};
+use crate::apart::{are_apart, are_distinct};
+use crate::counting::{can_draw, count_from_above};
 use crate::rows::{
     AFTER, BEFORE, COST, COST_KEYS, DEADLINE, DO, EVENT_KEYS, EVENTS, EVERY, FROM, JOB_KEYS, JOBS,
     LAST, LEAST, MOMENT, MOST, NAME, NAMED_PHASE_KEYS, NAMED_PHASES, NAMED_TASK_KEYS, NAMED_TASKS,
@@ -26,7 +26,7 @@ use crate::timing::CostRange;
 use agc_clock::{LAST_TIME, Stolen};
 use agc_document::rows::{ALLOWANCE, AT, LIMIT};
 use agc_document::{
-    EntryTexts, FromData, FromTable, Key, KeyFault, Level, Lists, Notes, Place, Placed, Refusal,
+    BenchFault, EntryTexts, FromData, FromTable, Key, KeyFault, Level, Lists, Notes, Place, Placed,
     RowTexts, Settings, Site, Text, TextList, Texts, has_only, items_of, items_or_none, read_at,
     read_if, read_or, settings_in, table_in, value_of,
 };
@@ -40,14 +40,14 @@ fn named<'a, T: FromTable<'a>>(
     site: Site<'a>,
     key: Key,
     notes: &mut Notes<'a>,
-) -> Result<Named<'a, T>, Refusal<'a>>
+) -> Result<Named<'a, T>, BenchFault>
     ensures { GivesOrKey (λ n. n) result (named (T.fields key) (table_view site.entry.table.now)) }
 {
     let item = T::from_table(site, key, notes);
     let name = read_if(site, NAME, notes);
     match (item, name) {
         (Ok(item), Ok(name)) => Ok(Named { item, name }),
-        (Err(refusal), _) | (_, Err(refusal)) => Err(refusal),
+        (Err(fault), _) | (_, Err(fault)) => Err(fault),
     }
 }
 
@@ -56,11 +56,11 @@ impl<'a> FromTable<'a> for Named<'a, RowTexts<'a>> {
 
     ghost fields = { λ k. named row };
 
-    fn known(site: Site<'a>, _key: Key, notes: &mut Notes<'a>) -> Result<(), Refusal<'a>> {
+    fn known(site: Site<'a>, _key: Key, notes: &mut Notes<'a>) -> Result<(), BenchFault> {
         has_only(site, &NAMED_TASK_KEYS, Level::NamedTask, notes)
     }
 
-    fn from_table(site: Site<'a>, key: Key, notes: &mut Notes<'a>) -> Result<Self, Refusal<'a>> {
+    fn from_table(site: Site<'a>, key: Key, notes: &mut Notes<'a>) -> Result<Self, BenchFault> {
         named(site, key, notes)
     }
 }
@@ -70,23 +70,23 @@ impl<'a> FromTable<'a> for Named<'a, EntryTexts<'a>> {
 
     ghost fields = { λ k. named entry };
 
-    fn known(site: Site<'a>, _key: Key, notes: &mut Notes<'a>) -> Result<(), Refusal<'a>> {
+    fn known(site: Site<'a>, _key: Key, notes: &mut Notes<'a>) -> Result<(), BenchFault> {
         has_only(site, &NAMED_PHASE_KEYS, Level::NamedPhase, notes)
     }
 
-    fn from_table(site: Site<'a>, key: Key, notes: &mut Notes<'a>) -> Result<Self, Refusal<'a>> {
+    fn from_table(site: Site<'a>, key: Key, notes: &mut Notes<'a>) -> Result<Self, BenchFault> {
         named(site, key, notes)
     }
 }
 
 /// The row of stolen time, if it ends after it begins, and doesn't come again before it ends.
-fn forward<'a>(row: Stolen, place: Place, notes: &mut Notes<'a>) -> Result<StolenRow, Refusal<'a>>
+fn forward<'a>(row: Stolen, place: Place, notes: &mut Notes<'a>) -> Result<StolenRow, BenchFault>
     ensures value { GivesOrKey (λ r. r) result (forward row) }
 {
     if row.to <= row.from {
-        Err(Refusal::Key(notes.key(place, "", KeyFault::Backward)))
+        Err(notes.key(place, "", KeyFault::Backward))
     } else if row.every != 0 && row.every < row.to - row.from {
-        Err(Refusal::Key(notes.key(place, "", KeyFault::OverlapsItself)))
+        Err(notes.key(place, "", KeyFault::OverlapsItself))
     } else {
         Ok(StolenRow { row })
     }
@@ -104,20 +104,14 @@ fn small(number: Option<u64>) -> Option<u32>
 }
 
 /// An integer of a table, if it is there.
-fn number_if<'a>(
-    site: Site<'a>,
-    key: Key,
-    notes: &mut Notes<'a>,
-) -> Result<Option<u32>, Refusal<'a>>
+fn number_if<'a>(site: Site<'a>, key: Key, notes: &mut Notes<'a>) -> Result<Option<u32>, BenchFault>
     requires { most key ≤ 2147483646 }
     ensures value { GivesOrKey (λ o. o) result
         (read_if number_of key (table_view site.entry.table.now)) }
     ensures range { IfOk result (λ o. IfSome o (λ n. least key ≤ n)) }
 {
-    match read_if(site, key, notes) {
-        Ok(number) => Ok(small(number)),
-        Err(refusal) => Err(refusal),
-    }
+    let number = read_if(site, key, notes)?;
+    Ok(small(number))
 }
 
 impl<'a> FromTable<'a> for StolenRow {
@@ -125,7 +119,7 @@ impl<'a> FromTable<'a> for StolenRow {
 
     ghost fields = { λ k. stolen_row };
 
-    fn known(site: Site<'a>, _key: Key, notes: &mut Notes<'a>) -> Result<(), Refusal<'a>> {
+    fn known(site: Site<'a>, _key: Key, notes: &mut Notes<'a>) -> Result<(), BenchFault> {
         has_only(site, &STEAL_KEYS, Level::Steal, notes)
     }
 
@@ -134,10 +128,10 @@ impl<'a> FromTable<'a> for StolenRow {
         site: Site<'a>,
         _key: Key,
         notes: &mut Notes<'a>,
-    ) -> Result<StolenRow, Refusal<'a>> {
-        let from: Result<u64, Refusal<'a>> = read_at(site, FROM, notes);
-        let to: Result<u64, Refusal<'a>> = read_at(site, TO, notes);
-        let percent: Result<u64, Refusal<'a>> = read_at(site, PERCENT, notes);
+    ) -> Result<StolenRow, BenchFault> {
+        let from: Result<u64, BenchFault> = read_at(site, FROM, notes);
+        let to: Result<u64, BenchFault> = read_at(site, TO, notes);
+        let percent: Result<u64, BenchFault> = read_at(site, PERCENT, notes);
         let every = number_if(site, EVERY, notes);
         let until = number_if(site, UNTIL, notes);
         match (from, to, percent, every, until) {
@@ -151,8 +145,8 @@ impl<'a> FromTable<'a> for StolenRow {
                 };
                 forward(row, site.place, notes)
             }
-            (Err(refusal), ..) | (_, Err(refusal), ..) | (_, _, Err(refusal), ..) => Err(refusal),
-            (.., Err(refusal), _) | (.., Err(refusal)) => Err(refusal),
+            (Err(fault), ..) | (_, Err(fault), ..) | (_, _, Err(fault), ..) => Err(fault),
+            (.., Err(fault), _) | (.., Err(fault)) => Err(fault),
         }
     }
 }
@@ -188,7 +182,7 @@ fn ascending<'a>(
     cost: CostRange,
     place: Place,
     notes: &mut Notes<'a>,
-) -> Result<CostRange, Refusal<'a>>
+) -> Result<CostRange, BenchFault>
     ensures value { GivesOrKey (λ c. c) result (ascending cost) }
     ensures order { IfOk result (λ c. c.from ≤ c.to) }
     ensures same { IfOk result (λ c. c ≡ cost) }
@@ -196,21 +190,21 @@ fn ascending<'a>(
     if cost.from <= cost.to {
         Ok(cost)
     } else {
-        Err(Refusal::Key(notes.key(place, "", KeyFault::LeastAboveMost)))
+        Err(notes.key(place, "", KeyFault::LeastAboveMost))
     }
 }
 
 /// A cost that is drawn by lot.
 #[tactic(auto, unfolding(crate::specs::Keys::drawn_cost))]
-fn drawn_cost<'a>(placed: Placed<'a>, notes: &mut Notes<'a>) -> Result<CostRange, Refusal<'a>>
+fn drawn_cost<'a>(placed: Placed<'a>, notes: &mut Notes<'a>) -> Result<CostRange, BenchFault>
     ensures value { GivesOrKey (λ c. c) result (drawn_cost (view placed.entry.value.now)) }
     ensures order { IfOk result (λ c. c.from ≤ c.to) }
     ensures range { IfOk result (λ c. c.to ≤ 1000000) }
 {
     let site = table_in(placed, notes)?;
     let known = has_only(site, &COST_KEYS, Level::Cost, notes);
-    let from: Result<u64, Refusal<'a>> = known.and(read_at(site, LEAST, notes));
-    let to: Result<u64, Refusal<'a>> = read_at(site, MOST, notes);
+    let from: Result<u64, BenchFault> = known.and(read_at(site, LEAST, notes));
+    let to: Result<u64, BenchFault> = read_at(site, MOST, notes);
     match (from, to) {
         (Ok(from), Ok(to)) => {
             let cost = CostRange {
@@ -219,7 +213,7 @@ fn drawn_cost<'a>(placed: Placed<'a>, notes: &mut Notes<'a>) -> Result<CostRange
             };
             ascending(cost, site.place, notes)
         }
-        (Err(refusal), _) | (_, Err(refusal)) => Err(refusal),
+        (Err(fault), _) | (_, Err(fault)) => Err(fault),
     }
 }
 
@@ -228,7 +222,7 @@ fn cost_of<'a>(
     site: Site<'a>,
     value: &'a Value,
     notes: &mut Notes<'a>,
-) -> Result<CostRange, Refusal<'a>>
+) -> Result<CostRange, BenchFault>
     ensures value { GivesOrKey (λ c. c) result (cost key_of.COST (view value.now)) }
     ensures order { IfOk result (λ c. c.from ≤ c.to) }
     ensures range { IfOk result (λ c. c.to ≤ 1000000) }
@@ -247,7 +241,7 @@ fn cost_of<'a>(
 }
 
 /// What a job costs, by its table.
-fn cost_in<'a>(site: Site<'a>, notes: &mut Notes<'a>) -> Result<CostRange, Refusal<'a>>
+fn cost_in<'a>(site: Site<'a>, notes: &mut Notes<'a>) -> Result<CostRange, BenchFault>
     ensures value { GivesOrKey (λ c. c) result
         (read_at cost key_of.COST (table_view site.entry.table.now)) }
     ensures order { IfOk result (λ c. c.from ≤ c.to) }
@@ -255,12 +249,12 @@ fn cost_in<'a>(site: Site<'a>, notes: &mut Notes<'a>) -> Result<CostRange, Refus
 {
     match value_of(site.table, COST) {
         Some(value) => cost_of(site, value, notes),
-        None => Err(Refusal::Key(notes.key(site.place, "", KeyFault::Missing(COST)))),
+        None => Err(notes.key(site.place, "", KeyFault::Missing(COST))),
     }
 }
 
 /// What a job is asked when its cost is used up: to end, where its table doesn't say.
-fn requests_in<'a>(site: Site<'a>, notes: &mut Notes<'a>) -> Result<TextList<'a>, Refusal<'a>>
+fn requests_in<'a>(site: Site<'a>, notes: &mut Notes<'a>) -> Result<TextList<'a>, BenchFault>
     ensures value { GivesOrKey (λ t. t) result
         (read_or (codes "end" ∷ []) texts_of key_of.THEN (table_view site.entry.table.now)) }
 {
@@ -275,7 +269,7 @@ impl<'a> FromTable<'a> for JobTexts<'a> {
 
     ghost fields = { λ k. job };
 
-    fn known(site: Site<'a>, _key: Key, notes: &mut Notes<'a>) -> Result<(), Refusal<'a>> {
+    fn known(site: Site<'a>, _key: Key, notes: &mut Notes<'a>) -> Result<(), BenchFault> {
         has_only(site, &JOB_KEYS, Level::Job, notes)
     }
 
@@ -284,7 +278,7 @@ impl<'a> FromTable<'a> for JobTexts<'a> {
         site: Site<'a>,
         _key: Key,
         notes: &mut Notes<'a>,
-    ) -> Result<JobTexts<'a>, Refusal<'a>> {
+    ) -> Result<JobTexts<'a>, BenchFault> {
         let at = read_at(site, AT, notes);
         let cost = cost_in(site, notes);
         let deadline = number_if(site, DEADLINE, notes);
@@ -298,8 +292,8 @@ impl<'a> FromTable<'a> for JobTexts<'a> {
                 requests,
                 name,
             }),
-            (Err(refusal), ..) | (_, Err(refusal), ..) | (_, _, Err(refusal), ..) => Err(refusal),
-            (.., Err(refusal), _) | (.., Err(refusal)) => Err(refusal),
+            (Err(fault), ..) | (_, Err(fault), ..) | (_, _, Err(fault), ..) => Err(fault),
+            (.., Err(fault), _) | (.., Err(fault)) => Err(fault),
         }
     }
 }
@@ -309,7 +303,7 @@ impl<'a> FromTable<'a> for EventTexts<'a> {
 
     ghost fields = { λ k. event };
 
-    fn known(site: Site<'a>, _key: Key, notes: &mut Notes<'a>) -> Result<(), Refusal<'a>> {
+    fn known(site: Site<'a>, _key: Key, notes: &mut Notes<'a>) -> Result<(), BenchFault> {
         has_only(site, &EVENT_KEYS, Level::Event, notes)
     }
 
@@ -318,8 +312,8 @@ impl<'a> FromTable<'a> for EventTexts<'a> {
         site: Site<'a>,
         _key: Key,
         notes: &mut Notes<'a>,
-    ) -> Result<EventTexts<'a>, Refusal<'a>> {
-        let at: Result<u64, Refusal<'a>> = read_at(site, MOMENT, notes);
+    ) -> Result<EventTexts<'a>, BenchFault> {
+        let at: Result<u64, BenchFault> = read_at(site, MOMENT, notes);
         let after = read_if(site, AFTER, notes);
         let requests = read_at(site, DO, notes);
         let every = number_if(site, EVERY, notes);
@@ -334,8 +328,8 @@ impl<'a> FromTable<'a> for EventTexts<'a> {
                 until,
                 name,
             }),
-            (Err(refusal), ..) | (_, Err(refusal), ..) | (_, _, Err(refusal), ..) => Err(refusal),
-            (.., Err(refusal), _, _) | (.., Err(refusal), _) | (.., Err(refusal)) => Err(refusal),
+            (Err(fault), ..) | (_, Err(fault), ..) | (_, _, Err(fault), ..) => Err(fault),
+            (.., Err(fault), _, _) | (.., Err(fault), _) | (.., Err(fault)) => Err(fault),
         }
     }
 }
@@ -372,7 +366,7 @@ fn stolen_rows<'a>(
     site: Site<'a>,
     value: &'a Value,
     notes: &mut Notes<'a>,
-) -> Result<Vec<Stolen>, Refusal<'a>>
+) -> Result<Vec<Stolen>, BenchFault>
     ensures value { GivesOrKey (λ v. v.items) result (stolen_rows key_of.STEAL (view value.now)) }
 {
     let placed = site.with_value(value, STEAL);
@@ -391,7 +385,7 @@ fn stolen_rows<'a>(
 }
 
 /// The rows of stolen time of a document, none where it has none.
-fn stolen_in<'a>(site: Site<'a>, notes: &mut Notes<'a>) -> Result<Vec<Stolen>, Refusal<'a>>
+fn stolen_in<'a>(site: Site<'a>, notes: &mut Notes<'a>) -> Result<Vec<Stolen>, BenchFault>
     ensures value { GivesOrKey (λ v. v.items) result
         (read_or [] stolen_rows key_of.STEAL (table_view site.entry.table.now)) }
 {
@@ -401,31 +395,35 @@ fn stolen_in<'a>(site: Site<'a>, notes: &mut Notes<'a>) -> Result<Vec<Stolen>, R
     }
 }
 
-/// The timing, if its rows of stolen time are apart, no two jobs have one address, lots can be
-/// drawn, and events count from events above them.
-fn if_coherent<'a>(
-    texts: TimingTexts<'a>,
-    notes: &mut Notes<'a>,
-) -> Result<TimingTexts<'a>, Refusal<'a>>
-    ensures value { GivesOrKey (λ t. t) result (if_coherent texts.entry) }
+/// Whether the rows of stolen time are apart, no two jobs have one address, lots can be drawn, and
+/// events count from events above them or from alarms.
+fn is_coherent(texts: &TimingTexts<'_>, notes: &mut Notes<'_>) -> bool
+    ensures { result ≡ is_coherent texts.now }
 {
-    let overlapping = overlapping(texts.stolen.as_slice(), 1, notes);
-    let listed_twice = listed_twice(texts.jobs.as_slice(), 1, notes);
-    let without_seed = without_seed(texts.seed, texts.jobs.as_slice(), notes);
-    let none_above = none_above(texts.events.as_slice(), notes);
-    let first = overlapping.or(listed_twice).or(without_seed).or(none_above);
-    match first {
-        None => Ok(texts),
-        Some(note) => Err(Refusal::Key(note)),
+    let are_apart = are_apart(texts.stolen.as_slice(), 1, notes);
+    let are_distinct = are_distinct(texts.jobs.as_slice(), 1, notes);
+    let can_draw = can_draw(texts.seed, texts.jobs.as_slice(), notes);
+    let count_from_above = count_from_above(texts.events.as_slice(), notes);
+    are_apart && are_distinct && can_draw && count_from_above
+}
+
+/// What was read, if it is coherent. A fault `Key` where it isn't.
+fn if_coherent<T: Drop>(is_coherent: bool, read: T) -> Result<T, BenchFault>
+    ensures { GivesOrKey (λ x. x) result (if is_coherent then Some read else None) }
+{
+    if is_coherent {
+        Ok(read)
+    } else {
+        Err(BenchFault::Key)
     }
 }
 
 /// How time passes.
 #[tactic(auto, unfolding(crate::specs::Keys::timing_in))]
-fn timing_in<'a>(site: Site<'a>, notes: &mut Notes<'a>) -> Result<TimingTexts<'a>, Refusal<'a>>
+fn timing_in<'a>(site: Site<'a>, notes: &mut Notes<'a>) -> Result<TimingTexts<'a>, BenchFault>
     ensures value { GivesOrKey (λ t. t) result (timing_in (table_view site.entry.table.now)) }
 {
-    let seconds: Result<u64, Refusal<'a>> = read_at(site, SECONDS, notes);
+    let seconds: Result<u64, BenchFault> = read_at(site, SECONDS, notes);
     let title = read_if(site, TITLE, notes);
     let seed = number_if(site, SEED, notes);
     let stolen = stolen_in(site, notes);
@@ -441,24 +439,39 @@ fn timing_in<'a>(site: Site<'a>, notes: &mut Notes<'a>) -> Result<TimingTexts<'a
                 jobs,
                 events,
             };
-            if_coherent(texts, notes)
+            if_coherent(is_coherent(&texts, notes), texts)
         }
-        (Err(refusal), ..) | (_, Err(refusal), ..) | (_, _, Err(refusal), ..) => Err(refusal),
-        (.., Err(refusal), _, _) | (.., Err(refusal), _) | (.., Err(refusal)) => Err(refusal),
+        (Err(fault), ..) | (_, Err(fault), ..) | (_, _, Err(fault), ..) => Err(fault),
+        (.., Err(fault), _, _) | (.., Err(fault), _) | (.., Err(fault)) => Err(fault),
     }
 }
 
 /// The tasks and phases.
 #[tactic(auto, unfolding(crate::specs::Keys::named_in))]
-fn named_in<'a>(site: Site<'a>, notes: &mut Notes<'a>) -> Result<NamedTexts<'a>, Refusal<'a>>
+fn named_in<'a>(site: Site<'a>, notes: &mut Notes<'a>) -> Result<NamedTexts<'a>, BenchFault>
     ensures value { GivesOrKey (λ t. t) result (named_in (table_view site.entry.table.now)) }
 {
     let rows = items_or_none(site, NAMED_TASKS, notes);
     let entries = items_or_none(site, NAMED_PHASES, notes);
     match (rows, entries) {
         (Ok(rows), Ok(entries)) => Ok(NamedTexts { rows, entries }),
-        (Err(refusal), _) | (_, Err(refusal)) => Err(refusal),
+        (Err(fault), _) | (_, Err(fault)) => Err(fault),
     }
+}
+
+/// Appends an item, and its name.
+fn push_both<'a, T: Drop>(
+    items: &mut Vec<T>,
+    names: &mut Vec<Option<Text<'a>>>,
+    one: Named<'a, T>,
+) -> Result<(), AllocError>
+    ensures items { OnOk result (items.new.items ≡ items.old.items ++ one.entry.item ∷ []) }
+    ensures names { OnOk result (names.new.items ≡ names.old.items ++ one.entry.name ∷ []) }
+{
+    let Named { item, name } = one;
+    items.push(item)?;
+    names.push(name)?;
+    Ok(())
 }
 
 /// The items, and the names of these.
@@ -472,9 +485,7 @@ fn items_and_names<'a, T: Drop>(
     let mut items = Vec::new(alloc);
     let mut names = Vec::new(alloc);
     for one in named {
-        let Named { item, name } = one;
-        items.push(item)?;
-        names.push(name)?;
+        push_both(&mut items, &mut names, one)?;
     }
     Ok((items, names))
 }
@@ -508,21 +519,21 @@ fn texts_with<'a>(
 /// What a scenario has once, as a bench has it; without a limit or an allowance there are the
 /// greatest.
 #[tactic(auto, unfolding(crate::specs::Keys::ample_settings_in))]
-fn ample_settings_in<'a>(site: Site<'a>, notes: &mut Notes<'a>) -> Result<Settings<'a>, Refusal<'a>>
+fn ample_settings_in<'a>(site: Site<'a>, notes: &mut Notes<'a>) -> Result<Settings<'a>, BenchFault>
     ensures value { GivesOrKey (λ s. s) result
         (ample_settings_in (table_view site.entry.table.now)) }
 {
     let settings = settings_in(site, notes)?;
-    let limit: Result<u64, Refusal<'a>> = read_or(site, LIMIT, 1_000_000, notes);
+    let limit: Result<u64, BenchFault> = read_or(site, LIMIT, 1_000_000, notes);
     let most = 9_223_372_036_854_775_807;
-    let allowance: Result<u64, Refusal<'a>> = read_or(site, ALLOWANCE, most, notes);
+    let allowance: Result<u64, BenchFault> = read_or(site, ALLOWANCE, most, notes);
     match (limit, allowance) {
         (Ok(limit), Ok(allowance)) => Ok(Settings {
             limit: limit as u32,
             allowance,
             ..settings
         }),
-        (Err(refusal), _) | (_, Err(refusal)) => Err(refusal),
+        (Err(fault), _) | (_, Err(fault)) => Err(fault),
     }
 }
 
@@ -533,7 +544,7 @@ pub(crate) fn scenario_in<'a>(
     alloc: Global,
     table: &'a Table,
     notes: &mut Notes<'a>,
-) -> Result<ScenarioTexts<'a>, Refusal<'a>>
+) -> Result<ScenarioTexts<'a>, BenchFault>
     ensures { GivesOrKey (λ t. t) result (scenario_in (table_view table.now)) }
 {
     let site = Site::of_document(alloc, table);
@@ -546,7 +557,7 @@ pub(crate) fn scenario_in<'a>(
             let texts = texts_with(alloc, settings, named, timing)?;
             Ok(texts)
         }
-        (Err(refusal), ..) | (_, Err(refusal), ..) => Err(refusal),
-        (.., Err(refusal), _) | (.., Err(refusal)) => Err(refusal),
+        (Err(fault), ..) | (_, Err(fault), ..) => Err(fault),
+        (.., Err(fault), _) | (.., Err(fault)) => Err(fault),
     }
 }

@@ -3,7 +3,6 @@ ghost use Rattle.std.specs.Prelude.{◌≡◌, ◌≢◌, true, Some, IfOk, IfEr
 ghost use Rattle.std.specs.List.{list_all};
 ghost use Rattle.toml.specs.Parse.{parse_document};
 ghost use Rattle.toml.specs.View.{table_view};
-ghost use Rattle.agc_document.specs.Faults.{fault_of_refusal};
 ghost use Rattle.agc_document.specs.Gives.{RefusedLine};
 ghost use Rattle.agc_scenario.specs.Keys.{has_seconds};
 ghost use Rattle.agc_scenario.specs.Faults.{HasTexts, RefusesTexts, RefusesScenario};
@@ -15,7 +14,7 @@ use crate::rows::SECONDS;
 use crate::texts::ScenarioTexts;
 use crate::timing::{Name, Timing};
 use crate::values::{all_copied, can_all_be_shown, timing_of};
-use agc_document::{Bench, BenchFault, Notes, Refusal, Text, bench_from, table_of, value_of};
+use agc_document::{Bench, BenchFault, Notes, Text, bench_from, table_of, value_of};
 use std::alloc::Global;
 use std::marker::Model;
 use toml::Table;
@@ -88,30 +87,28 @@ fn names_of(alloc: Global, names: &[Option<Text<'_>>]) -> Result<Vec<Name>, Benc
 
 /// The scenario that numbers and texts spell; each text was looked at when it was read.
 #[tactic(auto, using(crate::proofs::Refusals::refused_bench))]
-fn spelled<'a>(
+fn spelled(
     alloc: Global,
     texts: ScenarioTexts<'_>,
-    notes: &Notes<'a>,
-) -> Result<Scenario, Refusal<'a>>
+    notes: &mut Notes<'_>,
+) -> Result<Scenario, BenchFault>
     ensures found { IfOk result (λ s. IsScenario s × (scenario_texts s ≡ texts.entry)) }
-    ensures refused { IfErr result (λ r. RefusesTexts texts.entry (fault_of_refusal r)) }
+    ensures refused { IfErr result (RefusesTexts texts.entry) }
 {
     let row_names = names_of(alloc, texts.row_names.as_slice());
     let entry_names = names_of(alloc, texts.entry_names.as_slice());
     let timing = timing_of(alloc, texts.timing);
     match (row_names, entry_names, timing) {
         (Ok(row_names), Ok(entry_names), Ok(timing)) => {
-            match bench_from(alloc, &texts.bench, notes) {
-                Ok(bench) => Ok(Scenario {
-                    bench,
-                    row_names,
-                    entry_names,
-                    timing,
-                }),
-                Err(refusal) => Err(refusal),
-            }
+            let bench = bench_from(alloc, &texts.bench, notes)?;
+            Ok(Scenario {
+                bench,
+                row_names,
+                entry_names,
+                timing,
+            })
         }
-        (Err(fault), _, _) | (_, Err(fault), _) | (_, _, Err(fault)) => Err(notes.refusal(fault)),
+        (Err(fault), _, _) | (_, Err(fault), _) | (_, _, Err(fault)) => Err(fault),
     }
 }
 
@@ -126,11 +123,10 @@ pub fn scenario_of<'a>(
     alloc: Global,
     table: &'a Table,
     notes: &mut Notes<'a>,
-) -> Result<Scenario, Refusal<'a>>
+) -> Result<Scenario, BenchFault>
     ensures found { IfOk result (λ s. IsScenario s
         × HasTexts (Some (table_view table.now)) (scenario_texts s)) }
-    ensures refused { IfErr result (λ r.
-        RefusesScenario (Some (table_view table.now)) (fault_of_refusal r)) }
+    ensures refused { IfErr result (RefusesScenario (Some (table_view table.now))) }
 {
     let texts = scenario_in(alloc, table, notes)?;
     spelled(alloc, texts, notes)
@@ -156,8 +152,7 @@ pub fn read_scenario(alloc: Global, text: &str) -> Result<Scenario, BenchFault>
         Ok(table) => table,
         Err(_error) => return Err(BenchFault::NotToml),
     };
-    let scenario = scenario_of(alloc, &table, &mut Notes::new(false))?;
-    Ok(scenario)
+    scenario_of(alloc, &table, &mut Notes::new(false))
 }
 
 /// Whether a document has the key `seconds`, and so should be a scenario. Source: profile.

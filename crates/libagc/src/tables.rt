@@ -6,7 +6,7 @@ ghost use Rattle.agc_exec.specs.Image.{jobs_in};
 ghost use Rattle.agc_exec.specs.Seats.{named_of, seats_in};
 ghost use Rattle.agc_exec.specs.declared.seats.Seat as exec;
 ghost use Rattle.agc_phase.specs.Image.{base_of, failreg_word};
-ghost use Rattle.agc_wait.specs.Table.{waits_of};
+ghost use Rattle.agc_wait.specs.Table.{IsLawfulTable, waits_of};
 ghost use Rattle.agc_image.specs.Codes.{Coded, code_of};
 ghost use Rattle.agc_image.specs.Images.{IsImage, IsOpened, image_of};
 ghost use Rattle.libagc.specs.Replies.{number_told};
@@ -17,6 +17,7 @@ use agc_exec::{Seat, job_at, named_job};
 use agc_image::{Fault, blank, image_fault, open};
 use agc_phase::{failreg, phases};
 use agc_wait::{Waiting, tasks_waiting};
+use agc_word::Erasable;
 use agc_word::layout::set_place;
 
 /// The job in a core set: a code, and the job; all 0 where the set is free, or the code isn't 0.
@@ -196,6 +197,34 @@ fn told(job: Option<u16>) -> AgcNumber
     }
 }
 
+/// The task that comes due as number `place` of those that wait, counted from 0.
+fn waiting_at(image: &Erasable, place: usize) -> Option<Waiting>
+    requires { IsLawfulTable image.now }
+    ensures { result ≡ slice_get (waits_of image.now) place }
+{
+    let waits = tasks_waiting(image);
+    match waits.as_slice().get(place) {
+        None => None,
+        Some(waiting) => Some(*waiting),
+    }
+}
+
+/// A task that waits, or none, in numbers.
+fn task_told(waiting: Option<Waiting>) -> AgcWaiting
+    ensures told { result ≡ task_told waiting }
+    ensures served { result.code ≡ 0 }
+{
+    match waiting {
+        None => AgcWaiting::none(0),
+        Some(waiting) => AgcWaiting {
+            code: 0,
+            at: u32::from(waiting.task.at.get()),
+            bank: u32::from(waiting.task.bank.bits()),
+            left: waiting.distance,
+        },
+    }
+}
+
 /// The task that comes due as number `place` of those that wait, counted from 0, and the
 /// centiseconds that are left to it. Code 4 where there is no such place, from 9 on. Source: the
 /// listings' WAITLIST section.
@@ -214,21 +243,7 @@ pub extern "C" fn agc_task_at(words: &[u16; 144], sets: u32, place: u32) -> AgcW
             }
             let mut image = blank(sets);
             open(words, sets, &mut image);
-            let waits = tasks_waiting(&image);
-            match waits.as_slice().get(place as usize) {
-                None => AgcWaiting {
-                    code: 0,
-                    at: 0,
-                    bank: 0,
-                    left: 0,
-                },
-                Some(waiting) => AgcWaiting {
-                    code: 0,
-                    at: u32::from(waiting.task.at.get()),
-                    bank: u32::from(waiting.task.bank.bits()),
-                    left: waiting.distance,
-                },
-            }
+            task_told(waiting_at(&image, place as usize))
         }
     }
 }
@@ -259,6 +274,14 @@ pub extern "C" fn agc_phase_at(words: &[u16; 144], sets: u32, group: u32) -> Agc
     }
 }
 
+/// A word of FAILREG, by its place.
+fn failreg_at(image: &Erasable, place: usize) -> u32
+    requires { place < 3 }
+    ensures { result ≡ failreg_word image.now place }
+{
+    u32::from(failreg(image)[place].bits())
+}
+
 /// A word of FAILREG: 0 the first code, 1 the second, 2 the latest; 0 where there is none. Code 4
 /// where there is no such word. Source: profile.
 #[unsafe(no_mangle)]
@@ -278,7 +301,7 @@ pub extern "C" fn agc_failreg(words: &[u16; 144], sets: u32, place: u32) -> AgcN
             open(words, sets, &mut image);
             AgcNumber {
                 code: 0,
-                number: u32::from(failreg(&image)[place as usize].bits()),
+                number: failreg_at(&image, place as usize),
             }
         }
     }
