@@ -11,6 +11,7 @@ use Rattle.agc_document.specs.declared.key_fault.KeyFault.TheVariants.{Unknown, 
 use Rattle.agc_document.specs.declared.notes.KeyNote.{KeyNote}
 use Rattle.agc_document.specs.declared.notes.TextNote.{TextNote}
 use Rattle.agc_document.specs.declared.place.Place.{Place}
+use Rattle.agc_document.specs.declared.place.Place.TheVariants.{Whole}
 use Rattle.agc_check.specs.declared.wrong.Wrong.{Wrong}
 use Rattle.agc_check.specs.declared.wrong.Wrong.TheVariants as wrong
 use Rattle.agc_document.specs.Benches.{Benched, IsBench, bench_texts}
@@ -118,17 +119,17 @@ of_text n = record { place = n.place; wrong = wrong.Text n.form; text = n.text.n
 abbrev pub alone : Place → Wrong → List Said
 alone place what = say place what [] ∷ []
 
--- of a document that is refused for this fault of its keys or its texts, one was noted
+-- where a document is refused for a key or a text, at least one such was noted
 abbrev pub IsNoted : BenchFault → List KeyNote → List TextNote → Type 0
 IsNoted refusal.Key keys texts = 1 ≤ length keys
 IsNoted refusal.Line keys texts = 1 ≤ length texts
 IsNoted fault keys texts = Unit {0}
 
--- what there is to say of a document that is refused for this fault, of whose keys, texts and plan
--- this was noted
+-- what there is to say of a document that is refused for this fault: of its keys, its texts and the
+-- place of its plan this was noted
 abbrev pub to_say : BenchFault → List KeyNote → List TextNote → Place → List Said
 to_say refusal.NoMemory keys texts plan = []
-to_say refusal.NotToml keys texts plan = alone plan wrong.NotToml
+to_say refusal.NotToml keys texts plan = alone Whole wrong.NotToml
 to_say refusal.Key keys texts plan = map of_key keys ++ map of_text texts
 to_say refusal.Line keys texts plan = map of_text texts
 to_say refusal.TaskTwice keys texts plan = alone plan wrong.TaskTwice

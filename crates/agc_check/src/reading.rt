@@ -164,7 +164,7 @@ pub fn found_in(
 {
     match fault {
         BenchFault::NoMemory => Err(AllocError),
-        BenchFault::NotToml => found_at(alloc, document, notes.plan, Wrong::NotToml),
+        BenchFault::NotToml => found_at(alloc, document, Place::Whole, Wrong::NotToml),
         BenchFault::Key => keys_and_texts(alloc, document, notes),
         BenchFault::Line => texts_alone(alloc, document, notes),
         BenchFault::TaskTwice => found_at(alloc, document, notes.plan, Wrong::TaskTwice),

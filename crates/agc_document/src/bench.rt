@@ -266,7 +266,8 @@ fn planned(alloc: Global, parts: &Parts) -> Result<(), PlanFault>
     }
 }
 
-/// The fault of a bench whose plan has this one. Its place is noted.
+/// Notes the place of a plan's fault, and returns the fault that a bench has for it; `NoMemory`,
+/// where there is none to find the place.
 fn fault_at(alloc: Global, fault: PlanFault, parts: &Parts, notes: &mut Notes<'_>) -> BenchFault
     ensures { (result ≡ BenchFault.NoMemory) ⊎ (result ≡ bench_fault fault) }
 {

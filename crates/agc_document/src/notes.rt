@@ -48,9 +48,9 @@ impl<'a> Default for TextNote<'a> {
     }
 }
 
-/// All that is wrong with a document's keys, and with its texts, if that is wanted and not only the
-/// first fault: of either the first twenty. And the place for which its rows and entries make no
-/// plan.
+/// What is wrong with a document's keys, and with its texts, of either the first twenty; neither,
+/// where it isn't wanted. And the place where its rows and entries make no plan, the whole document
+/// where they make one. Source: profile.
 #[derive(Drop)]
 pub struct Notes<'a> {
     pub keys: ArrayVec<KeyNote<'a>, MOST_NOTED>,
@@ -60,6 +60,8 @@ pub struct Notes<'a> {
 }
 
 impl<'a> Notes<'a> {
+    /// Nothing yet. What is wrong with keys and texts is noted only if this is true. Source:
+    /// profile.
     pub fn new(is_whole: bool) -> Notes<'a> {
         Notes {
             keys: ArrayVec::new(),
@@ -69,7 +71,8 @@ impl<'a> Notes<'a> {
         }
     }
 
-    /// Notes what is wrong with a key, if that is wanted: a fault `Key`.
+    /// Notes what is wrong with a key, if that is wanted, and returns the fault `Key`. Source:
+    /// profile.
     pub fn key(&mut self, place: Place, text: &'a str, fault: KeyFault) -> BenchFault
         ensures { result ≡ WrongKey }
     {
@@ -79,7 +82,7 @@ impl<'a> Notes<'a> {
         BenchFault::Key
     }
 
-    /// Notes a text that isn't of its key's form, if that is wanted.
+    /// Notes a text that isn't of its key's form, if that is wanted. Source: profile.
     pub fn look_at(&mut self, place: Place, text: &'a str, key: Key) {
         let Some(form) = key.form() else {
             return;

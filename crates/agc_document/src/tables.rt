@@ -160,14 +160,14 @@ pub fn has_only<'a>(
     Err(BenchFault::Key)
 }
 
-/// Notes what is wrong with a value: a fault `Key`.
+/// Notes what is wrong with a value, and returns the fault `Key`.
 fn wrong_value<'a>(placed: Placed<'a>, notes: &mut Notes<'a>) -> BenchFault
     ensures { result ≡ BenchFault.Key }
 {
     notes.key(placed.place, "", placed.place.fault(placed.key))
 }
 
-/// What a value was read as. A fault `Key` where it is nothing; it is noted.
+/// What a value was read as. Where that is nothing, it is noted: a fault `Key`.
 fn or_note<'a, T: Drop>(
     read: Option<T>,
     placed: Placed<'a>,
