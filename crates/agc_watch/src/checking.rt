@@ -3,17 +3,33 @@ use crate::documents::looked_at;
 use crate::program::StandardOutput;
 use crate::stops::Stop;
 use agc_check::{
-    Document, NoDocument, add_script_summary, bench_told, report_on, script_findings, script_told,
+    Document, Finding, NoDocument, add_script_summary, bench_told, report_on, script_findings,
+    script_told,
 };
 use agc_program::Fault;
+use agc_run::Subject;
 use agc_text::{put, read_script};
 use std::alloc::{AllocError, Global};
+
+/// The report on a bench or a scenario, and that it is well.
+fn well_told(
+    alloc: Global,
+    document: &Document<'_>,
+    subject: Subject<'_>,
+) -> Result<(bool, String), AllocError> {
+    Ok((true, report_on(alloc, document.text(), subject)?))
+}
+
+/// What was found that is wrong, and that it isn't well.
+fn wrong_told(alloc: Global, found: &[Finding]) -> Result<(bool, String), AllocError> {
+    Ok((false, bench_told(alloc, found)?))
+}
 
 /// Whether a document is the scenario or the bench that it is to be, and the report on it.
 fn document_report(alloc: Global, document: &Document<'_>) -> Result<(bool, String), AllocError> {
     match looked_at(alloc, document)? {
-        Ok(shown) => Ok((true, report_on(alloc, document.text(), shown.subject())?)),
-        Err(found) => Ok((false, bench_told(alloc, found.as_slice())?)),
+        Ok(shown) => well_told(alloc, document, shown.subject()),
+        Err(found) => wrong_told(alloc, found.as_slice()),
     }
 }
 
@@ -22,7 +38,7 @@ fn document_told(alloc: Global, text: &str) -> Result<(bool, String), AllocError
     match Document::parse(alloc, text) {
         Ok(document) => document_report(alloc, &document),
         Err(NoDocument::NoMemory) => Err(AllocError),
-        Err(NoDocument::NotToml(found)) => Ok((false, bench_told(alloc, found.as_slice())?)),
+        Err(NoDocument::NotToml(found)) => wrong_told(alloc, found.as_slice()),
     }
 }
 

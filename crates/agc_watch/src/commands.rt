@@ -310,10 +310,35 @@ const PLAY: Row = Row {
     )],
 };
 
-/// The commands, in the order of the help.
-const COMMANDS: [Row; 12] = [
-    TRACE, PICTURE, PAGE, CHECK, EXPLORE, BENCH, PEAKS, JOBS, COMPARE, SWEEP, CORE, PLAY,
-];
+/// The commands that show a run. A table of all commands would take the prover some five times
+/// as long as these four.
+fn showing() -> &'static [Row] {
+    static ROWS: [Row; 3] = [TRACE, PICTURE, PAGE];
+    &ROWS
+}
+
+/// The commands that look at a document as it stands, or write one.
+fn judging() -> &'static [Row] {
+    static ROWS: [Row; 3] = [CHECK, EXPLORE, BENCH];
+    &ROWS
+}
+
+/// The commands that count what runs came to.
+fn counting() -> &'static [Row] {
+    static ROWS: [Row; 3] = [PEAKS, JOBS, COMPARE];
+    &ROWS
+}
+
+/// All other commands.
+fn others() -> &'static [Row] {
+    static ROWS: [Row; 3] = [SWEEP, CORE, PLAY];
+    &ROWS
+}
+
+/// The rows of all commands, in the order of the help.
+fn all_rows() -> [&'static [Row]; 4] {
+    [showing(), judging(), counting(), others()]
+}
 
 /// A word or an option of a command, as `clap` reads it.
 fn arg_of<'a>(alloc: Global, argument: &Argument) -> Arg<'a> {
@@ -345,18 +370,20 @@ fn command_of<'a>(alloc: Global, row: &Row) -> Result<Command<'a>, AllocError> {
         .args(args)
 }
 
-/// The commands of these rows.
-fn commands_of<'a>(alloc: Global, rows: &[Row]) -> Result<Vec<Command<'a>>, AllocError> {
+/// All commands, in the order of the help.
+fn all_commands<'a>(alloc: Global) -> Result<Vec<Command<'a>>, AllocError> {
     let mut commands = Vec::new(alloc);
-    for row in rows {
-        commands.push(command_of(alloc, row)?)?;
+    for rows in &all_rows() {
+        for row in *rows {
+            commands.push(command_of(alloc, row)?)?;
+        }
     }
     Ok(commands)
 }
 
 /// The program, with all of its commands. Without a word it prints its help.
 pub(crate) fn whole_command<'a>(alloc: Global) -> Result<Command<'a>, AllocError> {
-    let commands = commands_of(alloc, &COMMANDS)?;
+    let commands = all_commands(alloc)?;
     Command::new(alloc, NAME)
         .bin_name(NAME)?
         .version(VERSION)
@@ -366,15 +393,20 @@ pub(crate) fn whole_command<'a>(alloc: Global) -> Result<Command<'a>, AllocError
         .subcommands(commands)
 }
 
-/// The row of this name among these.
-fn row_named(rows: &[Row], name: &str) -> Option<Row> {
-    rows.iter().find(|row| row.name == name).copied()
+/// The row of the command of this name.
+fn row_named(name: &str) -> Option<Row> {
+    for rows in &all_rows() {
+        if let Some(row) = rows.iter().find(|row| row.name == name) {
+            return Some(*row);
+        }
+    }
+    None
 }
 
 /// The command of this name as its own error calls it, for words that are wrong for a reason that
 /// `clap` doesn't know. It is the program, where no command has the name.
 pub(crate) fn named_command<'a>(alloc: Global, name: &str) -> Result<Command<'a>, AllocError> {
-    match row_named(&COMMANDS, name) {
+    match row_named(name) {
         Some(row) => command_of(alloc, &row)?.bin_name(row.called),
         None => whole_command(alloc),
     }

@@ -83,25 +83,37 @@ fn axis_of<'a>(alloc: Global, scenario: &Scenario, values: Values<'a>) -> Result
     }
 }
 
-/// Writes what comes of each value of a number of the scenario that a text is, or of two, or looks
-/// for one that raises an alarm. The exit status is 0.
+/// Writes what comes of each value of a number of a scenario, or of two, or looks for one that
+/// raises an alarm.
+fn sweep_scenario(
+    console: &mut Console<'_>,
+    asked: Sweep<'_>,
+    scenario: &mut Scenario,
+) -> Result<(), Stop> {
+    let alloc = console.rt.alloc();
+    let (progress, output) = (&mut console.progress, &mut console.output);
+    let first = axis_of(alloc, scenario, asked.first)?;
+    let csv = asked.csv;
+    if let Some(values) = asked.second {
+        let axes = [first, axis_of(alloc, scenario, values)?];
+        run_sweep(alloc, scenario, &axes, csv, progress, output)?;
+    } else if asked.finds {
+        find_alarm(alloc, scenario, &[first], csv, output)?;
+    } else {
+        run_sweep(alloc, scenario, &[first], csv, progress, output)?;
+    }
+    Ok(())
+}
+
+/// Sweeps the scenario that a text is. The exit status is 0.
 pub(crate) fn write_sweep(
     console: &mut Console<'_>,
     asked: Sweep<'_>,
     text: &str,
 ) -> Result<u8, Stop> {
-    let alloc = console.rt.alloc();
-    let (progress, output) = (&mut console.progress, &mut console.output);
-    let mut scenario = scenario_in(alloc, text)?;
-    let first = axis_of(alloc, &scenario, asked.first)?;
-    let csv = asked.csv;
-    if let Some(values) = asked.second {
-        let axes = [first, axis_of(alloc, &scenario, values)?];
-        run_sweep(alloc, &mut scenario, &axes, csv, progress, output)?;
-    } else if asked.finds {
-        find_alarm(alloc, &mut scenario, &[first], csv, output)?;
-    } else {
-        run_sweep(alloc, &mut scenario, &[first], csv, progress, output)?;
+    let mut scenario = scenario_in(console.rt.alloc(), text)?;
+    match sweep_scenario(console, asked, &mut scenario) {
+        Ok(()) => Ok(0),
+        Err(stop) => Err(stop),
     }
-    Ok(0)
 }

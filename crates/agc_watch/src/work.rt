@@ -15,6 +15,7 @@ use agc_peaks::{Outcome, outcome_of, put_differences, scenario_bench, write_jobs
 use agc_play::{Manner, PlayFault, play};
 use agc_program::Fault;
 use agc_run::Subject;
+use agc_scenario::Scenario;
 use agc_text::{MOST_BYTES, ReadFault, read_script};
 use agc_trace::{Choice, picture, time_picture, trace, trace_script};
 use std::alloc::Global;
@@ -59,19 +60,29 @@ fn show_subject(
     }
 }
 
-/// Shows this of a bench or a scenario, and says how wide a very wide picture is. The exit status
-/// is 0.
-fn show_document(console: &mut Console<'_>, show: Show<'_>, text: &str) -> Result<u8, Stop> {
+/// Shows this of a bench or a scenario, which a text is, and says how wide a very wide picture is.
+/// The exit status is 0.
+fn show_with_width(
+    console: &mut Console<'_>,
+    show: Show<'_>,
+    text: &str,
+    subject: Subject<'_>,
+) -> Result<u8, Stop> {
     let is_whole = match show {
         Show::Picture => true,
         _ => false,
     };
-    let shown = document_in(console.rt.alloc(), text)?;
-    show_subject(console, show, text, shown.subject())?;
+    show_subject(console, show, text, subject)?;
     if is_whole {
         console.progress.tell_columns();
     }
     Ok(0)
+}
+
+/// Shows this of the bench or the scenario that a text is. The exit status is 0.
+fn show_document(console: &mut Console<'_>, show: Show<'_>, text: &str) -> Result<u8, Stop> {
+    let shown = document_in(console.rt.alloc(), text)?;
+    show_with_width(console, show, text, shown.subject())
 }
 
 /// Writes the trace of a script. The exit status is 0.
@@ -90,20 +101,30 @@ fn trace_requests(console: &mut Console<'_>, choice: Choice, text: &str) -> Resu
 
 /// Says what all orders of a bench come to. The exit status is 4 where an alarm can be reached, and
 /// 3 where that is undecided.
-fn explore_bench(console: &mut Console<'_>, options: Options, text: &str) -> Result<u8, Stop> {
+fn tell_orders(
+    console: &mut Console<'_>,
+    options: Options,
+    explored: &Explored,
+) -> Result<u8, Stop> {
     let alloc = console.rt.alloc();
     let (progress, output) = (&mut console.progress, &mut console.output);
-    let Explored { bench, flags } = explored_in(alloc, text)?;
-    let lines = endless_lines(&bench, flags.endless.as_slice());
+    let Explored { bench, flags } = explored;
+    let lines = endless_lines(bench, flags.endless.as_slice());
     let workers = options.manner.with_repeats(0, flags.repeats.as_slice());
     let manner = workers.with_repeats(bench.workers().len(), &lines);
     let options = Options { manner, ..options };
-    match explore(alloc, &bench, options, progress, output) {
+    match explore(alloc, bench, options, progress, output) {
         Ok(Reach::None) => Ok(0),
         Ok(Reach::Some) => Ok(4),
         Ok(Reach::Undecided) => Ok(3),
         Err(fault) => Err(Stop::from(fault)),
     }
+}
+
+/// Says what all orders of the bench that a text is come to. The exit status is that of the answer.
+fn explore_bench(console: &mut Console<'_>, options: Options, text: &str) -> Result<u8, Stop> {
+    let explored = explored_in(console.rt.alloc(), text)?;
+    tell_orders(console, options, &explored)
 }
 
 /// Why play ended early, as the program's fault.
@@ -127,10 +148,8 @@ fn play_bench(console: &mut Console<'_>, manner: Manner, text: &str) -> Result<u
 }
 
 /// Writes the bench that a scenario comes to. The exit status is 0.
-fn write_bench(console: &mut Console<'_>, text: &str) -> Result<u8, Stop> {
-    let alloc = console.rt.alloc();
-    let scenario = scenario_in(alloc, text)?;
-    let bytes = scenario_bench(alloc, &scenario, &mut console.output)?;
+fn write_scenario(console: &mut Console<'_>, scenario: &Scenario) -> Result<u8, Stop> {
+    let bytes = scenario_bench(console.rt.alloc(), scenario, &mut console.output)?;
     if bytes <= MOST_BYTES as u64 {
         return Ok(0);
     }
@@ -140,10 +159,19 @@ fn write_bench(console: &mut Console<'_>, text: &str) -> Result<u8, Stop> {
     }
 }
 
+/// Writes the bench that the scenario comes to which a text is. The exit status is 0.
+fn write_bench(console: &mut Console<'_>, text: &str) -> Result<u8, Stop> {
+    let scenario = scenario_in(console.rt.alloc(), text)?;
+    write_scenario(console, &scenario)
+}
+
 /// What a text's document comes to.
 fn outcome_in(alloc: Global, text: &str) -> Result<Outcome, Stop> {
     let shown = document_in(alloc, text)?;
-    Ok(outcome_of(alloc, shown.subject())?)
+    match outcome_of(alloc, shown.subject()) {
+        Ok(outcome) => Ok(outcome),
+        Err(fault) => Err(Stop::from(fault)),
+    }
 }
 
 /// Writes what differs between a text's document and that of a file. The exit status is 0.
