@@ -84,12 +84,12 @@ fn axis_of<'a>(alloc: Global, scenario: &Scenario, values: Values<'a>) -> Result
 }
 
 /// Writes what comes of each value of a number of a scenario, or of two, or looks for one that
-/// raises an alarm.
+/// raises an alarm. The exit status is 0.
 fn sweep_scenario(
     console: &mut Console<'_>,
     asked: Sweep<'_>,
     scenario: &mut Scenario,
-) -> Result<(), Stop> {
+) -> Result<u8, Stop> {
     let alloc = console.rt.alloc();
     let (progress, output) = (&mut console.progress, &mut console.output);
     let first = axis_of(alloc, scenario, asked.first)?;
@@ -102,7 +102,7 @@ fn sweep_scenario(
     } else {
         run_sweep(alloc, scenario, &[first], csv, progress, output)?;
     }
-    Ok(())
+    Ok(0)
 }
 
 /// Sweeps the scenario that a text is. The exit status is 0.
@@ -112,8 +112,5 @@ pub(crate) fn write_sweep(
     text: &str,
 ) -> Result<u8, Stop> {
     let mut scenario = scenario_in(console.rt.alloc(), text)?;
-    match sweep_scenario(console, asked, &mut scenario) {
-        Ok(()) => Ok(0),
-        Err(stop) => Err(stop),
-    }
+    sweep_scenario(console, asked, &mut scenario)
 }
