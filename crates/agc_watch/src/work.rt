@@ -121,7 +121,7 @@ fn tell_orders(
     }
 }
 
-/// Says what all orders of the bench that a text is come to. The exit status is that of the answer.
+/// Explores the bench that a text is. The exit status is 0, 3 or 4.
 fn explore_bench(console: &mut Console<'_>, options: Options, text: &str) -> Result<u8, Stop> {
     let explored = explored_in(console.rt.alloc(), text)?;
     tell_orders(console, options, &explored)
@@ -159,7 +159,7 @@ fn write_scenario(console: &mut Console<'_>, scenario: &Scenario) -> Result<u8, 
     }
 }
 
-/// Writes the bench that the scenario comes to which a text is. The exit status is 0.
+/// Writes the bench that a text's scenario comes to. The exit status is 0.
 fn write_bench(console: &mut Console<'_>, text: &str) -> Result<u8, Stop> {
     let scenario = scenario_in(console.rt.alloc(), text)?;
     write_scenario(console, &scenario)
