@@ -11,13 +11,13 @@ use agc_run::Subject;
 use agc_text::{put, read_script};
 use std::alloc::{AllocError, Global};
 
-/// The report on a bench or a scenario, and that it is well.
+/// The report on a bench or a scenario, which a text is, and that it is well.
 fn well_told(
     alloc: Global,
-    document: &Document<'_>,
+    text: &str,
     subject: Subject<'_>,
 ) -> Result<(bool, String), AllocError> {
-    Ok((true, report_on(alloc, document.text(), subject)?))
+    Ok((true, report_on(alloc, text, subject)?))
 }
 
 /// What was found that is wrong, and that it isn't well.
@@ -28,7 +28,7 @@ fn wrong_told(alloc: Global, found: &[Finding]) -> Result<(bool, String), AllocE
 /// Whether a document is the scenario or the bench that it is to be, and the report on it.
 fn document_report(alloc: Global, document: &Document<'_>) -> Result<(bool, String), AllocError> {
     match looked_at(alloc, document)? {
-        Ok(shown) => well_told(alloc, document, shown.subject()),
+        Ok(shown) => well_told(alloc, document.text(), shown.subject()),
         Err(found) => wrong_told(alloc, found.as_slice()),
     }
 }

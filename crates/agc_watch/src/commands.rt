@@ -310,8 +310,7 @@ const PLAY: Row = Row {
     )],
 };
 
-/// The commands that show a run. A table of all commands would take the prover some five times
-/// as long as these four.
+/// The commands that show a run. docs/DECISIONS.md says why not all commands are in one table.
 fn showing() -> &'static [Row] {
     static ROWS: [Row; 3] = [TRACE, PICTURE, PAGE];
     &ROWS

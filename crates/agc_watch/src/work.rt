@@ -148,7 +148,7 @@ fn play_bench(console: &mut Console<'_>, manner: Manner, text: &str) -> Result<u
 }
 
 /// Writes the bench that a scenario comes to. The exit status is 0.
-fn write_scenario(console: &mut Console<'_>, scenario: &Scenario) -> Result<u8, Stop> {
+fn write_bench_from(console: &mut Console<'_>, scenario: &Scenario) -> Result<u8, Stop> {
     let bytes = scenario_bench(console.rt.alloc(), scenario, &mut console.output)?;
     if bytes <= MOST_BYTES as u64 {
         return Ok(0);
@@ -162,7 +162,7 @@ fn write_scenario(console: &mut Console<'_>, scenario: &Scenario) -> Result<u8, 
 /// Writes the bench that a text's scenario comes to. The exit status is 0.
 fn write_bench(console: &mut Console<'_>, text: &str) -> Result<u8, Stop> {
     let scenario = scenario_in(console.rt.alloc(), text)?;
-    write_scenario(console, &scenario)
+    write_bench_from(console, &scenario)
 }
 
 /// What a text's document comes to.
